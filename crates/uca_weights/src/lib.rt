@@ -1,0 +1,56 @@
+//! The words that every crate of `uca` shares: collation elements, the levels, strengths and
+//! weightings of UTS #10, and the streams that bytes come from and go to.
+#![tactic(auto)]
+
+#[cfg(test)]
+mod fakes;
+pub mod streams;
+
+pub use streams::{ReadFault, Sink, Source, WriteFault};
+
+/// A collation element (UTS #10, section 3.1): a weight for each of three levels, each 16 bits wide,
+/// and whether the element is variable. A weight of 0 says that the element is ignored at that level.
+#[derive(Clone, Copy, Debug, PartialEq, Eq)]
+pub struct Element {
+    /// The weight at level 1.
+    pub primary: u16,
+    /// The weight at level 2.
+    pub secondary: u16,
+    /// The weight at level 3.
+    pub tertiary: u16,
+    /// Whether the element is variable (UTS #10, section 4), written `*` in a table.
+    pub mark: bool,
+}
+
+/// A level at which table weights are compared (UTS #10, section 1.1).
+#[derive(Clone, Copy, Debug, PartialEq, Eq)]
+pub enum Level {
+    /// Base letters.
+    One,
+    /// Accents.
+    Two,
+    /// Case and variants.
+    Three,
+}
+
+/// How strongly a tailored text differs from its anchor (UTS #35 Part 5, section 3.3).
+#[derive(Clone, Copy, Debug, PartialEq, Eq)]
+pub enum Strength {
+    /// `<`: the texts differ at level 1.
+    Primary,
+    /// `<<`: the texts differ at level 2.
+    Secondary,
+    /// `<<<`: the texts differ at level 3.
+    Tertiary,
+    /// `=`: the texts differ at no level.
+    Identical,
+}
+
+/// How variable elements are weighted (UTS #10, section 4).
+#[derive(Clone, Copy, Debug, PartialEq, Eq)]
+pub enum Weighting {
+    /// Variable elements are weighted as all others are; there are three levels.
+    NonIgnorable,
+    /// Variable elements count at a fourth level alone; there are four levels.
+    Shifted,
+}
