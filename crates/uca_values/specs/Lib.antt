@@ -1,0 +1,6 @@
+pub mod Ranges
+pub mod Gaps
+pub mod Content
+pub mod Implicit
+pub mod Worked
+pub mod Adding

@@ -1,0 +1,268 @@
+//! The properties of code points that collation needs: combining classes and Han ranges.
+
+ghost use Rattle.std.specs.Prelude.{◌≡◌, ℕ, ◌<◌, ◌≤◌, length, nat_lt, true, false, [], ◌≢◌, ◌+◌, OnOk, IfErr, MatchOption};
+ghost use Rattle.std.specs.List.Sorted.{IsPartitionPoint};
+ghost use Rattle.uca_values.specs.Ranges.{is_within, class_in, AreRising, AreRisingClasses};
+ghost use Rattle.std.specs.List.{AllByRecursion};
+ghost use Rattle.uca_values.specs.Gaps.{IsGap};
+ghost use Rattle.uca_values.specs.Content.{IsClass};
+ghost use Rattle.uca_values.specs.Adding.{AddsClass, AddsCore, AddsOther, RefusesClass, RefusesCore, RefusesOther};
+
+use crate::{ClassRange, CodePointRange};
+use std::alloc::{Allocator, Global};
+use std::marker::Model;
+use thiserror::Error;
+
+/// What a data file says: the combining class of each code point, and which code points are core Han
+/// or other unified ideographs (UTS #10, section 10.1.3).
+#[derive(Drop)]
+pub struct Data<A: Allocator = Global> {
+    classes: Vec<ClassRange, A>,
+    core: Vec<CodePointRange, A>,
+    other: Vec<CodePointRange, A>,
+}
+
+impl<A: Allocator> Model for Data<A> {
+    ghost use Rattle.uca_values.specs.Content.{DataContent, IsData};
+
+    ghost Value = { DataContent };
+
+    ghost view = { λ d. record { classes = d.classes.items; core = d.core.items; other = d.other.items } };
+
+    ghost invariant = { λ d. IsData (record { classes = d.classes.items; core = d.core.items; other = d.other.items }) };
+}
+
+/// How many ranges of each kind there may be.
+const MOST_RANGES: usize = 4096;
+
+/// Why a range is not added. Of several causes the first of this list is answered.
+#[derive(Clone, Copy, Debug, PartialEq, Eq, Error)]
+pub enum RangeFault {
+    /// Its last code point stands before its first.
+    #[error("the range is empty")]
+    Empty,
+    /// One of its code points has that property already, or for Han ranges either of the two.
+    #[error("the range overlaps another")]
+    Overlap,
+    /// There are 4,096 ranges of its kind.
+    #[error("there are too many ranges")]
+    Limit,
+    /// A growth was refused.
+    #[error("out of memory")]
+    Memory,
+}
+
+impl<A: Allocator> Data<A> {
+    /// No code point has a class or is Han. It takes no memory.
+    pub fn new(alloc: A) -> Self
+    where
+        A: Copy,
+        ensures { result ≡ record { classes = []; core = []; other = [] } }
+    {
+        Data {
+            classes: Vec::new(alloc),
+            core: Vec::new(alloc),
+            other: Vec::new(alloc),
+        }
+    }
+
+    /// Gives the code points of a range their class.
+    ///
+    /// # Errors
+    ///
+    /// The range stays out, and nothing changes, if it is empty, if one of its code points has a class
+    /// already, if there are 4,096 ranges with a class, or if a growth is refused.
+    pub fn add_class(&mut self, range: ClassRange) -> Result<(), RangeFault>
+        requires { IsClass range.class }
+        ensures added { OnOk result (AddsClass self.old range self.new) }
+        ensures refused { IfErr result (λ fault. (self.new ≡ self.old) × RefusesClass self.old range fault) }
+    {
+        if range.last < range.first {
+            return Err(RangeFault::Empty);
+        }
+        let Some(at) = class_gap(&self.classes, range) else {
+            return Err(RangeFault::Overlap);
+        };
+        if self.classes.len() >= MOST_RANGES {
+            return Err(RangeFault::Limit);
+        }
+        if self.classes.insert(at, range).is_err() {
+            return Err(RangeFault::Memory);
+        }
+        Ok(())
+    }
+
+    /// Makes the code points of a range core Han.
+    ///
+    /// # Errors
+    ///
+    /// The range stays out, and nothing changes, if it is empty, if one of its code points is core Han or
+    /// another unified ideograph already, if there are 4,096 ranges of core Han, or if a growth is
+    /// refused.
+    pub fn add_core(&mut self, range: CodePointRange) -> Result<(), RangeFault>
+        ensures added { OnOk result (AddsCore self.old range self.new) }
+        ensures refused { IfErr result (λ fault. (self.new ≡ self.old) × RefusesCore self.old range fault) }
+    {
+        if range.last < range.first {
+            return Err(RangeFault::Empty);
+        }
+        let Some(at) = range_gap(&self.core, range) else {
+            return Err(RangeFault::Overlap);
+        };
+        let Some(_) = range_gap(&self.other, range) else {
+            return Err(RangeFault::Overlap);
+        };
+        if self.core.len() >= MOST_RANGES {
+            return Err(RangeFault::Limit);
+        }
+        if self.core.insert(at, range).is_err() {
+            return Err(RangeFault::Memory);
+        }
+        Ok(())
+    }
+
+    /// Makes the code points of a range unified ideographs outside core Han.
+    ///
+    /// # Errors
+    ///
+    /// As of [`Data::add_core`], of ranges of other ideographs.
+    pub fn add_other(&mut self, range: CodePointRange) -> Result<(), RangeFault>
+        ensures added { OnOk result (AddsOther self.old range self.new) }
+        ensures refused { IfErr result (λ fault. (self.new ≡ self.old) × RefusesOther self.old range fault) }
+    {
+        if range.last < range.first {
+            return Err(RangeFault::Empty);
+        }
+        let Some(at) = range_gap(&self.other, range) else {
+            return Err(RangeFault::Overlap);
+        };
+        let Some(_) = range_gap(&self.core, range) else {
+            return Err(RangeFault::Overlap);
+        };
+        if self.other.len() >= MOST_RANGES {
+            return Err(RangeFault::Limit);
+        }
+        if self.other.insert(at, range).is_err() {
+            return Err(RangeFault::Memory);
+        }
+        Ok(())
+    }
+
+    /// The canonical combining class of a code point (UAX #44); 0 where no range of the file holds it.
+    pub fn class(&self, point: char) -> u8
+        ensures { result ≡ class_in self.now.classes point }
+    {
+        class_at(&self.classes, point)
+    }
+
+    /// Whether a code point is core Han (UTS #10, section 10.1.3).
+    pub fn is_core(&self, point: char) -> bool
+        ensures { result ≡ is_within self.now.core point }
+    {
+        is_held(&self.core, point)
+    }
+
+    /// Whether a code point is a unified ideograph outside core Han (UTS #10, section 10.1.3).
+    pub fn is_other(&self, point: char) -> bool
+        ensures { result ≡ is_within self.now.other point }
+    {
+        is_held(&self.other, point)
+    }
+
+    /// The ranges with a class, in rising order.
+    pub fn classes(&self) -> &[ClassRange]
+        ensures { result.now ≡ self.now.classes }
+    {
+        &self.classes
+    }
+
+    /// The ranges of core Han, in rising order.
+    pub fn core(&self) -> &[CodePointRange]
+        ensures { result.now ≡ self.now.core }
+    {
+        &self.core
+    }
+
+    /// The ranges of other unified ideographs, in rising order.
+    pub fn other(&self) -> &[CodePointRange]
+        ensures { result.now ≡ self.now.other }
+    {
+        &self.other
+    }
+}
+
+// The place of the first range that ends at the code point or above it.
+fn class_place(ranges: &[ClassRange], point: char) -> usize
+    requires { AreRisingClasses ranges.now }
+    ensures bound { result ≤ length ranges.now }
+    ensures place { IsPartitionPoint (λ r. r.last < point) (λ r. point ≤ r.last) ranges.now result }
+{
+    ranges.partition_point(|range| range.last < point)
+}
+
+// The same of ranges without a class.
+fn range_place(ranges: &[CodePointRange], point: char) -> usize
+    requires { AreRising ranges.now }
+    ensures bound { result ≤ length ranges.now }
+    ensures place { IsPartitionPoint (λ r. r.last < point) (λ r. point ≤ r.last) ranges.now result }
+{
+    ranges.partition_point(|range| range.last < point)
+}
+
+// The place where the range fits between the others, unless it overlaps one of them.
+fn class_gap(ranges: &[ClassRange], range: ClassRange) -> Option<usize>
+    requires rising { AreRisingClasses ranges.now }
+    requires numbers { AllByRecursion (λ r. IsClass r.class) ranges.now }
+    requires sound { range.first ≤ range.last }
+    ensures { MatchOption result
+        ((point : ℕ) × (range.first ≤ point) × (point ≤ range.last) × (class_in ranges.now point ≢ 0))
+        (λ at. (at ≤ length ranges.now) × IsGap (λ r. r.first) (λ r. r.last) range.first range.last ranges.now at) }
+{
+    let at = class_place(ranges, range.first);
+    if at < ranges.len() && ranges[at].first <= range.last {
+        return None;
+    }
+    Some(at)
+}
+
+// The same of ranges without a class.
+fn range_gap(ranges: &[CodePointRange], range: CodePointRange) -> Option<usize>
+    requires rising { AreRising ranges.now }
+    requires sound { range.first ≤ range.last }
+    ensures { MatchOption result
+        ((point : ℕ) × (range.first ≤ point) × (point ≤ range.last) × (is_within ranges.now point ≡ true))
+        (λ at. (at ≤ length ranges.now) × IsGap (λ r. r.first) (λ r. r.last) range.first range.last ranges.now at) }
+{
+    let at = range_place(ranges, range.first);
+    if at < ranges.len() && ranges[at].first <= range.last {
+        return None;
+    }
+    Some(at)
+}
+
+fn class_at(ranges: &[ClassRange], point: char) -> u8
+    requires { AreRisingClasses ranges.now }
+    ensures { result ≡ class_in ranges.now point }
+{
+    // Most text lies below the first range.
+    if ranges.is_empty() || point < ranges[0].first {
+        return 0;
+    }
+    let at = class_place(ranges, point);
+    if at < ranges.len() && ranges[at].first <= point {
+        ranges[at].class
+    } else {
+        0
+    }
+}
+
+fn is_held(ranges: &[CodePointRange], point: char) -> bool
+    requires { AreRising ranges.now }
+    ensures { result ≡ is_within ranges.now point }
+{
+    if ranges.is_empty() || point < ranges[0].first {
+        return false;
+    }
+    let at = range_place(ranges, point);
+    at < ranges.len() && ranges[at].first <= point
+}

@@ -1,0 +1,45 @@
+//! What table files and data files mean: tables of collation elements, their header, and the
+//! properties of code points. Reading them from bytes is the business of `uca_table` and `uca_data`.
+#![tactic(auto)]
+
+pub mod characters;
+pub mod implicit;
+pub mod tables;
+#[cfg(test)]
+mod tests;
+
+pub use characters::{Data, RangeFault};
+pub use implicit::worked_implicit_weights;
+pub use tables::{Header, Row, Table};
+
+/// The code points from `first` to `last`, both included.
+#[derive(Clone, Copy, Debug, PartialEq, Eq)]
+pub struct CodePointRange {
+    /// The first code point.
+    pub first: char,
+    /// The last code point.
+    pub last: char,
+}
+
+/// A range of code points with one canonical combining class (UAX #44).
+#[derive(Clone, Copy, Debug, PartialEq, Eq)]
+pub struct ClassRange {
+    /// The first code point.
+    pub first: char,
+    /// The last code point.
+    pub last: char,
+    /// The class of each of them, 1 to 254.
+    pub class: u8,
+}
+
+/// A range whose code points get implicit weights under a lead of their own
+/// (`@implicitweights`, UTS #10, section 9.1).
+#[derive(Clone, Copy, Debug, PartialEq, Eq)]
+pub struct ImplicitRange {
+    /// The first code point.
+    pub first: char,
+    /// The last code point.
+    pub last: char,
+    /// The primary weight of their first implicit element, FB00 to FB3F.
+    pub lead: u16,
+}
