@@ -1,0 +1,5 @@
+pub mod Lines
+pub mod LineReader
+pub mod NextLine
+pub mod Taking
+pub mod OutputBuffer

@@ -1,0 +1,10 @@
+//! The lines of a source, and a buffer for what goes to a sink.
+#![tactic(auto)]
+
+#[cfg(test)]
+mod fakes;
+pub mod lines;
+pub mod output;
+
+pub use lines::{LINE_LIMIT, LineFault, LineReader, NextLine};
+pub use output::OutputBuffer;

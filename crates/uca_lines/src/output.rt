@@ -1,0 +1,133 @@
+//! Output through a buffer, which counts what went out.
+
+ghost use Rattle.std.specs.Prelude.{◌≡◌, ◌+◌, ◌^◌, ◌<◌, ◌≤◌, ◌++◌, ◌||◌, [], ℕ, List, Option, length, is_err, OnOk, OnErr, IfOk, IfErr, MatchResult};
+ghost use Rattle.std.specs.Io.KnownBytes.{Appends};
+ghost use Rattle.uca_weights.specs.Writes.{WentOut};
+ghost use Rattle.uca_lines.specs.OutputBuffer.{HandedOver};
+
+use std::io::Write;
+use std::marker::Model;
+use uca_weights::{Sink, WriteFault};
+
+/// How many bytes wait before they are written.
+const SIZE: usize = 16_384;
+
+/// Gathers what goes to one sink, and counts the bytes that went out.
+///
+/// After a fault it is not used further: what waited then may have gone out in part.
+#[derive(Drop)]
+pub struct OutputBuffer {
+    bytes: [u8; SIZE],
+    len: usize,
+    written: u64,
+}
+
+impl Model for OutputBuffer {
+    ghost use Rattle.std.specs.Prelude.{◌+◌, ◌^◌, ◌<◌, ◌≤◌, take};
+    ghost use Rattle.uca_lines.specs.OutputBuffer.{BufferState};
+
+    ghost Value = { BufferState };
+
+    ghost view = { λ b. record { held = take b.len b.bytes; written = b.written } };
+
+    ghost invariant = { λ b. (b.len ≤ 16384) × (b.written + b.len < 2 ^ 64) };
+}
+
+impl OutputBuffer {
+    /// An empty buffer. It takes no memory.
+    pub fn new() -> OutputBuffer
+        ensures held { result.held ≡ [] }
+        ensures written { result.written ≡ 0 }
+    {
+        OutputBuffer {
+            bytes: [0; SIZE],
+            len: 0,
+            written: 0,
+        }
+    }
+
+    /// Hands over a text, which waits, or goes out behind all that waits. A fault says how many bytes
+    /// went out of all that was handed over.
+    pub fn write<W: Write>(&mut self, out: &mut Sink<W>, text: &[u8]) -> Result<(), WriteFault>
+        requires { self.old.written + length self.old.held + length text.now < 2 ^ 64 }
+
+        // Whatever the writer held at the start, and whatever was handed over since.
+        ensures text { (start : Option (List ℕ)) (before : List ℕ) →
+            HandedOver start out.old.contents before self.old →
+            MatchResult result
+            (λ _. HandedOver start out.new.contents (before ++ text.now) self.new)
+            (λ fault. WentOut start out.new.contents (before ++ text.now) fault.written) }
+        ensures count { OnOk result (self.new.written + length self.new.held
+            ≡ self.old.written + length self.old.held + length text.now) }
+        ensures err { OnErr result (self.new.written + length self.new.held
+            ≡ self.old.written + length self.old.held) }
+        ensures not_all { IfErr result (λ fault. fault.written
+            < self.old.written + length self.old.held + length text.now) }
+        ensures failed { out.new.failed ≡ (out.old.failed || is_err result) }
+    {
+        if text.len() <= SIZE - self.len {
+            self.hold(text);
+            return Ok(());
+        }
+        self.flush(out)?;
+        if text.len() <= SIZE {
+            self.hold(text);
+            return Ok(());
+        }
+        self.written = send(out, text, self.written)?;
+        Ok(())
+    }
+
+    /// Writes all that waits. A fault says how many bytes went out of all that was handed over.
+    pub fn flush<W: Write>(&mut self, out: &mut Sink<W>) -> Result<(), WriteFault>
+        ensures text { (start : Option (List ℕ)) (before : List ℕ) →
+            HandedOver start out.old.contents before self.old →
+            MatchResult result
+            (λ _. Appends start out.new.contents before)
+            (λ fault. WentOut start out.new.contents before fault.written) }
+        ensures held { OnOk result (self.new.held ≡ []) }
+        ensures count { OnOk result (self.new.written ≡ self.old.written + length self.old.held) }
+        ensures err { OnErr result (self.new ≡ self.old) }
+        ensures not_all { IfErr result (λ fault. fault.written < self.old.written + length self.old.held) }
+        ensures failed { out.new.failed ≡ (out.old.failed || is_err result) }
+    {
+        self.written = send(out, &self.bytes[..self.len], self.written)?;
+        self.len = 0;
+        Ok(())
+    }
+
+    // Lets a text wait, for which there is room.
+    fn hold(&mut self, text: &[u8])
+        requires room { length self.old.held + length text.now ≤ SIZE }
+        requires count { self.old.written + length self.old.held + length text.now < 2 ^ 64 }
+        ensures held { self.new.held ≡ self.old.held ++ text.now }
+        ensures written { self.new.written ≡ self.old.written }
+    {
+        let end = self.len + text.len();
+        self.bytes[self.len..end].copy_from_slice(text);
+        self.len = end;
+    }
+}
+
+// Writes a text behind all that was handed over, and answers how many bytes went out of it all.
+fn send<W: Write>(out: &mut Sink<W>, text: &[u8], written: u64) -> Result<u64, WriteFault>
+    requires { written + length text.now < 2 ^ 64 }
+    ensures text { (start : Option (List ℕ)) (before : List ℕ) →
+        Appends start out.old.contents before → length before ≡ written →
+        MatchResult result
+        (λ _. Appends start out.new.contents (before ++ text.now))
+        (λ fault. WentOut start out.new.contents (before ++ text.now) fault.written) }
+    ensures count { IfOk result (λ count. count ≡ written + length text.now) }
+    ensures not_all { IfErr result (λ fault. fault.written < written + length text.now) }
+    ensures failed { out.new.failed ≡ (out.old.failed || is_err result) }
+{
+    match out.write_all(text) {
+        Ok(()) => Ok(written + text.len() as u64),
+        Err(fault) => Err(WriteFault {
+            written: written + fault.written,
+        }),
+    }
+}
+
+#[cfg(test)]
+mod tests;
