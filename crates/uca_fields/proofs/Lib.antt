@@ -1,0 +1,3 @@
+pub mod CutLaws
+pub mod Digits
+pub mod LeadLaws

@@ -1,0 +1,86 @@
+//! Numbers in a text.
+
+ghost use Rattle.std.specs.Prelude.{◌≡◌, ◌≤◌, ◌<◌, ◌^◌, length, IfSome, [], ◌∷◌};
+ghost use Rattle.uca_fields.specs.Number.{hex_of, code_point_of, weight_of, decimal_of, class_of};
+
+/// The code point that a word of four to six digits stands for; None where the word is another text, and
+/// for a surrogate or a number above 10FFFF.
+pub fn code_point(word: &[u8]) -> Option<char>
+    ensures { result ≡ code_point_of word.now }
+{
+    if word.len() < 4 || word.len() > 6 {
+        return None;
+    }
+    char::from_u32(hexadecimal(word)?)
+}
+
+/// The weight that a word of four digits stands for; None where the word is another text.
+pub fn weight(word: &[u8]) -> Option<u16>
+    ensures { result ≡ weight_of word.now }
+{
+    if word.len() != 4 {
+        return None;
+    }
+    let number = hexadecimal(word)?;
+    Some(number as u16)
+}
+
+/// The combining class, 1 to 254, that a word of decimal digits stands for; None where the word is
+/// another text, begins with 0, or stands for another number.
+pub fn class_number(word: &[u8]) -> Option<u8>
+    ensures { result ≡ class_of word.now }
+{
+    if word.len() > 3 || word.first() == Some(&b'0') {
+        return None;
+    }
+    let number = decimal(word)?;
+    if number == 0 || number > 254 {
+        return None;
+    }
+    Some(number as u8)
+}
+
+// The number that at most six digits stand for.
+fn hexadecimal(word: &[u8]) -> Option<u32>
+    requires { length word.now ≤ 6 }
+    ensures number { result ≡ hex_of word.now }
+    ensures small { IfSome result (λ n. n < 16 ^ length word.now) }
+{
+    let mut number = 0;
+    for byte in word {
+        number = number * 16 + digit(*byte)?;
+    }
+    Some(number)
+}
+
+fn digit(byte: u8) -> Option<u32>
+    ensures { result ≡ hex_of (byte ∷ []) }
+{
+    match byte {
+        b'0'..=b'9' => Some(u32::from(byte - b'0')),
+        b'A'..=b'F' => Some(u32::from(byte - b'A') + 10),
+        _ => None,
+    }
+}
+
+// The number that at most three decimal digits stand for.
+fn decimal(word: &[u8]) -> Option<u16>
+    requires { length word.now ≤ 3 }
+    ensures number { result ≡ decimal_of word.now }
+    ensures small { IfSome result (λ n. n < 10 ^ length word.now) }
+{
+    let mut number = 0;
+    for byte in word {
+        number = number * 10 + decimal_digit(*byte)?;
+    }
+    Some(number)
+}
+
+fn decimal_digit(byte: u8) -> Option<u16>
+    ensures { result ≡ decimal_of (byte ∷ []) }
+{
+    match byte {
+        b'0'..=b'9' => Some(u16::from(byte - b'0')),
+        _ => None,
+    }
+}
