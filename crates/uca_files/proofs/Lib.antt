@@ -1,0 +1,4 @@
+pub mod Cuts
+pub mod FileLaws
+pub mod ByLine
+pub mod StepLemmas

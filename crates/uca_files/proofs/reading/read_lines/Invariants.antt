@@ -1,0 +1,15 @@
+use Rattle.std.proofs.Common.{◌≡◌, ◌-◌, ◌≤◌, ◌+◌}
+use Rattle.uca_lines.specs.LineReader.{left_of}
+use Rattle.uca_files.proofs.StepLemmas.{ReachesKnown}
+use Rattle.uca_files.proofs.reading.read_lines.Given as goal
+
+abbrev pub invariant-loop-line : goal.invariant-loop-line
+invariant-loop-line g l = record {
+  reaches : ReachesKnown g.T.TakesLines.says l.fn.source.remaining (left_of l.lines l.source) (l.lines.number + 1) l.taker;
+  longest : l.lines.longest ≡ 4096;
+  failed : l.source.failed ≡ l.fn.source.failed;
+  within : l.lines.number ≤ 1000000;
+}
+
+abbrev pub decreases-loop-line : goal.decreases-loop-line
+decreases-loop-line g l = 1000000 - l.lines.number
