@@ -1,0 +1,4 @@
+pub mod Words
+pub mod Taken
+pub mod Viewed
+pub mod Exact

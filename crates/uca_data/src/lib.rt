@@ -1,0 +1,10 @@
+//! Data files: the combining classes and the Han ranges of code points, line by line.
+#![tactic(auto)]
+
+mod begun;
+mod lines;
+mod read;
+#[cfg(test)]
+mod tests;
+
+pub use read::{read_data, read_data_in};
