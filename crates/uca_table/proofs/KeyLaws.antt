@@ -1,0 +1,32 @@
+-- The key of a row.
+use Rattle.std.proofs.Common.{◌≡◌, ℕ, ◌<◌, ◌≤◌, Bool, true, false, ◌&&◌, List, [], ◌∷◌, ◌++◌, length, Some, refl, ap, sym, ◌∙◌, arith, length-append}
+use borrow.Author.Tests.{leb-true}
+use Rattle.uca_files.specs.declared.FaultKind.TheVariants as kinds
+use Rattle.uca_fields.specs.Text.{skip_blanks, word_of, after_word}
+use Rattle.uca_fields.specs.Number.{is_code_point, code_point_of}
+use Rattle.uca_fields.specs.Leads.{Leads, BeginsCodePoint}
+use Rattle.uca_fields.proofs.CutLaws.{length-after_word}
+use Rattle.uca_fields.proofs.LeadLaws.{leads_push}
+use Rattle.uca_table.specs.Rows.{KeyCause}
+
+pub code_point_begins : (text word : List ℕ) (c : ℕ) (more : List ℕ) → Some c ≡ code_point_of word → word ≡ word_of text → more ≡ after_word text → BeginsCodePoint text c more
+code_point_begins text word c more h w m = record { word = ap code_point_of (sym w) ∙ sym h; rest = sym m }
+
+front_true : (a b c d : Bool) → (a && b && c && d) ≡ true → a ≡ true
+front_true true b c d h = refl
+front_true false b c d h = h
+
+-- a word that is a code point is not empty
+word_is_some : (word : List ℕ) (c : ℕ) → code_point_of word ≡ Some c → 4 ≤ length word
+word_is_some word c h = cases (is_code_point word) refl
+  where
+    cases : (v : Bool) → is_code_point word ≡ v → 4 ≤ length word
+    cases true e = leb-true 4 (length word) (front_true _ _ _ _ e)
+    cases false e = let k = rw e at h in cc
+
+pub after_code_point : (text : List ℕ) (c : ℕ) (more : List ℕ) → BeginsCodePoint text c more → length more < length text
+after_code_point text c more h = omega (arith, word_is_some (word_of text) c h.word, length-after_word text, ap length h.rest)
+
+pub key_limit_cause : (text front rest : List ℕ) (c : ℕ) (more : List ℕ) → Leads BeginsCodePoint text front rest → 16 ≤ length front → BeginsCodePoint rest c more → KeyCause text kinds.Limit
+key_limit_cause text front rest c more h l b =
+    (front ++ c ∷ [], skip_blanks more, leads_push BeginsCodePoint text front rest c more h b, omega (arith, length-append front (c ∷ [])))

@@ -1,0 +1,10 @@
+pub mod Pushes
+pub mod ElementLaws
+pub mod KeyLaws
+pub mod RowLaws
+pub mod KeepingLaws
+pub mod OrderLaws
+pub mod TakeLaws
+pub mod FormLaws
+pub mod ReadLaws
+pub mod Exact

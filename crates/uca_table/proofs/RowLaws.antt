@@ -1,0 +1,24 @@
+-- Rows from their parts.
+use Rattle.std.proofs.Common.{◌≡◌, ℕ, List, ◌∷◌, ◌∙◌, ◌⊎◌, sym, ap, subst, inl, inr}
+use borrow.Author.Tests.{eqb-true}
+use Rattle.uca_files.specs.declared.FaultKind.{FaultKind}
+use Rattle.uca_files.specs.declared.FaultKind.TheVariants as kinds
+use Rattle.uca_fields.specs.Text.{is_semicolon, up_to, from_first}
+use Rattle.uca_fields.proofs.CutLaws.{from_first_passes}
+use Rattle.uca_values.specs.Content.{Entry}
+use Rattle.uca_table.specs.Elements.{AreElements, ElementsCause}
+use Rattle.uca_table.specs.Rows.{IsKey, IsRow, RowTextCause}
+
+-- where something stands at the cut, it is the `;`
+pub after_semicolon : (text back : List ℕ) (b : ℕ) (rest : List ℕ) → back ≡ from_first is_semicolon text → back ≡ b ∷ rest → from_first is_semicolon text ≡ 59 ∷ rest
+after_semicolon text back b rest h k =
+    let found = sym h ∙ k in
+    found ∙ ap (λ x. x ∷ rest) (eqb-true b 59 (from_first_passes is_semicolon text b rest found))
+
+pub row_is : (text front back : List ℕ) (b : ℕ) (rest : List ℕ) (row : Entry) → front ≡ up_to is_semicolon text → back ≡ from_first is_semicolon text → back ≡ b ∷ rest → IsKey front row.key → AreElements rest row.elements → IsRow text row
+row_is text front back b rest row f h k key elements =
+    record { rest = rest; cut = after_semicolon text back b rest h k; key = subst (λ (t : List ℕ). IsKey t row.key) f key; elements = elements }
+
+pub elements_fault : (text back : List ℕ) (b : ℕ) (rest : List ℕ) (kind : FaultKind) → back ≡ from_first is_semicolon text → back ≡ b ∷ rest → (kind ≡ kinds.Memory) ⊎ ElementsCause rest kind → (kind ≡ kinds.Memory) ⊎ RowTextCause text kind
+elements_fault text back b rest kind h k (inl m) = inl m
+elements_fault text back b rest kind h k (inr e) = inr (inr (inr (rest, after_semicolon text back b rest h k, e)))

@@ -1,0 +1,31 @@
+-- Each element is one more after those before it, and where none is read the rest begins with none.
+use Rattle.std.proofs.Common.{[], ◌∷◌, length, length-append, arith, sym, ◌∙◌, ap, inr}
+use Rattle.uca_fields.proofs.CutLaws.{length-skip_blanks}
+use Rattle.uca_fields.proofs.LeadLaws.{leads_more}
+use Rattle.uca_table.proofs.Pushes.{pushed}
+use Rattle.uca_table.specs.Elements.{BeginsElement}
+use Rattle.uca_table.proofs.ElementLaws.{element_takes, after_element, weight_cause, limit_cause}
+use Rattle.uca_table.proofs.elements.read_elements.Goals as goal
+
+pub returns-in_default-clause-fault : goal.returns-in_default-clause-fault
+returns-in_default-clause-fault g c =
+    inr (weight_cause c.args.text.now c.loop-rest.elements.items c.loop-rest.rest.now c.loop-rest.invariant.leads (sym c.opens.ensures ∙ c.if-not-opens.false) c.in_default.ensures)
+
+pub returns-then-len-eq-MOST_ELEMENTS-clause-fault : goal.returns-then-len-eq-MOST_ELEMENTS-clause-fault
+returns-then-len-eq-MOST_ELEMENTS-clause-fault g c =
+    let begins = element_takes c.loop-rest.rest.now c.in-Some.found.0 c.in-Some.found.1.now (sym c.in-Some.ensures) in
+    inr (limit_cause c.args.text.now c.loop-rest.elements.items c.loop-rest.rest.now c.in-Some.found.0 c.in-Some.found.1.now c.loop-rest.invariant.leads (omega arith) begins)
+
+pub loop-rest-smaller : goal.loop-rest-smaller
+loop-rest-smaller g c =
+    let begins = element_takes c.loop-rest.rest.now c.in-Some.found.0 c.in-Some.found.1.now (sym c.in-Some.ensures) in
+    omega (arith, ap length c.skip_blanks-rest-in-loop-rest.ensures, length-skip_blanks c.in-Some.found.1.now, after_element _ _ _ begins)
+
+pub loop-rest-preserved : goal.loop-rest-preserved
+loop-rest-preserved g c =
+    let begins = element_takes c.loop-rest.rest.now c.in-Some.found.0 c.in-Some.found.1.now (sym c.in-Some.ensures) in
+    let items = pushed c.push.new.self.items c.loop-rest.elements.items c.in-Some.found.0 _ _ c.push.ensures.items c.is_err.ensures.negation c.if-is_err.false in
+    record {
+      leads = leads_more BeginsElement c.args.text.now _ _ _ _ _ _ c.loop-rest.invariant.leads begins items c.skip_blanks-rest-in-loop-rest.ensures;
+      few = omega (arith, ap length items, length-append c.loop-rest.elements.items (c.in-Some.found.0 ∷ []));
+    }

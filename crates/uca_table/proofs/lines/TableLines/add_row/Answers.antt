@@ -1,0 +1,34 @@
+-- The set has the keys of the rows, and the row's is new.
+use Rattle.std.proofs.Common.{◌++◌, ◌∷◌, [], sym, ap, subst, ◌∙◌, inr, arith, refl}
+use Rattle.std.specs.Prelude.{IsSome}
+use Rattle.uca_values.specs.Content.{Entry}
+use Rattle.uca_table.specs.Begun.{Begun}
+use Rattle.uca_table.proofs.KeepingLaws.{with_rows, keeps_row, keeps_same, contained, not_contained, added_at}
+use Rattle.uca_table.proofs.lines.TableLines.add_row.Goals as goal
+
+pub returns-then-contains-clause-fault : goal.returns-then-contains-clause-fault
+returns-then-contains-clause-fault g c =
+    let rows = ap (λ (b : Begun). b.rows) c.self.view_is in
+    let key = ap (λ (r : Entry). r.key) c.row.view_is in
+    inr (contained _ _ _ _ rows key ((c.self.invariant.keys c.row.inside.key).0 (sym c.contains.ensures ∙ c.if-contains.true)))
+
+pub invariant_of-self-in_default-insert : goal.invariant_of-self-in_default-insert
+invariant_of-self-in_default-insert g c =
+    keeps_same _ _ _ _ _ c.self.invariant (ap (with_rows _ _ _) c.in-Ok-reserve.ensures.items) (λ q. rw c.in_default-insert.ensures.err refl)
+
+pub invariant_of-self-2 : goal.invariant_of-self-2
+invariant_of-self-2 g c =
+    let key = ap (λ (r : Entry). r.key) c.row.view_is in
+    let items = c.in-Ok-push.ensures.items ∙ ap (λ rs. rs ++ c.args.row ∷ []) c.in-Ok-reserve.ensures.items in
+    keeps_row _ _ _ _ _ c.args.row c.self.invariant c.requires.entry
+    (not_contained _ _ _ _ refl key _ (c.self.invariant.keys c.row.inside.key) (sym c.contains.ensures ∙ c.if-contains.false))
+    (omega arith)
+    (let P : Begun → Type 0 = λ b. IsSome b.version in subst P (sym c.self.view_is) c.requires.versioned)
+    (ap (with_rows _ _ _) items)
+    (λ q. added_at _ _ _ _ _ (c.in-Ok.ensures.items ∙ c.as_slice.ensures.value ∙ key) (c.in-Ok-insert.ensures.updates.0 q))
+
+pub returns-clause-new : goal.returns-clause-new
+returns-clause-new g c =
+    let rows = ap (λ (b : Begun). b.rows) c.self.view_is in
+    let key = ap (λ (r : Entry). r.key) c.row.view_is in
+    not_contained _ _ _ _ rows key _ (c.self.invariant.keys c.row.inside.key) (sym c.contains.ensures ∙ c.if-contains.false)

@@ -1,0 +1,42 @@
+-- The elements of a row (UTS #10, section 9.1): `[.1C47.0020.0002][*0209.0020.0002]`.
+use Rattle.std.specs.Prelude.{◌≡◌, ◌≢◌, ℕ, ◌<◌, ◌≤◌, ◌⊎◌, ◌&&◌, ◌||◌, ◌==◌, Bool, true, false, List, [], ◌∷◌, ◌++◌, length, if◌then◌else◌}
+use Rattle.uca_weights.specs.declared.Element.{Element}
+use Rattle.uca_files.specs.declared.FaultKind.{FaultKind}
+use Rattle.uca_files.specs.declared.FaultKind.TheVariants as kinds
+use Rattle.uca_fields.specs.Text.{skip_blanks}
+use Rattle.uca_fields.specs.Number.{digits}
+use Rattle.uca_fields.specs.Leads.{Leads}
+use Rattle.uca_values.specs.Content.{Fits}
+
+-- `*` for a variable element, `.` for another
+abbrev pub mark_byte : Bool → ℕ
+mark_byte b = if b then 42 else 46
+
+-- `[`, the mark, three weights of four digits with `.` between them, and `]`
+unfoldable pub element_text : Element → List ℕ
+element_text e = 91 ∷ mark_byte e.mark ∷ (digits 4 e.primary ++ 46 ∷ (digits 4 e.secondary ++ 46 ∷ (digits 4 e.tertiary ++ 93 ∷ [])))
+
+-- the text begins with the one spelling of the element
+pub record BeginsElement (text : List ℕ) (e : Element) (more : List ℕ) : Type 0 where
+  pub parts : text ≡ element_text e ++ more
+  pub fits : Fits e
+
+-- 1 to 32 elements, with or without blanks around them
+pub record AreElements (text : List ℕ) (elements : List Element) : Type 0 where
+  pub texts : Leads BeginsElement text elements []
+  pub some : 1 ≤ length elements
+  pub few : length elements ≤ 32
+
+-- how each element begins: `[.` or `[*`
+abbrev pub opens : List ℕ → Bool
+opens [] = false
+opens (a ∷ []) = false
+opens (a ∷ b ∷ bs) = a == 91 && (b == 46 || b == 42)
+
+-- A cause of the kind in the text of some elements: there is none, or after some of them stands something
+-- else; one begins and does not go on as an element does; or there are more than 32.
+abbrev pub ElementsCause : List ℕ → FaultKind → Type 0
+ElementsCause text kinds.Line = (skip_blanks text ≡ []) ⊎ ((front : List Element) × (rest : List ℕ) × Leads BeginsElement text front rest × (rest ≢ []) × (opens rest ≡ false))
+ElementsCause text kinds.Weight = (front : List Element) × (rest : List ℕ) × Leads BeginsElement text front rest × (opens rest ≡ true) × ((e : Element) (more : List ℕ) → BeginsElement rest e more → ⊥)
+ElementsCause text kinds.Limit = (front : List Element) × (rest : List ℕ) × Leads BeginsElement text front rest × (32 < length front)
+ElementsCause text _ = ⊥

@@ -1,0 +1,9 @@
+pub mod Begun
+pub mod Elements
+pub mod Rows
+pub mod Headers
+pub mod Lines
+pub mod Steps
+pub mod Keeping
+pub mod OneMore
+pub mod Worked

@@ -1,0 +1,46 @@
+-- The rows of a table file (UTS #10, section 9.1): `0061 0301 ; [.1C50.0020.0002]`.
+use Rattle.std.specs.Prelude.{◌≡◌, ◌≢◌, ℕ, ◌<◌, ◌≤◌, ◌⊎◌, List, [], ◌∷◌, length, None, Contains}
+use Rattle.uca_files.specs.declared.FaultKind.{FaultKind}
+use Rattle.uca_files.specs.declared.FaultKind.TheVariants as kinds
+use Rattle.uca_fields.specs.Text.{is_semicolon, up_to, from_first, skip_blanks, word_of}
+use Rattle.uca_fields.specs.Number.{code_point_of}
+use Rattle.uca_fields.specs.Leads.{Leads, BeginsCodePoint}
+use Rattle.uca_values.specs.Content.{Entry, keys_of}
+use Rattle.uca_table.specs.Elements.{AreElements, ElementsCause}
+
+-- 1 to 16 code points, with blanks between them
+pub record IsKey (text key : List ℕ) : Type 0 where
+  pub points : Leads BeginsCodePoint text key []
+  pub some : 1 ≤ length key
+  pub few : length key ≤ 16
+
+-- a key, `;` and elements
+pub record IsRow (text : List ℕ) (row : Entry) : Type 0 where
+  pub rest : List ℕ
+  pub cut : from_first is_semicolon text ≡ 59 ∷ rest
+  pub key : IsKey (up_to is_semicolon text) row.key
+  pub elements : AreElements rest row.elements
+
+-- A cause of the kind in the text of a key: there is no word; after some code points stands another word;
+-- or there are more than 16.
+abbrev pub KeyCause : List ℕ → FaultKind → Type 0
+KeyCause text kinds.Line = skip_blanks text ≡ []
+KeyCause text kinds.CodePoint = (front : List ℕ) × (rest : List ℕ) × Leads BeginsCodePoint text front rest × (rest ≢ []) × (code_point_of (word_of rest) ≡ None)
+KeyCause text kinds.Limit = (front : List ℕ) × (rest : List ℕ) × Leads BeginsCodePoint text front rest × (16 < length front)
+KeyCause text _ = ⊥
+
+-- why a row can't stand after these
+abbrev pub AddCause : List Entry → Entry → FaultKind → Type 0
+AddCause rows row kinds.DuplicateKey = Contains (keys_of rows) row.key
+AddCause rows row kinds.Limit = 200000 ≤ length rows
+AddCause rows row _ = ⊥
+
+-- A cause of the kind in the text of a row: in its key; no `;` stands in it; or in its elements.
+abbrev pub RowTextCause : List ℕ → FaultKind → Type 0
+RowTextCause text kind = KeyCause (up_to is_semicolon text) kind
+    ⊎ ((from_first is_semicolon text ≡ []) × (kind ≡ kinds.Line))
+    ⊎ ((rest : List ℕ) × (from_first is_semicolon text ≡ 59 ∷ rest) × ElementsCause rest kind)
+
+-- the same of a row that follows others
+abbrev pub RowCause : List Entry → List ℕ → FaultKind → Type 0
+RowCause rows text kind = RowTextCause text kind ⊎ ((row : Entry) × IsRow text row × AddCause rows row kind)

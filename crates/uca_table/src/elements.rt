@@ -1,0 +1,113 @@
+//! The collation elements of a row.
+
+ghost use Rattle.std.specs.Prelude.{◌≡◌, ◌⊎◌, IfOk, IfErr};
+ghost use Rattle.std.specs.Option.{option_map};
+ghost use Rattle.uca_table.specs.Elements.{AreElements, ElementsCause};
+ghost use Rattle.uca_table.specs.Elements as Spelling;
+ghost use Rattle.uca_table.specs.Steps;
+
+use std::alloc::Allocator;
+use uca_fields::{skip_blanks, weight};
+use uca_files::FaultKind;
+use uca_weights::Element;
+
+/// How many elements a row may have.
+const MOST_ELEMENTS: usize = 32;
+
+/// The elements that a text spells, with or without blanks around them.
+///
+/// # Errors
+///
+/// At the first element that is none: `Line` where it does not begin as an element does, `Weight` where
+/// it does not go on so, and `Limit` where it is the thirty-third. `Line` where there is no element,
+/// `Memory` where a growth was refused.
+pub fn read_elements<A: Allocator>(alloc: A, text: &[u8]) -> Result<Vec<Element, A>, FaultKind>
+    ensures found { IfOk result (λ elements. AreElements text.now elements.items) }
+    ensures fault { IfErr result (λ kind. (kind ≡ FaultKind.Memory) ⊎ ElementsCause text.now kind) }
+{
+    let mut elements = Vec::new(alloc);
+    let mut rest = skip_blanks(text);
+    while !rest.is_empty() {
+        if !opens(rest) {
+            return Err(FaultKind::Line);
+        }
+        let Some(found) = element(rest) else {
+            return Err(FaultKind::Weight);
+        };
+        if elements.len() == MOST_ELEMENTS {
+            return Err(FaultKind::Limit);
+        }
+        if elements.push(found.0).is_err() {
+            return Err(FaultKind::Memory);
+        }
+        rest = skip_blanks(found.1);
+    }
+    if elements.is_empty() {
+        return Err(FaultKind::Line);
+    }
+    Ok(elements)
+}
+
+fn opens(text: &[u8]) -> bool
+    ensures { result ≡ Spelling.opens text.now }
+{
+    match text {
+        [b'[', mark, ..] => *mark == b'.' || *mark == b'*',
+        _ => false,
+    }
+}
+
+// The element at the front of the text, and what follows it.
+#[tactic(auto, unfolding(crate::specs::Steps::element_at))]
+fn element(text: &[u8]) -> Option<(Element, &[u8])>
+    ensures { option_map (λ found. (found.0, found.1.now)) result ≡ Steps.element_at text.now }
+{
+    let text = after_byte(text, b'[')?;
+    let (mark, text) = mark(text)?;
+    let (primary, text) = leading_weight(text)?;
+    let text = after_byte(text, b'.')?;
+    let (secondary, text) = leading_weight(text)?;
+    let text = after_byte(text, b'.')?;
+    let (tertiary, text) = leading_weight(text)?;
+    let text = after_byte(text, b']')?;
+    let element = Element {
+        primary,
+        secondary,
+        tertiary,
+        mark,
+    };
+    Some((element, text))
+}
+
+#[tactic(auto, unfolding(crate::specs::Steps::after_byte))]
+fn after_byte(text: &[u8], byte: u8) -> Option<&[u8]>
+    ensures { option_map (λ rest. rest.now) result ≡ Steps.after_byte byte text.now }
+{
+    match text {
+        [first, rest @ ..] if *first == byte => Some(rest),
+        _ => None,
+    }
+}
+
+#[tactic(auto, unfolding(crate::specs::Steps::mark_at))]
+fn mark(text: &[u8]) -> Option<(bool, &[u8])>
+    ensures { option_map (λ found. (found.0, found.1.now)) result ≡ Steps.mark_at text.now }
+{
+    match text {
+        [b'.', rest @ ..] => Some((false, rest)),
+        [b'*', rest @ ..] => Some((true, rest)),
+        _ => None,
+    }
+}
+
+#[tactic(auto, unfolding(crate::specs::Steps::weight_at))]
+fn leading_weight(text: &[u8]) -> Option<(u16, &[u8])>
+    ensures { option_map (λ found. (found.0, found.1.now)) result ≡ Steps.weight_at text.now }
+{
+    if text.len() < 4 {
+        return None;
+    }
+    let (digits, rest) = text.split_at(4);
+    let weight = weight(digits)?;
+    Some((weight, rest))
+}

@@ -1,0 +1,18 @@
+//! Table files: collation elements in the form of Unicode's `allkeys.txt` (UTS #10, section 9), read line
+//! by line. What they are read into, and the reader of data files, are offered here too.
+#![tactic(auto)]
+
+mod elements;
+mod headers;
+mod laws;
+mod lines;
+mod read;
+mod rows;
+#[cfg(test)]
+mod tests;
+
+pub use laws::worked_lines;
+pub use read::{read_table, read_table_in};
+pub use uca_data::{read_data, read_data_in};
+pub use uca_files::{FaultKind, TableFault};
+pub use uca_values::{Data, Header, ImplicitRange, Row, Table};

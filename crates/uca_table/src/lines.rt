@@ -1,0 +1,285 @@
+//! A table in the making, which takes the lines of a table file.
+
+ghost use Rattle.std.specs.Prelude.{◌≡◌};
+ghost use Rattle.uca_table.specs.Headers.{argument_of};
+
+use crate::headers::{is_version_name, may_follow, read_range, setting};
+use crate::rows::read_row;
+use std::alloc::{Allocator, Global};
+use std::collections::BTreeSet;
+use std::marker::Model;
+use std::str;
+use uca_fields::{cut_word, line_text, skip_blanks};
+use uca_files::{FaultKind, TakesLines};
+use uca_values::{Header, ImplicitRange, Row, Table};
+use uca_weights::Weighting;
+
+/// How many `@implicitweights` lines a table may have.
+const MOST_RANGES: usize = 256;
+
+/// How many rows a table may have.
+const MOST_ROWS: usize = 200_000;
+
+/// What the lines of a table file say so far.
+#[derive(Drop)]
+pub struct TableLines<A: Allocator + Copy = Global> {
+    alloc: A,
+    version: Option<String<A>>,
+    setting: Option<Weighting>,
+    ranges: Vec<ImplicitRange, A>,
+    rows: Vec<Row<A>, A>,
+    keys: BTreeSet<Vec<char, A>, A>,
+}
+
+impl<A: Allocator + Copy> Model for TableLines<A> {
+    ghost use Rattle.std.specs.Prelude.{string_bytes};
+    ghost use Rattle.std.specs.Option.{option_map};
+    ghost use Rattle.std.specs.Ordering.{nat_cmp};
+    ghost use Rattle.std.specs.Cmp.Lexicographic.{slice_cmp};
+    ghost use Rattle.std.specs.BTreeSet.{contains};
+    ghost use Rattle.uca_table.specs.Begun.{Begun};
+    ghost use Rattle.uca_table.specs.Keeping.{Keeps};
+
+    ghost Value = { Begun };
+
+    ghost view = { λ t. record {
+      version = option_map string_bytes t.version;
+      setting = t.setting;
+      ranges = t.ranges.items;
+      rows = t.rows.items;
+    } };
+
+    ghost invariant = { λ t. Keeps (λ k. k.items)
+        (contains (λ a b. slice_cmp nat_cmp a.items b.items) t.keys)
+        (record {
+          version = option_map string_bytes t.version;
+          setting = t.setting;
+          ranges = t.ranges.items;
+          rows = t.rows.items;
+        }) };
+}
+
+impl<A: Allocator + Copy> TableLines<A> {
+    ghost use Rattle.std.specs.Prelude.{◌≡◌, [], None, Some, MatchOption};
+    ghost use Rattle.uca_table.specs.Lines.{IsUnfinished, Gives};
+
+    /// Nothing is said yet. It takes no memory.
+    pub fn new(alloc: A) -> Self
+        ensures { result ≡ record { version = None; setting = None; ranges = []; rows = [] } }
+    {
+        TableLines {
+            alloc,
+            version: None,
+            setting: None,
+            ranges: Vec::new(alloc),
+            rows: Vec::new(alloc),
+            keys: BTreeSet::new(alloc),
+        }
+    }
+
+    /// The table, or None where no version is said.
+    pub fn into_table(self) -> Option<Table<A>>
+        ensures { MatchOption result (IsUnfinished self) (λ table. Gives self table) }
+    {
+        let TableLines {
+            alloc: _,
+            version,
+            setting,
+            ranges,
+            rows,
+            keys: _,
+        } = self;
+        let version = version?;
+        let header = Header {
+            version,
+            setting,
+            ranges,
+        };
+        Some(Table { header, rows })
+    }
+}
+
+impl<A: Allocator + Copy> TableLines<A> {
+    ghost use Rattle.std.specs.Prelude.{◌≡◌, ◌≢◌, ◌⊎◌, ◌<◌, ◌++◌, [], ◌∷◌, length, Contains, true, false, IsSome, IsTrue, ◌↔◌, OnOk, OnErr, IfErr};
+    ghost use Rattle.uca_fields.specs.Text.{word_of};
+    ghost use Rattle.uca_values.specs.Content.{IsEntry, keys_of};
+    ghost use Rattle.uca_table.specs.Headers.{at_version, at_variable, at_ranges};
+    ghost use Rattle.uca_table.specs.Rows.{AddCause};
+    ghost use Rattle.uca_table.specs.Lines.{begins_at, IsDue, ForSetting, ForRange, TakesText, TextCause};
+
+    // Takes the text of a line that begins with `@`.
+    fn take_header_line(&mut self, text: &[u8]) -> Result<(), FaultKind>
+        requires { begins_at text.now ≡ true }
+        ensures ok { OnOk result (TakesText self.old text.now self.new) }
+        ensures fault { IfErr result (λ kind. (kind ≡ FaultKind.Memory) ⊎ TextCause self.old text.now kind) }
+    {
+        let (word, _) = cut_word(text);
+        if word == b"@version".as_slice() {
+            return self.take_version(text);
+        }
+        if word == b"@variable".as_slice() {
+            return self.take_setting(text);
+        }
+        if word == b"@implicitweights".as_slice() {
+            return self.take_range(text);
+        }
+        Err(FaultKind::Line)
+    }
+
+    fn take_version(&mut self, text: &[u8]) -> Result<(), FaultKind>
+        requires { word_of text.now ≡ at_version }
+        ensures ok { OnOk result (TakesText self.old text.now self.new) }
+        ensures fault { IfErr result (λ kind. (kind ≡ FaultKind.Memory) ⊎ TextCause self.old text.now kind) }
+    {
+        if self.version.is_some() {
+            return Err(FaultKind::Order);
+        }
+        let name = argument(text);
+        if !is_version_name(name) {
+            return Err(FaultKind::Line);
+        }
+        let name = str::from_utf8(name).unwrap();
+        let Ok(version) = String::from_str(self.alloc, name) else {
+            return Err(FaultKind::Memory);
+        };
+        self.version = Some(version);
+        Ok(())
+    }
+
+    fn is_setting_due(&self) -> bool
+        ensures { IsTrue result ↔ IsDue self.now ForSetting }
+    {
+        self.version.is_some()
+            && self.setting.is_none()
+            && self.ranges.is_empty()
+            && self.rows.is_empty()
+    }
+
+    fn is_range_due(&self) -> bool
+        ensures { IsTrue result ↔ IsDue self.now ForRange }
+    {
+        self.version.is_some() && self.rows.is_empty()
+    }
+
+    fn take_setting(&mut self, text: &[u8]) -> Result<(), FaultKind>
+        requires { word_of text.now ≡ at_variable }
+        ensures ok { OnOk result (TakesText self.old text.now self.new) }
+        ensures fault { IfErr result (λ kind. (kind ≡ FaultKind.Memory) ⊎ TextCause self.old text.now kind) }
+    {
+        if !self.is_setting_due() {
+            return Err(FaultKind::Order);
+        }
+        let Some(setting) = setting(argument(text)) else {
+            return Err(FaultKind::Line);
+        };
+        self.setting = Some(setting);
+        Ok(())
+    }
+
+    fn take_range(&mut self, text: &[u8]) -> Result<(), FaultKind>
+        requires { word_of text.now ≡ at_ranges }
+        ensures ok { OnOk result (TakesText self.old text.now self.new) }
+        ensures fault { IfErr result (λ kind. (kind ≡ FaultKind.Memory) ⊎ TextCause self.old text.now kind) }
+    {
+        if !self.is_range_due() {
+            return Err(FaultKind::Order);
+        }
+        let (_, rest) = cut_word(text);
+        let range = match read_range(rest) {
+            Ok(range) => range,
+            Err(kind) => return Err(kind),
+        };
+        if !may_follow(self.ranges.as_slice(), range) {
+            return Err(FaultKind::Range);
+        }
+        if self.ranges.len() >= MOST_RANGES {
+            return Err(FaultKind::Limit);
+        }
+        let Ok(()) = self.ranges.push(range) else {
+            return Err(FaultKind::Memory);
+        };
+        Ok(())
+    }
+
+    fn take_row(&mut self, text: &[u8]) -> Result<(), FaultKind>
+        requires some { text.now ≢ [] }
+        requires row { begins_at text.now ≡ false }
+        ensures ok { OnOk result (TakesText self.old text.now self.new) }
+        ensures fault { IfErr result (λ kind. (kind ≡ FaultKind.Memory) ⊎ TextCause self.old text.now kind) }
+    {
+        if self.version.is_none() {
+            return Err(FaultKind::Order);
+        }
+        match read_row(self.alloc, text) {
+            Ok(row) => self.add_row(row),
+            Err(kind) => Err(kind),
+        }
+    }
+
+    // Adds a row after the others.
+    fn add_row(&mut self, row: Row<A>) -> Result<(), FaultKind>
+        requires entry { IsEntry row }
+        requires versioned { IsSome self.old.version }
+        ensures new { OnOk result (Contains (keys_of self.old.rows) row.key → ⊥) }
+        ensures few { OnOk result (length self.old.rows < 200000) }
+        ensures ok { OnOk result (self.new ≡ record self.old { rows = self.old.rows ++ row ∷ [] }) }
+        ensures fault { IfErr result (λ kind. (kind ≡ FaultKind.Memory) ⊎ AddCause self.old.rows row kind) }
+        ensures unchanged { OnErr result (self.new ≡ self.old) }
+    {
+        if self.keys.contains(&row.key) {
+            return Err(FaultKind::DuplicateKey);
+        }
+        if self.rows.len() >= MOST_ROWS {
+            return Err(FaultKind::Limit);
+        }
+        let Ok(key) = Vec::from_slice(self.alloc, row.key.as_slice()) else {
+            return Err(FaultKind::Memory);
+        };
+        let Ok(()) = self.rows.reserve(1) else {
+            return Err(FaultKind::Memory);
+        };
+        let Ok(_) = self.keys.insert(key) else {
+            return Err(FaultKind::Memory);
+        };
+        let Ok(()) = self.rows.push(row) else {
+            return Err(FaultKind::Memory);
+        };
+        Ok(())
+    }
+}
+
+impl<A: Allocator + Copy> TakesLines for TableLines<A> {
+    ghost use Rattle.uca_table.specs.Lines.{Says, Takes, Cause};
+    ghost use Rattle.uca_table.specs.OneMore as one_more;
+
+    ghost says = { Says };
+
+    ghost takes = { Takes };
+
+    ghost cause = { Cause };
+
+    fn take(&mut self, line: &[u8]) -> Result<(), FaultKind> {
+        let text = line_text(line);
+        match text.first() {
+            None => {
+                // Looked at, so that the proof knows what always holds of the rows.
+                let _ = &self.rows;
+                Ok(())
+            }
+            Some(b'@') => self.take_header_line(text),
+            Some(_) => self.take_row(text),
+        }
+    }
+
+    ghost no_read = { one_more.no_read };
+
+    ghost says_more = { λ lines old line new said takes short few. one_more.says_more lines old line new said takes };
+}
+
+// What follows the first word of a text, blanks between them aside.
+fn argument(text: &[u8]) -> &[u8]
+    ensures { result.now ≡ argument_of text.now }
+{
+    let (_, rest) = cut_word(text);
+    skip_blanks(rest)
+}

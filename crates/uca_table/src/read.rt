@@ -1,0 +1,93 @@
+//! Reading of table files.
+
+ghost use Rattle.std.specs.Prelude.{◌≡◌, ◌||◌, IfOk, IfErr, IfSome, MatchResult};
+ghost use Rattle.uca_values.specs.Content.{TableContent};
+ghost use Rattle.uca_files.specs.Faults.{IsStop, is_read};
+ghost use Rattle.uca_files.specs.Files.{Refuses};
+ghost use Rattle.uca_table.specs.Lines.{Says, Cause, Means, IsUnfinished};
+
+use crate::lines::TableLines;
+use std::alloc::{Allocator, Global};
+use std::io::Read;
+use uca_files::{FaultKind, TableFault, read_lines};
+use uca_values::Table;
+use uca_weights::Source;
+
+/// Reads a table file: collation elements in the form of Unicode's own `allkeys.txt` (UTS #10, section
+/// 9.1).
+///
+/// One line `@version V` comes first, then at most one line `@variable non-ignorable` or
+/// `@variable shifted`, then lines `@implicitweights FIRST..LAST; LEAD`, then rows
+/// `CP CP ; [.W.W.W][*W.W.W]`. Empty lines may stand anywhere, and `#` begins a comment. All numbers are
+/// hexadecimal with upper-case digits.
+///
+/// # Errors
+///
+/// The first line that is refused, and why: of several causes in a line the first in this order.
+///
+/// - `Limit`: line 1,000,001, or a line of more than 4,096 bytes without its LF.
+/// - In a line that begins with `@`: `Line` for another first word; `Order` where the line is not due;
+///   `Line` for another version or setting. In a range `Line` where no `;` or no `..` stands, then
+///   `CodePoint`, then `Weight` for a lead that is not four digits, then `Range` where the range is empty,
+///   has a lead outside FB00 to FB3F, overlaps an earlier one, or lies too far from those with its lead,
+///   then `Limit` for the 257th such line.
+/// - In a row: `Order` where no version stands before it. Word by word `CodePoint`, and `Limit` for the
+///   seventeenth code point; `Line` where there is no word, or no `;` behind them. Element by element
+///   `Line` where it does not begin as an element does, `Weight` where it does not go on so, and `Limit`
+///   for the 33rd; `Line` where there is none. Then `DuplicateKey`, and `Limit` for row 200,001.
+/// - `Line`: no LF ends the line.
+/// - `Order`, with the number of lines plus one: the file ends without a version.
+///
+/// `Read` where the source failed, and `Memory` where a growth was refused, come with the line that was
+/// being read.
+pub fn read_table<R: Read>(alloc: Global, source: &mut Source<R>) -> Result<Table, TableFault>
+    // Where the bytes are known.
+    ensures found { IfSome source.old.remaining (λ bytes. IfOk result (λ read. Means bytes read)) }
+    ensures only { IfSome source.old.remaining (λ bytes. (table : TableContent) → Means bytes table →
+        MatchResult result (λ read. read ≡ table) (λ fault. IsStop fault.kind)) }
+    ensures fault { IfSome source.old.remaining (λ bytes. IfErr result (λ fault.
+        Refuses Says Cause IsUnfinished bytes source.new.remaining fault.line fault.kind)) }
+
+    // At any source.
+    ensures failed { source.new.failed ≡ (source.old.failed || is_read result) }
+{
+    read_table_in(alloc, source)
+}
+
+/// The same with any allocator.
+pub fn read_table_in<A: Allocator + Copy, R: Read>(
+    alloc: A,
+    source: &mut Source<R>,
+) -> Result<Table<A>, TableFault>
+    // Where the bytes are known.
+    ensures found { IfSome source.old.remaining (λ bytes. IfOk result (λ read. Means bytes read)) }
+    ensures only { IfSome source.old.remaining (λ bytes. (table : TableContent) → Means bytes table →
+        MatchResult result (λ read. read ≡ table) (λ fault. IsStop fault.kind)) }
+    ensures fault { IfSome source.old.remaining (λ bytes. IfErr result (λ fault.
+        Refuses Says Cause IsUnfinished bytes source.new.remaining fault.line fault.kind)) }
+
+    // At any source.
+    ensures failed { source.new.failed ≡ (source.old.failed || is_read result) }
+{
+    read_to_end(alloc, source)
+}
+
+fn read_to_end<A: Allocator + Copy, R: Read>(
+    alloc: A,
+    source: &mut Source<R>,
+) -> Result<Table<A>, TableFault>
+    ensures found { IfSome source.old.remaining (λ bytes. IfOk result (λ read. Means bytes read)) }
+    ensures fault { IfSome source.old.remaining (λ bytes. IfErr result (λ fault.
+        Refuses Says Cause IsUnfinished bytes source.new.remaining fault.line fault.kind)) }
+    ensures failed { source.new.failed ≡ (source.old.failed || is_read result) }
+{
+    let mut lines = TableLines::new(alloc);
+    let count = read_lines(alloc, source, &mut lines)?;
+    let Some(table) = lines.into_table() else {
+        return Err(TableFault {
+            line: count + 1,
+            kind: FaultKind::Order,
+        });
+    };
+    Ok(table)
+}

@@ -1,0 +1,62 @@
+//! The rows of a table file.
+
+ghost use Rattle.std.specs.Prelude.{◌≡◌, ◌⊎◌, IfOk, IfErr};
+ghost use Rattle.uca_table.specs.Rows.{IsKey, KeyCause, IsRow, RowTextCause};
+
+use crate::elements::read_elements;
+use std::alloc::Allocator;
+use uca_fields::{code_point, cut_at, cut_word, skip_blanks};
+use uca_files::FaultKind;
+use uca_values::Row;
+
+/// How many code points the key of a row may have.
+const MOST_CODE_POINTS: usize = 16;
+
+/// The row that a text spells: a key, `;` and elements.
+///
+/// # Errors
+///
+/// Those of the key, then `Line` where no `;` stands, then those of the elements.
+pub fn read_row<A: Allocator + Copy>(alloc: A, text: &[u8]) -> Result<Row<A>, FaultKind>
+    ensures found { IfOk result (λ row. IsRow text.now row) }
+    ensures fault { IfErr result (λ kind. (kind ≡ FaultKind.Memory) ⊎ RowTextCause text.now kind) }
+{
+    let (front, back) = cut_at(text, b';');
+    let key = read_key(alloc, front)?;
+    let Some((_, back)) = back.split_first() else {
+        return Err(FaultKind::Line);
+    };
+    let elements = read_elements(alloc, back)?;
+    Ok(Row { key, elements })
+}
+
+/// The code points that a text spells, with blanks between them.
+///
+/// # Errors
+///
+/// At the first word that is refused: `CodePoint` where it is no code point, and `Limit` where it is the
+/// seventeenth. `Line` where there is no word, `Memory` where a growth was refused.
+pub fn read_key<A: Allocator>(alloc: A, text: &[u8]) -> Result<Vec<char, A>, FaultKind>
+    ensures found { IfOk result (λ key. IsKey text.now key.items) }
+    ensures fault { IfErr result (λ kind. (kind ≡ FaultKind.Memory) ⊎ KeyCause text.now kind) }
+{
+    let mut key = Vec::new(alloc);
+    let mut rest = skip_blanks(text);
+    while !rest.is_empty() {
+        let (word, more) = cut_word(rest);
+        let Some(point) = code_point(word) else {
+            return Err(FaultKind::CodePoint);
+        };
+        if key.len() == MOST_CODE_POINTS {
+            return Err(FaultKind::Limit);
+        }
+        if key.push(point).is_err() {
+            return Err(FaultKind::Memory);
+        }
+        rest = skip_blanks(more);
+    }
+    if key.is_empty() {
+        return Err(FaultKind::Line);
+    }
+    Ok(key)
+}
