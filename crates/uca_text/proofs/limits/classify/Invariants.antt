@@ -1,0 +1,10 @@
+use Rattle.std.proofs.Common.{◌≡◌, map, take}
+use Rattle.uca_values.specs.Ranges.{class_in}
+use Rattle.uca_text.proofs.Runs.{IsCounted}
+use Rattle.uca_text.proofs.limits.classify.Given as goal
+
+abbrev pub invariant-loop-place : goal.invariant-loop-place
+invariant-loop-place g l = record {
+  items : l.classes.items ≡ map (class_in l.data.classes) (take l.place l.points);
+  counted : IsCounted (map (class_in l.data.classes) l.points) l.place l.run;
+}

@@ -1,0 +1,12 @@
+-- Why a text is refused.
+use Rattle.std.specs.Prelude.{◌<◌, ◌≤◌, length, ⊤}
+use Rattle.uca_text.specs.declared.limits.TextFault.{TextFault}
+use Rattle.uca_text.specs.declared.limits.TextFault.TheVariants.{TooLong, LongRun, Memory}
+use Rattle.uca_text.specs.Texts.{Spelled}
+use Rattle.uca_text.specs.Limits.{IsFirstLongRun}
+
+-- the cause of each fault, of which the length comes first; any growth may be refused
+abbrev pub IsCause : Spelled → TextFault → Type 0
+IsCause s TooLong = 1048576 < length s.points
+IsCause s (LongRun place) = (length s.points ≤ 1048576) × IsFirstLongRun s.classes place
+IsCause s Memory = ⊤

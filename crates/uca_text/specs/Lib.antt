@@ -1,0 +1,4 @@
+pub mod Texts
+pub mod Limits
+pub mod Faults
+pub mod Laws

@@ -1,0 +1,23 @@
+-- How long a text may be, and how many non-starters may stand in a row.
+use Rattle.std.specs.Prelude.{◌≡◌, ℕ, ◌+◌, ◌<◌, ◌≤◌, List, length, slice_index}
+use Rattle.uca_text.specs.Texts.{Spelled}
+
+-- more than 64 non-starters in a row stand from `place` on
+pub record IsLongRun (classes : List ℕ) (place : ℕ) : Type 0 where
+  pub within : place + 65 ≤ length classes
+  pub marks : (k : ℕ) → k < 65 → 0 < slice_index classes (place + k)
+
+abbrev pub HasNoLongRun : List ℕ → Type 0
+HasNoLongRun classes = (place : ℕ) → ¬ (IsLongRun classes place)
+
+-- the first such place, which is the first non-starter of its run
+pub record IsFirstLongRun (classes : List ℕ) (place : ℕ) : Type 0 where
+  pub run : IsLongRun classes place
+  pub first : (earlier : ℕ) → earlier < place → ¬ (IsLongRun classes earlier)
+
+-- what holds of every text that is accepted: each code point has its class, there are at most
+-- 1,048,576 of them, and at most 64 non-starters stand in a row
+pub record IsAccepted (s : Spelled) : Type 0 where
+  pub same : length s.classes ≡ length s.points
+  pub few : length s.points ≤ 1048576
+  pub short_runs : HasNoLongRun s.classes

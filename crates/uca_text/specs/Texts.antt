@@ -1,0 +1,42 @@
+-- Texts: code points, each with its canonical combining class.
+use Rattle.std.specs.Prelude.{◌≡◌, ℕ, List, [], ◌∷◌, Bool, nat_eq, map}
+use Rattle.unicode_normalization.specs.Forms.{nfd}
+use Rattle.uca_values.specs.Content.{Properties}
+
+-- a code point and its combining class
+pub record Letter : Type 0 where
+  pub code : ℕ
+  pub class : ℕ
+
+abbrev pub Text : Type 0
+Text = List Letter
+
+abbrev pub code_points : Text → List ℕ
+code_points [] = []
+code_points (c ∷ t) = c.code ∷ code_points t
+
+-- a starter has class 0; the others are non-starters
+abbrev pub is_starter : Letter → Bool
+is_starter c = nat_eq c.class 0
+
+-- code points with their classes
+abbrev pub letters : List ℕ → List ℕ → Text
+letters [] classes = []
+letters (c ∷ points) [] = []
+letters (c ∷ points) (k ∷ classes) = record { code = c; class = k } ∷ letters points classes
+
+-- code points, and beside them the class of each
+pub record Spelled : Type 0 where
+  pub points : List ℕ
+  pub classes : List ℕ
+
+-- a text in Normalization Form D (UAX #15), with the classes of a data file
+abbrev pub spelled : Properties → List ℕ → Spelled
+spelled properties points = record { points = nfd points; classes = map properties.class (nfd points) }
+
+-- two texts are canonically equivalent if their canonical decompositions are the same (The Unicode Standard, section 3.7)
+abbrev pub AreCanonicallyEquivalent : List ℕ → List ℕ → Type 0
+AreCanonicallyEquivalent s t = nfd s ≡ nfd t
+
+abbrev pub letters_of : Spelled → Text
+letters_of s = letters s.points s.classes

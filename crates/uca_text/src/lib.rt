@@ -1,0 +1,13 @@
+//! Texts for collation: code points in Normalization Form D (UAX #15), each with its canonical
+//! combining class (UAX #44), within fixed limits on length and on runs of non-starters.
+#![tactic(auto)]
+
+mod laws;
+mod limits;
+#[cfg(test)]
+mod tests;
+mod texts;
+
+pub use laws::canonically_equivalent_texts_are_spelled_alike;
+pub use limits::{TextFault, normal};
+pub use texts::Normal;

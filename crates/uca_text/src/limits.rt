@@ -1,0 +1,161 @@
+//! Bringing a text to Normalization Form D within the limits.
+ghost use Rattle.std.specs.Prelude.{◌≡◌, ◌≤◌, [], chars, length, map, IfOk, IfErr, OnOk, OnErr};
+ghost use Rattle.unicode_normalization.specs.Forms.{nfd};
+ghost use Rattle.uca_values.specs.Content.{properties_of};
+ghost use Rattle.uca_values.specs.Ranges.{class_in};
+ghost use Rattle.uca_text.specs.Texts.{spelled};
+ghost use Rattle.uca_text.specs.Limits.{IsAccepted, HasNoLongRun};
+ghost use Rattle.uca_text.specs.Faults.{IsCause};
+
+use crate::Normal;
+use std::alloc::{AllocError, AllocFailed, Allocator, Global};
+use thiserror::Error;
+use uca_values::Data;
+use unicode_normalization::QuickCheck;
+use unicode_normalization::slice::{extend_nfd, is_nfd_quick};
+
+/// How many code points a text may have in Normalization Form D.
+const LONGEST_TEXT: usize = 1_048_576;
+
+/// How many non-starters may stand in a row.
+const LONGEST_RUN: usize = 64;
+
+/// Why a text is refused.
+#[derive(Clone, Copy, Debug, PartialEq, Eq, Error)]
+pub enum TextFault {
+    /// It has more than 1,048,576 code points in Normalization Form D.
+    #[error("TooLong")]
+    TooLong,
+    /// More than 64 non-starters stand in a row. The number is the index, from 0, of the first of them
+    /// in Normalization Form D, and the run is the first such run.
+    #[error("LongRun at {0}")]
+    LongRun(u32),
+    /// There was no memory for the text.
+    #[error("Memory")]
+    Memory,
+}
+
+impl From<AllocError> for TextFault {
+    ghost use Rattle.std.specs.Prelude.{◌≡◌};
+    ghost use Rattle.uca_text.specs.declared.limits.TextFault.TheVariants.{Memory};
+
+    ghost from_gives = { λ _ fault. fault ≡ Memory };
+
+    fn from(_error: AllocError) -> TextFault {
+        TextFault::Memory
+    }
+}
+
+impl<T: Drop> From<AllocFailed<T>> for TextFault {
+    ghost use Rattle.std.specs.Prelude.{◌≡◌};
+    ghost use Rattle.uca_text.specs.declared.limits.TextFault.TheVariants.{Memory};
+
+    ghost from_gives = { λ _ fault. fault ≡ Memory };
+
+    fn from(_error: AllocFailed<T>) -> TextFault {
+        TextFault::Memory
+    }
+}
+
+/// The text in Normalization Form D, with the classes that `data` gives its code points.
+///
+/// # Errors
+///
+/// `TooLong` where the text has more than 1,048,576 code points in that form, and otherwise `LongRun`
+/// where more than 64 non-starters stand in a row there; `Memory` where an allocation is refused.
+pub fn normal<A: Allocator>(alloc: Global, text: &str, data: &Data<A>) -> Result<Normal, TextFault>
+    ensures found { IfOk result (λ n. n ≡ spelled (properties_of «data».now) (chars text.now)) }
+    ensures accepted { IfOk result IsAccepted }
+    ensures fault { IfErr result (IsCause (spelled (properties_of «data».now) (chars text.now))) }
+{
+    let mut normal = Normal::new(alloc);
+    normal.renew(text, data)?;
+    Ok(normal)
+}
+
+impl Normal {
+    /// Takes another text in place of this one, as [`normal`] makes it, in the memory that this one has.
+    ///
+    /// # Errors
+    ///
+    /// Those of [`normal`]. This text is then the empty one.
+    pub fn renew<A: Allocator>(&mut self, text: &str, data: &Data<A>) -> Result<(), TextFault>
+        ensures found { OnOk result (self.new ≡ spelled (properties_of «data».now) (chars text.now)) }
+        ensures accepted { IsAccepted self.new }
+        ensures fault { IfErr result (IsCause (spelled (properties_of «data».now) (chars text.now))) }
+        ensures emptied { OnErr result (self.new ≡ record { points = []; classes = [] }) }
+    {
+        if let Err(fault) = spell(&mut self.chars, &mut self.classes, text, data) {
+            self.chars.clear();
+            self.classes.clear();
+            return Err(fault);
+        }
+        Ok(())
+    }
+}
+
+/// Writes the text and its classes over what the two lists hold.
+fn spell<A: Allocator>(
+    points: &mut Vec<char>,
+    classes: &mut Vec<u8>,
+    text: &str,
+    data: &Data<A>,
+) -> Result<(), TextFault>
+    ensures points { OnOk result (points.new.items ≡ nfd (chars text.now)) }
+    ensures classes { OnOk result (classes.new.items ≡ map (class_in «data».now.classes) (nfd (chars text.now))) }
+    ensures accepted { OnOk result (IsAccepted (record { points = points.new.items; classes = classes.new.items })) }
+    ensures fault { IfErr result (IsCause (spelled (properties_of «data».now) (chars text.now))) }
+{
+    decompose(points, text)?;
+    if points.len() > LONGEST_TEXT {
+        return Err(TextFault::TooLong);
+    }
+    classify(classes, points, data)
+}
+
+/// Writes the code points of the text in Normalization Form D.
+#[tactic(auto, using(std::proofs::lemmas::Str::chars_from_encodes))]
+fn decompose(points: &mut Vec<char>, text: &str) -> Result<(), AllocError>
+    ensures { OnOk result (points.new.items ≡ nfd (chars text.now)) }
+{
+    points.clear();
+    for point in text.chars() {
+        points.push(point)?;
+    }
+    if is_nfd_quick(points) == QuickCheck::Yes {
+        return Ok(());
+    }
+    let mut decomposed = Vec::with_capacity(*points.allocator(), points.len())?;
+    extend_nfd(&mut decomposed, points)?;
+    *points = decomposed;
+    Ok(())
+}
+
+/// Writes the class of each code point, unless more than 64 non-starters stand in a row.
+#[tactic(auto, using(crate::proofs::Runs::nothing_counted, crate::proofs::Runs::all_classes))]
+fn classify<A: Allocator>(
+    classes: &mut Vec<u8>,
+    points: &[char],
+    data: &Data<A>,
+) -> Result<(), TextFault>
+    requires { length points.now ≤ 1048576 }
+    ensures found { OnOk result (classes.new.items ≡ map (class_in «data».now.classes) points.now) }
+    ensures short_runs { OnOk result (HasNoLongRun classes.new.items) }
+    ensures fault { IfErr result (IsCause (record { points = points.now; classes = map (class_in «data».now.classes) points.now })) }
+{
+    classes.clear();
+    classes.reserve(points.len())?;
+    let mut run = 0;
+    for (place, point) in points.iter().enumerate() {
+        let class = data.class(*point);
+        classes.push(class)?;
+        if class == 0 {
+            run = 0;
+        } else if run < LONGEST_RUN {
+            run += 1;
+        } else {
+            return Err(TextFault::LongRun((place - LONGEST_RUN) as u32));
+        }
+    }
+    Ok(())
+}
