@@ -1,0 +1,14 @@
+pub mod Extending
+pub mod Removed
+pub mod Matching
+pub mod ReadingLaws
+pub mod Left
+pub mod RowPlaces
+pub mod Gone
+pub mod Extended
+pub mod Going
+pub mod Ending
+pub mod Walking
+pub mod Portions
+pub mod SameReading
+pub mod RowsByKey

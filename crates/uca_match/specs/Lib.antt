@@ -1,0 +1,11 @@
+pub mod Rows
+pub mod Reading
+pub mod Lookups
+pub mod RowLists
+pub mod Places
+pub mod Matches
+pub mod Extensions
+pub mod Rest
+pub mod Laws
+pub mod WorkedTable
+pub mod WorkedReadings

@@ -1,0 +1,53 @@
+//! What a text is read by.
+ghost use Rattle.std.specs.Prelude.{◌≡◌};
+ghost use Rattle.uca_text.specs.Texts.{letters_of};
+ghost use Rattle.uca_values.specs.Content.{properties_of};
+ghost use Rattle.uca_match.specs.Reading.{collation_elements};
+
+use crate::places::Place;
+use crate::{Elements, Lookup};
+use std::alloc::{Allocator, Global};
+use uca_text::Normal;
+use uca_values::{Data, Header};
+
+/// What a text is read by: the rows of a table as a lookup, the table's header, and a data file.
+#[derive_where(Clone, Copy)]
+pub struct Collator<'a, L: Lookup, A: Allocator = Global> {
+    /// The rows.
+    pub lookup: &'a L,
+    /// The header of their table, which has the ranges for implicit weights.
+    pub header: &'a Header<A>,
+    /// Which code points are Han, for implicit weights.
+    pub data: &'a Data<A>,
+}
+
+impl<'a, L: Lookup, A: Allocator> Collator<'a, L, A> {
+    /// A collator of these. It takes no memory.
+    pub fn new(lookup: &'a L, header: &'a Header<A>, data_file: &'a Data<A>) -> Self
+        ensures lookup { result.lookup.now ≡ lookup.now }
+        ensures header { result.header.now ≡ header.now }
+        ensures data_file { result.data.now ≡ data_file.now }
+    {
+        Collator {
+            data: data_file,
+            lookup,
+            header,
+        }
+    }
+
+    /// The collation elements of `text`, in order (UTS #10, section 7.2). It takes no memory.
+    pub fn elements<'t>(&'t self, text: &'t Normal) -> Elements<'t, L, A>
+        ensures { result ≡ collation_elements (L.content self.now.lookup.now) self.now.header.now.ranges
+            (properties_of self.now.data.now) (letters_of text.now) }
+    {
+        Elements {
+            data: self.data,
+            lookup: self.lookup,
+            header: self.header,
+            text,
+            place: Place::start(),
+            second: None,
+            row: &[],
+        }
+    }
+}

@@ -1,0 +1,18 @@
+//! Matching a text against the rows of a table: the collation elements that a text reads as
+//! (UTS #10, section 7.2, "Produce Collation Element Arrays").
+#![tactic(auto)]
+
+mod collator;
+mod elements;
+pub mod laws;
+mod lookup;
+mod matches;
+mod places;
+mod row_list;
+#[cfg(test)]
+mod tests;
+
+pub use collator::Collator;
+pub use elements::Elements;
+pub use lookup::Lookup;
+pub use row_list::{RowList, RowNode};

@@ -1,0 +1,37 @@
+//! What a text is matched against.
+ghost use Rattle.std.specs.Prelude.{◌≡◌, ℕ, List, [], ◌∷◌, ◌++◌, Option, Some, None, MatchOption};
+ghost use Rattle.uca_weights.specs.declared.Element.{Element};
+ghost use Rattle.uca_match.specs.Lookups.{BeginsSomeKey, BeginsNoKey};
+
+use uca_weights::Element;
+
+/// A finite map from keys, which are lists of code points, to collation elements, in a form in which
+/// a key is found code point by code point.
+///
+/// A node stands for the list of code points that led to it. Nodes of one value mean nothing to another.
+pub trait Lookup {
+    /// A list of code points with which some key begins, or the empty list.
+    type Node: Copy;
+
+    ghost content: { Self → List ℕ → Option (List Element) };
+
+    ghost stands_for: { Self → Self.Node → List ℕ → Type 0 };
+
+    /// The node of the empty list.
+    fn root(&self) -> Self::Node
+        ensures { stands_for self.now result [] };
+
+    /// The node of the list that `node` stands for followed by `c`: there is one exactly if some key
+    /// begins with that list.
+    fn step(&self, node: Self::Node, c: char) -> Option<Self::Node>
+        requires { (key : List ℕ) × stands_for self.now node key }
+        ensures { (key : List ℕ) → stands_for self.now node key →
+            MatchOption result (BeginsNoKey (content self.now) (key ++ c ∷ []))
+            (λ next. BeginsSomeKey (content self.now) (key ++ c ∷ []) × stands_for self.now next (key ++ c ∷ [])) };
+
+    /// The elements of the list that `node` stands for, lent: there are some exactly if it is a key.
+    fn elements(&self, node: Self::Node) -> Option<&[Element]>
+        requires { (key : List ℕ) × stands_for self.now node key }
+        ensures { (key : List ℕ) → stands_for self.now node key →
+            MatchOption result (content self.now key ≡ None) (λ row. content self.now key ≡ Some row.now) };
+}
