@@ -1,0 +1,4 @@
+pub mod KeyOrder
+pub mod Equivalence
+pub mod BufferLemmas
+pub mod KeyLength

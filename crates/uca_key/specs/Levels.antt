@@ -1,0 +1,113 @@
+-- Weights, level lists, the order of texts by them, and their keys.
+use Rattle.std.specs.Prelude.{ℕ, zero, suc, ◌/◌, ◌%◌, List, [], ◌∷◌, ◌++◌, map, Bool, false, not, filter, nat_eq, if◌then◌else◌, flat_map}
+use Rattle.std.specs.Ordering.{nat_cmp}
+use Rattle.std.specs.Cmp.Lexicographic.{slice_cmp}
+use Rattle.std.specs.declared.cmp.Ordering.{Ordering}
+use Rattle.std.specs.declared.cmp.Ordering.TheVariants.{Less, Equal, Greater}
+use Rattle.uca_weights.specs.declared.Element.{Element}
+use Rattle.uca_weights.specs.declared.Weighting.{Weighting}
+use Rattle.uca_weights.specs.declared.Weighting.TheVariants.{NonIgnorable, Shifted}
+
+-- ---- Weighted elements (UTS #10, section 4)
+
+-- the weights of an element at the levels from 1 on
+abbrev pub Weights : Type 0
+Weights = List ℕ
+
+abbrev pub plain_weights : Element → Weights
+plain_weights e = e.primary ∷ e.secondary ∷ e.tertiary ∷ []
+
+abbrev pub is_ignorable : Element → Bool
+is_ignorable e = nat_eq e.primary 0
+
+abbrev pub is_completely_ignorable : Element → Bool
+is_completely_ignorable e = if is_ignorable e then (if nat_eq e.secondary 0 then nat_eq e.tertiary 0 else false) else false
+
+-- Whether the nearest of the elements with a non-zero primary is variable. They stand nearest first.
+abbrev pub follows_variable : List Element → Bool
+follows_variable [] = false
+follows_variable (e ∷ earlier) = if is_ignorable e then follows_variable earlier else e.mark
+
+-- The shifted weights of an element behind earlier ones, nearest first. A variable element has its primary weight at the
+-- fourth level alone; one without a primary weight behind a variable one has none at all; and of the others each that has
+-- some weight has the greatest at the fourth level.
+abbrev pub shifted_weights : List Element → Element → Weights
+shifted_weights earlier e =
+    if e.mark then 0 ∷ 0 ∷ 0 ∷ e.primary ∷ [] else
+    if (if is_ignorable e then follows_variable earlier else false) then 0 ∷ 0 ∷ 0 ∷ 0 ∷ [] else
+    e.primary ∷ e.secondary ∷ e.tertiary ∷ (if is_completely_ignorable e then 0 else 0xFFFF) ∷ []
+
+-- each element's shifted weights, behind the earlier ones
+abbrev pub shifted_behind : List Element → List Element → List Weights
+shifted_behind earlier [] = []
+shifted_behind earlier (e ∷ es) = shifted_weights earlier e ∷ shifted_behind (e ∷ earlier) es
+
+abbrev pub weighted : Weighting → List Element → List Weights
+weighted NonIgnorable es = map plain_weights es
+weighted Shifted es = shifted_behind [] es
+
+abbrev pub level_count : Weighting → ℕ
+level_count NonIgnorable = 3
+level_count Shifted = 4
+
+-- ---- Level lists and their order (UTS #10, sections 1.1 and 7.4)
+
+-- the weight at a level, from 0 on; 0 where there is none
+abbrev pub weight_at : ℕ → Weights → ℕ
+weight_at n [] = 0
+weight_at zero (w ∷ ws) = w
+weight_at (suc n) (w ∷ ws) = weight_at n ws
+
+-- the non-zero weights of a level, in order
+abbrev pub level_list : ℕ → List Weights → List ℕ
+level_list n ws = filter (λ w. not (nat_eq w 0)) (map (weight_at n) ws)
+
+-- the level lists of n levels from the level `from` on
+abbrev pub level_lists_from : ℕ → ℕ → List Weights → List (List ℕ)
+level_lists_from start zero ws = []
+level_lists_from start (suc n) ws = level_list start ws ∷ level_lists_from (suc start) n ws
+
+abbrev pub level_lists : Weighting → List Element → List (List ℕ)
+level_lists weighting es = level_lists_from 0 (level_count weighting) (weighted weighting es)
+
+-- how two texts compare: the order, and the level at which they differ, 0 where none does
+pub record Comparison : Type 0 where
+  pub order : Ordering
+  pub level : ℕ
+
+-- as a dictionary, where a beginning is less
+abbrev pub dictionary : List ℕ → List ℕ → Ordering
+dictionary = slice_cmp nat_cmp
+
+-- what a level says, or else the levels after it
+abbrev pub decided : Ordering → ℕ → Comparison → Comparison
+decided Less level later = record { order = Less; level = level }
+decided Equal level later = later
+decided Greater level later = record { order = Greater; level = level }
+
+-- by the first level whose lists differ; the first of these is the level n
+abbrev pub compare_from : ℕ → List (List ℕ) → List (List ℕ) → Comparison
+compare_from n (a ∷ left) (b ∷ right) = decided (dictionary a b) n (compare_from (suc n) left right)
+compare_from n [] right = record { order = Equal; level = 0 }
+compare_from n (a ∷ left) [] = record { order = Equal; level = 0 }
+
+abbrev pub compared : Weighting → List Element → List Element → Comparison
+compared weighting left right = compare_from 1 (level_lists weighting left) (level_lists weighting right)
+
+-- ---- Keys (UTS #10, section 7.3)
+
+-- the high byte first
+abbrev pub weight_bytes : ℕ → List ℕ
+weight_bytes w = w / 256 ∷ w % 256 ∷ []
+
+abbrev pub level_bytes : List ℕ → List ℕ
+level_bytes ws = flat_map weight_bytes ws
+
+-- the levels in order, with two bytes 0 between two of them
+abbrev pub levels_bytes : List (List ℕ) → List ℕ
+levels_bytes [] = []
+levels_bytes (a ∷ []) = level_bytes a
+levels_bytes (a ∷ b ∷ more) = level_bytes a ++ (0 ∷ 0 ∷ levels_bytes (b ∷ more))
+
+abbrev pub key_bytes : Weighting → List Element → List ℕ
+key_bytes weighting es = levels_bytes (level_lists weighting es)

@@ -1,0 +1,5 @@
+pub mod Levels
+pub mod Laws
+pub mod Buffers
+pub mod Lengths
+pub mod WorkedKeys

@@ -1,0 +1,70 @@
+//! The sort key of a text.
+
+ghost use Rattle.std.specs.Prelude.{◌≡◌, ◌<◌, ◌^◌, length, IfOk};
+ghost use Rattle.std.specs.Iterator.{IsFinite};
+ghost use Rattle.std.specs.Iterator.Runs.{WholeRun};
+ghost use Rattle.uca_values.specs.Content.{properties_of};
+ghost use Rattle.uca_text.specs.Texts.{letters_of};
+ghost use Rattle.uca_text.specs.Limits.{IsAccepted};
+ghost use Rattle.uca_match.specs.Reading.{collation_elements};
+ghost use Rattle.uca_key.specs.Levels.{key_bytes};
+ghost use Rattle.uca_key.specs.Lengths.{HasShortRows};
+
+use crate::KeyBuffer;
+use std::alloc::{AllocError, Allocator, Global};
+use uca_match::{Collator, Lookup};
+use uca_text::Normal;
+use uca_weights::{Element, Weighting};
+
+/// The sort key of a text (UTS #10, section 7.3): that of its collation elements, by [`key_of`]. The error
+/// says that no memory was left.
+pub fn key<L: Lookup, A: Allocator>(
+    alloc: Global,
+    collator: &Collator<L, A>,
+    weighting: Weighting,
+    text: &Normal,
+) -> Result<Vec<u8>, AllocError>
+    ensures found { IfOk result (λ key. key.items ≡ key_bytes weighting
+        (collation_elements (L.content collator.now.lookup.now) collator.now.header.now.ranges
+        (properties_of collator.now.data.now) (letters_of text.now))) }
+    ensures short { HasShortRows (L.content collator.now.lookup.now) → IsAccepted text.now →
+        IfOk result (λ key. length key.items < 2 ^ 40) }
+{
+    key_in(alloc, collator, weighting, text)
+}
+
+/// The same in memory of any allocator.
+pub fn key_in<K: Allocator + Copy, L: Lookup, A: Allocator>(
+    alloc: K,
+    collator: &Collator<L, A>,
+    weighting: Weighting,
+    text: &Normal,
+) -> Result<Vec<u8, K>, AllocError>
+    ensures found { IfOk result (λ key. key.items ≡ key_bytes weighting
+        (collation_elements (L.content collator.now.lookup.now) collator.now.header.now.ranges
+        (properties_of collator.now.data.now) (letters_of text.now))) }
+    ensures short { HasShortRows (L.content collator.now.lookup.now) → IsAccepted text.now →
+        IfOk result (λ key. length key.items < 2 ^ 40) }
+{
+    let mut buffer = KeyBuffer::new(alloc, weighting);
+    buffer.write_text(collator, text)?;
+    Ok(buffer.into_bytes())
+}
+
+/// The sort key of the elements (UTS #10, section 7.3): the weights of each level in order that are not 0, two
+/// bytes each with the high byte first, and two bytes 0 between two levels. There are three levels, and
+/// four under `Shifted`. The error says that no memory was left.
+pub fn key_of<I: Iterator<Item = Element> + Drop, A: Allocator + Copy>(
+    alloc: A,
+    weighting: Weighting,
+    elements: I,
+) -> Result<Vec<u8, A>, AllocError>
+    requires can { I.can_next elements }
+    requires finite { IsFinite (I.remaining elements) }
+    ensures { IfOk result (λ key. WholeRun I.next_gives elements (λ p.
+        key.items ≡ key_bytes weighting p.items)) }
+{
+    let mut buffer = KeyBuffer::new(alloc, weighting);
+    buffer.write(elements)?;
+    Ok(buffer.into_bytes())
+}

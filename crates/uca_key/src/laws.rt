@@ -1,0 +1,32 @@
+//! What holds of the keys of all texts. The functions do nothing: their contracts are the laws.
+
+ghost use Rattle.uca_key.specs.Laws.{KeysCompareAsElements, CanonicallyEquivalentTextsHaveEqualKeys, KeysAreShort, RowsAreShort};
+ghost use Rattle.uca_key.specs.WorkedKeys.{WorkedKeys};
+
+/// Byte order of keys is multilevel comparison (UTS #10, sections 1.1 and 7.4): under either weighting, the
+/// bytes of two keys compare as the elements do level by level, and two keys are equal exactly where no
+/// level differs.
+pub fn keys_compare_as_elements()
+    ensures { KeysCompareAsElements }
+{}
+
+/// Canonically equivalent texts (UAX #15) have equal keys, under any table and either weighting.
+pub fn canonically_equivalent_texts_have_equal_keys()
+    ensures { CanonicallyEquivalentTextsHaveEqualKeys }
+{}
+
+/// The key of a text that keeps the limits has less than 2^40 bytes, where no row has more than 32
+/// elements.
+pub fn keys_are_short()
+    ensures { KeysAreShort }
+{}
+
+/// No row of a table has more than 32 elements, also where a lookup finds it.
+pub fn rows_are_short()
+    ensures { RowsAreShort }
+{}
+
+/// The definitions give some keys that were worked out by hand.
+pub fn worked_keys()
+    ensures { WorkedKeys }
+{}
