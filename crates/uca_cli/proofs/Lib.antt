@@ -1,0 +1,10 @@
+pub mod LongRuns
+pub mod LineCuts
+pub mod LinesSoFar
+pub mod Causes
+pub mod NextTexts
+pub mod PrintLemmas
+pub mod Printing
+pub mod Finishing
+pub mod Running
+pub mod LineLaws

@@ -1,0 +1,9 @@
+pub mod Input
+pub mod Keys
+pub mod KeysRun
+pub mod KeysSoFar
+pub mod Laws
+pub mod Print
+pub mod RoleText
+pub mod Texts
+pub mod Statuses

@@ -1,0 +1,26 @@
+-- A key as a line of output.
+use Rattle.std.specs.Prelude.{ℕ, ◌/◌, ◌%◌, List, [], ◌∷◌, ◌++◌, ◌&&◌, ◌==◌, nat_lt, if◌then◌else◌}
+use Rattle.std.specs.List.{join_with_byte}
+use Rattle.uca_fields.specs.Number.{upper_digit}
+
+-- a byte as two upper-case hexadecimal digits
+abbrev pub byte_digits : ℕ → List ℕ
+byte_digits b = upper_digit (b / 16) ∷ upper_digit (b % 16) ∷ []
+
+-- the digits of each two bytes
+abbrev pub groups : List ℕ → List (List ℕ)
+groups [] = []
+groups (a ∷ []) = byte_digits a ∷ []
+groups (a ∷ b ∷ more) = (byte_digits a ++ byte_digits b) ∷ groups more
+
+-- the groups with one space between
+unfoldable pub printed_groups : List ℕ → List ℕ
+printed_groups key = join_with_byte 32 (groups key)
+
+-- and LF behind them
+abbrev pub print_line : List ℕ → List ℕ
+print_line key = printed_groups key ++ 10 ∷ []
+
+-- what is printed of the byte at a place: its digits, behind a space where another group begins
+unfoldable pub printed_byte : ℕ → ℕ → List ℕ
+printed_byte place b = if nat_lt 0 place && (place % 2 == 0) then 32 ∷ byte_digits b else byte_digits b

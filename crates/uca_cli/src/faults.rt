@@ -1,0 +1,120 @@
+//! Why a run ends without its whole output.
+
+ghost use Rattle.std.specs.Prelude.{◌≡◌, Some};
+ghost use Rattle.uca_cli.specs.RoleText.{role_text};
+
+use std::fmt;
+use thiserror::Error;
+use uca_files::TableFault;
+use uca_text::TextFault;
+use uca_words::WordFault;
+
+/// What a file is for.
+#[derive(Clone, Copy, Debug, PartialEq, Eq)]
+pub enum Role {
+    /// The weight table.
+    Table,
+    /// The data file.
+    Data,
+    /// The tailoring rules.
+    Rules,
+    /// The certificate of a tailoring.
+    Certificate,
+    /// The weight table before a tailoring.
+    Base,
+    /// The weight table behind a tailoring.
+    Tailored,
+}
+
+impl Role {
+    /// The word for it.
+    pub fn name(self) -> &'static str
+        ensures { result.now ≡ role_text self }
+    {
+        match self {
+            Role::Table => "table",
+            Role::Data => "data",
+            Role::Rules => "rules",
+            Role::Certificate => "certificate",
+            Role::Base => "base",
+            Role::Tailored => "tailored",
+        }
+    }
+}
+
+impl fmt::Display for Role {
+    ghost output = { λ role. Some (role_text role) };
+
+    fn fmt<W: fmt::Write>(&self, f: &mut fmt::Formatter<W>) -> fmt::Result {
+        f.write_str(self.name())
+    }
+}
+
+/// Why a line of standard input is refused.
+#[derive(Clone, Copy, Debug, PartialEq, Eq, Error)]
+pub enum InputKind {
+    /// It is not UTF-8.
+    #[error("Utf8")]
+    Utf8,
+    /// It has more than 4,194,304 bytes, or its text more than 1,048,576 code points in
+    /// Normalization Form D (UAX #15).
+    #[error("TooLong")]
+    TooLong,
+    /// More than 64 non-starters stand in a row in Normalization Form D: the index, from 0, of the
+    /// first one of the first such run.
+    #[error("LongRun at {0}")]
+    LongRun(u32),
+    /// The reader failed.
+    #[error("Read")]
+    Read,
+    /// It is line 1,000,001.
+    #[error("Limit")]
+    Limit,
+    /// A growth was refused.
+    #[error("Memory")]
+    Memory,
+}
+
+/// Why a run ends without its whole output. Its text is the fault line on standard error.
+#[derive(Debug, Drop, Error)]
+pub enum RunFault {
+    /// A table or data file is refused, or cannot be read.
+    #[error("{role} {fault}")]
+    File {
+        /// What the file is for.
+        role: Role,
+        /// Where it is refused, and why.
+        fault: TableFault,
+    },
+    /// A line of the input is refused, or cannot be read.
+    #[error("input line {line}: {kind}")]
+    Input {
+        /// The line, counted from 1.
+        line: u32,
+        /// Why it is refused.
+        kind: InputKind,
+    },
+    /// The writer failed.
+    #[error("output: Write")]
+    Write {
+        /// How many bytes of the whole output went out before.
+        written: u64,
+    },
+    /// A growth was refused that belongs to no file and to no line.
+    #[error("memory")]
+    Memory,
+    /// A word that is to be compared is refused.
+    #[error("{}: {fault}", if *.right {"right"} else {"left"})]
+    Text {
+        /// Whether it is the second of the two words.
+        right: bool,
+        /// Why it is refused.
+        fault: TextFault,
+    },
+    /// A file does not open.
+    #[error("{0}: Open")]
+    Open(Role),
+    /// The command line is refused.
+    #[error("{0}")]
+    Words(WordFault),
+}

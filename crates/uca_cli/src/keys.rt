@@ -1,0 +1,289 @@
+//! The run that prints the sort key of each line.
+
+ghost use Rattle.std.specs.Prelude.{◌≡◌, ℕ, ◌+◌, ◌-◌, ◌*◌, ◌^◌, ◌<◌, ◌≤◌, ◌||◌, true, false, List, Option, IfOk, IfSome, OnOk, length};
+ghost use Rattle.std.specs.Io.KnownBytes.{Appends};
+ghost use Rattle.uca_weights.specs.Writes.{WentOut};
+ghost use Rattle.std.specs.Bool.{OnTrue};
+ghost use Rattle.uca_values.specs.Content.{properties_of};
+ghost use Rattle.uca_text.specs.Texts.{letters_of};
+ghost use Rattle.uca_text.specs.Limits.{IsAccepted};
+ghost use Rattle.uca_lines.specs.OutputBuffer.{HandedOver};
+ghost use Rattle.uca_match.specs.Reading.{collation_elements};
+ghost use Rattle.uca_key.specs.Levels.{key_bytes};
+ghost use Rattle.uca_key.specs.Lengths.{HasShortRows};
+ghost use Rattle.uca_cli.specs.Print.{print_line};
+ghost use Rattle.uca_cli.specs.Keys.{collation_by};
+ghost use Rattle.uca_cli.specs.KeysRun.{is_input_read, is_write, is_file_read, is_before_input, WritesKeys, RunsKeys};
+ghost use Rattle.uca_cli.specs.KeysSoFar.{HasPrinted, PrintsNext, PrintsText, PrintsRest};
+
+use crate::faults::{InputKind, Role, RunFault};
+use crate::input::{LONGEST_INPUT_LINE, next_text};
+use crate::print::print_key;
+use std::alloc::{Allocator, Global};
+use std::io::{Read, Write};
+use uca_data::read_data_in;
+use uca_key::KeyBuffer;
+use uca_lines::{LINE_LIMIT, LineReader, NextLine, OutputBuffer};
+use uca_match::{Collator, Lookup, RowList};
+use uca_table::read_table_in;
+use uca_text::Normal;
+use uca_weights::{Sink, Source, Weighting};
+
+// The reader of lines, and what is used for one line after the other.
+#[derive(Drop)]
+struct KeyRun<A: Allocator> {
+    reader: LineReader,
+    line: Vec<u8, A>,
+    text: Normal,
+    key: KeyBuffer<A>,
+    output: OutputBuffer,
+}
+
+impl<A: Allocator> KeyRun<A> {
+    // Hands over the key of the text, which is that of the line with this number.
+    fn print_text<L: Lookup, T: Allocator, W: Write>(
+        &mut self,
+        collator: &Collator<L, T>,
+        number: u32,
+        out: &mut Sink<W>,
+    ) -> Result<(), RunFault>
+        requires short_rows { HasShortRows (L.content collator.now.lookup.now) }
+        requires accepted { IsAccepted self.old.text }
+        requires few { 0 < number }
+        requires many { number ≤ LINE_LIMIT }
+        requires small { self.old.output.written + length self.old.output.held ≤ (number - 1) * 2 ^ 42 }
+        ensures prints { (begun : Option (List ℕ)) (before : List ℕ) →
+            let key = key_bytes self.old.key.weighting (collation_elements
+            (L.content collator.now.lookup.now) collator.now.header.now.ranges
+            (properties_of collator.now.data.now) (letters_of self.old.text)) in
+            HandedOver begun out.old.contents before self.old.output →
+            PrintsText begun before (print_line key) number self.old.output out.old self.new.output out.new result }
+        ensures small { OnOk result (self.new.output.written + length self.new.output.held ≤ number * 2 ^ 42) }
+        ensures reader { self.new.reader ≡ self.old.reader }
+        ensures weighting { self.new.key.weighting ≡ self.old.key.weighting }
+        ensures not_read { is_input_read result ≡ false }
+        ensures failed { out.new.failed ≡ (out.old.failed || is_write result) }
+    {
+        if self.key.write_text(collator, &self.text).is_err() {
+            return Err(RunFault::Input {
+                line: number,
+                kind: InputKind::Memory,
+            });
+        }
+        match print_key(&mut self.output, out, self.key.bytes()) {
+            Ok(()) => Ok(()),
+            Err(fault) => Err(RunFault::Write {
+                written: fault.written,
+            }),
+        }
+    }
+
+    // Hands over the key of the next line, and answers whether more lines may follow.
+    fn print_next<L: Lookup, T: Allocator, I: Read, W: Write>(
+        &mut self,
+        collator: &Collator<L, T>,
+        input: &mut Source<I>,
+        out: &mut Sink<W>,
+    ) -> Result<bool, RunFault>
+        requires longest { self.old.reader.longest ≡ LONGEST_INPUT_LINE }
+        requires short_rows { HasShortRows (L.content collator.now.lookup.now) }
+        requires small { self.old.output.written + length self.old.output.held ≤ self.old.reader.number * 2 ^ 42 }
+        ensures prints { (start begun : Option (List ℕ)) (before : List (List ℕ)) →
+            let c = collation_by (L.content collator.now.lookup.now) collator.now.header.now.ranges
+            (properties_of collator.now.data.now) self.old.key.weighting in
+            HasPrinted c start begun before self.old.reader input.old self.old.output out.old →
+            PrintsNext c start begun before self.new.reader input.new self.new.output out.new result }
+        ensures small { IfOk result (λ more. OnTrue more (self.new.output.written
+            + length self.new.output.held ≤ self.new.reader.number * 2 ^ 42)) }
+        ensures count { IfOk result (λ more. OnTrue more ((self.new.reader.number ≡ self.old.reader.number + 1)
+            × (self.new.reader.number ≤ LINE_LIMIT))) }
+        ensures longest { self.new.reader.longest ≡ self.old.reader.longest }
+        ensures weighting { self.new.key.weighting ≡ self.old.key.weighting }
+        ensures input_failed { input.new.failed ≡ (input.old.failed || is_input_read result) }
+        ensures out_failed { out.new.failed ≡ (out.old.failed || is_write result) }
+    {
+        let number = self.reader.number() + 1;
+        match next_text(
+            &mut self.reader,
+            &mut self.line,
+            &mut self.text,
+            input,
+            collator.data,
+        ) {
+            Ok(NextLine::Ended) => {
+                self.print_text(collator, number, out)?;
+                Ok(true)
+            }
+            Ok(NextLine::Cut) => {
+                self.print_text(collator, number, out)?;
+                Ok(false)
+            }
+            Ok(NextLine::End) => Ok(false),
+            Err(kind) => Err(RunFault::Input { line: number, kind }),
+        }
+    }
+
+    // Hands over the keys of all lines that are left.
+    fn print_rest<L: Lookup, T: Allocator, I: Read, W: Write>(
+        &mut self,
+        collator: &Collator<L, T>,
+        input: &mut Source<I>,
+        out: &mut Sink<W>,
+    ) -> Result<(), RunFault>
+        requires longest { self.old.reader.longest ≡ LONGEST_INPUT_LINE }
+        requires short_rows { HasShortRows (L.content collator.now.lookup.now) }
+        requires small { self.old.output.written + length self.old.output.held ≤ self.old.reader.number * 2 ^ 42 }
+        ensures prints { (start begun : Option (List ℕ)) (before : List (List ℕ)) →
+            let c = collation_by (L.content collator.now.lookup.now) collator.now.header.now.ranges
+            (properties_of collator.now.data.now) self.old.key.weighting in
+            HasPrinted c start begun before self.old.reader input.old self.old.output out.old →
+            PrintsRest c start begun input.new self.new.output out.new result }
+        ensures input_failed { input.new.failed ≡ (input.old.failed || is_input_read result) }
+        ensures out_failed { out.new.failed ≡ (out.old.failed || is_write result) }
+    {
+        'lines: loop {
+            match self.print_next(collator, input, out) {
+                Ok(true) => {}
+                Ok(false) => return Ok(()),
+                Err(fault) => return Err(fault),
+            }
+        }
+    }
+}
+
+fn is_write_fault(end: &Result<(), RunFault>) -> bool
+    ensures { result ≡ is_write end.now }
+{
+    match end {
+        Err(RunFault::Write { .. }) => true,
+        _ => false,
+    }
+}
+
+/// Prints the sort key of each line of the input, until its end or its first faulty line.
+///
+/// # Errors
+///
+/// `Input` for the first faulty line, where the keys of the lines before it were written; `Write`
+/// where the writer failed, also where a later line is faulty.
+pub fn print_keys<L: Lookup, T: Allocator, A: Allocator + Copy, I: Read, W: Write>(
+    alloc: A,
+    global: Global,
+    collator: &Collator<L, T>,
+    weighting: Weighting,
+    input: &mut Source<I>,
+    out: &mut Sink<W>,
+) -> Result<(), RunFault>
+    requires { HasShortRows (L.content collator.now.lookup.now) }
+    ensures writes { IfSome input.old.remaining (λ bytes.
+        let c = collation_by (L.content collator.now.lookup.now) collator.now.header.now.ranges
+        (properties_of collator.now.data.now) weighting in
+        WritesKeys c bytes input.new.remaining (Appends out.old.contents out.new.contents)
+        (WentOut out.old.contents out.new.contents) result) }
+    ensures of_lines { is_before_input result ≡ false }
+    ensures input_failed { is_write result ≡ false →
+        input.new.failed ≡ (input.old.failed || is_input_read result) }
+    ensures out_failed { out.new.failed ≡ (out.old.failed || is_write result) }
+{
+    let mut run = KeyRun {
+        reader: LineReader::new(LONGEST_INPUT_LINE),
+        line: Vec::new(alloc),
+        text: Normal::new(global),
+        key: KeyBuffer::new(alloc, weighting),
+        output: OutputBuffer::new(),
+    };
+    let end = run.print_rest(collator, input, out);
+    if is_write_fault(&end) {
+        return end;
+    }
+    match run.output.flush(out) {
+        Ok(()) => end,
+        Err(fault) => Err(RunFault::Write {
+            written: fault.written,
+        }),
+    }
+}
+
+/// Prints the sort key of each line of `input`, under the table and the data file that are read first:
+/// by the weighting that is asked for, or else that of the table's `@variable`, or else shifted
+/// (UTS #10, section 4).
+///
+/// # Errors
+///
+/// `File` where the table, or else the data file, is refused: nothing was written. `Input` for the
+/// first faulty line, where the keys of the lines before it were written. `Write` where the writer
+/// failed, also where a later line is faulty: the first `written` bytes of the whole output went out.
+pub fn run_keys<T: Read, D: Read, I: Read, W: Write>(
+    alloc: Global,
+    table: &mut Source<T>,
+    properties: &mut Source<D>,
+    input: &mut Source<I>,
+    out: &mut Sink<W>,
+    weighting: Option<Weighting>,
+) -> Result<(), RunFault>
+    // Where the bytes of all three are known.
+    ensures runs { IfSome table.old.remaining (λ table_bytes. IfSome properties.old.remaining (λ data_bytes.
+        IfSome input.old.remaining (λ bytes. RunsKeys weighting table_bytes data_bytes bytes
+        table.new.remaining properties.new.remaining input.new.remaining
+        (Appends out.old.contents out.new.contents) (WentOut out.old.contents out.new.contents) result))) }
+
+    // Whatever the readers and the writer are.
+    ensures nothing_written { is_before_input result ≡ true → (out.new ≡ out.old) × (input.new ≡ input.old) }
+    ensures table_failed { table.new.failed ≡ (table.old.failed || is_file_read Role.Table result) }
+    ensures data_failed { properties.new.failed ≡ (properties.old.failed || is_file_read Role.Data result) }
+    ensures input_failed { is_write result ≡ false →
+        input.new.failed ≡ (input.old.failed || is_input_read result) }
+    ensures out_failed { out.new.failed ≡ (out.old.failed || is_write result) }
+{
+    run_keys_in(alloc, alloc, table, properties, input, out, weighting)
+}
+
+/// The same with the growths of the table, the data file, the lines and the keys in memory of any
+/// allocator; those of Normalization Form D are in `global`.
+pub fn run_keys_in<A: Allocator + Copy, T: Read, D: Read, I: Read, W: Write>(
+    alloc: A,
+    global: Global,
+    table: &mut Source<T>,
+    properties: &mut Source<D>,
+    input: &mut Source<I>,
+    out: &mut Sink<W>,
+    weighting: Option<Weighting>,
+) -> Result<(), RunFault>
+    // Where the bytes of all three are known.
+    ensures runs { IfSome table.old.remaining (λ table_bytes. IfSome properties.old.remaining (λ data_bytes.
+        IfSome input.old.remaining (λ bytes. RunsKeys weighting table_bytes data_bytes bytes
+        table.new.remaining properties.new.remaining input.new.remaining
+        (Appends out.old.contents out.new.contents) (WentOut out.old.contents out.new.contents) result))) }
+
+    // Whatever the readers and the writer are.
+    ensures nothing_written { is_before_input result ≡ true → (out.new ≡ out.old) × (input.new ≡ input.old) }
+    ensures table_failed { table.new.failed ≡ (table.old.failed || is_file_read Role.Table result) }
+    ensures data_failed { properties.new.failed ≡ (properties.old.failed || is_file_read Role.Data result) }
+    ensures input_failed { is_write result ≡ false →
+        input.new.failed ≡ (input.old.failed || is_input_read result) }
+    ensures out_failed { out.new.failed ≡ (out.old.failed || is_write result) }
+{
+    let weights = match read_table_in(alloc, table) {
+        Ok(weights) => weights,
+        Err(fault) => {
+            return Err(RunFault::File {
+                role: Role::Table,
+                fault,
+            });
+        }
+    };
+    let code_points = match read_data_in(alloc, properties) {
+        Ok(code_points) => code_points,
+        Err(fault) => {
+            return Err(RunFault::File {
+                role: Role::Data,
+                fault,
+            });
+        }
+    };
+    let rows = RowList::new(&weights);
+    let header = &weights.header;
+    let collator = Collator::new(&rows, header, &code_points);
+    let weighting = weighting.or(header.setting).unwrap_or(Weighting::Shifted);
+    print_keys(alloc, global, &collator, weighting, input, out)
+}
