@@ -1,8 +1,6 @@
 //! The lines of a source, and a buffer for what goes to a sink.
 #![tactic(auto)]
 
-#[cfg(test)]
-mod fakes;
 pub mod lines;
 pub mod output;
 

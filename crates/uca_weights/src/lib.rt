@@ -2,8 +2,6 @@
 //! weightings of UTS #10, and the streams that bytes come from and go to.
 #![tactic(auto)]
 
-#[cfg(test)]
-mod fakes;
 pub mod streams;
 
 pub use streams::{ReadFault, Sink, Source, WriteFault};

@@ -1,9 +1,9 @@
 use super::*;
-use crate::fakes::{Calls, Failure, FakeReader, Pace};
 use linked_list_allocator::LocalHeap;
 use std::alloc::{AllocError, Global};
 use std::io::ErrorKind;
 use std::test::Fail;
+use uca_fakes::{Calls, Failure, FakeReader, Pace};
 
 /// The answers for a text, one after the other: a line, then `+` where LF ended it and `-` where none
 /// did; `$` at the end; the fault's name.

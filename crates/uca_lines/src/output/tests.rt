@@ -1,10 +1,10 @@
 ghost use Rattle.std.specs.Prelude.{◌<◌};
 
 use super::*;
-use crate::fakes::{Calls, Failure, FakeWriter, Pace};
 use std::alloc::{AllocError, Global};
 use std::io::ErrorKind;
 use std::test::Fail;
+use uca_fakes::{Calls, Failure, FakeWriter, Pace};
 
 /// So many bytes, no two neighbours of which are equal.
 fn bytes(alloc: Global, count: usize) -> Result<Vec<u8>, AllocError> {

@@ -1,7 +1,7 @@
 use super::*;
-use crate::fakes::{Calls, Failure, FakeReader, FakeWriter, Pace};
 use std::io::ErrorKind;
 use std::test::Fail;
+use uca_fakes::{Calls, Failure, FakeReader, FakeWriter, Pace};
 
 /// Each way in which a call fails.
 const FAILURES: [Failure; 3] = [

@@ -1,5 +1,6 @@
 //! A reader and a writer in memory that fail where a test says, once, and then go on: so a call that
 //! tries again after an error is seen.
+#![tactic(auto)]
 
 ghost use Rattle.std.specs.Prelude.{◌≤◌, IfOk};
 
@@ -26,6 +27,8 @@ pub struct Calls {
     pub failed: Cell<u32>,
     /// Those after one that failed.
     pub late: Cell<u32>,
+    /// The bytes that went well.
+    pub bytes: Cell<usize>,
 }
 
 impl Calls {
@@ -34,6 +37,7 @@ impl Calls {
             all: Cell::new(0),
             failed: Cell::new(0),
             late: Cell::new(0),
+            bytes: Cell::new(0),
         }
     }
 
@@ -46,6 +50,10 @@ impl Calls {
 
     fn fail(&self) {
         self.failed.set(self.failed.get().saturating_add(1));
+    }
+
+    fn pass(&self, count: usize) {
+        self.bytes.set(self.bytes.get().saturating_add(count));
     }
 }
 
@@ -127,6 +135,7 @@ impl Read for FakeReader<'_> {
         let (given, rest) = self.rest.split_at(count);
         buf[..count].copy_from_slice(given);
         self.rest = rest;
+        self.calls.pass(count);
         Ok(count)
     }
 }
@@ -154,6 +163,7 @@ impl Write for FakeWriter<'_> {
     fn write(&mut self, buf: &[u8]) -> io::Result<usize> {
         let count = self.pace.take(buf.len(), self.calls)?;
         self.text.extend_from_slice(&buf[..count])?;
+        self.calls.pass(count);
         Ok(count)
     }
 
