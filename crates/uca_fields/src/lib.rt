@@ -1,4 +1,4 @@
-//! The parts of a line: blanks and words, hexadecimal numbers, code points and ranges of them.
+//! The parts of a line: blanks and words, hexadecimal numbers and digits, code points and ranges of them.
 //!
 //! A blank is a space or a tab. All numbers are hexadecimal with upper-case digits, but for classes.
 #![tactic(auto)]
@@ -10,7 +10,7 @@ mod ranges;
 mod tests;
 
 pub use cuts::{cut_at, cut_word, halves, line_text, skip_blanks, trim};
-pub use numbers::{class_number, code_point, weight};
+pub use numbers::{class_number, code_point, hexadecimal_digit, weight};
 pub use ranges::code_point_range;
 use thiserror::Error;
 

@@ -1,7 +1,7 @@
 //! Numbers in a text.
 
 ghost use Rattle.std.specs.Prelude.{◌≡◌, ◌≤◌, ◌<◌, ◌^◌, length, IfSome, [], ◌∷◌};
-ghost use Rattle.uca_fields.specs.Number.{hex_of, code_point_of, weight_of, decimal_of, class_of};
+ghost use Rattle.uca_fields.specs.Number.{hex_of, code_point_of, weight_of, decimal_of, class_of, upper_digit};
 
 /// The code point that a word of four to six digits stands for; None where the word is another text, and
 /// for a surrogate or a number above 10FFFF.
@@ -82,5 +82,17 @@ fn decimal_digit(byte: u8) -> Option<u16>
     match byte {
         b'0'..=b'9' => Some(u16::from(byte - b'0')),
         _ => None,
+    }
+}
+
+/// The upper-case hexadecimal digit of a value below 16.
+pub fn hexadecimal_digit(value: u8) -> u8
+    requires { value < 16 }
+    ensures { result ≡ upper_digit value }
+{
+    if value < 10 {
+        b'0' + value
+    } else {
+        b'A' + (value - 10)
     }
 }

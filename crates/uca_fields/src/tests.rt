@@ -1,8 +1,8 @@
 //! Each function of this crate on some texts.
 
 use crate::{
-    RangeFault, class_number, code_point, code_point_range, cut_at, cut_word, halves, line_text,
-    skip_blanks, trim, weight,
+    RangeFault, class_number, code_point, code_point_range, cut_at, cut_word, halves,
+    hexadecimal_digit, line_text, skip_blanks, trim, weight,
 };
 
 #[test]
@@ -97,4 +97,12 @@ fn ranges_are_read(rt: HostRuntime) {
             && parts.1 == b"b..c".as_slice())
     );
     assert!(rt; halves(b"a.b").is_none());
+}
+
+#[test]
+fn digits_are_written(rt: HostRuntime) {
+    let digits = b"0123456789ABCDEF";
+    for (value, digit) in digits.iter().enumerate() {
+        assert!(rt; hexadecimal_digit(value as u8) == *digit);
+    }
 }

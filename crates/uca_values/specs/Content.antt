@@ -40,8 +40,11 @@ pub record Agree (r s : ImplicitRange) : Type 0 where
   pub apart : (r.last < s.first) ⊎ (s.last < r.first)
   pub near : r.lead ≡ s.lead → (r.last < s.first + 0x8000) × (s.last < r.first + 0x8000)
 
--- a range alone: it is not empty, its lead is one of the leads for implicit weights, and its code points have room below it
+-- a range alone: its ends are code points, it is not empty, its lead is one of the leads for implicit weights, and its code
+-- points have room below it
 pub record IsImplicitRange (r : ImplicitRange) : Type 0 where
+  pub first_point : IsScalar r.first
+  pub last_point : IsScalar r.last
   pub rising : r.first ≤ r.last
   pub low : 0xFB00 ≤ r.lead
   pub high : r.lead ≤ 0xFB3F
