@@ -1,0 +1,7 @@
+pub mod Elements
+pub mod Firsts
+pub mod Gapless
+pub mod Raised
+pub mod Spans
+pub mod Keyed
+pub mod Faults

@@ -1,0 +1,3 @@
+pub mod WellFormed
+pub mod FaultText
+pub mod Searches

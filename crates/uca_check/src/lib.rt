@@ -1,0 +1,103 @@
+//! Whether a table is well-formed (UTS #10, section 9.2).
+#![tactic(auto)]
+
+ghost use Rattle.std.specs.Prelude.{◌≡◌, ℕ, ◌+◌, ◌<◌, ◌≤◌, length, Some, OnOk, IfErr};
+ghost use Rattle.uca_values.specs.Content.{properties_of};
+ghost use Rattle.uca_check.specs.WellFormed.{IsWellFormed, IsFirstFailure};
+ghost use Rattle.uca_check.specs.FaultText.{ill_formed_text};
+
+mod gaps;
+mod heights;
+mod keys;
+#[cfg(test)]
+mod tests;
+mod variables;
+
+use std::alloc::Allocator;
+use std::fmt;
+use thiserror::Error;
+use uca_values::{Data, Row, Table};
+
+/// The first condition that a table fails, and the first row that fails it.
+#[derive(Clone, Copy, Debug, PartialEq, Eq, Error)]
+pub struct IllFormed {
+    /// The number of the condition, 1 to 5.
+    pub wf: u8,
+    /// The row, counted from 1 in file order.
+    pub row: u32,
+}
+
+impl fmt::Display for IllFormed {
+    ghost output = { λ fault. Some (ill_formed_text fault) };
+
+    fn fmt<W: fmt::Write>(&self, f: &mut fmt::Formatter<W>) -> fmt::Result {
+        write!(f, "WF{} row {}", self.wf, self.row)
+    }
+}
+
+/// Whether a table is well-formed (UTS #10, section 9.2), by five conditions:
+///
+/// 1. No element has a zero weight and at the level before it a weight that is not zero, except for a
+///    continuation directly after an element of its row whose primary is FB00 to FBFF and whose weights are
+///    not zero.
+/// 2. The secondary weights of secondary elements are greater than 0020 and than those of all primary
+///    elements. The tertiary weights of tertiary elements are greater than 0002 and than those of all
+///    primary and secondary elements.
+/// 3. No variable element has a zero primary.
+/// 4. An element whose primary lies from the least to the greatest one of variable elements is variable.
+/// 5. Where a key of three or more code points ends with a non-starter, it is a key without it too.
+///
+/// It takes no memory. Conditions 1 to 4 take time in proportion to the table. Condition 5 looks for each
+/// shorter key from the row of the longer one outwards: where the two stand near, as in Unicode's tables,
+/// that takes time in proportion to the table too. At the worst it looks at nearly all rows for each such
+/// key: where every row has one and the shorter key stands in the last row, some 3 * 10^10 times on
+/// 200,000 rows.
+///
+/// # Errors
+///
+/// The lowest number of a condition that fails, and the first row that fails it. For condition 2 that is
+/// the row of the secondary or tertiary element, for 4 of the element that is not variable, and for 5 of
+/// the longer key.
+pub fn check<A: Allocator, B: Allocator>(table: &Table<A>, data: &Data<B>) -> Result<(), IllFormed>
+    ensures well_formed { OnOk result (IsWellFormed (properties_of «data».now).class table.now.rows) }
+    ensures ill_formed { IfErr result (λ fault.
+        IsFirstFailure (properties_of «data».now).class table.now.rows fault.wf fault.row) }
+{
+    check_rows(&table.rows, data)
+}
+
+/// The same of the rows alone.
+fn check_rows<A: Allocator, B: Allocator>(rows: &[Row<A>], data: &Data<B>) -> Result<(), IllFormed>
+    requires { length rows.now ≤ 200000 }
+    ensures well_formed { OnOk result (IsWellFormed (properties_of «data».now).class rows.now) }
+    ensures ill_formed { IfErr result (λ fault.
+        IsFirstFailure (properties_of «data».now).class rows.now fault.wf fault.row) }
+{
+    if let Some(at) = gaps::first_with_gap(rows) {
+        return Err(ill_formed(1, at));
+    }
+    if let Some(at) = heights::first_too_low(rows) {
+        return Err(ill_formed(2, at));
+    }
+    if let Some(at) = variables::first_without_primary(rows) {
+        return Err(ill_formed(3, at));
+    }
+    if let Some(at) = variables::first_between(rows) {
+        return Err(ill_formed(4, at));
+    }
+    if let Some(at) = keys::first_without_shorter(rows, data) {
+        return Err(ill_formed(5, at));
+    }
+    Ok(())
+}
+
+/// The fault at the row with this index.
+fn ill_formed(wf: u8, at: usize) -> IllFormed
+    requires { at < 200000 }
+    ensures { result ≡ record { wf = wf; row = at + 1 } }
+{
+    IllFormed {
+        wf,
+        row: at as u32 + 1,
+    }
+}
