@@ -1,0 +1,4 @@
+pub mod Parts
+pub mod DigitLaws
+pub mod Texts
+pub mod Sizes

@@ -1,0 +1,4 @@
+pub mod Words
+pub mod Elements
+pub mod Canonical
+pub mod Handing

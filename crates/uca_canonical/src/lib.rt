@@ -1,0 +1,12 @@
+//! The canonical text of a table: one spelling of each line of a table file (UTS #10, section 9.1).
+#![tactic(auto)]
+
+mod digits;
+mod handing;
+mod header;
+mod rows;
+#[cfg(test)]
+mod tests;
+mod write;
+
+pub use write::write_table;
