@@ -11,7 +11,8 @@ use Rattle.uca_files.specs.declared.FaultKind.TheVariants as kinds
 use Rattle.uca_fields.specs.Text.{skip_blanks}
 use Rattle.uca_fields.specs.Leads.{Leads}
 use Rattle.uca_fields.proofs.LeadLaws.{IsExact, leads_push}
-use Rattle.uca_table.specs.Elements.{mark_byte, element_text, BeginsElement, opens, ElementsCause}
+use Rattle.uca_table.specs.Elements.{BeginsElement, opens, ElementsCause}
+use Rattle.uca_canonical.specs.Elements.{mark_byte, element_text}
 use Rattle.uca_table.specs.Steps.{◌>>=◌, after_byte, mark_at, weight_at, element_at}
 
 -- ---- What is read is spelled so

@@ -16,9 +16,11 @@ use Rattle.uca_fields.specs.Text.{is_blank, is_semicolon, up_to, from_first, ski
 use Rattle.uca_fields.specs.Number.{code_point_of, weight_of}
 use Rattle.uca_fields.specs.Leads.{Leads, BeginsCodePoint}
 use Rattle.uca_fields.proofs.LeadLaws.{leads_same, leads_barred, leads_within, IsExact, exact_code_points, skip_blanks-again}
-use Rattle.uca_table.specs.Elements.{mark_byte, element_text, BeginsElement, AreElements, opens, ElementsCause}
+use Rattle.uca_table.specs.Elements.{BeginsElement, AreElements, opens, ElementsCause}
+use Rattle.uca_canonical.specs.Elements.{mark_byte, element_text}
 use Rattle.uca_table.specs.Rows.{IsKey, IsRow, KeyCause, RowTextCause}
-use Rattle.uca_table.specs.Headers.{at_version, at_variable, at_ranges, setting_word, IsRangeText, RangeTextCause}
+use Rattle.uca_table.specs.Headers.{IsRangeText, RangeTextCause}
+use Rattle.uca_canonical.specs.Words.{at_version, at_variable, at_ranges, setting_word}
 use Rattle.uca_table.specs.Lines.{Item, Nothing, OfVersion, OfSetting, OfRange, OfRow, IsItem, begins_at}
 use Rattle.uca_table.proofs.ElementLaws.{exact_elements}
 

@@ -8,3 +8,7 @@ pub mod TakeLaws
 pub mod FormLaws
 pub mod ReadLaws
 pub mod Exact
+pub mod CanonicalBytes
+pub mod CanonicalLines
+pub mod Canonical
+pub mod CanonicalAgain

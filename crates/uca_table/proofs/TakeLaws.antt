@@ -21,7 +21,8 @@ use Rattle.uca_fields.specs.Number.{is_hex_digit, is_code_point, code_point_of}
 use Rattle.uca_fields.specs.Leads.{Leads, BeginsCodePoint}
 use Rattle.uca_table.specs.Begun.{Begun, IsBegun}
 use Rattle.uca_table.specs.Elements.{BeginsElement}
-use Rattle.uca_table.specs.Headers.{at_version, at_variable, at_ranges, argument_of, setting_word, IsRangeText, MayFollow, RangeTextCause}
+use Rattle.uca_table.specs.Headers.{argument_of, IsRangeText, MayFollow, RangeTextCause}
+use Rattle.uca_canonical.specs.Words.{at_version, at_variable, at_ranges, setting_word}
 use Rattle.uca_table.specs.Rows.{IsRow, RowTextCause, AddCause}
 use Rattle.uca_table.specs.Keeping.{Keeps}
 use Rattle.uca_table.specs.Lines.{Nothing, OfVersion, OfSetting, OfRange, OfRow, in_order, Purpose, ForSetting, ForRange, ForRow, begins_at, Has, IsDue, PurposeCause, TakesText, TextCause}

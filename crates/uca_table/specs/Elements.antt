@@ -1,20 +1,12 @@
 -- The elements of a row (UTS #10, section 9.1): `[.1C47.0020.0002][*0209.0020.0002]`.
-use Rattle.std.specs.Prelude.{◌≡◌, ◌≢◌, ℕ, ◌<◌, ◌≤◌, ◌⊎◌, ◌&&◌, ◌||◌, ◌==◌, Bool, true, false, List, [], ◌∷◌, ◌++◌, length, if◌then◌else◌}
+use Rattle.std.specs.Prelude.{◌≡◌, ◌≢◌, ℕ, ◌<◌, ◌≤◌, ◌⊎◌, ◌&&◌, ◌||◌, ◌==◌, Bool, true, false, List, [], ◌∷◌, ◌++◌, length}
 use Rattle.uca_weights.specs.declared.Element.{Element}
 use Rattle.uca_files.specs.declared.FaultKind.{FaultKind}
 use Rattle.uca_files.specs.declared.FaultKind.TheVariants as kinds
 use Rattle.uca_fields.specs.Text.{skip_blanks}
-use Rattle.uca_fields.specs.Number.{digits}
 use Rattle.uca_fields.specs.Leads.{Leads}
 use Rattle.uca_values.specs.Content.{Fits}
-
--- `*` for a variable element, `.` for another
-abbrev pub mark_byte : Bool → ℕ
-mark_byte b = if b then 42 else 46
-
--- `[`, the mark, three weights of four digits with `.` between them, and `]`
-unfoldable pub element_text : Element → List ℕ
-element_text e = 91 ∷ mark_byte e.mark ∷ (digits 4 e.primary ++ 46 ∷ (digits 4 e.secondary ++ 46 ∷ (digits 4 e.tertiary ++ 93 ∷ [])))
+use Rattle.uca_canonical.specs.Elements.{element_text}
 
 -- the text begins with the one spelling of the element
 pub record BeginsElement (text : List ℕ) (e : Element) (more : List ℕ) : Type 0 where

@@ -1,8 +1,7 @@
 -- The lines of a table file before its rows (UTS #10, section 9.1).
-use Rattle.std.specs.Prelude.{◌≡◌, ℕ, ◌≤◌, ◌⊎◌, true, List, [], ◌∷◌, length, Some, None, Ok, Err, codes}
+use Rattle.std.specs.Prelude.{◌≡◌, ℕ, ◌≤◌, ◌⊎◌, true, List, [], ◌∷◌, length, Some, None, Ok, Err}
 use Rattle.std.specs.List.{AllByRecursion}
 use Rattle.uca_weights.specs.declared.Weighting.{Weighting}
-use Rattle.uca_weights.specs.declared.Weighting.TheVariants as weightings
 use Rattle.uca_files.specs.declared.FaultKind.{FaultKind}
 use Rattle.uca_files.specs.declared.FaultKind.TheVariants as kinds
 use Rattle.uca_fields.specs.declared.RangeFault.TheVariants as faults
@@ -11,15 +10,7 @@ use Rattle.uca_fields.specs.Number.{weight_of}
 use Rattle.uca_fields.specs.Ranges.{range_of}
 use Rattle.uca_values.specs.declared.ImplicitRange.{ImplicitRange}
 use Rattle.uca_values.specs.Content.{is_version_name, IsImplicitRange, Agree}
-
-abbrev pub at_version : List ℕ
-at_version = codes "@version"
-
-abbrev pub at_variable : List ℕ
-at_variable = codes "@variable"
-
-abbrev pub at_ranges : List ℕ
-at_ranges = codes "@implicitweights"
+use Rattle.uca_canonical.specs.Words.{at_version, at_variable, at_ranges, setting_word}
 
 -- what follows the first word, blanks between them aside
 abbrev pub argument_of : List ℕ → List ℕ
@@ -30,10 +21,6 @@ pub record IsVersion (text name : List ℕ) : Type 0 where
   pub word : word_of text ≡ at_version
   pub argument : argument_of text ≡ name
   pub named : is_version_name name ≡ true
-
-abbrev pub setting_word : Weighting → List ℕ
-setting_word weightings.NonIgnorable = codes "non-ignorable"
-setting_word weightings.Shifted = codes "shifted"
 
 -- `@variable non-ignorable` or `@variable shifted`
 pub record IsSetting (text : List ℕ) (setting : Weighting) : Type 0 where

@@ -7,3 +7,4 @@ pub mod Steps
 pub mod Keeping
 pub mod OneMore
 pub mod Worked
+pub mod Laws

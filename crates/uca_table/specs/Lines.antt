@@ -10,7 +10,8 @@ use Rattle.uca_values.specs.declared.ImplicitRange.{ImplicitRange}
 use Rattle.uca_values.specs.Content.{Entry, TableContent}
 use Rattle.uca_files.specs.Files
 use Rattle.uca_table.specs.Begun.{Begun, IsBegun}
-use Rattle.uca_table.specs.Headers.{at_version, at_variable, at_ranges, IsVersion, IsSetting, IsRange, RangeCause}
+use Rattle.uca_table.specs.Headers.{IsVersion, IsSetting, IsRange, RangeCause}
+use Rattle.uca_canonical.specs.Words.{at_version, at_variable, at_ranges}
 use Rattle.uca_table.specs.Rows.{IsRow, RowCause}
 
 -- ---- What lines say

@@ -3,7 +3,8 @@
 ghost use Rattle.std.specs.Prelude.{◌≡◌, ◌⊎◌, ◌+◌, ◌<◌, ◌↔◌, IsTrue, IfOk, IfErr, MatchOption};
 ghost use Rattle.std.specs.List.{list_all};
 ghost use Rattle.uca_values.specs.Content.{is_version_name, is_name_byte, IsImplicitRange, Agree};
-ghost use Rattle.uca_table.specs.Headers.{setting_word, IsRangeText, MayFollow, RangeTextCause};
+ghost use Rattle.uca_table.specs.Headers.{IsRangeText, MayFollow, RangeTextCause};
+ghost use Rattle.uca_canonical.specs.Words.{setting_word};
 
 use uca_fields::{RangeFault, code_point_range, cut_at, trim, weight};
 use uca_files::FaultKind;

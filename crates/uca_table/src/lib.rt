@@ -1,5 +1,6 @@
 //! Table files: collation elements in the form of Unicode's `allkeys.txt` (UTS #10, section 9), read line
-//! by line. What they are read into, and the reader of data files, are offered here too.
+//! by line. What they are read into, the check of what was read, the writer of its canonical text, and the
+//! reader of data files are offered here too.
 #![tactic(auto)]
 
 mod elements;
@@ -11,8 +12,10 @@ mod rows;
 #[cfg(test)]
 mod tests;
 
-pub use laws::worked_lines;
+pub use laws::{canonical_text_means_its_table, canonical_text_means_the_same, worked_lines};
 pub use read::{read_table, read_table_in};
+pub use uca_canonical::write_table;
+pub use uca_check::{IllFormed, check};
 pub use uca_data::{read_data, read_data_in};
 pub use uca_files::{FaultKind, TableFault};
 pub use uca_values::{Data, Header, ImplicitRange, Row, Table};

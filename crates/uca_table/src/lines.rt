@@ -103,7 +103,7 @@ impl<A: Allocator + Copy> TableLines<A> {
     ghost use Rattle.std.specs.Prelude.{◌≡◌, ◌≢◌, ◌⊎◌, ◌<◌, ◌++◌, [], ◌∷◌, length, Contains, true, false, IsSome, IsTrue, ◌↔◌, OnOk, OnErr, IfErr};
     ghost use Rattle.uca_fields.specs.Text.{word_of};
     ghost use Rattle.uca_values.specs.Content.{IsEntry, keys_of};
-    ghost use Rattle.uca_table.specs.Headers.{at_version, at_variable, at_ranges};
+    ghost use Rattle.uca_canonical.specs.Words.{at_version, at_variable, at_ranges};
     ghost use Rattle.uca_table.specs.Rows.{AddCause};
     ghost use Rattle.uca_table.specs.Lines.{begins_at, IsDue, ForSetting, ForRange, TakesText, TextCause};
 

@@ -1,6 +1,6 @@
 //! Table files: each fault, each order of two causes in one line, and what accepted files say.
 
-use crate::{read_table, read_table_in};
+use crate::{read_table, read_table_in, write_table};
 use linked_list_allocator::LocalHeap;
 use std::io;
 use std::io::Read;
@@ -8,7 +8,7 @@ use std::process::Abort;
 use std::test::Fail;
 use uca_files::FaultKind;
 use uca_values::ImplicitRange;
-use uca_weights::{Element, Source, Weighting};
+use uca_weights::{Element, Sink, Source, Weighting};
 
 const SMALL: &[u8] = b"@version 1\n\
     @implicitweights 17000..18AFF; FB00\n\
@@ -431,6 +431,34 @@ impl Read for Dripping<'_> {
         self.good -= 1;
         Ok(1)
     }
+}
+
+#[test]
+fn what_is_read_is_written_in_canonical_text(rt: HostRuntime) -> Result<(), Fail> {
+    // A table file, and the canonical text of its table.
+    let cases: [(&[u8], &[u8]); 3] = [
+        (SMALL, SMALL),
+        (b"@version 1\n", b"@version 1\n"),
+        (
+            b"# A table\n\n\t@version   16.0-a # its name\n@variable\tshifted\n\
+                @implicitweights 017000..018AFF;FB00\n  @implicitweights\t1B170..1B2FF  ;  FB02 \n\
+                # rows\n\
+                000061;[.1C47.0020.0002]#a\n\
+                \n\
+                 00061\t 0301  ;  [.1C50.0020.0002] \t[*0209.0020.001F]  # contraction\n",
+            b"@version 16.0-a\n@variable shifted\n\
+                @implicitweights 17000..18AFF; FB00\n@implicitweights 1B170..1B2FF; FB02\n\
+                0061 ; [.1C47.0020.0002]\n\
+                0061 0301 ; [.1C50.0020.0002][*0209.0020.001F]\n",
+        ),
+    ];
+    for (bytes, text) in cases {
+        let table = read_table(rt.alloc(), &mut Source::new(bytes))?;
+        let mut out = Sink::new(Vec::new(rt.alloc()));
+        write_table(&table, &mut out)?;
+        assert_eq!(rt; out.into_inner().as_slice(), text);
+    }
+    Ok(())
 }
 
 #[test]
