@@ -8,7 +8,8 @@ use Rattle.uca_text.specs.Texts.{Spelled, AreCanonicallyEquivalent, spelled, let
 use Rattle.uca_text.specs.Limits.{IsAccepted}
 use Rattle.uca_match.specs.Rows.{Rows, rows_of}
 use Rattle.uca_match.specs.Reading.{collation_elements}
-use Rattle.uca_key.specs.Levels.{dictionary, compared, key_bytes}
+use Rattle.uca_key.specs.Levels.{level_count, dictionary, compared, key_bytes}
+use Rattle.uca_key.specs.StoredKeys.{stored_level}
 use Rattle.uca_key.specs.Lengths.{HasShortRows}
 
 -- The bytes of two keys compare as the elements do level by level, and are equal exactly where no level differs.
@@ -17,10 +18,27 @@ KeysCompareAsElements = (weighting : Weighting) (left right : List Element) →
     (dictionary (key_bytes weighting left) (key_bytes weighting right) ≡ (compared weighting left right).order)
     × ((key_bytes weighting left ≡ key_bytes weighting right) ↔ ((compared weighting left right).level ≡ 0))
 
--- the key of a text, given as its code points before normalization
+-- the collation elements of a text, given as its code points before normalization
+abbrev pub text_elements : Rows → List ImplicitRange → Properties → List ℕ → List Element
+text_elements rows ranges properties points = collation_elements rows ranges properties (letters_of (spelled properties points))
+
+-- its key
 abbrev pub text_key : Rows → List ImplicitRange → Properties → Weighting → List ℕ → List ℕ
-text_key rows ranges properties weighting points =
-    key_bytes weighting (collation_elements rows ranges properties (letters_of (spelled properties points)))
+text_key rows ranges properties weighting points = key_bytes weighting (text_elements rows ranges properties points)
+
+-- Two stored keys give the order of their elements and the level at which they differ, by their bytes alone.
+abbrev pub StoredKeysCompareAsElements : Type 0
+StoredKeysCompareAsElements = (weighting : Weighting) (left right : List Element) →
+    (dictionary (key_bytes weighting left) (key_bytes weighting right) ≡ (compared weighting left right).order)
+    × (stored_level (level_count weighting) (key_bytes weighting left) (key_bytes weighting right) ≡ (compared weighting left right).level)
+
+-- So do the stored keys of two texts, given as their code points before normalization.
+abbrev pub StoredKeysCompareAsTexts : Type 0
+StoredKeysCompareAsTexts = (rows : Rows) (ranges : List ImplicitRange) (properties : Properties) (weighting : Weighting) (left right : List ℕ) →
+    let left_key = text_key rows ranges properties weighting left in
+    let right_key = text_key rows ranges properties weighting right in
+    let answer = compared weighting (text_elements rows ranges properties left) (text_elements rows ranges properties right) in
+    (dictionary left_key right_key ≡ answer.order) × (stored_level (level_count weighting) left_key right_key ≡ answer.level)
 
 -- Canonically equivalent texts have one key.
 abbrev pub CanonicallyEquivalentTextsHaveEqualKeys : Type 0

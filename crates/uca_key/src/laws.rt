@@ -1,13 +1,25 @@
 //! What holds of the keys of all texts. The functions do nothing: their contracts are the laws.
 
-ghost use Rattle.uca_key.specs.Laws.{KeysCompareAsElements, CanonicallyEquivalentTextsHaveEqualKeys, KeysAreShort, RowsAreShort};
+ghost use Rattle.uca_key.specs.Laws.{KeysCompareAsElements, CanonicallyEquivalentTextsHaveEqualKeys, KeysAreShort, RowsAreShort, StoredKeysCompareAsElements, StoredKeysCompareAsTexts};
 ghost use Rattle.uca_key.specs.WorkedKeys.{WorkedKeys};
+ghost use Rattle.uca_key.specs.WorkedComparisons.{WorkedComparisons};
 
 /// Byte order of keys is multilevel comparison (UTS #10, sections 1.1 and 7.4): under either weighting, the
 /// bytes of two keys compare as the elements do level by level, and two keys are equal exactly where no
 /// level differs.
 pub fn keys_compare_as_elements()
     ensures { KeysCompareAsElements }
+{}
+
+/// Two stored keys of one weighting give the order of their elements and the level at which they differ (UTS
+/// #10, section 1.1), by their bytes alone.
+pub fn stored_keys_compare_as_elements()
+    ensures { StoredKeysCompareAsElements }
+{}
+
+/// So do the stored keys of two texts, under any table.
+pub fn stored_keys_compare_as_texts()
+    ensures { StoredKeysCompareAsTexts }
 {}
 
 /// Canonically equivalent texts (UAX #15) have equal keys, under any table and either weighting.
@@ -29,4 +41,9 @@ pub fn rows_are_short()
 /// The definitions give some keys that were worked out by hand.
 pub fn worked_keys()
     ensures { WorkedKeys }
+{}
+
+/// The definitions compare some keys, and slices that are no keys, as was worked out by hand.
+pub fn worked_comparisons()
+    ensures { WorkedComparisons }
 {}

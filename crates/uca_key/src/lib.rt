@@ -1,12 +1,14 @@
 //! Sort keys (UTS #10, section 7.3): the levels of the collation elements of a text, one after the other,
-//! as bytes that compare as the texts do.
+//! as bytes that compare as the texts do, and how two stored keys compare.
 #![tactic(auto)]
 
 pub mod buffers;
 pub mod keys;
 pub mod laws;
+pub mod stored;
 #[cfg(test)]
 mod tests;
 
 pub use buffers::KeyBuffer;
 pub use keys::{key, key_in, key_of};
+pub use stored::{compare_keys, level_count};
