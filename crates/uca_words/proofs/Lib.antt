@@ -1,1 +1,3 @@
 pub mod SubcommandWords
+pub mod FullRows
+pub mod Taken

@@ -1,5 +1,5 @@
 -- The command `uca`, as far as a parse reads it: its subcommands and their words.
-use Rattle.std.specs.Prelude.{◌≡◌, Some, true, false, codes}
+use Rattle.std.specs.Prelude.{◌≡◌, List, [], ◌∷◌, Some, true, false, codes, fold}
 use Rattle.clap.specs.declared.builder.command.Command.{Command}
 use Rattle.clap.specs.declared.builder.command.Command.TheViews.{out-Command}
 use Rattle.clap.specs.Words.{App, Rule, Text, app_of, new_app, new_rule, with_rule, with_subcommand}
@@ -13,15 +13,39 @@ word_rule id = record (new_rule id) { required = true; value_names = 1 }
 abbrev pub weighting_rule : Rule
 weighting_rule = record (new_rule (codes "weighting")) { long = Some (codes "weighting"); value_names = 1 }
 
--- `keys [--weighting W] TABLE DATA`
+-- `TABLE DATA` come next
+abbrev pub with_files : App → App
+with_files app = with_rule (with_rule app (word_rule (codes "table"))) (word_rule (codes "data"))
+
+-- `[--weighting W] TABLE DATA` come next
+abbrev pub with_weighting : App → App
+with_weighting app = with_files (with_rule app weighting_rule)
+
+abbrev pub check_app : App
+check_app = with_files (new_app (codes "check"))
+
 abbrev pub keys_app : App
-keys_app = with_rule (with_rule (with_rule (new_app (codes "keys")) weighting_rule) (word_rule (codes "table"))) (word_rule (codes "data"))
+keys_app = with_weighting (new_app (codes "keys"))
 
--- the command: one of its subcommands has to be named, and none is `help`
+abbrev pub sort_app : App
+sort_app = with_weighting (new_app (codes "sort"))
+
+-- `compare [--weighting W] TABLE DATA LEFT RIGHT`
+abbrev pub compare_app : App
+compare_app = with_rule (with_rule (with_weighting (new_app (codes "compare"))) (word_rule (codes "left"))) (word_rule (codes "right"))
+
+-- the command before its subcommands: one of them has to be named, and none is `help`
+abbrev pub bare_app : App
+bare_app = on_top (λ s. record s { subcommand_required = true; disable_help_subcommand = true }) (new_app (codes "uca"))
+
+-- the subcommands, in the order of the help
+abbrev pub subcommands : List App
+subcommands = check_app ∷ keys_app ∷ sort_app ∷ compare_app ∷ []
+
 abbrev pub uca_app : App
-uca_app = with_subcommand (on_top (λ s. record s { subcommand_required = true; disable_help_subcommand = true }) (new_app (codes "uca"))) keys_app.top
+uca_app = fold (λ app sub. with_subcommand app sub.top) bare_app subcommands
 
--- a parse reads the command so, and no argument of it is global
+-- a parse reads the command so, and no argument of it is global: only private contracts cite this
 pub record StandsFor (app : App) (command : Command) : Type 0 where
   pub shape : app_of command ≡ app
   pub local : (out-Command command).has_globals ≡ false

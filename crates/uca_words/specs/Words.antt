@@ -1,57 +1,72 @@
 -- What the words of a subcommand say.
-use Rattle.std.specs.Prelude.{◌≡◌, ◌⊎◌, List, Option, Some, None, Result, Ok, Err, codes, if◌then◌else◌}
-use Rattle.std.specs.Str.{bytes_eq}
+use Rattle.std.specs.Prelude.{◌≡◌, ◌≢◌, ⊤, true, List, [], Option, Some, None, codes, option_map}
+use Rattle.std.specs.Borrow.{Bor}
 use Rattle.clap.specs.declared.error.Error.{Error}
 use Rattle.clap.specs.declared.error.kind.ErrorKind.{ErrorKind}
 use Rattle.clap.specs.declared.error.kind.ErrorKind.TheVariants.{OutOfMemory}
-use Rattle.clap.specs.Words.{Row, Text, first_of, kind_of}
+use Rattle.clap.specs.Words.{IsAmong, Row, Text, fault_of, first_of, kind_of, subcommand_of, takes}
 use Rattle.uca_weights.specs.declared.Weighting.{Weighting as WeightingType}
 use Rattle.uca_weights.specs.declared.Weighting.TheVariants.{NonIgnorable, Shifted}
 use Rattle.uca_words.specs.declared.WordFault.{WordFault}
 use Rattle.uca_words.specs.declared.WordFault.TheVariants.{Refused, Weighting, Memory}
+use Rattle.uca_words.specs.Command.{uca_app}
 use Rattle.uca_words.specs.declared.Words.{Words}
-use Rattle.uca_words.specs.declared.Words.TheVariants.{Keys}
+use Rattle.uca_words.specs.declared.Words.TheVariants.{Check, Keys, Sort, Compare}
 
--- the weighting that a word names
-abbrev pub weighting_named : Text → Option WeightingType
-weighting_named word =
-    if bytes_eq word (codes "non-ignorable") then Some NonIgnorable else
-    if bytes_eq word (codes "shifted") then Some Shifted else
-    None
+abbrev pub weighting_text : WeightingType → Text
+weighting_text NonIgnorable = codes "non-ignorable"
+weighting_text Shifted = codes "shifted"
 
--- none where no word is given, or else the one that it names, and a fault where it names none
-abbrev pub known_weighting : Option WeightingType → Result (Option WeightingType) WordFault
-known_weighting (Some weighting) = Ok (Some weighting)
-known_weighting None = Err Weighting
+-- `--weighting` is given this value, or is not given
+abbrev pub HasWeighting : List Row → Option WeightingType → Type 0
+HasWeighting rows weighting = first_of (codes "weighting") rows ≡ option_map weighting_text weighting
 
-abbrev pub weighting_given : Option Text → Result (Option WeightingType) WordFault
-weighting_given None = Ok None
-weighting_given (Some word) = known_weighting (weighting_named word)
+-- the word that is called so is this one
+abbrev pub HasWord : List Row → Text → Bor Text → Type 0
+HasWord rows id word = first_of id rows ≡ Some word.now
 
--- the weighting that the words of a subcommand ask for, by the first value of each argument
-abbrev pub weighting_in : (Text → Option Text) → Result (Option WeightingType) WordFault
-weighting_in value_of = weighting_given (value_of (codes "weighting"))
+abbrev pub HasFiles : List Row → Bor Text → Bor Text → Type 0
+HasFiles rows table properties = HasWord rows (codes "table") table × HasWord rows (codes "data") properties
 
--- these are the words of the subcommand `keys`
-abbrev pub AreKeysWords : (Text → Option Text) → Words → Type 0
-AreKeysWords value_of (Keys weighting table properties) =
-    (weighting_in value_of ≡ Ok weighting)
-    × (value_of (codes "table") ≡ Some table.now)
-    × (value_of (codes "data") ≡ Some properties.now)
+-- the subcommand of this name, with these rows of its arguments, says these words
+abbrev pub Says : Text → List Row → Words → Type 0
+Says name rows (Check table properties) = (name ≡ codes "check") × HasFiles rows table properties
+Says name rows (Keys weighting table properties) =
+    (name ≡ codes "keys") × HasWeighting rows weighting × HasFiles rows table properties
+Says name rows (Sort weighting table properties) =
+    (name ≡ codes "sort") × HasWeighting rows weighting × HasFiles rows table properties
+Says name rows (Compare weighting table properties left right) =
+    (name ≡ codes "compare") × HasWeighting rows weighting × HasFiles rows table properties
+    × HasWord rows (codes "left") left × HasWord rows (codes "right") right
 
--- the name of a file is missing
-abbrev pub LacksFile : (Text → Option Text) → Type 0
-LacksFile value_of = (value_of (codes "table") ≡ None) ⊎ (value_of (codes "data") ≡ None)
-
--- the name of the subcommand that was met, and the rows of its arguments, say these words
+-- the subcommand that was met, with the rows of its arguments, says these words
 abbrev pub SayWords : Option (Text × List Row) → Words → Type 0
 SayWords None words = ⊥
-SayWords (Some met) words = (met.0 ≡ codes "keys") × AreKeysWords (λ id. first_of id met.1) words
+SayWords (Some met) words = Says met.0 met.1 words
 
--- or ask for a weighting that is none of the two
-abbrev pub AskForNoWeighting : Option (Text × List Row) → Type 0
-AskForNoWeighting None = ⊥
-AskForNoWeighting (Some met) = (met.0 ≡ codes "keys") × (weighting_in (λ id. first_of id met.1) ≡ Err Weighting)
+-- `--weighting` is given a value, and it is none of the two
+abbrev pub IsOtherWeighting : Option Text → Type 0
+IsOtherWeighting None = ⊥
+IsOtherWeighting (Some text) = (text ≢ weighting_text NonIgnorable) × (text ≢ weighting_text Shifted)
+
+abbrev pub HasOtherWeighting : List Row → Type 0
+HasOtherWeighting rows = IsOtherWeighting (first_of (codes "weighting") rows)
+
+-- so it is of the subcommand that was met
+abbrev pub AskForOtherWeighting : Option (Text × List Row) → Type 0
+AskForOtherWeighting None = ⊥
+AskForOtherWeighting (Some met) = HasOtherWeighting met.1
+
+-- the command has no fault at the words, and they name a subcommand that says this
+abbrev pub AreRead : List Text → Words → Type 0
+AreRead words said = (fault_of uca_app words ≡ []) × SayWords (subcommand_of uca_app words) said
+
+-- what an error says of the words: the command has this kind of fault at them, and does not take them;
+-- or it has none, and the weighting that they give is none of the two; or a growth was refused
+abbrev pub IsFaultOf : List Text → WordFault → Type 0
+IsFaultOf words (Refused error) = IsAmong (kind_of error) (fault_of uca_app words) × (takes uca_app words ≢ true)
+IsFaultOf words Weighting = (fault_of uca_app words ≡ []) × AskForOtherWeighting (subcommand_of uca_app words)
+IsFaultOf words Memory = ⊤
 
 -- what becomes of an error of `clap`
 abbrev pub refused_by_kind : ErrorKind → Error → WordFault

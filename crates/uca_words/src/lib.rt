@@ -1,20 +1,26 @@
 //! The words of the command line, read by `clap`.
 //!
-//! Proved of `read_words`, against the specification that `clap` has of its matches: what it answers are
-//! the words of the subcommand that was met, and `Weighting` is answered only where the weighting that is
-//! asked for is none of the two. When it answers `Refused`, and that it does not where `clap` takes the
-//! words, no contract says yet: tests alone show it.
+//! Proved of `read_words`, against the specification that `clap` has of what it takes and refuses: at `Ok`
+//! the command has no fault at the words, and what is answered are the words of the subcommand that was
+//! met. `Refused` has an error of a kind that the command has at the words, and is never answered where
+//! it takes them. `Weighting` is answered only where it takes them and the weighting that they give is none
+//! of the two. When a growth is refused, and so `Memory` is answered, no contract says.
 #![tactic(auto)]
 
-ghost use Rattle.std.specs.Prelude.{◌≡◌, false, IfOk, IfErr, IfSome, IfNone};
-ghost use Rattle.clap.specs.Matches.{found_of, first_value};
-ghost use Rattle.clap.specs.Words.{rule_of, subcommand_of};
+ghost use Rattle.std.specs.Prelude.{◌≡◌, Some, IfOk, IfErr, IfSome, IfNone, true, is_some, codes, option_map};
+ghost use Rattle.clap.specs.Words.{found_of, rows_of, first_of};
 ghost use Rattle.clap.specs.Walk.{texts};
-ghost use Rattle.uca_words.specs.Command.{StandsFor, word_rule, weighting_rule, keys_app, uca_app};
-ghost use Rattle.uca_words.specs.Words.{weighting_named, weighting_in, AreKeysWords, LacksFile, SayWords, AskForNoWeighting};
+ghost use Rattle.uca_words.specs.Command.{check_app, keys_app, sort_app, compare_app};
+ghost use Rattle.uca_words.specs.Met.{has_words, is_met, IsWeightingFault};
+ghost use Rattle.uca_words.specs.Words.{weighting_text, HasFiles, HasWord, HasWeighting, IsOtherWeighting, Says, AreRead, IsFaultOf};
 
+mod builders;
+#[cfg(test)]
+mod tests;
+
+use builders::uca_command;
+use clap::ArgMatches;
 use clap::error::ErrorKind;
-use clap::{Arg, ArgMatches, Command};
 use std::alloc::{AllocError, Global};
 use thiserror::Error;
 use uca_weights::Weighting;
@@ -22,6 +28,13 @@ use uca_weights::Weighting;
 /// What a command line asks for.
 #[derive(Clone, Copy, Debug, PartialEq, Eq)]
 pub enum Words<'a> {
+    /// `check TABLE DATA`: say whether a weight table is well-formed.
+    Check {
+        /// The name of the table file.
+        table: &'a str,
+        /// The name of the data file.
+        properties: &'a str,
+    },
     /// `keys [--weighting W] TABLE DATA`: print the sort key of each line of standard input.
     Keys {
         /// The weighting, if one is given.
@@ -30,6 +43,28 @@ pub enum Words<'a> {
         table: &'a str,
         /// The name of the data file.
         properties: &'a str,
+    },
+    /// `sort [--weighting W] TABLE DATA`: sort the lines of standard input.
+    Sort {
+        /// The weighting, if one is given.
+        weighting: Option<Weighting>,
+        /// The name of the table file.
+        table: &'a str,
+        /// The name of the data file.
+        properties: &'a str,
+    },
+    /// `compare [--weighting W] TABLE DATA LEFT RIGHT`: say which of two texts comes first.
+    Compare {
+        /// The weighting, if one is given.
+        weighting: Option<Weighting>,
+        /// The name of the table file.
+        table: &'a str,
+        /// The name of the data file.
+        properties: &'a str,
+        /// The text on the left.
+        left: &'a str,
+        /// The text on the right.
+        right: &'a str,
     },
 }
 
@@ -72,60 +107,10 @@ impl From<clap::Error> for WordFault {
     }
 }
 
-fn word<'a>(alloc: Global, id: &'a str, name: &'a str, help: &'a str) -> Arg<'a>
-    ensures rule { rule_of result ≡ word_rule id.entry.now }
-    ensures local { result.global ≡ false }
-{
-    Arg::new(alloc, id)
-        .required(true)
-        .value_name(name)
-        .help(help)
-}
-
-fn weighting_option<'a>(alloc: Global) -> Arg<'a>
-    ensures rule { rule_of result ≡ weighting_rule }
-    ensures local { result.global ≡ false }
-{
-    Arg::new(alloc, "weighting")
-        .long("weighting")
-        .value_name("W")
-        .help("non-ignorable or shifted [default: what the table's @variable says, else shifted]")
-}
-
-fn keys_command<'a>(alloc: Global) -> Result<Command<'a>, AllocError>
-    ensures { IfOk result (StandsFor keys_app) }
-{
-    Command::new(alloc, "keys")
-        .about("Print the sort key of each line of standard input")
-        .after_help("Example: uca keys allkeys.txt data.txt < lines.txt")
-        .arg(weighting_option(alloc))?
-        .arg(word(
-            alloc,
-            "table",
-            "TABLE",
-            "A weight table in the form of allkeys.txt",
-        ))?
-        .arg(word(
-            alloc,
-            "data",
-            "DATA",
-            "A data file: combining classes and Han ranges",
-        ))
-}
-
-fn uca_command<'a>(alloc: Global) -> Result<Command<'a>, AllocError>
-    ensures { IfOk result (StandsFor uca_app) }
-{
-    Command::new(alloc, "uca")
-        .about("Unicode collation (UTS #10)")
-        .subcommand_required(true)
-        .disable_help_subcommand(true)
-        .subcommand(keys_command(alloc)?)
-}
-
-// The weighting of a word behind `--weighting`.
+// The weighting that a word names.
 fn weighting_of(word: &str) -> Option<Weighting>
-    ensures { result ≡ weighting_named word.now }
+    ensures known { IfSome result (λ weighting. word.now ≡ weighting_text weighting) }
+    ensures unknown { IfNone result (IsOtherWeighting (Some word.now)) }
 {
     match word {
         "non-ignorable" => Some(Weighting::NonIgnorable),
@@ -134,11 +119,27 @@ fn weighting_of(word: &str) -> Option<Weighting>
     }
 }
 
-// The weighting that the words ask for.
-fn given_weighting(matches: &ArgMatches) -> Result<Option<Weighting>, WordFault>
-    ensures { result ≡ weighting_in (first_value (found_of matches.now)) }
+// The first value of an argument.
+fn value_of<'a>(found: &ArgMatches<'a>, id: &str) -> Option<&'a str>
+    ensures { option_map (λ word. word.now) result ≡ first_of id.now (rows_of (found_of found.now)) }
 {
-    let Some(word) = matches.get_str("weighting") else {
+    found.get_str(id)
+}
+
+// The word that is called so.
+fn word_of<'a>(found: &ArgMatches<'a>, id: &str) -> &'a str
+    requires { is_some (first_of id.now (rows_of (found_of found.now))) ≡ true }
+    ensures { HasWord (rows_of (found_of found.now)) id.now result }
+{
+    value_of(found, id).unwrap()
+}
+
+// The weighting that is given.
+fn given_weighting(found: &ArgMatches) -> Result<Option<Weighting>, WordFault>
+    ensures ok { IfOk result (HasWeighting (rows_of (found_of found.now))) }
+    ensures err { IfErr result (IsWeightingFault (rows_of (found_of found.now))) }
+{
+    let Some(word) = value_of(found, "weighting") else {
         return Ok(None);
     };
     match weighting_of(word) {
@@ -147,86 +148,92 @@ fn given_weighting(matches: &ArgMatches) -> Result<Option<Weighting>, WordFault>
     }
 }
 
-// The words of `keys`: `None` where a word that `clap` requires has no value, which it does not let pass.
-fn keys_words<'a>(matches: &ArgMatches<'a>) -> Result<Option<Words<'a>>, WordFault>
-    ensures found { IfOk result (λ words. IfSome words (AreKeysWords (first_value (found_of matches.now)))) }
-    ensures missing { IfOk result (λ words. IfNone words (LacksFile (first_value (found_of matches.now)))) }
-    ensures fault { IfErr result (λ fault. weighting_in (first_value (found_of matches.now)) ≡ Err fault) }
+// The names of the two files.
+fn files_of<'a>(found: &ArgMatches<'a>) -> (&'a str, &'a str)
+    requires { has_words check_app (rows_of (found_of found.now)) ≡ true }
+    ensures { HasFiles (rows_of (found_of found.now)) result.0 result.1 }
 {
-    let weighting = given_weighting(matches)?;
-    let Some(table) = matches.get_str("table") else {
-        return Ok(None);
-    };
-    let Some(properties) = matches.get_str("data") else {
-        return Ok(None);
-    };
-    Ok(Some(Words::Keys {
-        weighting,
+    (word_of(found, "table"), word_of(found, "data"))
+}
+
+fn check_words<'a>(found: &ArgMatches<'a>) -> Words<'a>
+    requires { has_words check_app (rows_of (found_of found.now)) ≡ true }
+    ensures { Says (codes "check") (rows_of (found_of found.now)) result }
+{
+    let (table, properties) = files_of(found);
+    Words::Check { table, properties }
+}
+
+fn keys_words<'a>(found: &ArgMatches<'a>) -> Result<Words<'a>, WordFault>
+    requires { has_words keys_app (rows_of (found_of found.now)) ≡ true }
+    ensures ok { IfOk result (Says (codes "keys") (rows_of (found_of found.now))) }
+    ensures err { IfErr result (IsWeightingFault (rows_of (found_of found.now))) }
+{
+    let (table, properties) = files_of(found);
+    Ok(Words::Keys {
+        weighting: given_weighting(found)?,
         table,
         properties,
-    }))
+    })
+}
+
+fn sort_words<'a>(found: &ArgMatches<'a>) -> Result<Words<'a>, WordFault>
+    requires { has_words sort_app (rows_of (found_of found.now)) ≡ true }
+    ensures ok { IfOk result (Says (codes "sort") (rows_of (found_of found.now))) }
+    ensures err { IfErr result (IsWeightingFault (rows_of (found_of found.now))) }
+{
+    let (table, properties) = files_of(found);
+    Ok(Words::Sort {
+        weighting: given_weighting(found)?,
+        table,
+        properties,
+    })
+}
+
+fn compare_words<'a>(found: &ArgMatches<'a>) -> Result<Words<'a>, WordFault>
+    requires { has_words compare_app (rows_of (found_of found.now)) ≡ true }
+    ensures ok { IfOk result (Says (codes "compare") (rows_of (found_of found.now))) }
+    ensures err { IfErr result (IsWeightingFault (rows_of (found_of found.now))) }
+{
+    let (table, properties) = files_of(found);
+    Ok(Words::Compare {
+        weighting: given_weighting(found)?,
+        table,
+        properties,
+        left: word_of(found, "left"),
+        right: word_of(found, "right"),
+    })
+}
+
+// The words of the subcommand of this name.
+fn subcommand_words<'a>(name: &str, found: &ArgMatches<'a>) -> Result<Words<'a>, WordFault>
+    requires { is_met name.now (rows_of (found_of found.now)) ≡ true }
+    ensures ok { IfOk result (Says name.now (rows_of (found_of found.now))) }
+    ensures err { IfErr result (IsWeightingFault (rows_of (found_of found.now))) }
+{
+    match name {
+        "check" => Ok(check_words(found)),
+        "keys" => keys_words(found),
+        "sort" => sort_words(found),
+        "compare" => compare_words(found),
+        _ => unreachable!(),
+    }
 }
 
 /// Reads the words of a command line, of which the first is the program's name: the subcommand that `clap`
-/// met, with its words and the weighting that it asks for.
+/// met, with its words and the weighting that is given.
 ///
 /// # Errors
 ///
 /// `Refused` with the error of `clap` where it refuses the words or help is asked for, `Weighting`
-/// where the word behind `--weighting` is none of the two, and `Memory` where a growth was refused.
+/// where it takes them and the word behind `--weighting` is none of the two, and `Memory` where a growth
+/// was refused.
 pub fn read_words<'a>(alloc: Global, words: &'a [&'a str]) -> Result<Words<'a>, WordFault>
-    ensures ok { IfOk result (SayWords (subcommand_of uca_app (texts words.entry.now))) }
-    ensures weighting { result ≡ Err WordFault.Weighting →
-        AskForNoWeighting (subcommand_of uca_app (texts words.entry.now)) }
+    ensures ok { IfOk result (AreRead (texts words.entry.now)) }
+    ensures err { IfErr result (IsFaultOf (texts words.entry.now)) }
 {
     let mut command = uca_command(alloc)?;
     let matches = command.try_get_matches_from_mut(words)?;
-    if let Some(found) = matches.subcommand_matches("keys") {
-        if let Some(words) = keys_words(found)? {
-            return Ok(words);
-        }
-    }
-    let missing = command.error(ErrorKind::MissingRequiredArgument, "a word is missing")?;
-    Err(WordFault::from(missing))
-}
-
-#[cfg(test)]
-mod tests {
-    use super::*;
-    use std::test::Fail;
-
-    #[test]
-    fn reads_keys(rt: HostRuntime) -> Result<(), Fail> {
-        let words = ["uca", "keys", "--weighting", "shifted", "t", "d"];
-        let expected = Words::Keys {
-            weighting: Some(Weighting::Shifted),
-            table: "t",
-            properties: "d",
-        };
-        assert!(rt; read_words(rt.alloc(), &words)? == expected);
-        Ok(())
-    }
-
-    #[test]
-    fn refuses_other_words(rt: HostRuntime) -> Result<(), Fail> {
-        assert!(rt;
-            matches!(
-                read_words(rt.alloc(), &["uca", "check", "t", "d"]),
-                Err(WordFault::Refused(_))
-            )
-        );
-        assert!(rt;
-            matches!(
-                read_words(rt.alloc(), &["uca", "keys", "t"]),
-                Err(WordFault::Refused(_))
-            )
-        );
-        assert!(rt;
-            matches!(
-                read_words(rt.alloc(), &["uca", "keys", "--weighting", "x", "t", "d"]),
-                Err(WordFault::Weighting)
-            )
-        );
-        Ok(())
-    }
+    let (name, found) = matches.subcommand().unwrap();
+    subcommand_words(name, found)
 }

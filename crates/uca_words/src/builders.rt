@@ -1,0 +1,158 @@
+//! The command `uca` as `clap` is told it: its subcommands, their words, and the help on them.
+
+ghost use Rattle.std.specs.Prelude.{◌≡◌, false, IfOk};
+ghost use Rattle.clap.specs.Words.{App, new_app, rule_of, with_rule, with_subcommand};
+ghost use Rattle.uca_words.specs.Command.{StandsFor, word_rule, weighting_rule, with_files, with_weighting, check_app, keys_app, sort_app, compare_app, bare_app, uca_app};
+
+use clap::{Arg, Command};
+use std::alloc::{AllocError, Global};
+
+fn word<'a>(alloc: Global, id: &'a str, name: &'a str, help: &'a str) -> Arg<'a>
+    ensures rule { rule_of result ≡ word_rule id.entry.now }
+    ensures local { result.global ≡ false }
+{
+    Arg::new(alloc, id)
+        .required(true)
+        .value_name(name)
+        .help(help)
+}
+
+fn weighting_option<'a>(alloc: Global) -> Arg<'a>
+    ensures rule { rule_of result ≡ weighting_rule }
+    ensures local { result.global ≡ false }
+{
+    Arg::new(alloc, "weighting")
+        .long("weighting")
+        .value_name("W")
+        .help("non-ignorable or shifted [default: what the table's @variable says, else shifted]")
+}
+
+// `TABLE DATA` come next.
+fn take_files<'a>(alloc: Global, command: Command<'a>) -> Result<Command<'a>, AllocError>
+    ensures { (app : App) → StandsFor app command.entry → IfOk result (StandsFor (with_files app)) }
+{
+    command
+        .arg(word(
+            alloc,
+            "table",
+            "TABLE",
+            "A weight table in the form of allkeys.txt",
+        ))?
+        .arg(word(
+            alloc,
+            "data",
+            "DATA",
+            "A data file: combining classes and Han ranges",
+        ))
+}
+
+// `[--weighting W] TABLE DATA` come next.
+fn take_weighting<'a>(alloc: Global, command: Command<'a>) -> Result<Command<'a>, AllocError>
+    ensures { (app : App) → StandsFor app command.entry → IfOk result (StandsFor (with_weighting app)) }
+{
+    take_files(alloc, command.arg(weighting_option(alloc))?)
+}
+
+// A subcommand before its words: its name, what it does in one line and in full, and an example.
+fn named<'a>(
+    alloc: Global,
+    name: &'a str,
+    line: &'a str,
+    text: &'a str,
+    example: &'a str,
+) -> Command<'a>
+    ensures { StandsFor (new_app name.entry.now) result }
+{
+    Command::new(alloc, name)
+        .about(line)
+        .long_about(text)
+        .after_help(example)
+}
+
+fn check_command<'a>(alloc: Global) -> Result<Command<'a>, AllocError>
+    ensures { IfOk result (StandsFor check_app) }
+{
+    let check = named(
+        alloc,
+        "check",
+        "Say whether a weight table is well-formed",
+        "Says whether a weight table is well-formed (UTS #10, section 9.2): prints `well-formed`, or the\n\
+         condition that is broken and the row that breaks it, as `WF5 row 8`, with status 1.",
+        "Example: uca check allkeys.txt data.txt",
+    );
+    take_files(alloc, check)
+}
+
+fn keys_command<'a>(alloc: Global) -> Result<Command<'a>, AllocError>
+    ensures { IfOk result (StandsFor keys_app) }
+{
+    let keys = named(
+        alloc,
+        "keys",
+        "Print the sort key of each line of standard input",
+        "Prints the sort key (UTS #10, S3) of each line of standard input on a line of its own, in groups\n\
+         of four hexadecimal digits. `0000` stands between two levels.",
+        "Example: uca keys allkeys.txt data.txt < lines.txt",
+    );
+    take_weighting(alloc, keys)
+}
+
+fn sort_command<'a>(alloc: Global) -> Result<Command<'a>, AllocError>
+    ensures { IfOk result (StandsFor sort_app) }
+{
+    let sort = named(
+        alloc,
+        "sort",
+        "Sort the lines of standard input by their sort keys",
+        "Sorts the lines of standard input by their sort keys. Lines of equal keys keep their order.",
+        "Example: uca sort --weighting non-ignorable allkeys.txt data.txt < lines.txt",
+    );
+    take_weighting(alloc, sort)
+}
+
+fn compare_command<'a>(alloc: Global) -> Result<Command<'a>, AllocError>
+    ensures { IfOk result (StandsFor compare_app) }
+{
+    let compare = named(
+        alloc,
+        "compare",
+        "Say how two texts compare, and at which level they differ",
+        "Prints `<`, `=` or `>`, as LEFT comes before RIGHT, is equal to it or comes after it, and the level\n\
+         at which the two first differ, 0 if none: `< 2`.",
+        "Example: uca compare --weighting shifted allkeys.txt data.txt cote côté",
+    );
+    take_weighting(alloc, compare)?
+        .arg(word(alloc, "left", "LEFT", "The text on the left"))?
+        .arg(word(alloc, "right", "RIGHT", "The text on the right"))
+}
+
+// One more subcommand.
+fn take_subcommand<'a>(command: Command<'a>, below: Command<'a>) -> Result<Command<'a>, AllocError>
+    ensures { (app sub : App) → StandsFor app command.entry → StandsFor sub below.entry →
+        IfOk result (StandsFor (with_subcommand app sub.top)) }
+{
+    command.subcommand(below)
+}
+
+// The command before its subcommands.
+fn bare_command<'a>(alloc: Global) -> Command<'a>
+    ensures { StandsFor bare_app result }
+{
+    Command::new(alloc, "uca")
+        .about(
+            "Unicode collation (UTS #10): checks tables of weights, prints sort keys, sorts and compares",
+        )
+        .after_help("`uca COMMAND --help` says more of each, with an example.")
+        .subcommand_required(true)
+        .disable_help_subcommand(true)
+}
+
+/// The command with all its subcommands.
+pub(crate) fn uca_command<'a>(alloc: Global) -> Result<Command<'a>, AllocError>
+    ensures { IfOk result (StandsFor uca_app) }
+{
+    let command = take_subcommand(bare_command(alloc), check_command(alloc)?)?;
+    let command = take_subcommand(command, keys_command(alloc)?)?;
+    let command = take_subcommand(command, sort_command(alloc)?)?;
+    take_subcommand(command, compare_command(alloc)?)
+}
