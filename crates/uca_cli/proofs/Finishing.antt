@@ -1,10 +1,9 @@
 -- How a run of keys begins and ends.
-use Rattle.std.proofs.Common.{◌≡◌, ℕ, List, [], take, drop, true, false, Option, Some, None, IfSome, Result, Ok, Err, refl, ap, subst, arith, sym, ◌∙◌, append-nil}
+use Rattle.std.proofs.Common.{◌≡◌, ℕ, List, [], true, false, Option, Some, None, IfSome, Result, Ok, Err, refl, ap, subst, arith, sym, ◌∙◌}
 use Rattle.std.specs.Io.KnownBytes.{Appends, prepend_known}
 use Rattle.std.proofs.lemmas.Grind.{flat_map-append}
 use Rattle.uca_weights.specs.Streams.{SourceState, SinkState}
 use Rattle.uca_weights.specs.Writes.{WentOut}
-use Rattle.uca_values.specs.Content.{Properties}
 use Rattle.uca_lines.specs.Lines.{lines_of}
 use Rattle.uca_lines.specs.LineReader.{LineState}
 use Rattle.uca_lines.specs.OutputBuffer.{BufferState, HandedOver}
@@ -12,30 +11,17 @@ use Rattle.uca_cli.specs.declared.faults.RunFault.{RunFault}
 use Rattle.uca_cli.specs.declared.faults.RunFault.TheVariants.{File, Input, Write, Text, Open, Words, Memory}
 use Rattle.uca_cli.specs.declared.faults.InputKind.{InputKind}
 use Rattle.uca_cli.specs.Keys.{Collation, key_lines, keys_output}
-use Rattle.uca_cli.specs.KeysRun.{IsInputFault, WritesKeys, is_write, is_before_input}
-use Rattle.uca_cli.specs.KeysSoFar.{IsKnownBehind, AreAll, HasPrinted, IsPartOfOutput, PrintsRest}
-use Rattle.uca_cli.proofs.LinesSoFar.{at_start}
-use Rattle.uca_cli.proofs.PrintLemmas.{WentOut-more}
-
--- nothing was read yet
-known_start : (properties : Properties) (known : Option (List ℕ)) → IsKnownBehind properties known (prepend_known [] known) []
-known_start properties None = tt
-known_start properties (Some bytes) = at_start properties bytes
-
-nothing_out : (known : Option (List ℕ)) → Appends known known []
-nothing_out None = tt
-nothing_out (Some xs) = sym (append-nil xs)
-
-none_dropped : (n : ℕ) → n ≡ 0 → ◌≡◌ {A = List ℕ} [] (drop n [])
-none_dropped n h = rw h refl
+use Rattle.uca_cli.specs.Runs.{IsInputFault, is_write, is_file}
+use Rattle.uca_cli.specs.KeysRun.{WritesKeys, is_before_input}
+use Rattle.uca_cli.specs.LinesSoFar.{IsKnownBehind, AreAll}
+use Rattle.uca_cli.specs.KeysSoFar.{HasPrinted, IsPartOfOutput, PrintsRest}
+use Rattle.uca_cli.proofs.KnownLines.{known_start}
+use Rattle.uca_cli.proofs.PrintLemmas.{WentOut-more, handed_nothing}
 
 pub started : (c : Collation) (reader : LineState) (input : SourceState) (buffer : BufferState) (out : SinkState) → reader.pending ≡ [] → reader.number ≡ 0 → buffer.held ≡ [] → buffer.written ≡ 0 → HasPrinted c input.remaining out.contents [] reader input buffer out
 started c reader input buffer out pending number held written = record {
   behind = subst (λ xs. IsKnownBehind c.properties input.remaining (prepend_known xs input.remaining) []) (sym pending) (known_start c.properties input.remaining);
-  printed = record {
-    went_out = (subst (λ n. Appends out.contents out.contents (take n [])) (sym written) (nothing_out out.contents), rw written (omega arith));
-    held = held ∙ none_dropped buffer.written written;
-  };
+  printed = handed_nothing out.contents buffer held written;
   count = number;
   small = rw (written, held) (omega arith);
 }
@@ -47,7 +33,7 @@ part_of c (Some bytes) begun now written part =
     subst (λ output. WentOut begun now output written) (sym part.begins.1) (WentOut-more begun now part.text part.begins.0 written part.went_out)
 
 -- a write that failed before the end
-pub write_stays : (c : Collation) (start begun left : Option (List ℕ)) (input : SourceState) (buffer : BufferState) (out : SinkState) (end : Result (Unit {0}) RunFault) → PrintsRest c start begun input buffer out end → is_write end ≡ true → IfSome start (λ bytes. WritesKeys c bytes left (Appends begun out.contents) (WentOut begun out.contents) end)
+pub write_stays : (c : Collation) (start begun left : Option (List ℕ)) (input : SourceState) (buffer : BufferState) (out : SinkState) (end : Result (Unit {0}) RunFault) → PrintsRest c start begun input buffer out end → is_write end ≡ true → IfSome start (λ bytes. WritesKeys c bytes left begun out.contents end)
 write_stays c start begun left input buffer out (Ok x) prints h = let never : ⊥ = cc in absurd never
 write_stays c start begun left input buffer out (Err (Write written)) prints h = part_of c start begun out.contents written prints.1
 write_stays c start begun left input buffer out (Err (Input number kind)) prints h = let never : ⊥ = cc in absurd never
@@ -58,15 +44,15 @@ write_stays c start begun left input buffer out (Err (Open role)) prints h = abs
 write_stays c start begun left input buffer out (Err (Words fault)) prints h = absurd prints.1
 
 -- all that was handed over went out
-all_out : (c : Collation) (start begun now left : Option (List ℕ)) (x : Unit {0}) (all : List (List ℕ)) → IfSome start (λ bytes. AreAll c.properties bytes all) → Appends begun now (key_lines c all) → IfSome start (λ bytes. WritesKeys {A = Unit {0}} c bytes left (Appends begun now) (WentOut begun now) (Ok x))
+all_out : (c : Collation) (start begun now left : Option (List ℕ)) (x : Unit {0}) (all : List (List ℕ)) → IfSome start (λ bytes. AreAll c.properties bytes all) → Appends begun now (key_lines c all) → IfSome start (λ bytes. WritesKeys {A = Unit {0}} c bytes left begun now (Ok x))
 all_out c None begun now left x all are out = tt
 all_out c (Some bytes) begun now left x all are out = (are.clean ∙ sym are.lines, subst (λ lines. Appends begun now (key_lines c lines)) (sym are.lines) out)
 
-stopped_out : (c : Collation) (start begun now left : Option (List ℕ)) (before : List (List ℕ)) (number : ℕ) (kind : InputKind) → IfSome start (λ bytes. IsInputFault c.properties bytes left before number kind) → Appends begun now (key_lines c before) → IfSome start (λ bytes. WritesKeys {A = Unit {0}} c bytes left (Appends begun now) (WentOut begun now) (Err (Input number kind)))
+stopped_out : (c : Collation) (start begun now left : Option (List ℕ)) (before : List (List ℕ)) (number : ℕ) (kind : InputKind) → IfSome start (λ bytes. IsInputFault c.properties bytes left before number kind) → Appends begun now (key_lines c before) → IfSome start (λ bytes. WritesKeys {A = Unit {0}} c bytes left begun now (Err (Input number kind)))
 stopped_out c None begun now left before number kind fault out = tt
 stopped_out c (Some bytes) begun now left before number kind fault out = (before, fault, out)
 
-pub flushed : (c : Collation) (start begun : Option (List ℕ)) (input : SourceState) (buffer : BufferState) (out now : SinkState) (end : Result (Unit {0}) RunFault) → PrintsRest c start begun input buffer out end → is_write end ≡ false → ((text : List ℕ) → HandedOver begun out.contents text buffer → Appends begun now.contents text) → IfSome start (λ bytes. WritesKeys c bytes input.remaining (Appends begun now.contents) (WentOut begun now.contents) end)
+pub flushed : (c : Collation) (start begun : Option (List ℕ)) (input : SourceState) (buffer : BufferState) (out now : SinkState) (end : Result (Unit {0}) RunFault) → PrintsRest c start begun input buffer out end → is_write end ≡ false → ((text : List ℕ) → HandedOver begun out.contents text buffer → Appends begun now.contents text) → IfSome start (λ bytes. WritesKeys c bytes input.remaining begun now.contents end)
 flushed c start begun input buffer out now (Ok x) prints h flush = all_out c start begun now.contents input.remaining x prints.all prints.are_all (flush _ prints.printed)
 flushed c start begun input buffer out now (Err (Input number kind)) prints h flush = stopped_out c start begun now.contents input.remaining prints.0 number kind prints.1.0 (flush _ prints.1.1)
 flushed c start begun input buffer out now (Err (Write written)) prints h flush = let never : ⊥ = cc in absurd never
@@ -86,7 +72,7 @@ stopped_part c None begun now left before number kind written fault out = tt
 stopped_part c (Some bytes) begun now left before number kind written fault out =
     subst (λ output. WentOut begun now output written) (sym (ap (key_lines c) fault.clean.1 ∙ flat_map-append _ before fault.clean.0)) (WentOut-more begun now (key_lines c before) (key_lines c fault.clean.0) written out)
 
-pub not_flushed : (c : Collation) (start begun left : Option (List ℕ)) (input : SourceState) (buffer : BufferState) (out now : SinkState) (end : Result (Unit {0}) RunFault) (written : ℕ) → PrintsRest c start begun input buffer out end → is_write end ≡ false → ((text : List ℕ) → HandedOver begun out.contents text buffer → WentOut begun now.contents text written) → IfSome start (λ bytes. WritesKeys {A = Unit {0}} c bytes left (Appends begun now.contents) (WentOut begun now.contents) (Err (Write written)))
+pub not_flushed : (c : Collation) (start begun left : Option (List ℕ)) (input : SourceState) (buffer : BufferState) (out now : SinkState) (end : Result (Unit {0}) RunFault) (written : ℕ) → PrintsRest c start begun input buffer out end → is_write end ≡ false → ((text : List ℕ) → HandedOver begun out.contents text buffer → WentOut begun now.contents text written) → IfSome start (λ bytes. WritesKeys {A = Unit {0}} c bytes left begun now.contents (Err (Write written)))
 not_flushed c start begun left input buffer out now (Ok x) written prints h flush = all_part c start begun now.contents prints.all written prints.are_all (flush _ prints.printed)
 not_flushed c start begun left input buffer out now (Err (Input number kind)) written prints h flush = stopped_part c start begun now.contents input.remaining prints.0 number kind written prints.1.0 (flush _ prints.1.1)
 not_flushed c start begun left input buffer out now (Err (Write w)) written prints h flush = let never : ⊥ = cc in absurd never
@@ -106,3 +92,14 @@ of_lines c start begun input buffer out (Err Memory) prints = absurd prints.1
 of_lines c start begun input buffer out (Err (Text right fault)) prints = refl
 of_lines c start begun input buffer out (Err (Open role)) prints = refl
 of_lines c start begun input buffer out (Err (Words fault)) prints = refl
+
+-- what ended by the lines is no file's fault
+pub before_file : (end : Result (Unit {0}) RunFault) → is_before_input end ≡ false → is_file end ≡ false
+before_file (Ok x) h = refl
+before_file (Err (Input number kind)) h = refl
+before_file (Err (Write written)) h = refl
+before_file (Err (File role fault)) h = let never : ⊥ = cc in absurd never
+before_file (Err Memory) h = refl
+before_file (Err (Text right fault)) h = refl
+before_file (Err (Open role)) h = refl
+before_file (Err (Words fault)) h = refl

@@ -1,10 +1,16 @@
 pub mod LongRuns
 pub mod LineCuts
 pub mod LinesSoFar
+pub mod KnownLines
 pub mod Causes
 pub mod NextTexts
 pub mod PrintLemmas
 pub mod Printing
+pub mod Keeping
+pub mod Writing
+pub mod KeyOrdering
 pub mod Finishing
 pub mod Running
+pub mod Verdicts
 pub mod LineLaws
+pub mod OneOrder

@@ -7,8 +7,8 @@ use Rattle.uca_values.specs.Content.{Properties}
 use Rattle.uca_cli.specs.declared.faults.InputKind.{InputKind}
 use Rattle.uca_cli.specs.Input.{cause_of, clean_from}
 use Rattle.uca_cli.specs.Keys.{Collation, key_lines, keys_output}
-use Rattle.uca_cli.specs.KeysSoFar.{IsBehind, AreAll}
-use Rattle.uca_cli.specs.KeysRun.{FailsBehind, HasLineCause, HasCause, IsInputFault}
+use Rattle.uca_cli.specs.LinesSoFar.{IsBehind, AreAll}
+use Rattle.uca_cli.specs.Runs.{FailsBehind, HasLineCause, HasCause, IsInputFault}
 use Rattle.uca_cli.proofs.LineCuts.{lines_of-ended, lines_of-last}
 
 pub at_start : (properties : Properties) (bytes : List ℕ) → IsBehind properties bytes bytes []

@@ -1,5 +1,5 @@
 -- A line that is printed piece by piece.
-use Rattle.std.proofs.Common.{◌≡◌, ℕ, suc, ◌+◌, ◌*◌, ◌%◌, ◌<◌, ◌≤◌, List, [], ◌∷◌, ◌++◌, Bool, true, false, cond, Option, length, take, drop, get_or, take-append-drop, refl, sym, ap, subst, ◌∙◌, append_assoc, arith, length-append}
+use Rattle.std.proofs.Common.{◌≡◌, ℕ, suc, ◌+◌, ◌*◌, ◌%◌, ◌<◌, ◌≤◌, List, [], ◌∷◌, ◌++◌, Bool, true, false, cond, Option, Some, None, length, take, drop, get_or, take-append-drop, refl, sym, ap, subst, ◌∙◌, append_assoc, arith, length-append}
 use Rattle.std.specs.Prelude.{◌&&◌, ◌||◌, ◌==◌, nat_lt}
 use Rattle.std.specs.Io.KnownBytes.{Appends}
 use Rattle.std.proofs.lemmas.List.{take-append-le, append-nil, take_more, length-take-le}
@@ -42,6 +42,20 @@ pub record HasHanded (text : List ℕ) (out now : SinkState) (buffer held : Buff
   pub hands : (start : Option (List ℕ)) (before : List ℕ) → HandedOver start out.contents before buffer → HandedOver start now.contents (before ++ text) held
   pub count : held.written + length held.held ≡ buffer.written + length buffer.held + length text
   pub failed : now.failed ≡ out.failed
+
+nothing_out : (known : Option (List ℕ)) → Appends known known []
+nothing_out None = tt
+nothing_out (Some xs) = sym (append-nil xs)
+
+none_dropped : (n : ℕ) → n ≡ 0 → ◌≡◌ {A = List ℕ} [] (drop n [])
+none_dropped n h = rw h refl
+
+-- nothing was handed over to an empty buffer
+pub handed_nothing : (known : Option (List ℕ)) (buffer : BufferState) → buffer.held ≡ [] → buffer.written ≡ 0 → HandedOver known known [] buffer
+handed_nothing known buffer held written = record {
+  went_out = (subst (λ n. Appends known known (take n [])) (sym written) (nothing_out known), rw written (omega arith));
+  held = held ∙ none_dropped buffer.written written;
+}
 
 pub handed_none : (out : SinkState) (buffer : BufferState) → HasHanded [] out out buffer buffer
 handed_none out buffer = record {

@@ -1,30 +1,29 @@
 -- What holds behind the next line of a run of keys.
-use Rattle.std.proofs.Common.{◌≡◌, ℕ, suc, ◌+◌, ◌*◌, ◌^◌, ◌<◌, ◌≤◌, List, [], ◌∷◌, ◌++◌, length, Option, Some, None, IfSome, Result, Ok, Err, is_err, OnOk, false, length-append, IsSomeAnd, refl, ap, subst, arith, sym, ◌∙◌, add-one, append-nil, append_assoc}
-use Rattle.std.specs.Io.KnownBytes.{Consumes, IsAtEnd, prepend_known}
+use Rattle.std.proofs.Common.{◌≡◌, ℕ, ◌+◌, ◌*◌, ◌^◌, ◌<◌, ◌≤◌, List, [], ◌∷◌, ◌++◌, length, Option, Some, None, IfSome, Err, length-append, ap, subst, arith, sym, ◌∙◌, append-nil}
+use Rattle.std.specs.Io.KnownBytes.{Consumes, IsAtEnd}
 use Rattle.std.proofs.lemmas.Grind.{flat_map-append}
-use Rattle.uca_values.specs.Content.{Properties}
 use Rattle.uca_weights.specs.Streams.{SourceState, SinkState}
 use Rattle.uca_weights.specs.Writes.{WentOut}
 use Rattle.uca_text.specs.Texts.{Spelled, letters_of}
 use Rattle.uca_lines.specs.Lines.{is_lf, Lacks, ended, lines_of}
 use Rattle.uca_lines.specs.LineReader.{LineState, left_of}
 use Rattle.uca_lines.specs.NextLine.{HasBytes}
-use Rattle.uca_cli.proofs.LineCuts.{some_line}
 use Rattle.uca_cli.proofs.NextTexts.{ended_left, cut_left}
 use Rattle.uca_lines.specs.OutputBuffer.{BufferState, HandedOver}
 use Rattle.uca_cli.specs.declared.faults.InputKind.{InputKind}
-use Rattle.uca_cli.specs.declared.faults.InputKind.TheVariants.{Utf8, TooLong, LongRun, Read, Limit, Memory}
+use Rattle.uca_cli.specs.declared.faults.InputKind.TheVariants.{Read, Memory}
 use Rattle.uca_cli.specs.Print.{print_line}
 use Rattle.uca_cli.specs.Input.{cause_of, clean_from}
 use Rattle.uca_cli.specs.Keys.{Collation, line_key, key_lines, keys_output}
-use Rattle.uca_cli.specs.KeysRun.{IsInputFault, HasCause, FailsBehind}
-use Rattle.uca_cli.specs.KeysSoFar.{IsBehind, IsKnownBehind, AreAll, HasPrinted, HasPrintedAll, IsPartOfOutput, IsStopped, PrintsText}
+use Rattle.uca_cli.specs.LinesSoFar.{IsKnownBehind, AreAll}
+use Rattle.uca_cli.specs.KeysSoFar.{HasPrinted, HasPrintedAll, IsPartOfOutput, IsStopped, PrintsText}
 use Rattle.uca_cli.specs.declared.faults.RunFault.{RunFault}
 use Rattle.uca_cli.specs.declared.faults.RunFault.TheVariants.{File, Input, Write, Text, Open, Words, Memory as NoMemory}
 use Rattle.uca_key.specs.Levels.{key_bytes}
 use Rattle.uca_match.specs.Reading.{collation_elements}
 use Rattle.uca_cli.specs.Texts.{IsTextOf, SaysNext}
-use Rattle.uca_cli.proofs.LinesSoFar.{line_more, last_read, end_reached, output_begins, input_fault, read_failed}
+use Rattle.uca_cli.proofs.LinesSoFar.{output_begins}
+use Rattle.uca_cli.proofs.KnownLines.{known_end, known_more, known_last, known_refused, known_no_memory}
 use Rattle.uca_cli.proofs.PrintLemmas.{line_is_short}
 
 -- the key of one more line
@@ -32,31 +31,6 @@ pub key_lines-push : (c : Collation) (before : List (List ℕ)) (line : List ℕ
 key_lines-push c before line = flat_map-append _ before (line ∷ []) ∙ ap (λ more. key_lines c before ++ more) (append-nil (print_line (line_key c line)))
 
 -- ---- Known bytes
-
-known_end : (properties : Properties) (start left : Option (List ℕ)) (before : List (List ℕ)) → IsKnownBehind properties start left before → IsAtEnd left → IfSome start (λ bytes. AreAll properties bytes before)
-known_end properties None left before behind at_end = tt
-known_end properties (Some bytes) None before behind at_end = absurd behind
-known_end properties (Some bytes) (Some left) before behind at_end = end_reached properties bytes before (subst (λ l. IsBehind properties bytes l before) at_end behind)
-
-known_more : (properties : Properties) (start old new : Option (List ℕ)) (before : List (List ℕ)) (line : List ℕ) → IsKnownBehind properties start old before → Consumes old new (ended line) → Lacks is_lf line → cause_of properties (length before) line ≡ None → IsKnownBehind properties start new (before ++ line ∷ [])
-known_more properties None old new before line behind takes lacks clean = tt
-known_more properties (Some bytes) None new before line behind takes lacks clean = absurd behind
-known_more properties (Some bytes) (Some xs) None before line behind takes lacks clean = absurd takes
-known_more properties (Some bytes) (Some xs) (Some ys) before line behind takes lacks clean =
-    line_more properties bytes xs before line ys behind (takes ∙ append_assoc line (10 ∷ []) ys) lacks clean
-
-known_last : (properties : Properties) (start old new : Option (List ℕ)) (before : List (List ℕ)) (line : List ℕ) → IsKnownBehind properties start old before → Consumes old new line → IsAtEnd new → 0 < length line → Lacks is_lf line → cause_of properties (length before) line ≡ None → IfSome start (λ bytes. AreAll properties bytes (before ++ line ∷ []))
-known_last properties None old new before line behind takes at_end some lacks clean = tt
-known_last properties (Some bytes) None new before line behind takes at_end some lacks clean = absurd behind
-known_last properties (Some bytes) (Some xs) None before line behind takes at_end some lacks clean = absurd takes
-known_last properties (Some bytes) (Some xs) (Some ys) before line behind takes at_end some lacks clean =
-    last_read properties bytes xs before line behind (takes ∙ ap (λ l. line ++ l) at_end ∙ append-nil line) some lacks clean
-
-known_fault : (properties : Properties) (start old unread : Option (List ℕ)) (before : List (List ℕ)) (number : ℕ) (kind : InputKind) → IsKnownBehind properties start old before → number ≡ suc (length before) → ((bytes xs : List ℕ) → start ≡ Some bytes → old ≡ Some xs → IsBehind properties bytes xs before → HasCause properties bytes unread before (lines_of xs) kind) → IfSome start (λ bytes. IsInputFault properties bytes unread before number kind)
-known_fault properties None old unread before number kind behind place cause = tt
-known_fault properties (Some bytes) None unread before number kind behind place cause = absurd behind
-known_fault properties (Some bytes) (Some xs) unread before number kind behind place cause =
-    input_fault properties bytes xs unread before number kind behind place (cause bytes xs refl refl behind)
 
 -- the output goes on behind these lines
 known_output : (c : Collation) (start left : Option (List ℕ)) (before : List (List ℕ)) → IsKnownBehind c.properties start left before → IfSome start (λ bytes. (rest : List ℕ) × (keys_output c (lines_of bytes) ≡ key_lines c before ++ rest))
@@ -91,37 +65,13 @@ all_printed c start begun before reader input buffer out p ends = record {
 
 -- a growth is refused
 pub no_memory : (c : Collation) (start begun : Option (List ℕ)) (before : List (List ℕ)) (reader : LineState) (input unread : SourceState) (buffer : BufferState) (out : SinkState) (number : ℕ) → HasPrinted c start begun before reader input buffer out → number ≡ reader.number + 1 → HasBytes (left_of reader input) → IsStopped c start begun before unread buffer out (Input number Memory)
-no_memory c start begun before reader input unread buffer out number p place left = (
-  known_fault c.properties start (left_of reader input) unread.remaining before number Memory p.behind (place ∙ ap (λ n. n + 1) p.count ∙ add-one (length before)) (λ bytes xs is was behind. some_line xs (subst HasBytes was left)),
-  p.printed,
-)
+no_memory c start begun before reader input unread buffer out number p place left =
+    (known_no_memory c.properties start before reader input unread.remaining number p.behind p.count place left, p.printed)
 
 -- the next line is refused
-unread_part : (properties : Properties) (bytes xs : List ℕ) (before : List (List ℕ)) (line : List ℕ) (unread : Option (List ℕ)) → IsBehind properties bytes xs before → Consumes (Some xs) (prepend_known [] unread) line → Lacks is_lf line → length line ≤ 4194304 → IsSomeAnd unread (λ rest. FailsBehind bytes rest before)
-unread_part properties bytes xs before line None behind takes lacks short = absurd takes
-unread_part properties bytes xs before line (Some ys) behind takes lacks short = read_failed properties bytes xs before line ys behind takes lacks short
-
-refusal : (properties : Properties) (bytes xs : List ℕ) (before : List (List ℕ)) (new unread : Option (List ℕ)) (line : List ℕ) (text : Spelled) (kind : InputKind) → IsBehind properties bytes xs before → SaysNext properties (length before) (Some xs) new line text (Err kind) → (kind ≡ Read → new ≡ prepend_known [] unread) → HasCause properties bytes unread before (lines_of xs) kind
-refusal properties bytes xs before new unread line text Utf8 behind says read = record { line = says.0; later = says.1; next = says.2; cause = says.3 }
-refusal properties bytes xs before new unread line text TooLong behind says read = record { line = says.0; later = says.1; next = says.2; cause = says.3 }
-refusal properties bytes xs before new unread line text (LongRun place) behind says read = record { line = says.0; later = says.1; next = says.2; cause = says.3 }
-refusal properties bytes xs before new unread line text Limit behind says read = record { line = says.0; later = says.1; next = says.2; cause = says.3 }
-refusal properties bytes xs before new unread line text Read behind says read = unread_part properties bytes xs before line unread behind (subst (λ k. Consumes (Some xs) k line) (read refl) says.0) says.1 says.2
-refusal properties bytes xs before new unread line text Memory behind says read = some_line xs says
-
 pub refused : (c : Collation) (start begun : Option (List ℕ)) (before : List (List ℕ)) (reader now : LineState) (input unread : SourceState) (buffer : BufferState) (out : SinkState) (line : List ℕ) (text : Spelled) (number : ℕ) (kind : InputKind) → HasPrinted c start begun before reader input buffer out → number ≡ reader.number + 1 → SaysNext c.properties reader.number (left_of reader input) (left_of now unread) line text (Err kind) → (kind ≡ Read → now.pending ≡ []) → IsStopped c start begun before unread buffer out (Input number kind)
-refused c start begun before reader now input unread buffer out line text number kind p place says read = (
-  known_fault c.properties start (left_of reader input) unread.remaining before number kind p.behind (place ∙ ap (λ n. n + 1) p.count ∙ add-one (length before))
-      (λ bytes xs is was behind. refusal c.properties bytes xs before (left_of now unread) unread.remaining line text kind behind
-      (subst (λ n. SaysNext c.properties n (Some xs) (left_of now unread) line text (Err kind)) p.count (subst (λ o. SaysNext c.properties reader.number o (left_of now unread) line text (Err kind)) was says))
-      (λ h. ap (λ xs. prepend_known xs unread.remaining) (read h))),
-  p.printed,
-)
-
--- what holds at Ok, where no error is answered
-pub at_ok : {T E : Type 0} (r : Result T E) (P : Type 0) → is_err r ≡ false → OnOk r P → P
-at_ok (Ok x) P h p = p
-at_ok (Err e) P h p = let never : ⊥ = cc in absurd never
+refused c start begun before reader now input unread buffer out line text number kind p place says read =
+    (known_refused c.properties start before reader now input unread line text number kind p.behind p.count place says read, p.printed)
 
 -- the key of the line's text is that of the line
 line_key_is : (c : Collation) (before : ℕ) (line : List ℕ) (text : Spelled) → IsTextOf c.properties before line text → key_bytes c.weighting (collation_elements c.rows c.ranges c.properties (letters_of text)) ≡ line_key c line

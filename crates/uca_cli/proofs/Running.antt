@@ -1,7 +1,8 @@
--- A whole run of keys, from what was read and what was printed.
-use Rattle.std.proofs.Common.{◌≡◌, ℕ, List, false, Option, Some, None, IfSome, Result, Ok, Err, unwrap_or, refl, ap, subst, ◌∙◌}
+-- Whole runs, from what their files mean and from what is answered under it.
+use Rattle.std.proofs.Common.{◌≡◌, ℕ, List, false, Option, Some, None, IfSome, Result, Ok, Err, unwrap_or, refl, ap, ◌∙◌}
 use Rattle.std.specs.Option.{option_or}
 use Rattle.std.proofs.Math.Path.{fun_ext}
+use Rattle.uca_weights.specs.Streams.{SourceState}
 use Rattle.uca_weights.specs.declared.Weighting.{Weighting}
 use Rattle.uca_values.specs.declared.ImplicitRange.{ImplicitRange}
 use Rattle.uca_values.specs.Content.{TableContent, Properties}
@@ -13,13 +14,44 @@ use Rattle.uca_files.specs.declared.TableFault.{TableFault}
 use Rattle.uca_cli.specs.declared.faults.RunFault.{RunFault}
 use Rattle.uca_cli.specs.declared.faults.RunFault.TheVariants.{File, Input, Write, Text, Open, Words, Memory}
 use Rattle.uca_cli.specs.declared.faults.Role.{Role}
-use Rattle.uca_cli.specs.declared.faults.Role.TheVariants as roles
-use Rattle.uca_weights.specs.declared.Weighting.TheVariants.{Shifted}
-use Rattle.uca_cli.specs.Keys.{Collation, collation_by, collation}
-use Rattle.uca_cli.specs.KeysRun.{WritesKeys, Collates, RunsKeys, is_before_input, is_file_read}
+use Rattle.uca_cli.specs.Keys.{collation_by, collation, weighting_by}
+use Rattle.uca_cli.specs.Runs.{BothMean, AnswersOver, RunsOver, is_file, is_file_read}
 
--- no file failed to be read in what ended by the lines of the input
-pub no_file_read : (role : Role) (end : Result (Unit {0}) RunFault) → is_before_input end ≡ false → is_file_read role end ≡ false
+-- a data file that is refused, behind a table
+pub data_refused : (known data_known data_left : Option (List ℕ)) (table : TableContent) (fault : TableFault) → IfSome known (λ bytes. tables.Means bytes table) → IfSome data_known (λ bytes. Refuses data_files.Says data_files.Cause data_files.IsUnfinished bytes data_left fault.line fault.kind) → IfSome known (λ table_bytes. IfSome data_known (λ data_bytes. ((content : TableContent) × tables.Means table_bytes content) × Refuses data_files.Says data_files.Cause data_files.IsUnfinished data_bytes data_left fault.line fault.kind))
+data_refused None data_known data_left table fault means refuses = tt
+data_refused (Some bytes) None data_left table fault means refuses = tt
+data_refused (Some bytes) (Some data_bytes) data_left table fault means refuses = ((table, means), refuses)
+
+-- an answer behind both files
+answers_both : {A : Type 0} (table_bytes data_bytes : List ℕ) (table_left data_left : Option (List ℕ)) (P : TableContent → Properties → Type 0) (result : Result A RunFault) → is_file result ≡ false → BothMean table_bytes data_bytes P → AnswersOver table_bytes data_bytes table_left data_left P result
+answers_both table_bytes data_bytes table_left data_left P (Ok x) h both = both
+answers_both table_bytes data_bytes table_left data_left P (Err (Input number kind)) h both = both
+answers_both table_bytes data_bytes table_left data_left P (Err (Write written)) h both = both
+answers_both table_bytes data_bytes table_left data_left P (Err (File role fault)) h both = let never : ⊥ = cc in absurd never
+answers_both table_bytes data_bytes table_left data_left P (Err Memory) h both = both
+answers_both table_bytes data_bytes table_left data_left P (Err (Text right fault)) h both = both
+answers_both table_bytes data_bytes table_left data_left P (Err (Open role)) h both = both
+answers_both table_bytes data_bytes table_left data_left P (Err (Words fault)) h both = both
+
+both_known : {A : Type 0} (table_known data_known table_left data_left : Option (List ℕ)) (P : TableContent → Properties → Type 0) (result : Result A RunFault) (content : TableContent) (points : Properties) → is_file result ≡ false → P content points → IfSome table_known (λ bytes. tables.Means bytes content) → IfSome data_known (λ bytes. data_files.Means bytes points) → IfSome table_known (λ table_bytes. IfSome data_known (λ data_bytes. AnswersOver table_bytes data_bytes table_left data_left P result))
+both_known None data_known table_left data_left P result content points h holds t d = tt
+both_known (Some table_bytes) None table_left data_left P result content points h holds t d = tt
+both_known (Some table_bytes) (Some data_bytes) table_left data_left P result content points h holds t d =
+    answers_both table_bytes data_bytes table_left data_left P result h (record {
+      table = content;
+      properties = points;
+      means_table = t;
+      means_data = d;
+      then = holds;
+    })
+
+pub runs_over_both : {A : Type 0} (table table_new properties properties_new : SourceState) (P : TableContent → Properties → Type 0) (result : Result A RunFault) (content : TableContent) (points : Properties) → is_file result ≡ false → IfSome table.remaining (λ bytes. tables.Means bytes content) → IfSome properties.remaining (λ bytes. data_files.Means bytes points) → P content points → RunsOver table table_new properties properties_new P result
+runs_over_both table table_new properties properties_new P result content points h means_table means_data holds =
+    both_known table.remaining properties.remaining table_new.remaining properties_new.remaining P result content points h holds means_table means_data
+
+-- what is no file's fault is no failed read of a file
+pub no_file_read : {A : Type 0} (role : Role) (result : Result A RunFault) → is_file result ≡ false → is_file_read role result ≡ false
 no_file_read role (Ok x) h = refl
 no_file_read role (Err (Input number kind)) h = refl
 no_file_read role (Err (Write written)) h = refl
@@ -36,37 +68,6 @@ chosen None (Some setting) other = refl
 chosen (Some asked) setting other = refl
 
 -- rows that agree at each key are the same
-pub same_collation : (asked : Option Weighting) (table : TableContent) (properties : Properties) (rows : Rows) (ranges : List ImplicitRange) (weighting : Weighting) → ((key : List ℕ) → rows key ≡ rows_of table.rows key) → ranges ≡ table.header.ranges → weighting ≡ unwrap_or asked (unwrap_or table.header.setting Shifted) → collation_by rows ranges properties weighting ≡ collation asked table properties
+pub same_collation : (asked : Option Weighting) (table : TableContent) (properties : Properties) (rows : Rows) (ranges : List ImplicitRange) (weighting : Weighting) → ((key : List ℕ) → rows key ≡ rows_of table.rows key) → ranges ≡ table.header.ranges → weighting ≡ weighting_by asked table.header.setting → collation_by rows ranges properties weighting ≡ collation asked table properties
 same_collation asked table properties rows ranges weighting same_rows same_ranges same_weighting =
     ap (λ r. collation_by r ranges properties weighting) (fun_ext same_rows) ∙ ap (λ r. collation_by (rows_of table.rows) r properties weighting) same_ranges ∙ ap (λ w. collation_by (rows_of table.rows) table.header.ranges properties w) same_weighting
-
--- what ended by the lines of the input is as the lines are printed
-collated : (asked : Option Weighting) (table_bytes data_bytes bytes : List ℕ) (table_left data_left left : Option (List ℕ)) (Whole : List ℕ → Type 0) (Part : List ℕ → ℕ → Type 0) (end : Result (Unit {0}) RunFault) → is_before_input end ≡ false → Collates table_bytes data_bytes asked (λ c. WritesKeys c bytes left Whole Part end) → RunsKeys asked table_bytes data_bytes bytes table_left data_left left Whole Part end
-collated asked table_bytes data_bytes bytes table_left data_left left Whole Part (Ok x) h c = c
-collated asked table_bytes data_bytes bytes table_left data_left left Whole Part (Err (Input number kind)) h c = c
-collated asked table_bytes data_bytes bytes table_left data_left left Whole Part (Err (Write written)) h c = c
-collated asked table_bytes data_bytes bytes table_left data_left left Whole Part (Err (File role fault)) h c = let never : ⊥ = cc in absurd never
-collated asked table_bytes data_bytes bytes table_left data_left left Whole Part (Err Memory) h c = c
-collated asked table_bytes data_bytes bytes table_left data_left left Whole Part (Err (Text right fault)) h c = c
-collated asked table_bytes data_bytes bytes table_left data_left left Whole Part (Err (Open role)) h c = c
-collated asked table_bytes data_bytes bytes table_left data_left left Whole Part (Err (Words fault)) h c = c
-
-pub run_collated : (asked : Option Weighting) (table_known data_known known table_left data_left left : Option (List ℕ)) (Whole : List ℕ → Type 0) (Part : List ℕ → ℕ → Type 0) (end : Result (Unit {0}) RunFault) (table : TableContent) (properties : Properties) (c : Collation) → is_before_input end ≡ false → IfSome table_known (λ bytes. tables.Means bytes table) → IfSome data_known (λ bytes. data_files.Means bytes properties) → c ≡ collation asked table properties → IfSome known (λ bytes. WritesKeys c bytes left Whole Part end) → IfSome table_known (λ table_bytes. IfSome data_known (λ data_bytes. IfSome known (λ bytes. RunsKeys asked table_bytes data_bytes bytes table_left data_left left Whole Part end)))
-run_collated asked None data_known known table_left data_left left Whole Part end table properties c h means_table means_data same writes = tt
-run_collated asked (Some table_bytes) None known table_left data_left left Whole Part end table properties c h means_table means_data same writes = tt
-run_collated asked (Some table_bytes) (Some data_bytes) None table_left data_left left Whole Part end table properties c h means_table means_data same writes = tt
-run_collated asked (Some table_bytes) (Some data_bytes) (Some bytes) table_left data_left left Whole Part end table properties c h means_table means_data same writes =
-    collated asked table_bytes data_bytes bytes table_left data_left left Whole Part end h (record {
-      table = table;
-      properties = properties;
-      means_table = means_table;
-      means_data = means_data;
-      then = subst (λ d. WritesKeys d bytes left Whole Part end) same writes;
-    })
-
--- the data file was refused behind a table
-pub data_refused : (asked : Option Weighting) (table_known data_known known table_left data_left left : Option (List ℕ)) (Whole : List ℕ → Type 0) (Part : List ℕ → ℕ → Type 0) (table : TableContent) (fault : TableFault) → IfSome table_known (λ bytes. tables.Means bytes table) → IfSome data_known (λ bytes. Refuses data_files.Says data_files.Cause data_files.IsUnfinished bytes data_left fault.line fault.kind) → IfSome table_known (λ table_bytes. IfSome data_known (λ data_bytes. IfSome known (λ bytes. RunsKeys {A = Unit {0}} asked table_bytes data_bytes bytes table_left data_left left Whole Part (Err (File roles.Data fault)))))
-data_refused asked None data_known known table_left data_left left Whole Part table fault means refuses = tt
-data_refused asked (Some table_bytes) None known table_left data_left left Whole Part table fault means refuses = tt
-data_refused asked (Some table_bytes) (Some data_bytes) None table_left data_left left Whole Part table fault means refuses = tt
-data_refused asked (Some table_bytes) (Some data_bytes) (Some bytes) table_left data_left left Whole Part table fault means refuses = ((table, means), refuses)

@@ -1,37 +1,18 @@
 -- A run of keys behind some lines of its input. Only contracts of private functions cite this: no promise of the
 -- crate rests on it.
-use Rattle.std.specs.Prelude.{◌≡◌, ℕ, ◌+◌, ◌*◌, ◌^◌, ◌≤◌, List, [], ◌∷◌, ◌++◌, Bool, Option, Some, None, IfSome, Result, Ok, Err, length, ⊤}
+use Rattle.std.specs.Prelude.{◌≡◌, ℕ, ◌+◌, ◌*◌, ◌^◌, ◌≤◌, List, [], ◌∷◌, ◌++◌, Bool, Option, IfSome, Result, Ok, Err, length}
 use Rattle.std.specs.Bool.{OnTrue, OnFalse}
-use Rattle.std.specs.List.{flat_map}
-use Rattle.uca_values.specs.Content.{Properties}
 use Rattle.uca_weights.specs.Streams.{SourceState, SinkState}
 use Rattle.uca_weights.specs.Writes.{WentOut}
-use Rattle.uca_lines.specs.Lines.{ended, lines_of}
+use Rattle.uca_lines.specs.Lines.{lines_of}
 use Rattle.uca_lines.specs.LineReader.{LineState, left_of}
 use Rattle.uca_lines.specs.OutputBuffer.{BufferState, HandedOver}
 use Rattle.uca_cli.specs.declared.faults.RunFault.{RunFault}
 use Rattle.uca_cli.specs.declared.faults.RunFault.TheVariants.{File, Input, Write, Memory, Text, Open, Words}
 use Rattle.uca_cli.specs.declared.faults.InputKind.TheVariants.{Memory as InputMemory}
-use Rattle.uca_cli.specs.Input.{clean_from, clean_lines}
 use Rattle.uca_cli.specs.Keys.{Collation, key_lines, keys_output}
-use Rattle.uca_cli.specs.KeysRun.{IsInputFault}
-
--- the bytes are these lines, each ended by an LF and none of them faulty, and what is left behind them
-pub record IsBehind (properties : Properties) (bytes left : List ℕ) (before : List (List ℕ)) : Type 0 where
-  pub parts : bytes ≡ flat_map ended before ++ left
-  pub lines : lines_of bytes ≡ before ++ lines_of left
-  pub clean : clean_lines properties (lines_of bytes) ≡ before ++ clean_from properties (length before) (lines_of left)
-
--- the same of known bytes
-abbrev pub IsKnownBehind : Properties → Option (List ℕ) → Option (List ℕ) → List (List ℕ) → Type 0
-IsKnownBehind properties None left before = ⊤
-IsKnownBehind properties (Some bytes) None before = ⊥
-IsKnownBehind properties (Some bytes) (Some left) before = IsBehind properties bytes left before
-
--- all lines of the bytes are these, and none is faulty
-pub record AreAll (properties : Properties) (bytes : List ℕ) (all : List (List ℕ)) : Type 0 where
-  pub lines : lines_of bytes ≡ all
-  pub clean : clean_lines properties (lines_of bytes) ≡ all
+use Rattle.uca_cli.specs.Runs.{IsInputFault}
+use Rattle.uca_cli.specs.LinesSoFar.{IsKnownBehind, AreAll}
 
 -- The keys of these lines, which were read since the input had `start` and the output held `begun`, were handed over.
 pub record HasPrinted (c : Collation) (start begun : Option (List ℕ)) (before : List (List ℕ)) (reader : LineState) (input : SourceState) (buffer : BufferState) (out : SinkState) : Type 0 where

@@ -1,4 +1,4 @@
--- What holds of the key lines of all runs.
+-- What holds of lines and their keys in all runs.
 use Rattle.std.specs.Prelude.{◌≡◌, ◌↔◌, ℕ, List, chars}
 use Rattle.uca_weights.specs.declared.Element.{Element}
 use Rattle.uca_text.specs.Texts.{AreCanonicallyEquivalent, spelled, letters_of}
@@ -6,6 +6,7 @@ use Rattle.uca_match.specs.Reading.{collation_elements}
 use Rattle.uca_key.specs.Levels.{Comparison, dictionary, compared}
 use Rattle.uca_cli.specs.Keys.{Collation, line_key}
 use Rattle.uca_cli.specs.Print.{print_line}
+use Rattle.uca_cli.specs.SortRun.{IsInKeyOrder}
 
 -- the collation elements of a line, which is UTF-8
 abbrev pub line_elements : Collation → List ℕ → List Element
@@ -26,3 +27,7 @@ LineKeysCompareAsElements = (c : Collation) (left right : List ℕ) →
 abbrev pub CanonicallyEquivalentLinesHaveOneKeyLine : Type 0
 CanonicallyEquivalentLinesHaveOneKeyLine = (c : Collation) (left right : List ℕ) →
     AreCanonicallyEquivalent (chars left) (chars right) → print_line (line_key c left) ≡ print_line (line_key c right)
+
+-- Lines have one key order.
+abbrev pub KeyOrderIsOne : Type 0
+KeyOrderIsOne = (c : Collation) (lines left right : List (List ℕ)) → IsInKeyOrder c lines left → IsInKeyOrder c lines right → left ≡ right

@@ -1,7 +1,13 @@
 pub mod Input
 pub mod Keys
+pub mod Runs
 pub mod KeysRun
+pub mod LinesSoFar
 pub mod KeysSoFar
+pub mod SortRun
+pub mod SortSoFar
+pub mod CheckRun
+pub mod CompareRun
 pub mod Laws
 pub mod Print
 pub mod RoleText

@@ -1,7 +1,6 @@
 //! The run that prints the sort key of each line.
 
 ghost use Rattle.std.specs.Prelude.{◌≡◌, ℕ, ◌+◌, ◌-◌, ◌*◌, ◌^◌, ◌<◌, ◌≤◌, ◌||◌, true, false, List, Option, IfOk, IfSome, OnOk, length};
-ghost use Rattle.std.specs.Io.KnownBytes.{Appends};
 ghost use Rattle.uca_weights.specs.Writes.{WentOut};
 ghost use Rattle.std.specs.Bool.{OnTrue};
 ghost use Rattle.uca_values.specs.Content.{properties_of};
@@ -13,19 +12,19 @@ ghost use Rattle.uca_key.specs.Levels.{key_bytes};
 ghost use Rattle.uca_key.specs.Lengths.{HasShortRows};
 ghost use Rattle.uca_cli.specs.Print.{print_line};
 ghost use Rattle.uca_cli.specs.Keys.{collation_by};
-ghost use Rattle.uca_cli.specs.KeysRun.{is_input_read, is_write, is_file_read, is_before_input, WritesKeys, RunsKeys};
+ghost use Rattle.uca_cli.specs.Runs.{is_input_read, is_write, is_file_read, RunsOver};
+ghost use Rattle.uca_cli.specs.KeysRun.{is_before_input, WritesKeys, RunsKeys};
 ghost use Rattle.uca_cli.specs.KeysSoFar.{HasPrinted, PrintsNext, PrintsText, PrintsRest};
 
 use crate::faults::{InputKind, Role, RunFault};
+use crate::files::{chosen_weighting, read_files};
 use crate::input::{LONGEST_INPUT_LINE, next_text};
 use crate::print::print_key;
 use std::alloc::{Allocator, Global};
 use std::io::{Read, Write};
-use uca_data::read_data_in;
 use uca_key::KeyBuffer;
 use uca_lines::{LINE_LIMIT, LineReader, NextLine, OutputBuffer};
 use uca_match::{Collator, Lookup, RowList};
-use uca_table::read_table_in;
 use uca_text::Normal;
 use uca_weights::{Sink, Source, Weighting};
 
@@ -178,8 +177,7 @@ pub fn print_keys<L: Lookup, T: Allocator, A: Allocator + Copy, I: Read, W: Writ
     ensures writes { IfSome input.old.remaining (λ bytes.
         let c = collation_by (L.content collator.now.lookup.now) collator.now.header.now.ranges
         (properties_of collator.now.data.now) weighting in
-        WritesKeys c bytes input.new.remaining (Appends out.old.contents out.new.contents)
-        (WentOut out.old.contents out.new.contents) result) }
+        WritesKeys c bytes input.new.remaining out.old.contents out.new.contents result) }
     ensures of_lines { is_before_input result ≡ false }
     ensures input_failed { is_write result ≡ false →
         input.new.failed ≡ (input.old.failed || is_input_read result) }
@@ -221,11 +219,9 @@ pub fn run_keys<T: Read, D: Read, I: Read, W: Write>(
     out: &mut Sink<W>,
     weighting: Option<Weighting>,
 ) -> Result<(), RunFault>
-    // Where the bytes of all three are known.
-    ensures runs { IfSome table.old.remaining (λ table_bytes. IfSome properties.old.remaining (λ data_bytes.
-        IfSome input.old.remaining (λ bytes. RunsKeys weighting table_bytes data_bytes bytes
-        table.new.remaining properties.new.remaining input.new.remaining
-        (Appends out.old.contents out.new.contents) (WentOut out.old.contents out.new.contents) result))) }
+    // Where the bytes of its files are known.
+    ensures runs { RunsOver table.old table.new properties.old properties.new
+        (RunsKeys weighting input.old input.new out.old out.new result) result }
 
     // Whatever the readers and the writer are.
     ensures nothing_written { is_before_input result ≡ true → (out.new ≡ out.old) × (input.new ≡ input.old) }
@@ -249,11 +245,9 @@ pub fn run_keys_in<A: Allocator + Copy, T: Read, D: Read, I: Read, W: Write>(
     out: &mut Sink<W>,
     weighting: Option<Weighting>,
 ) -> Result<(), RunFault>
-    // Where the bytes of all three are known.
-    ensures runs { IfSome table.old.remaining (λ table_bytes. IfSome properties.old.remaining (λ data_bytes.
-        IfSome input.old.remaining (λ bytes. RunsKeys weighting table_bytes data_bytes bytes
-        table.new.remaining properties.new.remaining input.new.remaining
-        (Appends out.old.contents out.new.contents) (WentOut out.old.contents out.new.contents) result))) }
+    // Where the bytes of its files are known.
+    ensures runs { RunsOver table.old table.new properties.old properties.new
+        (RunsKeys weighting input.old input.new out.old out.new result) result }
 
     // Whatever the readers and the writer are.
     ensures nothing_written { is_before_input result ≡ true → (out.new ≡ out.old) × (input.new ≡ input.old) }
@@ -263,27 +257,10 @@ pub fn run_keys_in<A: Allocator + Copy, T: Read, D: Read, I: Read, W: Write>(
         input.new.failed ≡ (input.old.failed || is_input_read result) }
     ensures out_failed { out.new.failed ≡ (out.old.failed || is_write result) }
 {
-    let weights = match read_table_in(alloc, table) {
-        Ok(weights) => weights,
-        Err(fault) => {
-            return Err(RunFault::File {
-                role: Role::Table,
-                fault,
-            });
-        }
-    };
-    let code_points = match read_data_in(alloc, properties) {
-        Ok(code_points) => code_points,
-        Err(fault) => {
-            return Err(RunFault::File {
-                role: Role::Data,
-                fault,
-            });
-        }
-    };
-    let rows = RowList::new(&weights);
-    let header = &weights.header;
-    let collator = Collator::new(&rows, header, &code_points);
-    let weighting = weighting.or(header.setting).unwrap_or(Weighting::Shifted);
+    let files = read_files(alloc, table, properties)?;
+    let rows = RowList::new(&files.table);
+    let header = &files.table.header;
+    let collator = Collator::new(&rows, header, &files.properties);
+    let weighting = chosen_weighting(weighting, header);
     print_keys(alloc, global, &collator, weighting, input, out)
 }

@@ -1,6 +1,6 @@
-//! What holds of the key lines of all runs. The functions do nothing: their contracts are the laws.
+//! What holds of lines and their keys in all runs. The functions do nothing: their contracts are the laws.
 
-ghost use Rattle.uca_cli.specs.Laws.{LineKeysCompareAsElements, CanonicallyEquivalentLinesHaveOneKeyLine};
+ghost use Rattle.uca_cli.specs.Laws.{LineKeysCompareAsElements, CanonicallyEquivalentLinesHaveOneKeyLine, KeyOrderIsOne};
 
 /// Between two lines of an input the byte order of their keys is the multilevel order of their collation
 /// elements (UTS #10, sections 1.1 and 7.4), whatever the table, the data file and the weighting; the keys
@@ -12,4 +12,11 @@ pub fn line_keys_compare_as_elements()
 /// Lines whose texts are canonically equivalent (UAX #15) have the same key line.
 pub fn canonically_equivalent_lines_have_one_key_line()
     ensures { CanonicallyEquivalentLinesHaveOneKeyLine }
+{}
+
+/// The lines of an input have one key order, the rearrangement in which keys never fall and lines of equal
+/// keys keep their order, whatever the table, the data file and the weighting. So the text that a run of sort
+/// is promised to write is the only one that its definition allows.
+pub fn key_order_is_one()
+    ensures { KeyOrderIsOne }
 {}

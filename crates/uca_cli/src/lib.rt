@@ -1,14 +1,25 @@
 //! The runs of the command, as functions from the bytes that they read to the bytes that they write.
 #![tactic(auto)]
 
+pub mod check;
+pub mod compare;
 pub mod faults;
+mod files;
 mod input;
 pub mod keys;
 pub mod laws;
+mod output;
 pub mod print;
 pub mod reporting;
+pub mod sort;
 
+pub use check::{run_check, run_check_in};
+pub use compare::{run_compare, run_compare_in};
 pub use faults::{InputKind, Role, RunFault};
 pub use keys::{print_keys, run_keys, run_keys_in};
-pub use laws::{canonically_equivalent_lines_have_one_key_line, line_keys_compare_as_elements};
+pub use laws::{
+    canonically_equivalent_lines_have_one_key_line, key_order_is_one, line_keys_compare_as_elements,
+};
 pub use reporting::report;
+pub use sort::{run_sort, run_sort_in, sort_lines};
+pub use uca_words::{WordFault, Words, read_words};

@@ -2,11 +2,11 @@
 
 ghost use Rattle.std.specs.Prelude.{◌≡◌, ◌+◌, ◌^◌, ◌<◌, ◌++◌, ◌||◌, ℕ, List, Option, length, is_err, OnOk, IfErr, MatchResult};
 ghost use Rattle.uca_weights.specs.Writes.{WentOut};
-ghost use Rattle.uca_fields.specs.Number.{upper_digit};
 ghost use Rattle.uca_lines.specs.OutputBuffer.{HandedOver};
 ghost use Rattle.uca_cli.specs.Print.{byte_digits, printed_byte, print_line};
 
 use std::io::Write;
+use uca_fields::hexadecimal_digit;
 use uca_lines::OutputBuffer;
 use uca_weights::{Sink, WriteFault};
 
@@ -69,18 +69,7 @@ fn print_byte<W: Write>(
 fn digits_of(byte: u8) -> [u8; 2]
     ensures { result ≡ byte_digits byte }
 {
-    [digit_of(byte / 16), digit_of(byte % 16)]
-}
-
-fn digit_of(value: u8) -> u8
-    requires { value < 16 }
-    ensures { result ≡ upper_digit value }
-{
-    if value < 10 {
-        b'0' + value
-    } else {
-        b'A' + (value - 10)
-    }
+    [hexadecimal_digit(byte / 16), hexadecimal_digit(byte % 16)]
 }
 
 #[cfg(test)]

@@ -1,0 +1,53 @@
+-- What a run of compare answers and writes.
+use Rattle.std.specs.Prelude.{◌≡◌, ℕ, ◌+◌, List, [], ◌∷◌, Bool, true, false, Option, Result, Ok, Err, chars, ⊤}
+use Rattle.std.specs.declared.cmp.Ordering.{Ordering}
+use Rattle.std.specs.declared.cmp.Ordering.TheVariants.{Less, Equal, Greater}
+use Rattle.std.specs.Io.KnownBytes.{Appends}
+use Rattle.uca_weights.specs.declared.Weighting.{Weighting}
+use Rattle.uca_weights.specs.Streams.{SinkState}
+use Rattle.uca_weights.specs.Writes.{WentOut}
+use Rattle.uca_values.specs.Content.{TableContent, Properties}
+use Rattle.uca_text.specs.Texts.{spelled}
+use Rattle.uca_text.specs.Limits.{IsAccepted}
+use Rattle.uca_text.specs.Faults.{IsCause}
+use Rattle.uca_text.specs.declared.limits.TextFault.{TextFault}
+use Rattle.uca_key.specs.Levels.{Comparison}
+use Rattle.uca_cli.specs.declared.faults.RunFault.{RunFault}
+use Rattle.uca_cli.specs.declared.faults.RunFault.TheVariants.{File, Input, Write, Memory, Text, Open, Words}
+use Rattle.uca_cli.specs.Keys.{Collation, collation}
+use Rattle.uca_cli.specs.Laws.{lines_compared}
+
+-- `<`, `=` or `>`
+abbrev pub sign_of : Ordering → ℕ
+sign_of Less = 60
+sign_of Equal = 61
+sign_of Greater = 62
+
+-- the sign, one space, and the difference level as a digit
+abbrev pub comparison_line : Comparison → List ℕ
+comparison_line comparison = sign_of comparison.order ∷ 32 ∷ (48 + comparison.level) ∷ 10 ∷ []
+
+-- the text, which is UTF-8, is within the limits
+abbrev pub IsWithinLimits : Properties → List ℕ → Type 0
+IsWithinLimits properties text = IsAccepted (spelled properties (chars text))
+
+-- the fault of a text, which is the right one of the two or the left one
+abbrev pub RefusesWord : Properties → Bool → List ℕ → RunFault → Type 0
+RefusesWord properties right text fault = (cause : TextFault) × (fault ≡ Text right cause) × IsCause (spelled properties (chars text)) cause
+
+-- What is written of two texts, by a writer that held `begun` and holds `now`: how they compare level by level, or as
+-- much of it as a fault of the writer leaves; or the right text is refused, or before it the left one.
+abbrev pub WritesComparison : {A : Type 0} → Collation → List ℕ → List ℕ → Option (List ℕ) → Option (List ℕ) → Result A RunFault → Type 0
+WritesComparison c left right begun now (Ok x) = IsWithinLimits c.properties left × IsWithinLimits c.properties right × Appends begun now (comparison_line (lines_compared c left right))
+WritesComparison c left right begun now (Err (Text false fault)) = IsCause (spelled c.properties (chars left)) fault
+WritesComparison c left right begun now (Err (Text true fault)) = IsWithinLimits c.properties left × IsCause (spelled c.properties (chars right)) fault
+WritesComparison c left right begun now (Err (Write written)) = IsWithinLimits c.properties left × IsWithinLimits c.properties right × WentOut begun now (comparison_line (lines_compared c left right)) written
+WritesComparison c left right begun now (Err Memory) = ⊤
+WritesComparison c left right begun now (Err (Input number kind)) = ⊥
+WritesComparison c left right begun now (Err (File role fault)) = ⊥
+WritesComparison c left right begun now (Err (Open role)) = ⊥
+WritesComparison c left right begun now (Err (Words fault)) = ⊥
+
+-- what a run of compare answers under a table and properties
+abbrev pub RunsCompare : {A : Type 0} → Option Weighting → List ℕ → List ℕ → SinkState → SinkState → Result A RunFault → TableContent → Properties → Type 0
+RunsCompare asked left right out out_new result table properties = WritesComparison (collation asked table properties) left right out.contents out_new.contents result

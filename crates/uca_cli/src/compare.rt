@@ -1,0 +1,139 @@
+//! The run that compares two texts.
+
+ghost use Rattle.std.specs.Prelude.{◌≡◌, ◌≤◌, ◌||◌, true, chars, IfOk, IfErr};
+ghost use Rattle.uca_values.specs.Content.{properties_of};
+ghost use Rattle.uca_text.specs.Texts.{letters_of, spelled};
+ghost use Rattle.uca_text.specs.Limits.{IsAccepted};
+ghost use Rattle.uca_match.specs.Reading.{collation_elements};
+ghost use Rattle.uca_key.specs.Levels.{compared};
+ghost use Rattle.uca_cli.specs.Runs.{is_before_output, is_file_read, is_write, RunsOver};
+ghost use Rattle.uca_cli.specs.CompareRun.{sign_of, comparison_line, RefusesWord, RunsCompare};
+
+use crate::faults::{Role, RunFault};
+use crate::files::{chosen_weighting, read_files};
+use crate::output::write_text;
+use std::alloc::{AllocError, Allocator, Global};
+use std::cmp::Ordering;
+use std::io::{Read, Write};
+use uca_key::{compare_keys, key_in, level_count};
+use uca_match::{Collator, Lookup, RowList};
+use uca_text::{Normal, normal};
+use uca_values::Data;
+use uca_weights::{Sink, Source, Weighting};
+
+/// Compares two texts under the table and the data file that are read first, by the weighting that is
+/// asked for, or else that of the table's `@variable`, or else shifted (UTS #10, section 4), and writes a
+/// line: `<`, `=` or `>`, one space, and the level at which they differ, 0 where none does.
+///
+/// # Errors
+///
+/// `File` where the table, or else the data file, is refused; `Text` where the left text, or else the
+/// right one, is; `Memory` where a growth was refused for a key. Nothing was written then. `Write` where
+/// the writer failed: the first `written` bytes of the line went out.
+pub fn run_compare<T: Read, D: Read, W: Write>(
+    alloc: Global,
+    table: &mut Source<T>,
+    properties: &mut Source<D>,
+    left: &str,
+    right: &str,
+    out: &mut Sink<W>,
+    weighting: Option<Weighting>,
+) -> Result<(), RunFault>
+    // Where the bytes of its files are known.
+    ensures runs { RunsOver table.old table.new properties.old properties.new
+        (RunsCompare weighting left.now right.now out.old out.new result) result }
+
+    // Whatever the readers and the writer are.
+    ensures nothing_written { is_before_output result ≡ true → out.new ≡ out.old }
+    ensures table_failed { table.new.failed ≡ (table.old.failed || is_file_read Role.Table result) }
+    ensures data_failed { properties.new.failed ≡ (properties.old.failed || is_file_read Role.Data result) }
+    ensures out_failed { out.new.failed ≡ (out.old.failed || is_write result) }
+{
+    run_compare_in(alloc, alloc, table, properties, left, right, out, weighting)
+}
+
+/// The same with the growths of the table, the data file and the keys in memory of any allocator; those of
+/// Normalization Form D are in `global`.
+pub fn run_compare_in<A: Allocator + Copy, T: Read, D: Read, W: Write>(
+    alloc: A,
+    global: Global,
+    table: &mut Source<T>,
+    properties: &mut Source<D>,
+    left: &str,
+    right: &str,
+    out: &mut Sink<W>,
+    weighting: Option<Weighting>,
+) -> Result<(), RunFault>
+    // Where the bytes of its files are known.
+    ensures runs { RunsOver table.old table.new properties.old properties.new
+        (RunsCompare weighting left.now right.now out.old out.new result) result }
+
+    // Whatever the readers and the writer are.
+    ensures nothing_written { is_before_output result ≡ true → out.new ≡ out.old }
+    ensures table_failed { table.new.failed ≡ (table.old.failed || is_file_read Role.Table result) }
+    ensures data_failed { properties.new.failed ≡ (properties.old.failed || is_file_read Role.Data result) }
+    ensures out_failed { out.new.failed ≡ (out.old.failed || is_write result) }
+{
+    let files = read_files(alloc, table, properties)?;
+    let left = text_of(global, left, false, &files.properties)?;
+    let right = text_of(global, right, true, &files.properties)?;
+    let rows = RowList::new(&files.table);
+    let header = &files.table.header;
+    let collator = Collator::new(&rows, header, &files.properties);
+    let weighting = chosen_weighting(weighting, header);
+    let Ok((order, level)) = compare_texts(alloc, &collator, weighting, &left, &right) else {
+        return Err(RunFault::Memory);
+    };
+    write_text(&line_of(order, level), out)
+}
+
+// The text of a word, which is the right one of the two or the left one.
+fn text_of<D: Allocator>(
+    global: Global,
+    word: &str,
+    right: bool,
+    properties: &Data<D>,
+) -> Result<Normal, RunFault>
+    ensures found { IfOk result (λ text. text ≡ spelled (properties_of properties.now) (chars word.now)) }
+    ensures accepted { IfOk result IsAccepted }
+    ensures refused { IfErr result (RefusesWord (properties_of properties.now) right word.now) }
+{
+    match normal(global, word, properties) {
+        Ok(text) => Ok(text),
+        Err(fault) => Err(RunFault::Text { right, fault }),
+    }
+}
+
+// The order of two texts, and the level at which they differ, by their keys.
+fn compare_texts<L: Lookup, T: Allocator, A: Allocator + Copy>(
+    alloc: A,
+    collator: &Collator<L, T>,
+    weighting: Weighting,
+    left: &Normal,
+    right: &Normal,
+) -> Result<(Ordering, u8), AllocError>
+    ensures compared { let answer = compared weighting
+        (collation_elements (L.content collator.now.lookup.now) collator.now.header.now.ranges
+        (properties_of collator.now.data.now) (letters_of left.now))
+        (collation_elements (L.content collator.now.lookup.now) collator.now.header.now.ranges
+        (properties_of collator.now.data.now) (letters_of right.now)) in
+        IfOk result (λ found. (found.0 ≡ answer.order) × (found.1 ≡ answer.level)) }
+    ensures few { IfOk result (λ found. found.1 ≤ 4) }
+{
+    let left = key_in(alloc, collator, weighting, left)?;
+    let right = key_in(alloc, collator, weighting, right)?;
+    Ok(compare_keys(&left, &right, level_count(weighting)))
+}
+
+// The line that says how two texts compare.
+fn line_of(order: Ordering, level: u8) -> [u8; 4]
+    requires { level ≤ 4 }
+    ensures { result ≡ comparison_line (record { order = order; level = level }) }
+{
+    let sign = match order {
+        Ordering::Less => b'<',
+        Ordering::Equal => b'=',
+        Ordering::Greater => b'>',
+    };
+    [sign, b' ', b'0' + level, b'\n']
+}
