@@ -1,10 +1,10 @@
 //! The table and the data file of the tests, and runs over bytes in memory.
 
+use crate::runs::{Run, Streams, told};
 use std::alloc::{AllocError, Global};
 use std::process::Abort;
 use std::test::Fail;
-use uca_cli::{RunFault, run_keys};
-use uca_weights::{Sink, Source, Weighting};
+use uca_weights::{Sink, Source};
 
 /// Letters, accents and a variable space, in canonical text.
 pub const TABLE: &str = "@version 1\n\
@@ -53,6 +53,15 @@ pub fn joined(alloc: Global, parts: &[&str]) -> Result<String, AllocError> {
     Ok(text)
 }
 
+/// So many acute accents.
+pub fn acutes(alloc: Global, count: usize) -> Result<String, AllocError> {
+    let mut text = String::new(alloc);
+    for _ in 0..count {
+        text.push('\u{301}')?;
+    }
+    Ok(text)
+}
+
 // A weight in each of so many elements, as it is printed.
 fn push_weights(text: &mut String, weight: &str, count: usize) -> Result<(), AllocError> {
     for _ in 0..count {
@@ -74,16 +83,7 @@ pub fn push_key(text: &mut String, count: usize) -> Result<(), AllocError> {
     text.push('\n')
 }
 
-/// What is told of the end of a run: `done`, or the text of its fault.
-pub fn told(alloc: Global, end: &Result<(), RunFault>) -> Result<String, AllocError> {
-    match end {
-        Ok(()) => String::from_str(alloc, "done"),
-        Err(RunFault::Write { written }) => format!(in alloc; "output: Write after {written}"),
-        Err(fault) => format!(in alloc; "{fault}"),
-    }
-}
-
-/// Three files in memory.
+/// The files of a run, in memory.
 #[derive(Clone, Copy)]
 pub struct Files<'a> {
     /// The table, in parts.
@@ -94,31 +94,57 @@ pub struct Files<'a> {
     pub input: &'a [u8],
 }
 
-/// Checks what a run prints, and what is told of its end.
+impl<'a> Files<'a> {
+    /// The same with another table.
+    pub fn with_table(self, table: &'a [&'a str]) -> Files<'a> {
+        Files { table, ..self }
+    }
+
+    /// The same with another data file.
+    pub fn with_data(self, data: &'a str) -> Files<'a> {
+        Files { data, ..self }
+    }
+
+    /// The same with other lines.
+    pub fn with_input(self, input: &'a [u8]) -> Files<'a> {
+        Files { input, ..self }
+    }
+}
+
+/// Letters and accents, and no lines.
+pub const SMALL: Files = Files {
+    table: &[TABLE],
+    data: DATA,
+    input: b"",
+};
+
+/// A letter and an accent, and no lines.
+pub const SHORT: Files = Files {
+    table: &[SHORT_TABLE],
+    data: SHORT_DATA,
+    input: b"",
+};
+
+/// Checks what a run prints, and what is told of its end. None of its streams fails.
 pub fn check(
     rt: &(impl Abort + AllocGlobal),
     files: Files,
-    weighting: Option<Weighting>,
+    run: Run,
     printed: &str,
     end: &str,
 ) -> Result<(), Fail> {
     let table = joined(rt.alloc(), files.table)?;
-    let mut table = Source::new(table.as_bytes());
-    let mut properties = Source::new(files.data.as_bytes());
-    let mut input = Source::new(files.input);
-    let mut out = Sink::new(Vec::new(rt.alloc()));
-    let result = run_keys(
-        rt.alloc(),
-        &mut table,
-        &mut properties,
-        &mut input,
-        &mut out,
-        weighting,
-    );
+    let mut streams = Streams {
+        table: Source::new(table.as_bytes()),
+        properties: Source::new(files.data.as_bytes()),
+        input: Source::new(files.input),
+        out: Sink::new(Vec::new(rt.alloc())),
+    };
+    let result = streams.run(rt.alloc(), run);
     let said = told(rt.alloc(), &result)?;
-    assert_eq!(rt; said.as_str(), end);
-    let failed = table.failed() || properties.failed() || input.failed() || out.failed();
-    assert!(rt; !failed);
-    assert_eq!(rt; out.into_inner().as_slice(), printed.as_bytes());
+    assert_eq!(rt; said.as_str(), end, "{run:?}");
+    assert_eq!(rt; streams.failed(), [false; 4]);
+    let out = streams.out.into_inner();
+    assert_eq!(rt; out.as_slice(), printed.as_bytes(), "{run:?}");
     Ok(())
 }

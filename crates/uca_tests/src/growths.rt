@@ -1,13 +1,15 @@
 //! Runs in heaps of rising sizes, so that each growth is refused in turn.
 
-use crate::fakes::{Calls, FakeReader, Pace};
-use crate::files::{DATA, TABLE, push_key, told};
+use crate::files;
+use crate::files::{A_ACUTE_GRAVE, Files, check, joined, push_key};
+use crate::runs::{Answer, Run, Streams, told};
 use linked_list_allocator::LocalHeap;
 use std::alloc::{AllocError, Global};
 use std::process::Abort;
 use std::test::Fail;
-use uca_cli::{InputKind, Role, RunFault, run_keys_in};
+use uca_cli::{InputKind, Role, RunFault};
 use uca_data::read_data;
+use uca_fakes::{Calls, FakeReader, Pace};
 use uca_files::{FaultKind, TableFault};
 use uca_key::{key, key_in};
 use uca_match::{Collator, RowList};
@@ -40,14 +42,19 @@ fn many_classes(alloc: Global) -> Result<String, AllocError> {
     Ok(text)
 }
 
+// Adds a line of so many times a letter.
+fn push_line(text: &mut String, letter: char, count: usize) -> Result<(), AllocError> {
+    for _ in 0..count {
+        text.push(letter)?;
+    }
+    text.push('\n')
+}
+
 /// The lines of the input.
 fn lines(alloc: Global) -> Result<String, AllocError> {
     let mut text = String::new(alloc);
     for count in LETTERS {
-        for _ in 0..count {
-            text.push('a')?;
-        }
-        text.push('\n')?;
+        push_line(&mut text, 'a', count)?;
     }
     Ok(text)
 }
@@ -61,7 +68,62 @@ fn keys_before(alloc: Global, line: usize) -> Result<String, AllocError> {
     Ok(text)
 }
 
-/// The file, counted from 0, and the line at which a growth was refused.
+// The places of refused growths: the texts, and what belongs to none of them, before the whole input was
+// read and behind it.
+const TABLE: usize = 0;
+
+const DATA: usize = 1;
+
+const INPUT: usize = 2;
+
+const BETWEEN: usize = 3;
+
+const BEHIND: usize = 4;
+
+/// The bytes of a table, a data file and an input.
+type Texts<'a> = [&'a [u8]; 3];
+
+/// What came of a run in a heap.
+#[derive(Drop)]
+struct Outcome {
+    /// What it answers.
+    end: Result<Answer, RunFault>,
+    /// What went out.
+    printed: Vec<u8>,
+    /// How many bytes of each text were read.
+    read: [usize; 3],
+}
+
+// A run in a heap, over readers that give a byte a call. No stream fails, and the heap is given back.
+fn run_in(
+    rt: &(impl Abort + AllocGlobal),
+    heap: &LocalHeap,
+    run: Run,
+    texts: Texts,
+) -> Result<Outcome, Fail> {
+    let calls = [Calls::new(), Calls::new(), Calls::new()];
+    let pace = Pace::steps(1);
+    let mut streams = Streams {
+        table: Source::new(FakeReader::new(texts[TABLE], pace, &calls[TABLE])),
+        properties: Source::new(FakeReader::new(texts[DATA], pace, &calls[DATA])),
+        input: Source::new(FakeReader::new(texts[INPUT], pace, &calls[INPUT])),
+        out: Sink::new(Vec::new(rt.alloc())),
+    };
+    let end = streams.run_in(heap, rt.alloc(), run);
+    assert_eq!(rt; streams.failed(), [false; 4]);
+    assert_eq!(rt; heap.used(), 0);
+    Ok(Outcome {
+        end,
+        printed: streams.out.into_inner(),
+        read: [
+            calls[TABLE].bytes.get(),
+            calls[DATA].bytes.get(),
+            calls[INPUT].bytes.get(),
+        ],
+    })
+}
+
+/// The text and the line at which a growth was refused.
 fn place_of(fault: &RunFault) -> Option<(usize, u32)> {
     match fault {
         RunFault::File {
@@ -70,97 +132,150 @@ fn place_of(fault: &RunFault) -> Option<(usize, u32)> {
                 line,
                 kind: FaultKind::Memory,
             },
-        } => Some((0, *line)),
+        } => Some((TABLE, *line)),
         RunFault::File {
             role: Role::Data,
             fault: TableFault {
                 line,
                 kind: FaultKind::Memory,
             },
-        } => Some((1, *line)),
+        } => Some((DATA, *line)),
         RunFault::Input {
             line,
             kind: InputKind::Memory,
-        } => Some((2, *line)),
+        } => Some((INPUT, *line)),
         _ => None,
     }
 }
 
-// A run in a heap, and where a growth was refused, if one was: it is the line of the last byte that was
-// read, and the keys of the lines before it were printed.
-fn run_in(
+// The place of a refused growth. That of a text is in the line of the last byte that was read. Nothing was
+// printed, but the keys of the lines before it.
+fn judge(
     rt: &(impl Abort + AllocGlobal),
-    heap: &LocalHeap,
-    properties: &[u8],
-    lines: &[u8],
-) -> Result<Option<(usize, u32)>, Fail> {
-    let texts = [TABLE.as_bytes(), properties, lines];
-    let calls = [Calls::new(), Calls::new(), Calls::new()];
-    let pace = Pace::steps(1);
-    let mut table = Source::new(FakeReader::new(texts[0], pace, &calls[0]));
-    let mut properties = Source::new(FakeReader::new(texts[1], pace, &calls[1]));
-    let mut input = Source::new(FakeReader::new(texts[2], pace, &calls[2]));
-    let mut out = Sink::new(Vec::new(rt.alloc()));
-    let result = run_keys_in(
-        heap,
-        rt.alloc(),
-        &mut table,
-        &mut properties,
-        &mut input,
-        &mut out,
-        Some(NonIgnorable),
-    );
-    let failed = table.failed() || properties.failed() || input.failed() || out.failed();
-    assert!(rt; !failed);
-    let printed = out.into_inner();
-    let Err(fault) = &result else {
-        let keys = keys_before(rt.alloc(), LETTERS.len() + 1)?;
-        assert_eq!(rt; printed.as_slice(), keys.as_bytes());
-        return Ok(None);
+    run: Run,
+    texts: Texts,
+    outcome: &Outcome,
+    fault: &RunFault,
+) -> Result<usize, Fail> {
+    let mut keys = String::new(rt.alloc());
+    let place = match place_of(fault) {
+        Some((text, line)) => {
+            assert!(rt; text < 3);
+            let last = line_of(texts[text], outcome.read[text]);
+            assert_eq!(rt; line, last, "{fault}");
+            if matches!(run, Run::Keys(_)) && text == INPUT {
+                keys = keys_before(rt.alloc(), line as usize)?;
+            }
+            text
+        }
+        None => {
+            assert!(rt; matches!(fault, RunFault::Memory), "{fault}");
+            if outcome.read[INPUT] < texts[INPUT].len() {
+                BETWEEN
+            } else {
+                BEHIND
+            }
+        }
     };
-    let said = told(rt.alloc(), &result)?;
-    let (file, line) = place_of(fault).ok_or("another fault")?;
-    assert!(rt; file < 3);
-    assert_eq!(rt;
-        line,
-        line_of(texts[file], calls[file].bytes.get()),
-        "{said}"
-    );
-    let keys = match file {
-        2 => keys_before(rt.alloc(), line as usize)?,
-        _ => String::new(rt.alloc()),
-    };
-    assert_eq!(rt; printed.as_slice(), keys.as_bytes(), "{said}");
-    Ok(Some((file, line)))
+    assert_eq!(rt; outcome.printed.as_slice(), keys.as_bytes(), "{fault}");
+    Ok(place)
+}
+
+// Runs in heaps whose sizes rise by a step, until one has room enough: each before is refused a growth.
+// With more room that does not come earlier, and over ample memory the run then does all. Answers at which
+// places growths were refused.
+fn refused_places(
+    rt: &(impl Abort + AllocGlobal),
+    run: Run,
+    files: Files,
+    (printed, end): (&str, &str),
+    step: usize,
+) -> Result<[bool; 5], Fail> {
+    assert!(rt; step < 1000);
+    let table = joined(rt.alloc(), files.table)?;
+    let texts = [table.as_bytes(), files.data.as_bytes(), files.input];
+    let mut refused = [false; 5];
+    let mut last = 0usize;
+    for size in 0..1000usize {
+        let heap = LocalHeap::new(rt.alloc(), size * step)?;
+        let outcome = run_in(rt, &heap, run, texts)?;
+        let mut read = 0usize;
+        for count in outcome.read {
+            read = read.saturating_add(count);
+        }
+        assert!(rt; last <= read);
+        last = read;
+        let Err(fault) = &outcome.end else {
+            let said = told(rt.alloc(), &outcome.end)?;
+            assert_eq!(rt; said.as_str(), end);
+            assert_eq!(rt; outcome.printed.as_slice(), printed.as_bytes());
+            return Ok(refused);
+        };
+        let place = judge(rt, run, texts, &outcome, fault)?;
+        assert!(rt; place < 5);
+        refused[place] = true;
+        check(rt, files, run, printed, end)?;
+    }
+    Err(Fail::new("no run had room enough"))
 }
 
 #[test]
-fn runs_in_little_memory(rt: HostRuntime) -> Result<(), Fail> {
-    let properties = many_classes(rt.alloc())?;
-    let lines = lines(rt.alloc())?;
-    let mut done = false;
-    let mut refused = [0u32; 3];
-    for size in 0..200usize {
-        let heap = LocalHeap::new(rt.alloc(), size * 48)?;
-        match run_in(&rt, &heap, properties.as_bytes(), lines.as_bytes())? {
-            None => done = true,
-            Some((file, line)) => {
-                // With more room, it is not refused earlier.
-                assert!(rt; !done);
-                assert!(rt; file < 3);
-                assert!(rt; refused[file] <= line);
-                for later in refused.iter().skip(file + 1) {
-                    assert_eq!(rt; *later, 0);
-                }
-                refused[file] = line;
-            }
-        }
-        assert_eq!(rt; heap.used(), 0);
+fn keys_of_lines_in_little_memory(rt: HostRuntime) -> Result<(), Fail> {
+    let data = many_classes(rt.alloc())?;
+    let input = lines(rt.alloc())?;
+    let keys = keys_before(rt.alloc(), LETTERS.len() + 1)?;
+    let files = files::SMALL
+        .with_data(data.as_str())
+        .with_input(input.as_bytes());
+    let run = Run::Keys(Some(NonIgnorable));
+    let places = refused_places(&rt, run, files, (keys.as_str(), "done"), 48)?;
+    assert_eq!(rt; places, [true, true, true, false, false]);
+    Ok(())
+}
+
+#[test]
+fn sorts_in_little_memory(rt: HostRuntime) -> Result<(), Fail> {
+    // More lines than are sorted without memory.
+    let mut input = String::new(rt.alloc());
+    let mut sorted = String::new(rt.alloc());
+    for step in 0..24 {
+        push_line(&mut input, if step % 2 == 0 { 'b' } else { 'a' }, 30)?;
+        push_line(&mut sorted, if step < 12 { 'a' } else { 'b' }, 30)?;
     }
-    assert!(rt; done);
-    for line in refused {
-        assert!(rt; line > 0);
+    let data = many_classes(rt.alloc())?;
+    let files = files::SMALL
+        .with_data(data.as_str())
+        .with_input(input.as_bytes());
+    let run = Run::Sort(Some(NonIgnorable));
+    let places = refused_places(&rt, run, files, (sorted.as_str(), "done"), 48)?;
+    assert_eq!(rt; places, [true; 5]);
+    Ok(())
+}
+
+#[test]
+fn checks_in_little_memory(rt: HostRuntime) -> Result<(), Fail> {
+    let data = many_classes(rt.alloc())?;
+    // The table, what is printed, and what is told. A verdict takes no memory.
+    let cases: [(&[&str], &str, &str); 2] = [
+        (&[files::TABLE], "well-formed\n", "true"),
+        (&[files::TABLE, A_ACUTE_GRAVE], "WF5 row 8\n", "false"),
+    ];
+    for (table, printed, end) in cases {
+        let files = files::SMALL.with_table(table).with_data(data.as_str());
+        let places = refused_places(&rt, Run::Check, files, (printed, end), 16)?;
+        assert_eq!(rt; places, [true, true, false, false, false]);
     }
+    Ok(())
+}
+
+#[test]
+fn comparisons_in_little_memory(rt: HostRuntime) -> Result<(), Fail> {
+    let data = many_classes(rt.alloc())?;
+    let left = lines(rt.alloc())?;
+    let files = files::SMALL.with_data(data.as_str());
+    let run = Run::Compare(left.as_str(), "b", Some(NonIgnorable));
+    let places = refused_places(&rt, run, files, ("< 1\n", "done"), 16)?;
+    assert_eq!(rt; places, [true, true, false, false, true]);
     Ok(())
 }
 
@@ -171,7 +286,11 @@ fn tables_in_little_memory(rt: HostRuntime) -> Result<(), Fail> {
     for size in 0..400usize {
         let heap = LocalHeap::new(rt.alloc(), size * 16)?;
         let calls = Calls::new();
-        let mut source = Source::new(FakeReader::new(TABLE.as_bytes(), Pace::steps(1), &calls));
+        let mut source = Source::new(FakeReader::new(
+            files::TABLE.as_bytes(),
+            Pace::steps(1),
+            &calls,
+        ));
         match read_table_in(&heap, &mut source) {
             Ok(table) => {
                 done = true;
@@ -181,7 +300,10 @@ fn tables_in_little_memory(rt: HostRuntime) -> Result<(), Fail> {
             Err(fault) => {
                 assert!(rt; !done);
                 assert_eq!(rt; fault.kind, FaultKind::Memory);
-                assert_eq!(rt; fault.line, line_of(TABLE.as_bytes(), calls.bytes.get()));
+                assert_eq!(rt;
+                    fault.line,
+                    line_of(files::TABLE.as_bytes(), calls.bytes.get())
+                );
                 assert!(rt; refused <= fault.line);
                 refused = fault.line;
             }
@@ -194,8 +316,8 @@ fn tables_in_little_memory(rt: HostRuntime) -> Result<(), Fail> {
 
 #[test]
 fn keys_in_little_memory(rt: HostRuntime) -> Result<(), Fail> {
-    let table = read_table(rt.alloc(), &mut Source::new(TABLE.as_bytes()))?;
-    let properties = read_data(rt.alloc(), &mut Source::new(DATA.as_bytes()))?;
+    let table = read_table(rt.alloc(), &mut Source::new(files::TABLE.as_bytes()))?;
+    let properties = read_data(rt.alloc(), &mut Source::new(files::DATA.as_bytes()))?;
     let rows = RowList::new(&table);
     let collator = Collator::new(&rows, &table.header, &properties);
     let text = normal(rt.alloc(), "a b", &properties)?;

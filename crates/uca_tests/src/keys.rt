@@ -1,16 +1,13 @@
 //! Whole runs: the keys that they print, and the faults of the files.
 
 use crate::files::{
-    A_ACUTE, A_ACUTE_GRAVE, DATA, Files, KEY_OF_A, SHORT_DATA, SHORT_TABLE, TABLE, X_ACUTE, check,
-    joined, push_key,
+    A_ACUTE, A_ACUTE_GRAVE, KEY_OF_A, SHORT, SMALL, TABLE, X_ACUTE, acutes, check, joined, push_key,
 };
-use std::alloc::{AllocError, Global};
+use crate::runs::Run::Keys;
 use std::process::Abort;
 use std::test::Fail;
 use uca_weights::Weighting;
 use uca_weights::Weighting::{NonIgnorable, Shifted};
-
-const SMALL: &[&str] = &[TABLE];
 
 const CONTRACTED: &[&str] = &[TABLE, A_ACUTE];
 
@@ -35,12 +32,8 @@ fn single_code_points(rt: HostRuntime) -> Result<(), Fail> {
         (b"a\n\xFF\n", KEY_OF_A, "input line 2: Utf8"),
     ];
     for (input, printed, end) in cases {
-        let files = Files {
-            table: &[SHORT_TABLE],
-            data: SHORT_DATA,
-            input,
-        };
-        check(&rt, files, Some(NonIgnorable), printed, end)?;
+        let files = SHORT.with_input(input);
+        check(&rt, files, Keys(Some(NonIgnorable)), printed, end)?;
     }
     Ok(())
 }
@@ -90,12 +83,8 @@ fn letters_accents_and_ideographs(rt: HostRuntime) -> Result<(), Fail> {
     ];
     for (line, weighting, key) in cases {
         let input = joined(rt.alloc(), &[line, "\n"])?;
-        let files = Files {
-            table: SMALL,
-            data: DATA,
-            input: input.as_bytes(),
-        };
-        check(&rt, files, Some(weighting), key, "done")?;
+        let files = SMALL.with_input(input.as_bytes());
+        check(&rt, files, Keys(Some(weighting)), key, "done")?;
     }
     Ok(())
 }
@@ -135,40 +124,8 @@ fn contractions(rt: HostRuntime) -> Result<(), Fail> {
         (OTHER_CONTRACTED, "x\u{301}", "1C90 0000 0020 0000 0002\n"),
     ];
     for (table, line, key) in cases {
-        let files = Files {
-            table,
-            data: DATA,
-            input: line.as_bytes(),
-        };
-        check(&rt, files, Some(NonIgnorable), key, "done")?;
-    }
-    Ok(())
-}
-
-#[test]
-fn the_weighting_that_holds(rt: HostRuntime) -> Result<(), Fail> {
-    // What the table says, what is asked for, and the key of `a` and a space.
-    let plain = "1C47 0209 0000 0020 0020 0000 0002 0002\n";
-    let shifted = "1C47 0000 0020 0000 0002 0000 FFFF 0209\n";
-    let cases: [(&str, Option<Weighting>, &str); 9] = [
-        ("", None, shifted),
-        ("", Some(NonIgnorable), plain),
-        ("", Some(Shifted), shifted),
-        ("@variable non-ignorable\n", None, plain),
-        ("@variable non-ignorable\n", Some(NonIgnorable), plain),
-        ("@variable non-ignorable\n", Some(Shifted), shifted),
-        ("@variable shifted\n", None, shifted),
-        ("@variable shifted\n", Some(NonIgnorable), plain),
-        ("@variable shifted\n", Some(Shifted), shifted),
-    ];
-    for (setting, weighting, key) in cases {
-        let rows = "0020 ; [*0209.0020.0002]\n0061 ; [.1C47.0020.0002]\n";
-        let files = Files {
-            table: &["@version 1\n", setting, rows],
-            data: DATA,
-            input: b"a \n",
-        };
-        check(&rt, files, weighting, key, "done")?;
+        let files = SMALL.with_table(table).with_input(line.as_bytes());
+        check(&rt, files, Keys(Some(NonIgnorable)), key, "done")?;
     }
     Ok(())
 }
@@ -195,48 +152,8 @@ fn ranges_of_implicit_weights(rt: HostRuntime) -> Result<(), Fail> {
     ];
     for (table, line, primaries) in cases {
         let key = joined(rt.alloc(), &[primaries, " 0000 0020 0000 0002\n"])?;
-        let files = Files {
-            table,
-            data: DATA,
-            input: line.as_bytes(),
-        };
-        check(&rt, files, Some(NonIgnorable), key.as_str(), "done")?;
-    }
-    Ok(())
-}
-
-#[test]
-fn refused_files(rt: HostRuntime) -> Result<(), Fail> {
-    // Table, data file, and what is told: nothing is printed, also where the input has a fault.
-    let again = "0061 ; [.1C47.0020.0002]\n";
-    let cases: [(&[&str], &str, &str); 10] = [
-        (&["@version 1\n0061 ; [.1C"], DATA, "table line 2: Weight"),
-        (&[], DATA, "table line 1: Order"),
-        (&[TABLE, again], DATA, "table line 10: DuplicateKey"),
-        (&["@version 1\n0061 ; x\n"], DATA, "table line 2: Line"),
-        (&["@version 1"], DATA, "table line 1: Line"),
-        (SMALL, "", "data line 1: Order"),
-        (
-            SMALL,
-            "@data 1\nccc 0300..0314 255\n",
-            "data line 2: Weight",
-        ),
-        (SMALL, "@data 1\n\ncore 9FFF..4E00\n", "data line 3: Range"),
-        (
-            SMALL,
-            "@data 1\nccc D800..DFFF 1\n",
-            "data line 2: CodePoint",
-        ),
-        // The table is read first.
-        (&[], "", "table line 1: Order"),
-    ];
-    for (table, data, end) in cases {
-        let files = Files {
-            table,
-            data,
-            input: b"a\n\xFF",
-        };
-        check(&rt, files, Some(NonIgnorable), "", end)?;
+        let files = SMALL.with_table(table).with_input(line.as_bytes());
+        check(&rt, files, Keys(Some(NonIgnorable)), key.as_str(), "done")?;
     }
     Ok(())
 }
@@ -251,12 +168,8 @@ fn check_long(
     let mut input = vec![in rt.alloc(); byte; count]?;
     input.extend_from_slice(b"\na\n")?;
     input.rotate_right(2);
-    let files = Files {
-        table: SMALL,
-        data: DATA,
-        input: input.as_slice(),
-    };
-    check(rt, files, Some(NonIgnorable), KEY_OF_A, end)
+    let files = SMALL.with_input(input.as_slice());
+    check(rt, files, Keys(Some(NonIgnorable)), KEY_OF_A, end)
 }
 
 #[test]
@@ -266,24 +179,10 @@ fn long_lines(rt: HostRuntime) -> Result<(), Fail> {
     check_long(&rt, b'a', 1_048_577, "input line 2: TooLong")?;
     // The longest text.
     let input = vec![in rt.alloc(); b'a'; 1_048_576]?;
-    let files = Files {
-        table: SMALL,
-        data: DATA,
-        input: input.as_slice(),
-    };
+    let files = SMALL.with_input(input.as_slice());
     let mut key = String::new(rt.alloc());
     push_key(&mut key, 1_048_576)?;
-    check(&rt, files, Some(NonIgnorable), key.as_str(), "done")
-}
-
-// A line of `a` and so many acute accents, behind an empty line.
-fn accents(alloc: Global, count: usize) -> Result<String, AllocError> {
-    let mut line = String::from_str(alloc, "\na")?;
-    for _ in 0..count {
-        line.push('\u{301}')?;
-    }
-    line.push('\n')?;
-    Ok(line)
+    check(&rt, files, Keys(Some(NonIgnorable)), key.as_str(), "done")
 }
 
 #[test]
@@ -301,13 +200,11 @@ fn long_runs_of_accents(rt: HostRuntime) -> Result<(), Fail> {
         (64, key.as_str(), "done"),
         (65, "0000 0000\n", "input line 2: LongRun at 1"),
     ] {
-        let input = accents(rt.alloc(), count)?;
-        let files = Files {
-            table: SMALL,
-            data: DATA,
-            input: input.as_bytes(),
-        };
-        check(&rt, files, Some(NonIgnorable), printed, end)?;
+        // A line of `a` and so many accents, behind an empty line.
+        let accents = acutes(rt.alloc(), count)?;
+        let input = joined(rt.alloc(), &["\na", accents.as_str(), "\n"])?;
+        let files = SMALL.with_input(input.as_bytes());
+        check(&rt, files, Keys(Some(NonIgnorable)), printed, end)?;
     }
     Ok(())
 }

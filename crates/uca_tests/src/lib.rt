@@ -2,7 +2,9 @@
 #![tactic(auto)]
 
 #[cfg(test)]
-mod fakes;
+mod checks;
+#[cfg(test)]
+mod comparisons;
 #[cfg(test)]
 mod files;
 #[cfg(test)]
@@ -10,6 +12,14 @@ mod growths;
 #[cfg(test)]
 mod keys;
 #[cfg(test)]
+mod refusals;
+#[cfg(test)]
 mod reports;
 #[cfg(test)]
+mod runs;
+#[cfg(test)]
+mod sorts;
+#[cfg(test)]
 mod streams;
+#[cfg(test)]
+mod weightings;

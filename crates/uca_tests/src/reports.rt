@@ -1,11 +1,11 @@
 //! What a fault writes on standard error, and the status of the program.
 
-use crate::fakes::{Calls, Failure, FakeWriter, Pace};
 use crate::files::joined;
 use std::alloc::Global;
 use std::process::Abort;
 use std::test::Fail;
 use uca_cli::{InputKind, Role, RunFault, report};
+use uca_fakes::{Calls, Failure, FakeWriter, Pace};
 use uca_files::{FaultKind, TableFault};
 use uca_text::TextFault;
 use uca_weights::Sink;
@@ -129,6 +129,9 @@ fn faults_of_lines_and_words(rt: HostRuntime) -> Result<(), Fail> {
     }
     let words = [
         (false, TextFault::TooLong, "left: TooLong", 1),
+        (false, TextFault::LongRun(1), "left: LongRun at 1", 1),
+        (false, TextFault::Memory, "left: Memory", 4),
+        (true, TextFault::TooLong, "right: TooLong", 1),
         (true, TextFault::LongRun(1), "right: LongRun at 1", 1),
         (true, TextFault::Memory, "right: Memory", 4),
     ];
@@ -158,7 +161,7 @@ fn refused_words(rt: HostRuntime) -> Result<(), Fail> {
     // The words, the status, and whether the text goes to standard error.
     let cases: [(&[&str], u8, bool); 8] = [
         (&["uca"], 2, true),
-        (&["uca", "check", "t", "d"], 2, true),
+        (&["uca", "other", "t", "d"], 2, true),
         (&["uca", "keys", "t"], 2, true),
         (&["uca", "keys", "t", "d", "l"], 2, true),
         (&["uca", "keys", "--weighting"], 2, true),

@@ -1,11 +1,13 @@
 //! Runs over readers and writers that fail at a chosen byte, or take few bytes a call.
 
-use crate::fakes::{Calls, Failure, FakeReader, FakeWriter, Pace};
-use crate::files::{KEY_OF_A, SHORT_DATA, SHORT_TABLE, joined, told};
+use crate::files::{Files, KEY_OF_A, SHORT, SHORT_TABLE, joined};
+use crate::runs::{Run, Streams, told};
+use std::alloc::{AllocError, Global};
 use std::io::ErrorKind;
 use std::process::Abort;
 use std::test::Fail;
-use uca_cli::run_keys;
+use uca_cli::{RunFault, report};
+use uca_fakes::{Calls, Failure, FakeReader, FakeWriter, Pace};
 use uca_weights::Weighting::NonIgnorable;
 use uca_weights::{Sink, Source};
 
@@ -27,14 +29,80 @@ const FAILURES: [Failure; 3] = [
 
 const KEY_OF_A_ACUTE: &str = "1C47 0000 0020 0024 0000 0002 0002\n";
 
+/// A run over files, and what comes of it where no stream fails.
+#[derive(Clone, Copy)]
+struct Case<'a> {
+    run: Run<'a>,
+    files: Files<'a>,
+    /// What it prints.
+    printed: &'a str,
+    /// What is told of its end.
+    end: &'a str,
+}
+
 /// Three lines, the last one without LF.
-const LINES: &[u8] = b"a\n\xC3\xA1\na";
+const LINES: Files = Files {
+    input: b"a\n\xC3\xA1\na",
+    ..SHORT
+};
+
+const KEYS: Case = Case {
+    run: Run::Keys(Some(NonIgnorable)),
+    files: LINES,
+    printed: "1C47 0000 0020 0000 0002\n\
+        1C47 0000 0020 0024 0000 0002 0002\n\
+        1C47 0000 0020 0000 0002\n",
+    end: "done",
+};
+
+const SORT: Case = Case {
+    run: Run::Sort(Some(NonIgnorable)),
+    files: LINES,
+    printed: "a\na\n\u{E1}\n",
+    end: "done",
+};
+
+const CHECK: Case = Case {
+    run: Run::Check,
+    files: SHORT,
+    printed: "well-formed\n",
+    end: "true",
+};
+
+/// The table has a contraction without the shorter one.
+const FAILED_CHECK: Case = Case {
+    run: Run::Check,
+    files: Files {
+        table: &[SHORT_TABLE, "0061 0300 0301 ; [.1C58.0020.0002]\n"],
+        ..SHORT
+    },
+    printed: "WF5 row 3\n",
+    end: "false",
+};
+
+const COMPARE: Case = Case {
+    run: Run::Compare("a", "b", Some(NonIgnorable)),
+    files: SHORT,
+    printed: "< 1\n",
+    end: "done",
+};
+
+// The case with these lines, of which this is printed.
+fn with_input<'a>(case: Case<'a>, lines: &'a [u8], printed: &'a str) -> Case<'a> {
+    Case {
+        files: case.files.with_input(lines),
+        printed,
+        ..case
+    }
+}
 
 /// What came of a run.
 #[derive(Drop)]
 struct Outcome {
     /// What is told of its end.
     end: String,
+    /// The status that the program ends with, if by a fault.
+    status: Option<u8>,
     /// What went out.
     printed: Vec<u8>,
     /// Which of the streams say that they failed.
@@ -43,48 +111,53 @@ struct Outcome {
     calls: [u32; 4],
 }
 
-// A run over readers and a writer of these paces. A stream says that it failed exactly where a call of
-// its reader or writer failed: so one that fails by itself is seen, and one that answers without a call.
-// None is called again after a call that failed.
-fn run_at(
+// The status of a fault.
+fn status_of(alloc: Global, fault: &RunFault) -> u8 {
+    let mut out = Sink::new(Vec::new(alloc));
+    let mut err = Sink::new(Vec::new(alloc));
+    report(alloc, fault, &mut out, &mut err)
+}
+
+// A run over readers and a writer of these paces.
+fn run_at(rt: &(impl Abort + AllocGlobal), case: Case, paces: [Pace; 4]) -> Result<Outcome, Fail> {
+    let Case { run, files, .. } = case;
+    let table = joined(rt.alloc(), files.table)?;
+    let texts = [table.as_bytes(), files.data.as_bytes(), files.input];
+    run_over(rt, run, texts, paces)
+}
+
+// The same over the bytes of a table, a data file and an input. A stream says that it failed exactly where
+// a call of its reader or writer failed: so one that fails by itself is seen, and one that answers without
+// a call. None is called again after a call that failed.
+fn run_over(
     rt: &(impl Abort + AllocGlobal),
+    run: Run,
+    texts: [&[u8]; 3],
     paces: [Pace; 4],
-    lines: &[u8],
 ) -> Result<Outcome, Fail> {
     let calls = [Calls::new(), Calls::new(), Calls::new(), Calls::new()];
-    let mut table = Source::new(FakeReader::new(
-        SHORT_TABLE.as_bytes(),
-        paces[TABLE],
-        &calls[TABLE],
-    ));
-    let mut properties = Source::new(FakeReader::new(
-        SHORT_DATA.as_bytes(),
-        paces[DATA],
-        &calls[DATA],
-    ));
-    let mut input = Source::new(FakeReader::new(lines, paces[INPUT], &calls[INPUT]));
-    let mut out = Sink::new(FakeWriter::new(rt.alloc(), paces[OUT], &calls[OUT]));
-    let result = run_keys(
-        rt.alloc(),
-        &mut table,
-        &mut properties,
-        &mut input,
-        &mut out,
-        Some(NonIgnorable),
-    );
-    let failed = [
-        table.failed(),
-        properties.failed(),
-        input.failed(),
-        out.failed(),
-    ];
+    let table = FakeReader::new(texts[TABLE], paces[TABLE], &calls[TABLE]);
+    let properties = FakeReader::new(texts[DATA], paces[DATA], &calls[DATA]);
+    let input = FakeReader::new(texts[INPUT], paces[INPUT], &calls[INPUT]);
+    let mut streams = Streams {
+        table: Source::new(table),
+        properties: Source::new(properties),
+        input: Source::new(input),
+        out: Sink::new(FakeWriter::new(rt.alloc(), paces[OUT], &calls[OUT])),
+    };
+    let result = streams.run(rt.alloc(), run);
+    let failed = streams.failed();
     for (calls, failed) in calls.iter().zip(failed) {
         assert_eq!(rt; failed, calls.failed.get() > 0);
         assert_eq!(rt; calls.late.get(), 0, "tried again");
     }
     Ok(Outcome {
         end: told(rt.alloc(), &result)?,
-        printed: out.into_inner().text,
+        status: match &result {
+            Ok(_) => None,
+            Err(fault) => Some(status_of(rt.alloc(), fault)),
+        },
+        printed: streams.out.into_inner().text,
         failed,
         calls: [
             calls[TABLE].all.get(),
@@ -95,25 +168,65 @@ fn run_at(
     })
 }
 
+// Whether the run has a use for the stream.
+fn is_used(run: Run, stream: usize) -> bool {
+    match run {
+        Run::Keys(_) | Run::Sort(_) => true,
+        Run::Check | Run::Compare(..) => stream != INPUT,
+    }
+}
+
 #[test]
 fn any_number_of_bytes_a_call(rt: HostRuntime) -> Result<(), Fail> {
-    // Readers that give all, and a key for each line: a source that answers without its reader and a
-    // run that always answers that no memory is left do not print this.
-    let keys = joined(rt.alloc(), &[KEY_OF_A, KEY_OF_A_ACUTE, KEY_OF_A])?;
-    for step in [1, 2, 7, usize::MAX] {
-        let outcome = run_at(&rt, [Pace::steps(step); 4], LINES)?;
-        assert_eq!(rt; outcome.end.as_str(), "done", "{step} bytes a call");
-        assert_eq!(rt; outcome.printed.as_slice(), keys.as_bytes());
-        assert_eq!(rt; outcome.failed, [false; 4]);
-        for count in outcome.calls {
-            assert!(rt; count > 0);
+    // Readers that give all, and a whole output: a source that answers without its reader and a run that
+    // always answers that no memory is left do not print this.
+    for case in [KEYS, SORT, CHECK, FAILED_CHECK, COMPARE] {
+        for step in [1, 2, 7, usize::MAX] {
+            let outcome = run_at(&rt, case, [Pace::steps(step); 4])?;
+            assert_eq!(rt; outcome.end.as_str(), case.end, "{step} bytes a call");
+            assert_eq!(rt; outcome.printed.as_slice(), case.printed.as_bytes());
+            assert_eq!(rt; outcome.failed, [false; 4]);
+            for (stream, count) in outcome.calls.iter().enumerate() {
+                assert_eq!(rt; *count > 0, is_used(case.run, stream));
+            }
+        }
+    }
+    Ok(())
+}
+
+// A run where one reader fails after so many bytes: this is told, and this was printed. The streams that
+// it comes to later are not called.
+fn check_read_fault(
+    rt: &(impl Abort + AllocGlobal),
+    case: Case,
+    (which, good): (usize, usize),
+    end: &str,
+    printed: &str,
+) -> Result<(), Fail> {
+    assert!(rt; which < OUT);
+    for kind in [ErrorKind::Interrupted, ErrorKind::Other] {
+        for step in [1, 9, usize::MAX] {
+            let mut paces = [Pace::steps(step); 4];
+            paces[which] = Pace::failing(step, good, Failure::Error(kind));
+            let outcome = run_at(rt, case, paces)?;
+            assert_eq!(rt; outcome.end.as_str(), end, "{step} bytes a call");
+            assert_eq!(rt; outcome.status, Some(3));
+            assert_eq!(rt; outcome.printed.as_slice(), printed.as_bytes(), "{end}");
+            for (stream, failed) in outcome.failed.iter().enumerate() {
+                assert_eq!(rt; *failed, stream == which);
+            }
+            for (stream, count) in outcome.calls.iter().enumerate() {
+                if stream > which && (stream != OUT || printed.is_empty()) {
+                    assert_eq!(rt; *count, 0);
+                }
+            }
         }
     }
     Ok(())
 }
 
 #[test]
-fn readers_that_fail(rt: HostRuntime) -> Result<(), Fail> {
+fn readers_of_keys_that_fail(rt: HostRuntime) -> Result<(), Fail> {
     let two_keys = joined(rt.alloc(), &[KEY_OF_A, KEY_OF_A_ACUTE])?;
     // Which reader fails, after how many bytes, what is told, and what was printed.
     let cases = [
@@ -137,43 +250,61 @@ fn readers_that_fail(rt: HostRuntime) -> Result<(), Fail> {
         (INPUT, 6, "input line 3: Read", two_keys.as_str()),
     ];
     for (which, good, end, printed) in cases {
-        for kind in [ErrorKind::Interrupted, ErrorKind::Other] {
-            for step in [1, 9, usize::MAX] {
-                let mut paces = [Pace::steps(step); 4];
-                paces[which] = Pace::failing(step, good, Failure::Error(kind));
-                let outcome = run_at(&rt, paces, LINES)?;
-                assert_eq!(rt; outcome.end.as_str(), end, "{step} bytes a call");
-                assert_eq!(rt; outcome.printed.as_slice(), printed.as_bytes());
-                for (stream, failed) in outcome.failed.iter().enumerate() {
-                    assert_eq!(rt; *failed, stream == which);
-                }
-                if which != INPUT {
-                    assert_eq!(rt; outcome.calls[INPUT], 0);
-                    assert_eq!(rt; outcome.calls[OUT], 0);
-                }
-            }
+        check_read_fault(&rt, KEYS, (which, good), end, printed)?;
+    }
+    Ok(())
+}
+
+// Runs that print nothing where a reader fails after any number of the bytes of a text. The line of the
+// next byte is told.
+fn check_read_faults(
+    rt: &(impl Abort + AllocGlobal),
+    case: Case,
+    which: usize,
+    role: &str,
+    text: &[u8],
+) -> Result<(), Fail> {
+    let mut line = 1;
+    for good in 0..text.len() + 1 {
+        let end = format!(in rt.alloc(); "{role} line {line}: Read")?;
+        check_read_fault(rt, case, (which, good), end.as_str(), "")?;
+        if text.get(good) == Some(&b'\n') {
+            line = 1u32.saturating_add(line);
         }
     }
     Ok(())
 }
 
-// A run of lines over a writer that takes so many bytes and then fails in each way: it answers so, and
-// the first bytes of the keys went out.
+#[test]
+fn readers_of_other_runs_that_fail(rt: HostRuntime) -> Result<(), Fail> {
+    for case in [SORT, CHECK, FAILED_CHECK, COMPARE] {
+        check_read_fault(&rt, case, (TABLE, 10), "table line 1: Read", "")?;
+        check_read_fault(&rt, case, (TABLE, 11), "table line 2: Read", "")?;
+        let rows = joined(rt.alloc(), case.files.table)?;
+        check_read_faults(&rt, case, TABLE, "table", rows.as_bytes())?;
+        check_read_faults(&rt, case, DATA, "data", case.files.data.as_bytes())?;
+    }
+    check_read_faults(&rt, SORT, INPUT, "input", LINES.input)
+}
+
+// A run over a writer that takes so many bytes and then fails in each way: it answers so, and these bytes
+// of the whole output went out.
 fn check_write_fault(
     rt: &(impl Abort + AllocGlobal),
+    case: Case,
     good: usize,
     input: Pace,
-    lines: &[u8],
-    keys: &[u8],
 ) -> Result<(), Fail> {
     let end = format!(in rt.alloc(); "output: Write after {good}")?;
     for failure in FAILURES {
         for step in [1, 4, usize::MAX] {
             let whole = Pace::steps(usize::MAX);
             let out = Pace::failing(step, good, failure);
-            let outcome = run_at(rt, [whole, whole, input, out], lines)?;
+            let outcome = run_at(rt, case, [whole, whole, input, out])?;
             assert_eq!(rt; outcome.end.as_str(), end.as_str());
-            assert_eq!(rt; Some(outcome.printed.as_slice()), keys.get(..good));
+            assert_eq!(rt; outcome.status, Some(3));
+            let begun = case.printed.as_bytes().get(..good);
+            assert_eq!(rt; Some(outcome.printed.as_slice()), begun);
             assert!(rt; outcome.failed[OUT]);
         }
     }
@@ -181,16 +312,52 @@ fn check_write_fault(
 }
 
 #[test]
-fn writers_that_fail(rt: HostRuntime) -> Result<(), Fail> {
+fn writers_of_keys_that_fail(rt: HostRuntime) -> Result<(), Fail> {
     let whole = Pace::steps(usize::MAX);
     let broken = Pace::failing(1, 2, Failure::Error(ErrorKind::Other));
-    check_write_fault(&rt, 7, whole, b"a\n", b"1C47 00")?;
-    let keys = KEY_OF_A.as_bytes();
-    for good in 0..keys.len() {
-        check_write_fault(&rt, good, whole, b"a\n", keys)?;
-        // A later line is faulty, or cannot be read: the earlier lines go out first.
-        check_write_fault(&rt, good, whole, b"a\n\xFF\n", keys)?;
-        check_write_fault(&rt, good, broken, b"a\nb\n", keys)?;
+    let line = with_input(KEYS, b"a\n", KEY_OF_A);
+    // A later line is faulty, or cannot be read: the earlier lines go out first.
+    let faulty = with_input(KEYS, b"a\n\xFF\n", KEY_OF_A);
+    let unread = with_input(KEYS, b"a\nb\n", KEY_OF_A);
+    check_write_fault(&rt, with_input(KEYS, b"a\n", "1C47 00"), 7, whole)?;
+    for good in 0..KEY_OF_A.len() {
+        check_write_fault(&rt, line, good, whole)?;
+        check_write_fault(&rt, faulty, good, whole)?;
+        check_write_fault(&rt, unread, good, broken)?;
+    }
+    Ok(())
+}
+
+#[test]
+fn writers_of_other_runs_that_fail(rt: HostRuntime) -> Result<(), Fail> {
+    let whole = Pace::steps(usize::MAX);
+    let two_lines = with_input(SORT, b"b\na\n", "a\nb\n");
+    check_write_fault(&rt, with_input(SORT, b"b\na\n", "a\nb"), 3, whole)?;
+    for case in [SORT, two_lines, CHECK, FAILED_CHECK, COMPARE] {
+        for good in 0..case.printed.len() {
+            check_write_fault(&rt, case, good, whole)?;
+        }
+    }
+    Ok(())
+}
+
+#[test]
+fn lines_are_sorted_before_any_is_written(rt: HostRuntime) -> Result<(), Fail> {
+    // A line is faulty, or cannot be read: a writer that would fail at once is not called.
+    let whole = Pace::steps(usize::MAX);
+    let broken = Pace::failing(1, 2, Failure::Error(ErrorKind::Other));
+    let cases: [(&[u8], Pace, &str); 2] = [
+        (b"a\n\xFF\n", whole, "input line 2: Utf8"),
+        (b"a\nbb\n", broken, "input line 2: Read"),
+    ];
+    for (lines, input, end) in cases {
+        for failure in FAILURES {
+            let out = Pace::failing(1, 0, failure);
+            let case = with_input(SORT, lines, "");
+            let outcome = run_at(&rt, case, [whole, whole, input, out])?;
+            assert_eq!(rt; outcome.end.as_str(), end);
+            assert_eq!(rt; outcome.calls[OUT], 0);
+        }
     }
     Ok(())
 }
@@ -199,35 +366,62 @@ fn writers_that_fail(rt: HostRuntime) -> Result<(), Fail> {
 fn a_writer_that_fails_too_late(rt: HostRuntime) -> Result<(), Fail> {
     // It takes all that there is, and is not called again.
     let whole = Pace::steps(usize::MAX);
-    for (lines, end) in [
-        (b"a\n".as_slice(), "done"),
-        (b"a\n\xFF\n".as_slice(), "input line 2: Utf8"),
-    ] {
+    let faulty = Case {
+        end: "input line 2: Utf8",
+        ..with_input(KEYS, b"a\n\xFF\n", KEY_OF_A)
+    };
+    for case in [KEYS, faulty, SORT, CHECK, FAILED_CHECK, COMPARE] {
         for failure in FAILURES {
-            let out = Pace::failing(5, KEY_OF_A.len(), failure);
-            let outcome = run_at(&rt, [whole, whole, whole, out], lines)?;
-            assert_eq!(rt; outcome.end.as_str(), end);
-            assert_eq!(rt; outcome.printed.as_slice(), KEY_OF_A.as_bytes());
+            let out = Pace::failing(5, case.printed.len(), failure);
+            let outcome = run_at(&rt, case, [whole, whole, whole, out])?;
+            assert_eq!(rt; outcome.end.as_str(), case.end);
+            assert_eq!(rt; outcome.printed.as_slice(), case.printed.as_bytes());
             assert_eq!(rt; outcome.failed, [false; 4]);
         }
     }
     Ok(())
 }
 
+// A run whose output is longer than what is handed over at once. What is written is counted from the
+// first line on, and not from the last call.
+fn check_long_output(rt: &(impl Abort + AllocGlobal), case: Case) -> Result<(), Fail> {
+    let whole = Pace::steps(usize::MAX);
+    let length = case.printed.len();
+    assert!(rt; length > 40_000);
+    check_write_fault(rt, case, length - 1, whole)?;
+    check_write_fault(rt, case, length - 20_000, whole)?;
+    let outcome = run_at(rt, case, [whole; 4])?;
+    assert_eq!(rt; outcome.end.as_str(), "done");
+    assert_eq!(rt; outcome.printed.as_slice(), case.printed.as_bytes());
+    Ok(())
+}
+
 #[test]
 fn a_long_output(rt: HostRuntime) -> Result<(), Fail> {
-    // What is written is counted from the first line on, and not from the last call.
-    let mut lines = Vec::new(rt.alloc());
-    let mut keys = Vec::new(rt.alloc());
+    let mut lines = String::new(rt.alloc());
+    let mut keys = String::new(rt.alloc());
     for _ in 0..4000 {
-        lines.extend_from_slice(b"a\n")?;
-        keys.extend_from_slice(KEY_OF_A.as_bytes())?;
+        lines.push_str("a\n")?;
+        keys.push_str(KEY_OF_A)?;
     }
-    let whole = Pace::steps(usize::MAX);
-    check_write_fault(&rt, 99_999, whole, &lines, &keys)?;
-    check_write_fault(&rt, 60_000, whole, &lines, &keys)?;
-    let outcome = run_at(&rt, [whole; 4], &lines)?;
-    assert_eq!(rt; outcome.end.as_str(), "done");
-    assert_eq!(rt; outcome.printed.as_slice(), keys.as_slice());
-    Ok(())
+    check_long_output(&rt, with_input(KEYS, lines.as_bytes(), &keys))
+}
+
+#[test]
+fn a_long_output_of_sorted_lines(rt: HostRuntime) -> Result<(), Fail> {
+    let mut lines = String::new(rt.alloc());
+    let mut sorted = String::new(rt.alloc());
+    for count in 0..150usize {
+        push_line(&mut sorted, count)?;
+        push_line(&mut lines, 149usize.saturating_sub(count))?;
+    }
+    check_long_output(&rt, with_input(SORT, lines.as_bytes(), &sorted))
+}
+
+// A line of so many ideographs.
+fn push_line(text: &mut String, count: usize) -> Result<(), AllocError> {
+    for _ in 0..count {
+        text.push('\u{20000}')?;
+    }
+    text.push('\n')
 }
