@@ -1,7 +1,7 @@
 #!/bin/sh
 # Refuses the growths of the tests in turn, in the crates whose growths go to the global allocator
 # alone. There a test cannot hand in an allocator that refuses, since a library of the kit, as
-# `unicode_normalization`, takes the global one; in the other crates the tests do it themselves.
+# `unicode_normalization` or `clap`, takes the global one; in the other crates the tests do it themselves.
 #
 #     tools/refused_growths.sh [LAST [CRATE..]]       LAST is 40 unless it is given
 #
@@ -13,7 +13,7 @@
 # that changed in place of the error. Such a run, and one that does not end by itself, is printed, and
 # the status is then 1.
 #
-# It takes about a quarter of a minute a run, and is no part of the gate.
+# It takes a quarter of a minute to a minute a run, and is no part of the gate.
 set -u
 top=$(cd "$(dirname "$0")/.." && pwd)
 last=40
@@ -22,7 +22,7 @@ if [ $# -gt 0 ]; then
     shift
 fi
 if [ $# -eq 0 ]; then
-    set -- uca_text
+    set -- uca_text uca_words
 fi
 log=$(mktemp)
 trap 'rm -f "$log"' EXIT

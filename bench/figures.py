@@ -1,21 +1,30 @@
 #!/usr/bin/env python3
-"""Measures `uca keys TABLE DATA < lines`: time and peak memory, by rows of the table and by lines.
+"""Measures the commands of `uca`: time and peak memory, by rows of the table and by lines.
 
     cd crates/uca && rt run        # proves and builds crates/uca/out/uca
-    bench/keys.py                  # from the top of the repository
+    bench/figures.py               # from the top of the repository
 
 The script makes its own inputs and needs nothing but Python:
 
 - tables in the form of Unicode's allkeys.txt, with `@implicitweights` lines, comments and empty
   lines: by default 33,000 rows (2 MB) and 200,000 rows, of which those past the 33,000th or so are
-  contractions of two letters;
+  contractions of two letters. Eighty keys have three code points and end in a non-starter, each
+  directly behind its key of two, as in Unicode's table;
 - a data file with the combining classes and the Han ranges of Python's edition of Unicode;
 - lines of four kinds: latin (words with precomposed accents), ascii, mixed (six scripts and emoji)
-  and marks (letters with up to eight combining marks, in any order).
+  and marks (letters with up to eight combining marks, in any order); and lines of ten letters.
+
+It prints three tables:
+
+- check: `uca check` of each table, beside reading the same files (`uca keys` of no lines). With
+  `--worst N` also a table of N rows, each of which but the last has a long key whose shorter one stands
+  in the last row: the time grows with the square of N;
+- sort: `uca sort` of lines of ten letters over a table of 27 rows, beside `uca keys` of the same;
+- keys: `uca keys` of each kind of lines.
 
 Every number is drawn from a fixed seed, so that two runs measure the same work. A run counts only if
-its status is 0 and it wrote one line for each line that it read. Time is wall time from start to end,
-reading of the table included; the run with 0 lines is that reading alone. Peak memory is the greatest
+its status is 0 and it wrote what its command writes: one line for each line that it read, or one verdict.
+Time is wall time from start to end, reading of the table included. Peak memory is the greatest
 resident set (VmHWM) seen by looking every millisecond; a run shorter than that shows none.
 
 Times of two machines, or of one machine at two moments, do not compare: compare rows of one output.
@@ -80,21 +89,35 @@ def elements_of_points(points):
     return whole
 
 
-def contractions(points, count, numbers):
-    """Distinct pairs of letters, each a key of a row."""
+def contractions(points, count, numbers, taken):
+    """Distinct pairs of letters, none of which is taken, each a key of a row."""
     letters = [p for p in points if unicodedata.category(chr(p)).startswith("L")]
     pairs = set()
     while len(pairs) < count:
-        pairs.add((numbers.choice(letters), numbers.choice(letters)))
+        pair = (numbers.choice(letters), numbers.choice(letters))
+        if pair not in taken:
+            pairs.add(pair)
     return sorted(pairs)
+
+
+LONG_KEYS = 80
+
+
+def long_keys(points):
+    """Rows of keys of two letters, each followed by the row of the same key and an accent."""
+    letters = [p for p in points if unicodedata.category(chr(p)) == "Lo"]
+    for first, second in zip(letters[:LONG_KEYS], letters[1:]):
+        own = element(0x7000, 0x0020, 2)
+        yield "%04X %04X ; %s # contraction" % (first, second, own)
+        yield "%04X %04X 0301 ; %s # contraction" % (first, second, own)
 
 
 def table_text(rows, seed=1):
     """A table of that many rows, with the head, the comments and the layout of allkeys.txt."""
     numbers = random.Random(seed)
-    points = list(listed_points())[:rows]
+    points = list(listed_points())[: rows - 2 * LONG_KEYS]
     text = [
-        "# A table in the form of allkeys.txt, made by bench/keys.py",
+        "# A table in the form of allkeys.txt, made by bench/figures.py",
         "#",
         "@version %s" % unicodedata.unidata_version,
         "",
@@ -108,9 +131,31 @@ def table_text(rows, seed=1):
     for point in points:
         name = unicodedata.name(chr(point), "<control>")
         text.append("%04X  ; %s # %s" % (point, elements[point], name))
-    for pair in contractions(points, rows - len(points), numbers):
+    long = list(long_keys(points))
+    text.extend(long)
+    taken = {tuple(int(word, 16) for word in row.split(" ;")[0].split(" ")) for row in long}
+    for pair in contractions(points, rows - len(points) - len(long), numbers, taken):
         own = element(numbers.randrange(0x1C00, 0x8000), 0x0020, 2)
         text.append("%04X %04X ; %s # contraction" % (pair[0], pair[1], own))
+    return "".join(line + "\n" for line in text)
+
+
+def worst_table_text(rows):
+    """Every row but the last has a long key, and the shorter key of them all is that of the last row."""
+    own = element(0x2000, 0x0020, 2)
+    text = ["@version 1"]
+    text.extend("0061 0062 %04X ; %s" % (0x20000 + number, own) for number in range(rows - 1))
+    text.append("0061 0062 ; %s" % own)
+    return "".join(line + "\n" for line in text)
+
+
+WORST_DATA = "@data 1\nccc 20000..5FFFF 230\n"
+
+
+def letters_table_text():
+    """A space and the letters a to z."""
+    text = ["@version 1", "0020 ; [*0209.0020.0002]"]
+    text.extend("%04X ; %s" % (0x61 + n, element(0x1C00 + n, 0x0020, 2)) for n in range(26))
     return "".join(line + "\n" for line in text)
 
 
@@ -214,12 +259,12 @@ def peak_of(pid, done, peak):
         done.wait(0.001)
 
 
-def run(binary, table, data, lines, out, limit):
+def run(binary, words, lines, out, limit):
     """Seconds, peak in KiB and a complaint, which is None where the run counts."""
     peak, done = [0], threading.Event()
     with open(lines, "rb") as source, open(out, "wb") as sink:
         start = time.perf_counter()
-        child = subprocess.Popen([binary, "keys", table, data], stdin=source, stdout=sink, stderr=subprocess.PIPE)
+        child = subprocess.Popen([binary] + words, stdin=source, stdout=sink, stderr=subprocess.PIPE)
         watcher = threading.Thread(target=peak_of, args=(child.pid, done, peak))
         watcher.start()
         try:
@@ -232,12 +277,18 @@ def run(binary, table, data, lines, out, limit):
         seconds = time.perf_counter() - start
         done.set()
         watcher.join()
+    return seconds, peak[0], complaint
+
+
+def run_lines(binary, words, lines, out, limit):
+    """The same of a command that writes one line for each line that it reads."""
+    seconds, peak, complaint = run(binary, words, lines, out, limit)
     if complaint is None:
         with open(lines, "rb") as read, open(out, "rb") as written:
             wanted, found = sum(1 for _ in read), sum(1 for _ in written)
         if wanted != found:
             complaint = "%d lines for %d" % (found, wanted)
-    return seconds, peak[0], complaint
+    return seconds, peak, complaint
 
 
 def write(folder, name, text):
@@ -247,28 +298,75 @@ def write(folder, name, text):
     return path
 
 
-def measure(options, folder):
-    data = write(folder, "data", data_text())
-    tables = {rows: write(folder, "table-%d" % rows, table_text(rows)) for rows in options.rows}
-    empty = write(folder, "empty", "")
+class Report:
+    """Prints rows, and remembers whether a run did not count."""
+
+    def __init__(self):
+        self.failed = False
+
+    def head(self, title, form, names):
+        self.form = form
+        print("\n%s\n" % title + form % names, flush=True)
+
+    def row(self, values, *complaints):
+        said = [complaint for complaint in complaints if complaint is not None]
+        print(self.form % values + "".join("   " + complaint for complaint in said), flush=True)
+        self.failed = self.failed or bool(said)
+
+
+def measure_check(options, folder, tables, data, report):
+    empty, out = write(folder, "empty", ""), os.path.join(folder, "out")
+    report.head("check", "%8s %10s %10s %10s %10s", ("rows", "table, MB", "reading, s", "check, s", "peak, MB"))
+    cases = [(rows, table, data) for rows, table in tables.items()]
+    for rows in options.worst:
+        cases.append((rows, write(folder, "worst-%d" % rows, worst_table_text(rows)), write(folder, "worst-data", WORST_DATA)))
+    for rows, table, properties in cases:
+        reading, _, first = run(options.binary, ["keys", table, properties], empty, out, options.limit)
+        seconds, peak, second = run(options.binary, ["check", table, properties], empty, out, options.limit)
+        size = os.path.getsize(table) / 1e6
+        report.row((rows, "%.1f" % size, "%.3f" % reading, "%.3f" % seconds, "%.1f" % (peak / 1024)), first, second)
+
+
+def measure_sort(options, folder, data, report):
+    table, out = write(folder, "letters", letters_table_text()), os.path.join(folder, "out")
+    numbers = random.Random(3)
+    report.head("sort", "%8s %10s %10s %10s %10s", ("lines", "input, MB", "keys, s", "sort, s", "peak, MB"))
+    for count in options.sorted:
+        text = "".join("".join(numbers.choice(LETTERS) for _ in range(10)) + "\n" for _ in range(count))
+        lines = write(folder, "ten-%d" % count, text)
+        keys, _, first = run_lines(options.binary, ["keys", table, data], lines, out, options.limit)
+        seconds, peak, second = run_lines(options.binary, ["sort", table, data], lines, out, options.limit)
+        with open(out, encoding="utf-8") as written:
+            if second is None and written.read() != "".join(sorted(text.splitlines(keepends=True))):
+                second = "not sorted"
+        report.row((count, "%.2f" % (len(text) / 1e6), "%.3f" % keys, "%.3f" % seconds, "%.1f" % (peak / 1024)), first, second)
+
+
+def measure_keys(options, folder, tables, data, report):
+    empty, out = write(folder, "empty", ""), os.path.join(folder, "out")
     inputs = {(kind, count): write(folder, "%s-%d" % (kind, count), lines_text(kind, count)) for kind in options.kinds for count in options.lines}
-    out = os.path.join(folder, "out")
-    form = "%8s %10s %8s %8s %10s %10s %10s"
-    print(form % ("rows", "table, MB", "text", "lines", "input, MB", "seconds", "peak, MB"))
-    failed = False
+    report.head("keys", "%8s %10s %8s %8s %10s %10s %10s", ("rows", "table, MB", "text", "lines", "input, MB", "seconds", "peak, MB"))
     for rows, table in tables.items():
         series = [("-", 0, empty)] + [(kind, count, inputs[kind, count]) for kind in options.kinds for count in options.lines]
         for kind, count, lines in series:
-            seconds, peak, complaint = run(options.binary, table, data, lines, out, options.limit)
+            seconds, peak, complaint = run_lines(options.binary, ["keys", table, data], lines, out, options.limit)
             sizes = (os.path.getsize(table) / 1e6, os.path.getsize(lines) / 1e6)
-            row = (rows, "%.1f" % sizes[0], kind, count, "%.2f" % sizes[1], "%.3f" % seconds, "%.1f" % (peak / 1024))
-            print(form % row + ("" if complaint is None else "   " + complaint), flush=True)
-            failed = failed or complaint is not None
-    return failed
+            report.row((rows, "%.1f" % sizes[0], kind, count, "%.2f" % sizes[1], "%.3f" % seconds, "%.1f" % (peak / 1024)), complaint)
+
+
+def measure(options, folder):
+    data = write(folder, "data", data_text())
+    tables = {rows: write(folder, "table-%d" % rows, table_text(rows)) for rows in options.rows}
+    report = Report()
+    measure_check(options, folder, tables, data, report)
+    measure_sort(options, folder, data, report)
+    if options.lines:
+        measure_keys(options, folder, tables, data, report)
+    return report.failed
 
 
 def numbers_of(text):
-    return [int(word) for word in text.split(",")]
+    return [int(word) for word in text.split(",") if word]
 
 
 def main():
@@ -276,7 +374,9 @@ def main():
     parser = argparse.ArgumentParser(description=__doc__.split("\n")[0])
     parser.add_argument("--binary", default=os.path.join(top, "crates", "uca", "out", "uca"))
     parser.add_argument("--rows", type=numbers_of, default=[33000, 200000], help="rows of the tables, as 33000,200000")
-    parser.add_argument("--lines", type=numbers_of, default=[1000, 10000], help="lines of the inputs, as 1000,10000")
+    parser.add_argument("--lines", type=numbers_of, default=[1000, 10000], help="lines of the inputs of keys, as 1000,10000; none where it is empty")
+    parser.add_argument("--sorted", type=numbers_of, default=[100000], help="lines that are sorted, as 100000")
+    parser.add_argument("--worst", type=numbers_of, default=[], help="rows of the worst tables for check, as 10000,20000")
     parser.add_argument("--kinds", type=lambda text: text.split(","), default=list(KINDS), help="kinds of lines: " + ", ".join(KINDS))
     parser.add_argument("--limit", type=float, default=120, help="seconds after which a run is stopped")
     parser.add_argument("--keep", help="a folder to make the inputs in, which is kept")
