@@ -9,10 +9,10 @@ ghost use Rattle.uca_text.specs.Faults.{IsCause};
 
 use crate::Normal;
 use std::alloc::{AllocError, AllocFailed, Allocator, Global};
+use std::mem;
 use thiserror::Error;
 use uca_values::Data;
-use unicode_normalization::QuickCheck;
-use unicode_normalization::slice::{extend_nfd, is_nfd_quick};
+use unicode_normalization::slice::extend_nfd;
 
 /// How many code points a text may have in Normalization Form D.
 const LONGEST_TEXT: usize = 1_048_576;
@@ -85,7 +85,13 @@ impl Normal {
         ensures fault { IfErr result (IsCause (spelled (properties_of «data».now) (chars text.now))) }
         ensures emptied { OnErr result (self.new ≡ record { points = []; classes = [] }) }
     {
-        if let Err(fault) = spell(&mut self.chars, &mut self.classes, text, data) {
+        if let Err(fault) = spell(
+            &mut self.chars,
+            &mut self.spare,
+            &mut self.classes,
+            text,
+            data,
+        ) {
             self.chars.clear();
             self.classes.clear();
             return Err(fault);
@@ -94,9 +100,10 @@ impl Normal {
     }
 }
 
-/// Writes the text and its classes over what the two lists hold.
+/// Writes the text and its classes over what the two lists hold. `spare` only lends its memory.
 fn spell<A: Allocator>(
     points: &mut Vec<char>,
+    spare: &mut Vec<char>,
     classes: &mut Vec<u8>,
     text: &str,
     data: &Data<A>,
@@ -106,28 +113,37 @@ fn spell<A: Allocator>(
     ensures accepted { OnOk result (IsAccepted (record { points = points.new.items; classes = classes.new.items })) }
     ensures fault { IfErr result (IsCause (spelled (properties_of «data».now) (chars text.now))) }
 {
-    decompose(points, text)?;
+    decompose(points, spare, text)?;
     if points.len() > LONGEST_TEXT {
         return Err(TextFault::TooLong);
     }
     classify(classes, points, data)
 }
 
-/// Writes the code points of the text in Normalization Form D.
-#[tactic(auto, using(std::proofs::lemmas::Str::chars_from_encodes))]
-fn decompose(points: &mut Vec<char>, text: &str) -> Result<(), AllocError>
+/// Writes the code points of the text in Normalization Form D, in the memory of one of the two lists.
+fn decompose(points: &mut Vec<char>, spare: &mut Vec<char>, text: &str) -> Result<(), AllocError>
     ensures { OnOk result (points.new.items ≡ nfd (chars text.now)) }
+{
+    write_points(points, text)?;
+    // A code point for each byte: all are ASCII, and stand for themselves.
+    if points.len() == text.len() {
+        return Ok(());
+    }
+    spare.clear();
+    extend_nfd(spare, points)?;
+    mem::swap(points, spare);
+    Ok(())
+}
+
+/// Writes the code points of the text as they stand.
+#[tactic(auto, using(std::proofs::lemmas::Str::chars_from_encodes))]
+fn write_points(points: &mut Vec<char>, text: &str) -> Result<(), AllocError>
+    ensures { OnOk result (points.new.items ≡ chars text.now) }
 {
     points.clear();
     for point in text.chars() {
         points.push(point)?;
     }
-    if is_nfd_quick(points) == QuickCheck::Yes {
-        return Ok(());
-    }
-    let mut decomposed = Vec::with_capacity(*points.allocator(), points.len())?;
-    extend_nfd(&mut decomposed, points)?;
-    *points = decomposed;
     Ok(())
 }
 

@@ -9,6 +9,8 @@ use std::marker::Model;
 pub struct Normal {
     pub(crate) chars: Vec<char>,
     pub(crate) classes: Vec<u8>,
+    // Memory for the next text. What it holds says nothing.
+    pub(crate) spare: Vec<char>,
 }
 
 impl Model for Normal {
@@ -33,6 +35,7 @@ impl Normal {
         Normal {
             chars: Vec::new(alloc),
             classes: Vec::new(alloc),
+            spare: Vec::new(alloc),
         }
     }
 
