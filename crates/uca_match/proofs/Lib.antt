@@ -12,3 +12,10 @@ pub mod Walking
 pub mod Portions
 pub mod SameReading
 pub mod RowsByKey
+pub mod TrieEdges
+pub mod TrieSteps
+pub mod TrieWalks
+pub mod TrieRows
+pub mod TrieLookups
+pub mod TrieHeads
+pub mod TestTables

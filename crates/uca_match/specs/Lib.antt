@@ -2,6 +2,7 @@ pub mod Rows
 pub mod Reading
 pub mod Lookups
 pub mod RowLists
+pub mod Tries
 pub mod Places
 pub mod Matches
 pub mod Extensions

@@ -11,8 +11,10 @@ mod places;
 mod row_list;
 #[cfg(test)]
 mod tests;
+mod trie;
 
 pub use collator::Collator;
 pub use elements::Elements;
 pub use lookup::Lookup;
 pub use row_list::{RowList, RowNode};
+pub use trie::{Trie, TrieNode};

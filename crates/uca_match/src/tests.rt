@@ -1,14 +1,39 @@
-//! Lookups and the elements of texts, over small tables.
+//! Lookups and the elements of texts, over tables of a few rows and over one of many.
 
-use crate::{Collator, Lookup, RowList};
-use std::alloc::{AllocError, Global};
+ghost use Rattle.std.specs.Prelude.{◌≡◌, false, IfOk};
+ghost use Rattle.uca_values.specs.Content.{IsEntry};
+
+use crate::{Collator, Lookup, RowList, Trie};
+use linked_list_allocator::LocalHeap;
+use std::alloc::{AllocError, Allocator, Global};
+use std::collections::BTreeSet;
+use std::process::Abort;
 use std::test::Fail;
 use uca_text::{Normal, normal};
 use uca_values::{ClassRange, Data, Header, Row, Table};
 use uca_weights::Element;
 
+/// A key and the primary weight of its only element.
+type Line<'a> = (&'a [char], u16);
+
+/// What a lookup says of some code points.
+#[derive(Clone, Copy, Debug, PartialEq, Eq)]
+enum Said {
+    /// No key begins with them.
+    Nothing,
+    /// They are no key, but there is a node for them.
+    Beginning,
+    /// They are a key, whose first element has this primary weight.
+    Key(u16),
+}
+
+/// Code points and what a lookup says of them.
+type Case<'a> = (&'a [char], Said);
+
 /// An element that is not variable.
-fn element(primary: u16, secondary: u16, tertiary: u16) -> Element {
+fn element(primary: u16, secondary: u16, tertiary: u16) -> Element
+    ensures { result ≡ record { primary = primary; secondary = secondary; tertiary = tertiary; mark = false } }
+{
     Element {
         primary,
         secondary,
@@ -18,19 +43,49 @@ fn element(primary: u16, secondary: u16, tertiary: u16) -> Element {
 }
 
 /// A row whose only element has the primary weight `primary`.
-fn row(alloc: Global, key: &[char], primary: u16) -> Result<Row, AllocError> {
+fn row<A: Allocator + Copy>(rt: &impl Abort, alloc: A, line: Line) -> Result<Row<A>, AllocError>
+    ensures entry { IfOk result IsEntry }
+    ensures key { IfOk result (λ row. row.key ≡ line.entry.0.now) }
+{
+    let (key, primary) = line;
+    assert!(rt; 0 < key.len() && key.len() <= 16);
+    let mut points = Vec::with_capacity(alloc, key.len())?;
+    for point in key {
+        points.push(*point)?;
+    }
     Ok(Row {
-        key: key.to_vec(alloc)?,
-        elements: [element(primary, 0x20, 2)].to_vec(alloc)?,
+        key: points,
+        elements: Vec::from_slice(alloc, &[element(primary, 0x20, 2)])?,
     })
 }
 
 /// A header without ranges for implicit weights.
-fn header(alloc: Global) -> Result<Header, AllocError> {
+fn header<A: Allocator + Copy>(alloc: A) -> Result<Header<A>, AllocError> {
     Ok(Header {
         version: String::from_str(alloc, "1")?,
         setting: None,
         ranges: Vec::new(alloc),
+    })
+}
+
+/// A table of these lines. No key comes twice, and each has 1 to 16 code points: the test stops else.
+fn table<A: Allocator + Copy>(
+    rt: &(impl Abort + AllocGlobal),
+    alloc: A,
+    lines: &[Line],
+) -> Result<Table<A>, AllocError> {
+    let mut keys = BTreeSet::new(rt.alloc());
+    let mut rows = Vec::with_capacity(alloc, lines.len())?;
+    for line in lines {
+        let line = *line;
+        let is_new = keys.insert(line.0)?;
+        assert!(rt; is_new, "{:?} comes twice", line.0);
+        rows.push(row(rt, alloc, line)?)?;
+    }
+    assert!(rt; rows.len() <= 200_000);
+    Ok(Table {
+        header: header(alloc)?,
+        rows,
     })
 }
 
@@ -50,13 +105,35 @@ fn data(alloc: Global) -> Result<Data, Fail> {
     Ok(data)
 }
 
-/// The primary weight of the only element of a key, if it is a key.
-fn primary<L: Lookup>(lookup: &L, key: &[char]) -> Option<u16> {
+/// What a lookup says of some code points.
+fn found<L: Lookup>(lookup: &L, points: &[char]) -> Said {
     let mut node = lookup.root();
-    for c in key {
-        node = lookup.step(node, *c)?;
+    for point in points {
+        match lookup.step(node, *point) {
+            Some(next) => node = next,
+            None => return Said::Nothing,
+        }
     }
-    Some(lookup.elements(node)?.first()?.primary)
+    match lookup.elements(node) {
+        Some([first, ..]) => Said::Key(first.primary),
+        Some([]) => Said::Key(0),
+        None => Said::Beginning,
+    }
+}
+
+/// Checks what a lookup says.
+fn check_lookup<L: Lookup>(rt: &impl Abort, lookup: &L, cases: &[Case]) {
+    for (points, expected) in cases {
+        assert_eq!(rt; found(lookup, points), *expected, "{points:?}");
+    }
+}
+
+/// Checks what both lookups say over a table of these lines.
+fn check(rt: &(impl Abort + AllocGlobal), lines: &[Line], cases: &[Case]) -> Result<(), Fail> {
+    let table = table(rt, rt.alloc(), lines)?;
+    check_lookup(rt, &RowList::new(&table), cases);
+    check_lookup(rt, &Trie::new(&table)?, cases);
+    Ok(())
 }
 
 /// The primary weights of the elements of a text that are not 0.
@@ -74,64 +151,262 @@ fn primaries<L: Lookup>(
     Ok(weights)
 }
 
+/// Checks what texts read as.
+fn check_texts<L: Lookup>(
+    rt: &(impl Abort + AllocGlobal),
+    lookup: &L,
+    header: &Header,
+    texts: &[(&str, &[u16])],
+) -> Result<(), Fail> {
+    let data = data(rt.alloc())?;
+    let collator = Collator::new(lookup, header, &data);
+    for (text, expected) in texts {
+        let normal = normal(rt.alloc(), text, &data)?;
+        let read = primaries(rt.alloc(), &collator, &normal)?;
+        assert_eq!(rt; read.as_slice(), *expected, "{text:?}");
+    }
+    Ok(())
+}
+
+/// Checks that nothing comes after the last element, however often it is asked for.
+fn check_end<L: Lookup>(
+    rt: &(impl Abort + AllocGlobal),
+    lookup: &L,
+    header: &Header,
+) -> Result<(), Fail> {
+    let data = data(rt.alloc())?;
+    let collator = Collator::new(lookup, header, &data);
+    let text = normal(rt.alloc(), "a", &data)?;
+    let mut elements = collator.elements(&text);
+    assert_eq!(rt; elements.next(), Some(element(1, 0x20, 2)));
+    assert_eq!(rt; elements.next(), None);
+    assert_eq!(rt; elements.next(), None);
+    Ok(())
+}
+
 #[test]
 fn finds_a_key_whose_beginnings_are_no_keys(rt: HostRuntime) -> Result<(), Fail> {
-    let alloc = rt.alloc();
-    let key = ['a', 'b', 'c', 'd'];
-    let rows = [row(alloc, &key, 7)?];
-    let list = RowList { rows: &rows };
-    for (len, expected) in [(0, None), (1, None), (2, None), (3, None), (4, Some(7))] {
-        assert_eq!(rt; primary(&list, &key[..len]), expected, "{len}");
+    let key = [
+        'a', 'b', 'c', 'd', 'e', 'f', 'g', 'h', 'i', 'j', 'k', 'l', 'm', 'n', 'o', 'p',
+    ];
+    let beyond = [
+        'a', 'b', 'c', 'd', 'e', 'f', 'g', 'h', 'i', 'j', 'k', 'l', 'm', 'n', 'o', 'p', 'q',
+    ];
+    let mut cases: Vec<Case> = Vec::new(rt.alloc());
+    for len in 0..16 {
+        cases.push((&key[..len], Said::Beginning))?;
     }
-    assert_eq!(rt; primary(&list, &['a', 'c']), None);
-    assert_eq!(rt; primary(&list, &['a', 'b', 'c', 'd', 'e']), None);
-    Ok(())
+    cases.push((&key, Said::Key(7)))?;
+    cases.push((&beyond, Said::Nothing))?;
+    cases.push((&['b'], Said::Nothing))?;
+    cases.push((&['a', 'c'], Said::Nothing))?;
+    check(&rt, &[(&key, 7)], &cases)
 }
 
 #[test]
 fn finds_both_keys_where_one_begins_the_other(rt: HostRuntime) -> Result<(), Fail> {
-    let alloc = rt.alloc();
-    let short_first = [row(alloc, &['a'], 1)?, row(alloc, &['a', 'b'], 2)?];
-    let long_first = [row(alloc, &['a', 'b'], 2)?, row(alloc, &['a'], 1)?];
-    for rows in [&short_first, &long_first] {
-        let list = RowList { rows };
-        assert_eq!(rt; primary(&list, &['a']), Some(1));
-        assert_eq!(rt; primary(&list, &['a', 'b']), Some(2));
-        assert_eq!(rt; primary(&list, &['b']), None);
+    let short_first: [Line; 2] = [(&['a'], 1), (&['a', 'b'], 2)];
+    let long_first: [Line; 2] = [(&['a', 'b'], 2), (&['a'], 1)];
+    let cases: [Case; 4] = [
+        (&[], Said::Beginning),
+        (&['a'], Said::Key(1)),
+        (&['a', 'b'], Said::Key(2)),
+        (&['b'], Said::Nothing),
+    ];
+    check(&rt, &short_first, &cases)?;
+    check(&rt, &long_first, &cases)
+}
+
+#[test]
+fn finds_nothing_in_an_empty_table(rt: HostRuntime) -> Result<(), Fail> {
+    let cases: [Case; 4] = [
+        (&[], Said::Beginning),
+        (&['\0'], Said::Nothing),
+        (&['a'], Said::Nothing),
+        (&['\u{10FFFF}'], Said::Nothing),
+    ];
+    check(&rt, &[], &cases)
+}
+
+/// Letters on both sides of the limit below which a trie over them takes its first step by a list. One is no
+/// key, but begins one.
+const FIRST_STEPS: [Line; 11] = [
+    (&['\u{4E00}', '\u{33FF}'], 1),
+    (&['\u{10FFFF}'], 2),
+    (&['\u{3400}'], 3),
+    (&['\u{33FF}', 'a'], 4),
+    (&['\0'], 5),
+    (&['\u{33FF}'], 6),
+    (&['\u{10FFFF}', '\u{10FFFF}'], 7),
+    (&['\u{33FF}', '\u{3400}'], 8),
+    (&['\u{3400}', 'a'], 9),
+    (&['\0', '\0'], 10),
+    (&['\u{4E00}', '\u{3400}'], 11),
+];
+
+const FIRST_STEPS_CASES: [Case; 25] = [
+    (&[], Said::Beginning),
+    (&['\0'], Said::Key(5)),
+    (&['\0', '\0'], Said::Key(10)),
+    (&['\0', '\u{1}'], Said::Nothing),
+    (&['\u{1}'], Said::Nothing),
+    (&['\u{33FE}'], Said::Nothing),
+    (&['\u{33FF}'], Said::Key(6)),
+    (&['\u{33FF}', 'a'], Said::Key(4)),
+    (&['\u{33FF}', '\u{33FF}'], Said::Nothing),
+    (&['\u{33FF}', '\u{3400}'], Said::Key(8)),
+    (&['\u{3400}'], Said::Key(3)),
+    (&['\u{3400}', 'a'], Said::Key(9)),
+    (&['\u{3400}', '\u{3400}'], Said::Nothing),
+    (&['\u{3401}'], Said::Nothing),
+    (&['\u{4DFF}'], Said::Nothing),
+    (&['\u{4E00}'], Said::Beginning),
+    (&['\u{4E00}', 'a'], Said::Nothing),
+    (&['\u{4E00}', '\u{33FF}'], Said::Key(1)),
+    (&['\u{4E00}', '\u{3400}'], Said::Key(11)),
+    (&['\u{4E01}'], Said::Nothing),
+    (&['\u{10FFFE}'], Said::Nothing),
+    (&['\u{10FFFF}'], Said::Key(2)),
+    (&['\u{10FFFF}', '\u{10FFFE}'], Said::Nothing),
+    (&['\u{10FFFF}', '\u{10FFFF}'], Said::Key(7)),
+    (&['a'], Said::Nothing),
+];
+
+#[test]
+fn takes_first_steps_on_both_sides_of_the_limit(rt: HostRuntime) -> Result<(), Fail> {
+    check(&rt, &FIRST_STEPS, &FIRST_STEPS_CASES)
+}
+
+/// The code point of a number. No surrogate is asked for.
+fn point(rt: &impl Abort, code: u32) -> char {
+    let found = char::from_u32(code);
+    assert!(rt; found.is_some(), "{code:X}");
+    found.unwrap_or('\0')
+}
+
+/// Lines of these keys, with the weights 1, 2 and so on.
+fn numbered(alloc: Global, keys: &[Vec<char>]) -> Result<Vec<Line>, AllocError> {
+    let mut lines = Vec::new(alloc);
+    let mut number = 0;
+    for key in keys {
+        number = 1u16.saturating_add(number);
+        lines.push((key.as_slice(), number))?;
+    }
+    Ok(lines)
+}
+
+/// Checks that a lookup has these keys, with the weights 1, 2 and so on, and none that ends in the code
+/// point after the last one of such a key.
+fn check_numbered<L: Lookup>(
+    rt: &impl Abort,
+    lookup: &L,
+    keys: &[Vec<char>],
+) -> Result<(), AllocError> {
+    let mut number = 0;
+    for key in keys {
+        number = 1u16.saturating_add(number);
+        assert_eq!(rt; found(lookup, key), Said::Key(number), "{key:?}");
+        let mut beside = key.clone()?;
+        if let Some(last) = beside.last_mut() {
+            *last = point(rt, u32::from(*last).saturating_add(1));
+        }
+        assert_eq!(rt; found(lookup, &beside), Said::Nothing, "{beside:?}");
     }
     Ok(())
 }
 
 #[test]
-fn lends_the_rows_of_a_table(rt: HostRuntime) -> Result<(), Fail> {
+fn finds_each_of_many_followers(rt: HostRuntime) -> Result<(), Fail> {
     let alloc = rt.alloc();
-    let table = Table {
-        header: header(alloc)?,
-        rows: Vec::new(alloc),
-    };
-    let list = RowList::new(&table);
-    assert_eq!(rt; primary(&list, &['a']), None);
-    assert!(rt; list.elements(list.root()).is_none());
+    // Each number from 1 to 100 is one multiple modulo 101: in rising order, falling, and mixed.
+    for factor in [1, 100, 37] {
+        let mut keys = Vec::new(alloc);
+        for number in 1..=100u32 {
+            let mut key = Vec::new(alloc);
+            key.push('x')?;
+            key.push(point(&rt, 0x4E00 + 3 * (factor * number % 101)))?;
+            keys.push(key)?;
+        }
+        let table = table(&rt, alloc, &numbered(alloc, &keys)?)?;
+        let list = RowList::new(&table);
+        let trie = Trie::new(&table)?;
+        check_numbered(&rt, &list, &keys)?;
+        check_numbered(&rt, &trie, &keys)?;
+        assert_eq!(rt; found(&list, &['x']), Said::Beginning);
+        assert_eq!(rt; found(&trie, &['x']), Said::Beginning);
+    }
+    Ok(())
+}
+
+#[test]
+fn finds_each_of_many_letters(rt: HostRuntime) -> Result<(), Fail> {
+    let alloc = rt.alloc();
+    let mut letters = Vec::new(alloc);
+    for number in 0..30_000u32 {
+        // Every other code point from U+0100 on, around the surrogates, in mixed order.
+        let code = 0x100 + 2 * (7 * number % 30_011);
+        let code = if code < 0xD800 { code } else { code + 0x800 };
+        letters.push(vec![in alloc; point(&rt, code)]?)?;
+    }
+    let table = table(&rt, alloc, &numbered(alloc, &letters)?)?;
+    check_numbered(&rt, &Trie::new(&table)?, &letters)?;
+    Ok(())
+}
+
+#[test]
+fn a_refused_growth_leaves_nothing(rt: HostRuntime) -> Result<(), Fail> {
+    let lines: [Line; 5] = [
+        (&['a', 'b'], 1),
+        (&['b'], 2),
+        (&['a', 'c', 'd'], 3),
+        (&['\u{4E00}'], 4),
+        (&['a'], 5),
+    ];
+    let cases: [Case; 6] = [
+        (&['a'], Said::Key(5)),
+        (&['a', 'b'], Said::Key(1)),
+        (&['a', 'c'], Said::Beginning),
+        (&['a', 'c', 'd'], Said::Key(3)),
+        (&['b'], Said::Key(2)),
+        (&['\u{4E00}'], Said::Key(4)),
+    ];
+    let mut refused = 0u32;
+    let mut made = 0u32;
+    for room in 0..256 {
+        let heap = LocalHeap::new(rt.alloc(), 16 * room)?;
+        // In the first heap that holds the table no room is left.
+        let Ok(table) = table(&rt, &heap, &lines) else {
+            continue;
+        };
+        let before = heap.used();
+        match Trie::new(&table) {
+            Ok(trie) => {
+                check_lookup(&rt, &trie, &cases);
+                made = made.saturating_add(1);
+            }
+            Err(_) => {
+                assert_eq!(rt; made, 0);
+                refused = refused.saturating_add(1);
+            }
+        }
+        assert_eq!(rt; heap.used(), before, "{room}");
+    }
+    assert!(rt; refused > 0 && made > 0, "{refused} and {made}");
     Ok(())
 }
 
 #[test]
 fn reads_texts(rt: HostRuntime) -> Result<(), Fail> {
-    let alloc = rt.alloc();
-    let rows = [
-        row(alloc, &['a'], 1)?,
-        row(alloc, &['\u{301}'], 2)?,
-        row(alloc, &['\u{300}'], 3)?,
-        row(alloc, &['\u{323}'], 4)?,
-        row(alloc, &['a', '\u{301}'], 5)?,
-        row(alloc, &['a', '\u{301}', '\u{300}'], 6)?,
-        row(alloc, &['b', 'a', 'b'], 7)?,
-        row(alloc, &['b'], 8)?,
+    let lines: [Line; 8] = [
+        (&['a'], 1),
+        (&['\u{301}'], 2),
+        (&['\u{300}'], 3),
+        (&['\u{323}'], 4),
+        (&['a', '\u{301}'], 5),
+        (&['a', '\u{301}', '\u{300}'], 6),
+        (&['b', 'a', 'b'], 7),
+        (&['b'], 8),
     ];
-    let header = header(alloc)?;
-    let data = data(alloc)?;
-    let list = RowList { rows: &rows };
-    let collator = Collator::new(&list, &header, &data);
     let texts: [(&str, &[u16]); 12] = [
         ("", &[]),
         ("a", &[1]),
@@ -151,25 +426,14 @@ fn reads_texts(rt: HostRuntime) -> Result<(), Fail> {
         ("\u{4E00}\u{301}", &[0xFBC0, 0xCE00, 2]),
         ("\u{4E00}\u{10FFFF}", &[0xFBC0, 0xCE00, 0xFBE1, 0xFFFF]),
     ];
-    for (text, expected) in texts {
-        let read = primaries(alloc, &collator, &normal(alloc, text, &data)?)?;
-        assert_eq!(rt; read.as_slice(), expected, "{text:?}");
-    }
-    Ok(())
+    let table = table(&rt, rt.alloc(), &lines)?;
+    check_texts(&rt, &RowList::new(&table), &table.header, &texts)?;
+    check_texts(&rt, &Trie::new(&table)?, &table.header, &texts)
 }
 
 #[test]
 fn gives_no_elements_after_the_last(rt: HostRuntime) -> Result<(), Fail> {
-    let alloc = rt.alloc();
-    let rows = [row(alloc, &['a'], 1)?];
-    let header = header(alloc)?;
-    let data = data(alloc)?;
-    let list = RowList { rows: &rows };
-    let collator = Collator::new(&list, &header, &data);
-    let text = normal(alloc, "a", &data)?;
-    let mut elements = collator.elements(&text);
-    assert_eq!(rt; elements.next(), Some(element(1, 0x20, 2)));
-    assert_eq!(rt; elements.next(), None);
-    assert_eq!(rt; elements.next(), None);
-    Ok(())
+    let table = table(&rt, rt.alloc(), &[(&['a'], 1)])?;
+    check_end(&rt, &RowList::new(&table), &table.header)?;
+    check_end(&rt, &Trie::new(&table)?, &table.header)
 }

@@ -1,0 +1,101 @@
+-- Trees of code points: what their nodes hold, where code points lead, and which map from keys to elements that makes.
+-- Only clauses inside this crate cite this file: a caller's clauses see the map alone, as the lookup's content.
+use Rattle.std.specs.Prelude.{◌≡◌, ◌≢◌, ℕ, zero, suc, ◌<◌, ◌≤◌, ◌==◌, ⊤, List, [], ◌∷◌, ◌++◌, length, Option, Some, None, if◌then◌else◌, slice_index_or, option_and_then}
+use Rattle.std.specs.List.{AllByRecursion}
+use Rattle.std.specs.List.Sorted.{IsPartitionPoint}
+use Rattle.uca_weights.specs.declared.Element.{Element}
+use Rattle.uca_values.specs.Content.{Entry}
+use Rattle.uca_match.specs.Rows.{Rows, same_key}
+use Rattle.uca_match.specs.declared.trie.Edge.{Edge}
+
+-- a node: the edges that leave it, and the elements of its key, if the code points that lead to it are one
+pub record NodeContent : Type 0 where
+  pub edges : List Edge
+  pub row : Option (List Element)
+
+-- a node that nothing leaves, and that is no key
+abbrev pub empty_node : NodeContent
+empty_node = record { edges = []; row = None }
+
+-- the node of a number
+abbrev pub node_at : List NodeContent → ℕ → NodeContent
+node_at nodes n = slice_index_or nodes n empty_node
+
+-- where a code point leads
+abbrev pub target_of : List Edge → ℕ → Option ℕ
+target_of [] c = None
+target_of (e ∷ edges) c = if e.point == c then Some e.target else target_of edges c
+
+-- where the code points lead from a node
+abbrev pub walk : List NodeContent → ℕ → List ℕ → Option ℕ
+walk nodes n [] = Some n
+walk nodes n (c ∷ key) = option_and_then (λ m. walk nodes m key) (target_of (node_at nodes n).edges c)
+
+-- the elements of each key
+abbrev pub held : List NodeContent → Rows
+held nodes key = option_and_then (λ n. (node_at nodes n).row) (walk nodes 0 key)
+
+-- ---- What holds of the nodes
+
+-- each code point is below those that follow
+abbrev pub AreRisingEdges : List Edge → Type 0
+AreRisingEdges [] = ⊤
+AreRisingEdges (e ∷ edges) = AllByRecursion (λ f. e.point < f.point) edges × AreRisingEdges edges
+
+-- no edge has the code point, and one that has it would stand here
+pub record IsNewPlace (edges : List Edge) (c at : ℕ) : Type 0 where
+  pub bound : at ≤ length edges
+  pub place : IsPartitionPoint (λ e. e.point < c) (λ e. c < e.point) edges at
+
+-- the edge leads to a later node, whose text is the text before it and the code point
+pub record LeadsOn (texts : List (List ℕ)) (n c m : ℕ) : Type 0 where
+  pub later : n < m
+  pub within : m < length texts
+  pub text : slice_index_or texts m [] ≡ slice_index_or texts n [] ++ c ∷ []
+
+-- there is a node for each of the texts, the first of which is empty; edges rise, and lead on
+pub record AreNodes (nodes : List NodeContent) (texts : List (List ℕ)) : Type 0 where
+  pub some : 0 < length nodes
+  pub same : length texts ≡ length nodes
+  pub root : slice_index_or texts 0 [] ≡ []
+  pub rising : (n : ℕ) → n < length nodes → AreRisingEdges (node_at nodes n).edges
+  pub edges : (n c m : ℕ) → n < length nodes → target_of (node_at nodes n).edges c ≡ Some m → LeadsOn texts n c m
+
+-- the node is that of a key, or something leaves it
+abbrev pub IsNoDeadEnd : NodeContent → Type 0
+IsNoDeadEnd b = b.row ≡ None → b.edges ≢ []
+
+-- nodes that make a tree without dead ends, so that some key begins with each text but the empty one
+pub record IsTree (nodes : List NodeContent) : Type 0 where
+  pub texts : List (List ℕ)
+  pub shape : AreNodes nodes texts
+  pub no_dead_end : (n : ℕ) → 0 < n → n < length nodes → IsNoDeadEnd (node_at nodes n)
+
+-- nodes to which those of the beginning of a key have been added: the last of these may be a dead end, and the keys and
+-- elements are those of the nodes at the start
+pub record IsAlong (start nodes : List NodeContent) (front : List ℕ) (last : ℕ) : Type 0 where
+  pub texts : List (List ℕ)
+  pub shape : AreNodes nodes texts
+  pub leads : walk nodes 0 front ≡ Some last
+  pub no_dead_end : (n : ℕ) → 0 < n → n < length nodes → n ≢ last → IsNoDeadEnd (node_at nodes n)
+  pub same : (key : List ℕ) → held nodes key ≡ held start key
+
+-- a map in which a row has been put
+abbrev pub with_row : Rows → Entry → Rows
+with_row rows row key = if same_key row.key key then Some row.elements else rows key
+
+-- ---- First steps
+
+-- where a code point leads, as a number that is 0 where it leads nowhere
+abbrev pub head_target : ℕ → Option ℕ
+head_target zero = None
+head_target (suc n) = Some (suc n)
+
+-- where each code point of a list leads from the root
+abbrev pub AreHeads : List Edge → List ℕ → Type 0
+AreHeads edges heads = (c : ℕ) → c < length heads → target_of edges c ≡ head_target (slice_index_or heads c 0)
+
+-- what holds of every trie
+pub record IsTrie (nodes : List NodeContent) (heads : List ℕ) : Type 0 where
+  pub tree : IsTree nodes
+  pub first_steps : AreHeads (node_at nodes 0).edges heads
