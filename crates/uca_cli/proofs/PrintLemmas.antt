@@ -1,13 +1,15 @@
 -- A line that is printed piece by piece.
-use Rattle.std.proofs.Common.{◌≡◌, ℕ, suc, ◌+◌, ◌*◌, ◌%◌, ◌<◌, ◌≤◌, List, [], ◌∷◌, ◌++◌, Bool, true, false, cond, Option, Some, None, length, take, drop, get_or, take-append-drop, refl, sym, ap, subst, ◌∙◌, append_assoc, arith, length-append}
-use Rattle.std.specs.Prelude.{◌&&◌, ◌||◌, ◌==◌, nat_lt}
+use Rattle.std.proofs.Common.{◌≡◌, ℕ, zero, suc, min, ◌+◌, ◌-◌, ◌*◌, ◌/◌, ◌%◌, ◌<◌, ◌≤◌, List, [], ◌∷◌, ◌++◌, Bool, true, false, Option, Some, None, length, take, drop, get_or, set, take-append-drop, refl, sym, ap, subst, ◌∙◌, append_assoc, arith, length-append}
+use Rattle.std.specs.Prelude.{◌||◌}
 use Rattle.std.specs.Io.KnownBytes.{Appends}
-use Rattle.std.proofs.lemmas.List.{take-append-le, append-nil, take_more, length-take-le}
-use Rattle.std.proofs.lemmas.Bool.Decides.{nat_tests}
+use Rattle.std.specs.Simd.{first_chunks}
+use Rattle.std.proofs.lemmas.List.{take-append-le, drop-append-le, append-nil, take_more, take_more_set, take_all, take_at, take_rest, length-take-le, drop-drop, get_or-take, get_or-drop}
+use Rattle.std.proofs.lemmas.List.Concat.{flat_map-append}
+use Rattle.std.specs.List.{flat_map, join_with_byte}
 use Rattle.uca_weights.specs.Streams.{SinkState}
 use Rattle.uca_weights.specs.Writes.{WentOut}
 use Rattle.uca_lines.specs.OutputBuffer.{BufferState, HandedOver}
-use Rattle.uca_cli.specs.Print.{byte_digits, printed_groups, printed_byte, print_line}
+use Rattle.uca_cli.specs.Print.{byte_digits, groups, printed_groups, spaced_groups, print_line}
 
 -- ---- The groups
 
@@ -15,25 +17,126 @@ pub groups_none : printed_groups [] ≡ []
 unfolding printed_groups
 groups_none = refl
 
--- beyond the first group every second byte has a space before it
-pub printed_again : (n b : ℕ) → printed_byte (suc (suc (suc n))) b ≡ printed_byte (suc n) b
-unfolding printed_byte
-printed_again n b =
-    let place : (suc (suc (suc n)) % 2 == 0) ≡ (suc n % 2 == 0) = ap (λ (m : ℕ). m == 0) (omega arith) in
-    ap (λ (t : Bool). cond t (32 ∷ byte_digits b) (byte_digits b)) (both _ _ place)
-  where
-    both : (x y : Bool) → x ≡ y → (nat_lt 0 (suc (suc (suc n))) && x) ≡ (nat_lt 0 (suc n) && y)
-    both x y same = grind (arith, nat_tests)
+-- ---- The groups, each behind a space
 
-pub groups-push : (xs : List ℕ) (b : ℕ) → printed_groups (xs ++ b ∷ []) ≡ printed_groups xs ++ printed_byte (length xs) b
-unfolding printed_groups printed_byte
-groups-push [] b = refl
-groups-push (a ∷ []) b = refl
-groups-push (a ∷ c ∷ []) b = refl
-groups-push (a ∷ c ∷ d ∷ []) b = refl
-groups-push (a ∷ c ∷ d ∷ e ∷ xs) b =
-    ap (λ l. (byte_digits a ++ byte_digits c) ++ (32 ∷ l)) (groups-push (d ∷ e ∷ xs) b)
-    ∙ ap (λ l. (byte_digits a ++ byte_digits c) ++ (32 ∷ (printed_groups (d ∷ e ∷ xs) ++ l))) (sym (printed_again (suc (length xs)) b))
+pub spaced_none : spaced_groups [] ≡ []
+unfolding spaced_groups
+spaced_none = refl
+
+-- behind whole groups others begin
+pub spaced-append : (xs ys : List ℕ) → length xs % 2 ≡ 0 → spaced_groups (xs ++ ys) ≡ spaced_groups xs ++ spaced_groups ys
+unfolding spaced_groups
+spaced-append [] ys even = refl
+spaced-append (a ∷ []) ys even = absurd (omega arith)
+spaced-append (a ∷ b ∷ xs) ys even = ap (λ l. (32 ∷ (byte_digits a ++ byte_digits b)) ++ l) (spaced-append xs ys (omega arith))
+
+pub length-spaced : (xs : List ℕ) → length xs % 2 ≡ 0 → 2 * length (spaced_groups xs) ≡ 5 * length xs
+unfolding spaced_groups
+length-spaced [] even = refl
+length-spaced (a ∷ []) even = absurd (omega arith)
+length-spaced (a ∷ b ∷ xs) even = let more : 2 * length (spaced_groups xs) ≡ 5 * length xs = length-spaced xs (omega arith) in omega (arith, more)
+
+some_spaced : (xs : List ℕ) → 0 < length xs → 0 < length (spaced_groups xs)
+unfolding spaced_groups
+some_spaced [] some = absurd (omega arith)
+some_spaced (a ∷ []) some = omega arith
+some_spaced (a ∷ b ∷ xs) some = omega arith
+
+-- one more group of two bytes
+spaced_pair : (part : List ℕ) (n : ℕ) → 2 * n + 1 < length part
+    → spaced_groups (take (2 * (n + 1)) part) ≡ spaced_groups (take (2 * n) part) ++ 32 ∷ (byte_digits (get_or part (2 * n) 0) ++ byte_digits (get_or part (2 * n + 1) 0))
+unfolding spaced_groups
+spaced_pair part n within =
+    let x = get_or part (2 * n) 0 in
+    let y = get_or part (2 * n + 1) 0 in
+    let front = take (2 * n) part in
+    let long : length front ≡ 2 * n = length-take-le (2 * n) part (omega arith) in
+    let pushed : take (2 * (n + 1)) part ≡ front ++ (x ∷ y ∷ []) =
+    ap (λ (m : ℕ). take m part) (omega arith) ∙ take_more part (2 * n + 1) 0 within ∙ ap (λ l. l ++ y ∷ []) (take_more part (2 * n) 0 (omega arith)) ∙ append_assoc front (x ∷ []) (y ∷ []) in
+    ap spaced_groups pushed ∙ spaced-append front (x ∷ y ∷ []) (omega arith)
+
+-- a last group of one byte
+spaced_last : (part : List ℕ) (n : ℕ) → length part ≡ 2 * n + 1 → spaced_groups part ≡ spaced_groups (take (2 * n) part) ++ 32 ∷ byte_digits (get_or part (2 * n) 0)
+unfolding spaced_groups
+spaced_last part n long =
+    let front = take (2 * n) part in
+    let x = get_or part (2 * n) 0 in
+    let short : length front ≡ 2 * n = length-take-le (2 * n) part (omega arith) in
+    let pushed : part ≡ front ++ (x ∷ []) =
+    sym (take_all (2 * n + 1) part (omega arith)) ∙ take_more part (2 * n) 0 (omega arith) in
+    ap spaced_groups pushed ∙ spaced-append front (x ∷ []) (omega arith)
+
+-- the bytes of a group
+get_or-pairs : (k n : ℕ) (xs d : List ℕ) → n < k → get_or (first_chunks 2 k xs) n d ≡ take 2 (drop (2 * n) xs)
+get_or-pairs zero n xs d below = absurd (omega arith)
+get_or-pairs (suc k) zero xs d below = refl
+get_or-pairs (suc k) (suc n) xs d below =
+    get_or-pairs k n (drop 2 xs) d (omega arith) ∙ ap (take 2) (drop-drop (2 * n) 2 xs) ∙ ap (λ (m : ℕ). take 2 (drop m xs)) (omega arith)
+
+pair_byte : (k n j : ℕ) (xs d : List ℕ) → n < k → j < 2 → get_or (get_or (first_chunks 2 k xs) n d) j 0 ≡ get_or xs (2 * n + j) 0
+pair_byte k n j xs d below first =
+    ap (λ (pair : List ℕ). get_or pair j 0) (get_or-pairs k n xs d below) ∙ get_or-take 2 (drop (2 * n) xs) j 0 first ∙ get_or-drop (2 * n) xs j 0
+
+-- a group written behind others
+written_more : (groups : List (List ℕ)) (n : ℕ) (group text : List ℕ) → n < length groups → flat_map (λ g. g) (take n groups) ≡ text → flat_map (λ g. g) (take (n + 1) (set groups n group)) ≡ text ++ group
+written_more groups n group text within written =
+    ap (flat_map (λ g. g)) (take_more_set groups n group within) ∙ flat_map-append (λ g. g) (take n groups) (group ∷ [])
+    ∙ ap (λ l. l ++ (group ++ [])) written ∙ ap (λ l. text ++ l) (append-nil group)
+
+-- the text of the groups that were written
+written_front : (groups : List (List ℕ)) (n len : ℕ) (text more : List ℕ) → flat_map (λ g. g) (take n groups) ≡ text ++ more → length text ≡ len → take len (flat_map (λ g. g) groups) ≡ text
+written_front groups n len text more written long =
+    let rest = flat_map (λ g. g) (drop n groups) in
+    ap (take len) (ap (flat_map (λ g. g)) (sym (take-append-drop n groups)) ∙ flat_map-append (λ g. g) (take n groups) (drop n groups) ∙ ap (λ l. l ++ rest) written ∙ append_assoc text more rest)
+    ∙ take_at text (more ++ rest) len long
+
+last_byte : (part last : List ℕ) (n b : ℕ) → last ≡ drop (length part / 2 * 2) part → n ≡ length part / 2 → b ≡ get_or last 0 0 → b ≡ get_or part (2 * n) 0
+last_byte part last n b behind half is =
+    is ∙ ap (λ (l : List ℕ). get_or l 0 0) behind ∙ get_or-drop (length part / 2 * 2) part 0 0 ∙ ap (λ (m : ℕ). get_or part m 0) (omega arith)
+
+-- the next group of two bytes was written
+pub pair_written : (groups pairs : List (List ℕ)) (part first second d : List ℕ) (n : ℕ) → pairs ≡ first_chunks 2 (length part / 2) part → n < length part / 2 → n < length groups
+    → flat_map (λ g. g) (take n groups) ≡ spaced_groups (take (2 * n) part)
+    → first ≡ byte_digits (get_or (get_or pairs n d) 0 0)
+    → second ≡ byte_digits (get_or (get_or pairs n d) 1 0)
+    → flat_map (λ g. g) (take (n + 1) (set groups n (32 ∷ get_or first 0 0 ∷ get_or first 1 0 ∷ get_or second 0 0 ∷ get_or second 1 0 ∷ []))) ≡ spaced_groups (take (2 * (n + 1)) part)
+pair_written groups pairs part first second d n are below within written one two =
+    let x = get_or part (2 * n) 0 in
+    let y = get_or part (2 * n + 1) 0 in
+    let high : first ≡ byte_digits x = one ∙ ap byte_digits (ap (λ (l : List (List ℕ)). get_or (get_or l n d) 0 0) are ∙ pair_byte (length part / 2) n 0 part d below (omega arith) ∙ ap (λ (m : ℕ). get_or part m 0) (omega arith)) in
+    let low : second ≡ byte_digits y = two ∙ ap byte_digits (ap (λ (l : List (List ℕ)). get_or (get_or l n d) 1 0) are ∙ pair_byte (length part / 2) n 1 part d below (omega arith)) in
+    let text = spaced_groups (take (2 * n) part) in
+    written_more groups n (32 ∷ get_or first 0 0 ∷ get_or first 1 0 ∷ get_or second 0 0 ∷ get_or second 1 0 ∷ []) text within written
+    ∙ ap (λ (l : List ℕ). text ++ (32 ∷ get_or l 0 0 ∷ get_or l 1 0 ∷ get_or second 0 0 ∷ get_or second 1 0 ∷ [])) high
+    ∙ ap (λ (l : List ℕ). text ++ (32 ∷ (byte_digits x ++ (get_or l 0 0 ∷ get_or l 1 0 ∷ [])))) low
+    ∙ sym (spaced_pair part n (omega arith))
+
+-- all were written, of which the last has two bytes
+pub pairs_written : (groups : List (List ℕ)) (part : List ℕ) (n len : ℕ) → n ≡ length part / 2 → length part % 2 ≡ 0 → flat_map (λ g. g) (take n groups) ≡ spaced_groups (take (2 * n) part) → len ≡ 5 * n
+    → take len (flat_map (λ g. g) groups) ≡ spaced_groups part
+pairs_written groups part n len half even written long =
+    let all : take (2 * n) part ≡ part = take_all (2 * n) part (omega arith) in
+    let count : 2 * length (spaced_groups part) ≡ 5 * length part = length-spaced part even in
+    written_front groups n len (spaced_groups part) [] (written ∙ ap spaced_groups all ∙ sym (append-nil (spaced_groups part))) (omega arith)
+
+-- or one
+pub last_written : (groups : List (List ℕ)) (part last digits : List ℕ) (n b len : ℕ) → n ≡ length part / 2 → length part % 2 ≡ 1 → n < length groups
+    → flat_map (λ g. g) (take n groups) ≡ spaced_groups (take (2 * n) part) → last ≡ drop (length part / 2 * 2) part → b ≡ get_or last 0 0 → digits ≡ byte_digits b → len ≡ 5 * n + 3
+    → take len (flat_map (λ g. g) (set groups n (32 ∷ get_or digits 0 0 ∷ get_or digits 1 0 ∷ 0 ∷ 0 ∷ []))) ≡ spaced_groups part
+last_written groups part last digits n b len half odd within written behind is are long =
+    let front = take (2 * n) part in
+    let text = spaced_groups front in
+    let group = 32 ∷ get_or digits 0 0 ∷ get_or digits 1 0 ∷ 0 ∷ 0 ∷ [] in
+    let all : spaced_groups part ≡ text ++ (32 ∷ byte_digits b) =
+    spaced_last part n (omega arith) ∙ ap (λ (x : ℕ). text ++ (32 ∷ byte_digits x)) (sym (last_byte part last n b behind half is)) in
+    let short : length front ≡ 2 * n = length-take-le (2 * n) part (omega arith) in
+    let count : 2 * length text ≡ 5 * length front = length-spaced front (omega arith) in
+    let sum : length (spaced_groups part) ≡ length text + 3 = ap length all ∙ length-append text (32 ∷ byte_digits b) in
+    written_front (set groups n group) (n + 1) len (spaced_groups part) (0 ∷ 0 ∷ [])
+    (written_more groups n group text within written
+    ∙ ap (λ (l : List ℕ). text ++ (32 ∷ get_or l 0 0 ∷ get_or l 1 0 ∷ 0 ∷ 0 ∷ [])) are
+    ∙ sym (append_assoc text (32 ∷ byte_digits b) (0 ∷ 0 ∷ [])) ∙ ap (λ l. l ++ (0 ∷ 0 ∷ [])) (sym all))
+    (omega arith)
 
 -- ---- What has been handed over
 
@@ -69,43 +172,112 @@ pub WentOut-more : (start now : Option (List ℕ)) (text more : List ℕ) (n : �
 WentOut-more start now text more n (went, few) =
     (subst (λ (l : List ℕ). Appends start now l) (sym (take-append-le n text more few)) went, omega (arith, length-append text more))
 
--- ---- One more byte
+-- ---- One more part
 
-pub groups-front : (xs ys : List ℕ) → (more : List ℕ) × (printed_groups (xs ++ ys) ≡ printed_groups xs ++ more)
-groups-front xs [] = ([], ap printed_groups (append-nil xs) ∙ sym (append-nil (printed_groups xs)))
-groups-front xs (y ∷ ys) =
-    let (more, is) = groups-front (xs ++ y ∷ []) ys in
-    let piece = printed_byte (length xs) y in
-    (piece ++ more, ap printed_groups (sym (append_assoc xs (y ∷ []) ys)) ∙ is ∙ ap (λ l. l ++ more) (groups-push xs y) ∙ append_assoc (printed_groups xs) piece more)
+-- between the groups stand the spaces before them, but for the first
+printed_is : (key : List ℕ) → printed_groups key ≡ drop 1 (spaced_groups key)
+unfolding printed_groups spaced_groups
+printed_is key = join_is (groups key)
+  where
+    join_is : (all : List (List ℕ)) → join_with_byte 32 all ≡ drop 1 (flat_map (λ group. 32 ∷ group) all)
+    join_is [] = refl
+    join_is (x ∷ []) = sym (append-nil x)
+    join_is (x ∷ y ∷ more) = ap (λ l. x ++ 32 ∷ l) (join_is (y ∷ more))
 
--- the line of a key goes on behind each of its bytes
-pub record GoesOn (key : List ℕ) (place byte : ℕ) : Type 0 where
+-- behind whole groups the others have each a space
+printed-append : (xs ys : List ℕ) → length xs % 2 ≡ 0 → 0 < length xs → printed_groups (xs ++ ys) ≡ printed_groups xs ++ spaced_groups ys
+printed-append xs ys even some =
+    let count : 2 * length (spaced_groups xs) ≡ 5 * length xs = length-spaced xs even in
+    printed_is (xs ++ ys) ∙ ap (drop 1) (spaced-append xs ys even) ∙ drop-append-le 1 (spaced_groups xs) (spaced_groups ys) (omega arith)
+    ∙ ap (λ l. l ++ spaced_groups ys) (sym (printed_is xs))
+
+-- a key of which so much is left was handed over that far
+pub record HandedUpTo (key rest : List ℕ) (begin : ℕ) (out now : SinkState) (buffer held : BufferState) : Type 0 where
+  pub done : List ℕ
+  pub key_is : key ≡ done ++ rest
+  pub whole : 0 < length rest → length done % 2 ≡ 0
+  pub begins : begin ≡ 1 - length done
+  pub handed : HasHanded (printed_groups done) out now buffer held
+
+pub handed_up_to_start : (key rest : List ℕ) (out : SinkState) (buffer : BufferState) → rest ≡ key → HandedUpTo key rest 1 out out buffer buffer
+handed_up_to_start key rest out buffer is = record {
+  done = [];
+  key_is = sym is;
+  whole = λ _. refl;
+  begins = refl;
+  handed = subst (λ (text : List ℕ). HasHanded text out out buffer buffer) (sym groups_none) (handed_none out buffer);
+}
+
+-- the text of a part begins within it
+pub text_from : (key rest part left text : List ℕ) (begin size : ℕ) (out now : SinkState) (buffer held : BufferState) → HandedUpTo key rest begin out now buffer held
+    → (rest ≡ part ++ left) × (length part ≡ min size (length rest)) × (0 < length rest) → size ≡ 256 → text ≡ spaced_groups part → begin ≤ length text
+text_from key rest part left text begin size out now buffer held upto cut is spaced =
+    let some = some_spaced part (omega (arith, cut.1, cut.2, is)) in
+    omega (arith, upto.begins, some, ap length spaced)
+
+-- the line of a key goes on behind each of its parts
+pub record GoesOn (key done part piece : List ℕ) : Type 0 where
   pub more : List ℕ
-  pub grown : printed_groups (take (place + 1) key) ≡ printed_groups (take place key) ++ printed_byte place byte
-  pub line : print_line key ≡ (printed_groups (take place key) ++ printed_byte place byte) ++ more
+  pub grown : printed_groups (done ++ part) ≡ printed_groups done ++ piece
+  pub line : print_line key ≡ (printed_groups done ++ piece) ++ more
 
-pub goes_on : (key : List ℕ) (place : ℕ) → place < length key → GoesOn key place (get_or key place 0)
-goes_on key place within =
-    let byte = get_or key place 0 in
-    let (more, front) = groups-front (take (place + 1) key) (drop (place + 1) key) in
-    let next : take (place + 1) key ≡ take place key ++ byte ∷ [] = take_more key place 0 within in
-    let long : length (take place key) ≡ place = length-take-le place key (omega arith) in
-    let grown : printed_groups (take (place + 1) key) ≡ printed_groups (take place key) ++ printed_byte place byte =
-    ap printed_groups next ∙ groups-push (take place key) byte ∙ ap (λ (n : ℕ). printed_groups (take place key) ++ printed_byte n byte) long in
+-- of the text of a part, what is handed over
+part_grown : (done part piece : List ℕ) (begin : ℕ) → length done % 2 ≡ 0 → begin ≡ 1 - length done → piece ≡ drop begin (spaced_groups part) → printed_groups (done ++ part) ≡ printed_groups done ++ piece
+part_grown [] part piece begin even begins is =
+    printed_is part ∙ ap (λ (n : ℕ). drop n (spaced_groups part)) (sym begins) ∙ sym is ∙ ap (λ l. l ++ piece) (sym groups_none)
+part_grown (a ∷ more) part piece begin even begins is =
+    let none : begin ≡ 0 = omega arith in
+    printed-append (a ∷ more) part even (omega arith) ∙ ap (λ l. printed_groups (a ∷ more) ++ l) (sym (is ∙ ap (λ (n : ℕ). drop n (spaced_groups part)) none))
+
+-- the line goes on with what is left of the key
+line_goes_on : (key done part left piece : List ℕ) → key ≡ done ++ (part ++ left) → (0 < length left → length (done ++ part) % 2 ≡ 0) → 0 < length (done ++ part)
+    → printed_groups (done ++ part) ≡ printed_groups done ++ piece → GoesOn key done part piece
+line_goes_on key done part [] piece is even some grown = record {
+  more = 10 ∷ [];
+  grown = grown;
+  line = ap print_line (is ∙ ap (λ l. done ++ l) (append-nil part)) ∙ ap (λ l. l ++ 10 ∷ []) grown;
+}
+line_goes_on key done part (a ∷ left) piece is even some grown =
+    let text = spaced_groups (a ∷ left) in
     record {
-      more = more ++ 10 ∷ [];
+      more = text ++ 10 ∷ [];
       grown = grown;
-      line = ap (λ l. l ++ 10 ∷ []) (ap printed_groups (sym (take-append-drop (place + 1) key)) ∙ front ∙ ap (λ l. l ++ more) grown)
-          ∙ append_assoc (printed_groups (take place key) ++ printed_byte place byte) more (10 ∷ []);
+      line = ap print_line (is ∙ sym (append_assoc done part (a ∷ left)))
+          ∙ ap (λ l. l ++ 10 ∷ []) (printed-append (done ++ part) (a ∷ left) (even (omega arith)) some ∙ ap (λ l. l ++ text) grown)
+          ∙ append_assoc (printed_groups done ++ piece) text (10 ∷ []);
     }
 
--- there is room for the byte where there is room for the line
-pub byte_fits : (key : List ℕ) (place byte limit : ℕ) (out now : SinkState) (buffer held : BufferState) → HasHanded (printed_groups (take place key)) out now buffer held → GoesOn key place byte
-    → buffer.written + length buffer.held + length (print_line key) < limit → held.written + length held.held + length (printed_byte place byte) < limit
-byte_fits key place byte limit out now buffer held handed on room =
-    let front = printed_groups (take place key) in
-    let piece = printed_byte place byte in
+pub goes_on : (key rest part left text : List ℕ) (begin size : ℕ) (out now : SinkState) (buffer held : BufferState) (upto : HandedUpTo key rest begin out now buffer held) → size ≡ 256
+    → (rest ≡ part ++ left) × (length part ≡ min size (length rest)) × (0 < length rest) → text ≡ spaced_groups part → GoesOn key upto.done part (take (length text - begin) (drop begin text))
+goes_on key rest part left text begin size out now buffer held upto is cut spaced =
+    let done = upto.done in
+    let even : length done % 2 ≡ 0 = upto.whole cut.2 in
+    let both : length rest ≡ length part + length left = ap length cut.0 ∙ length-append part left in
+    let ends : length (done ++ part) ≡ length done + length part = length-append done part in
+    line_goes_on key done part left (take (length text - begin) (drop begin text)) (upto.key_is ∙ ap (λ l. done ++ l) cut.0)
+    (λ some. omega (arith, some, is, cut.1, both, ends, even)) (omega (arith, is, cut.1, cut.2, ends))
+    (part_grown done part _ begin even upto.begins (take_rest text begin ∙ ap (drop begin) spaced))
+
+-- there is room for the piece where there is room for the line
+pub piece_fits : (key done part piece : List ℕ) (limit : ℕ) (out now : SinkState) (buffer held : BufferState) → HasHanded (printed_groups done) out now buffer held → GoesOn key done part piece
+    → buffer.written + length buffer.held + length (print_line key) < limit → held.written + length held.held + length piece < limit
+piece_fits key done part piece limit out now buffer held handed on room =
+    let front = printed_groups done in
     omega (arith, handed.count, room, ap length on.line, length-append (front ++ piece) on.more, length-append front piece)
+
+-- and behind it the rest is left
+pub handed_up_to_more : (key rest part left : List ℕ) (begin size : ℕ) (out now next : SinkState) (buffer held kept : BufferState) (upto : HandedUpTo key rest begin out now buffer held) → size ≡ 256
+    → (rest ≡ part ++ left) × (length part ≡ min size (length rest)) × (0 < length rest) → HasHanded (printed_groups (upto.done ++ part)) out next buffer kept → HandedUpTo key left 0 out next buffer kept
+handed_up_to_more key rest part left begin size out now next buffer held kept upto is cut handed =
+    let both : length rest ≡ length part + length left = ap length cut.0 ∙ length-append part left in
+    let ends : length (upto.done ++ part) ≡ length upto.done + length part = length-append upto.done part in
+    record {
+      done = upto.done ++ part;
+      key_is = upto.key_is ∙ ap (λ l. upto.done ++ l) cut.0 ∙ sym (append_assoc upto.done part left);
+      whole = λ some. let even = upto.whole cut.2 in omega (arith, some, is, cut.1, both, ends, even);
+      begins = omega (arith, is, cut.1, cut.2, ends);
+      handed = handed;
+    }
 
 pub handed_more : (front piece text : List ℕ) (out now next : SinkState) (buffer held kept : BufferState) → HasHanded front out now buffer held → text ≡ front ++ piece
     → ((start : Option (List ℕ)) (before : List ℕ) → HandedOver start now.contents before held → HandedOver start next.contents (before ++ piece) kept)

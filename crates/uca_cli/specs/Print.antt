@@ -1,6 +1,6 @@
 -- A key as a line of output.
-use Rattle.std.specs.Prelude.{ℕ, ◌/◌, ◌%◌, List, [], ◌∷◌, ◌++◌, ◌&&◌, ◌==◌, nat_lt, if◌then◌else◌}
-use Rattle.std.specs.List.{join_with_byte}
+use Rattle.std.specs.Prelude.{ℕ, ◌/◌, ◌%◌, List, [], ◌∷◌, ◌++◌}
+use Rattle.std.specs.List.{join_with_byte, flat_map}
 use Rattle.uca_fields.specs.Number.{upper_digit}
 
 -- a byte as two upper-case hexadecimal digits
@@ -21,6 +21,6 @@ printed_groups key = join_with_byte 32 (groups key)
 abbrev pub print_line : List ℕ → List ℕ
 print_line key = printed_groups key ++ 10 ∷ []
 
--- what is printed of the byte at a place: its digits, behind a space where another group begins
-unfoldable pub printed_byte : ℕ → ℕ → List ℕ
-printed_byte place b = if nat_lt 0 place && (place % 2 == 0) then 32 ∷ byte_digits b else byte_digits b
+-- the groups, each behind a space
+unfoldable pub spaced_groups : List ℕ → List ℕ
+spaced_groups key = flat_map (λ group. 32 ∷ group) (groups key)

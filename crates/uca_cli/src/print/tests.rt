@@ -31,6 +31,20 @@ fn keys_as_lines(rt: HostRuntime) -> Result<(), Fail> {
 }
 
 #[test]
+fn keys_in_parts(rt: HostRuntime) -> Result<(), Fail> {
+    // One group again and again: as many as a part has, and more.
+    let key = [[0xAB, 0xCD]; 130];
+    let before_last = "ABCD ".repeat(rt.alloc(), 127)?;
+    let line = format!(in rt.alloc(); "{before_last}ABCD\n")?;
+    check(&rt, &key.as_flattened()[..256], line.as_str())?;
+    let line = format!(in rt.alloc(); "{before_last}ABCD AB\n")?;
+    check(&rt, &key.as_flattened()[..257], line.as_str())?;
+    let line = format!(in rt.alloc(); "{before_last}ABCD ABCD ABCD\n")?;
+    check(&rt, key.as_flattened(), line.as_str())?;
+    Ok(())
+}
+
+#[test]
 #[tactic(auto, using(crate::proofs::PrintLemmas::line_is_short))]
 fn a_fault_counts_what_went_out(rt: HostRuntime) -> Result<(), Fail> {
     let mut taken = [0; 7];

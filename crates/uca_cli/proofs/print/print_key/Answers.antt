@@ -1,28 +1,48 @@
-use Rattle.std.proofs.Common.{ℕ, List, subst, sym}
+use Rattle.std.proofs.Common.{ap, ◌∙◌}
+use Rattle.std.specs.Slice.Iter.{chunks_rest, chunks_size}
 use Rattle.std.proofs.lemmas.Result.{err_from_is_err_and}
-use Rattle.uca_cli.proofs.PrintLemmas.{HasHanded, handed_none, groups_none, goes_on, byte_fits, handed_more, fault_within, fault_before_end, not_failed}
+use Rattle.uca_cli.proofs.PrintLemmas.{handed_up_to_start, goes_on, piece_fits, handed_up_to_more, text_from, handed_more, fault_within, fault_before_end, not_failed}
 use Rattle.uca_cli.proofs.print.print_key.Goals as goal
 
-pub loop-place-init : goal.loop-place-init
-loop-place-init g c = subst (λ (text : List ℕ). HasHanded text c.args.out.now c.args.out.now c.args.buffer.now c.args.buffer.now) (sym groups_none) (handed_none c.args.out.now c.args.buffer.now)
+pub loop-part-init : goal.loop-part-init
+loop-part-init g c =
+    let is = c.into_iter-part-iterator.ensures.into_iter_gives in
+    record {
+      size = ap chunks_size is ∙ c.chunks-part-items.ensures.size;
+      handed = handed_up_to_start _ _ _ _ (ap chunks_rest is ∙ c.chunks-part-items.ensures.rest);
+    }
 
-pub print_byte-requires : goal.print_byte-requires
-print_byte-requires g c = byte_fits c.args.key.now c.loop-place.place _ _ _ _ _ _ c.loop-place.invariant (goes_on c.args.key.now c.loop-place.place c.loop-place-test.true) c.requires
+pub slice_bounds-write-count : goal.slice_bounds-write-count
+slice_bounds-write-count g c = text_from _ _ _ _ _ _ _ _ _ _ _ c.loop-part.invariant.handed c.in-Some.ensures.steps.1 c.loop-part.invariant.size c.spaced_text-text.ensures
 
-pub loop-place-preserved : goal.loop-place-preserved
-loop-place-preserved g c =
-    let on = goes_on c.args.key.now c.loop-place.place c.loop-place-test.true in
-    let e = c.in_ok-print_byte.ensures in
-    handed_more _ _ _ _ _ _ _ _ _ c.loop-place.invariant on.grown e.text e.count (not_failed _ _ e.failed)
+pub slice_bounds-write-start : goal.slice_bounds-write-start
+slice_bounds-write-start g c = text_from _ _ _ _ _ _ _ _ _ _ _ c.loop-part.invariant.handed c.in-Some.ensures.steps.1 c.loop-part.invariant.size c.spaced_text-text.ensures
 
-pub returns-in_err-print_byte-clause-text : goal.returns-in_err-print_byte-clause-text
-returns-in_err-print_byte-clause-text g c =
-    let on = goes_on c.args.key.now c.loop-place.place c.loop-place-test.true in
+pub write-requires : goal.write-requires
+write-requires g c =
+    let i = c.loop-part.invariant in
+    piece_fits _ _ _ _ _ _ _ _ _ i.handed.handed (goes_on _ _ _ _ _ _ _ _ _ _ _ i.handed i.size c.in-Some.ensures.steps.1 c.spaced_text-text.ensures) c.requires
+
+pub loop-part-preserved : goal.loop-part-preserved
+loop-part-preserved g c =
+    let i = c.loop-part.invariant in
+    let on = goes_on _ _ _ _ _ _ _ _ _ _ _ i.handed i.size c.in-Some.ensures.steps.1 c.spaced_text-text.ensures in
+    let e = c.in_ok-write.ensures in
+    record {
+      size = c.in-Some.ensures.steps.0 ∙ i.size;
+      handed = handed_up_to_more _ _ _ _ _ _ _ _ _ _ _ _ i.handed i.size c.in-Some.ensures.steps.1 (handed_more _ _ _ _ _ _ _ _ _ i.handed.handed on.grown e.text e.count (not_failed _ _ e.failed));
+    }
+
+pub returns-in_err-write-clause-text : goal.returns-in_err-write-clause-text
+returns-in_err-write-clause-text g c =
+    let i = c.loop-part.invariant in
+    let on = goes_on _ _ _ _ _ _ _ _ _ _ _ i.handed i.size c.in-Some.ensures.steps.1 c.spaced_text-text.ensures in
     let p = err_from_is_err_and c.from_residual.result c.from_residual.ensures.1 in
-    rw (p.1, p.2) (fault_within _ _ _ on.more _ _ c.print_byte.new.out _ _ c.in_err-print_byte.field-0.0.written c.loop-place.invariant on.line c.in_err-print_byte.ensures.text)
+    rw (p.1, p.2) (fault_within _ _ _ on.more _ _ c.write.new.out _ _ c.in_err-write.field-0.0.written i.handed.handed on.line c.in_err-write.ensures.text)
 
-pub returns-in_err-print_byte-clause-not_all : goal.returns-in_err-print_byte-clause-not_all
-returns-in_err-print_byte-clause-not_all g c =
-    let on = goes_on c.args.key.now c.loop-place.place c.loop-place-test.true in
+pub returns-in_err-write-clause-not_all : goal.returns-in_err-write-clause-not_all
+returns-in_err-write-clause-not_all g c =
+    let i = c.loop-part.invariant in
+    let on = goes_on _ _ _ _ _ _ _ _ _ _ _ i.handed i.size c.in-Some.ensures.steps.1 c.spaced_text-text.ensures in
     let p = err_from_is_err_and c.from_residual.result c.from_residual.ensures.1 in
-    rw (p.1, p.2) (fault_before_end _ _ _ on.more _ _ _ _ c.in_err-print_byte.field-0.0.written c.loop-place.invariant on.line c.in_err-print_byte.ensures.not_all)
+    rw (p.1, p.2) (fault_before_end _ _ _ on.more _ _ _ _ c.in_err-write.field-0.0.written i.handed.handed on.line c.in_err-write.ensures.not_all)

@@ -1,7 +1,10 @@
-use Rattle.std.proofs.Common.{take}
-use Rattle.uca_cli.specs.Print.{printed_groups}
-use Rattle.uca_cli.proofs.PrintLemmas.{HasHanded}
+use Rattle.std.proofs.Common.{◌≡◌}
+use Rattle.std.specs.Slice.Iter.{chunks_rest, chunks_size}
+use Rattle.uca_cli.proofs.PrintLemmas.{HandedUpTo}
 use Rattle.uca_cli.proofs.print.print_key.Given as goal
 
-abbrev pub invariant-loop-place : goal.invariant-loop-place
-invariant-loop-place g l = HasHanded (printed_groups (take l.place l.key)) l.initial.out l.out l.initial.buffer l.buffer
+abbrev pub invariant-loop-part : goal.invariant-loop-part
+invariant-loop-part g l = record {
+  size : chunks_size l.part-iterator ≡ 256;
+  handed : HandedUpTo l.key (chunks_rest l.part-iterator) l.begin l.initial.out l.out l.initial.buffer l.buffer;
+}
