@@ -1,5 +1,6 @@
 -- Whole runs, from what their files mean and from what is answered under it.
-use Rattle.std.proofs.Common.{◌≡◌, ℕ, List, false, Option, Some, None, IfSome, Result, Ok, Err, unwrap_or, refl, ap, ◌∙◌}
+use Rattle.std.proofs.Common.{◌≡◌, ℕ, List, false, Option, Some, None, IfSome, Result, Ok, Err, unwrap_or, refl, ap, subst, sym, ◌∙◌}
+use Rattle.std.specs.Prelude.{⊤}
 use Rattle.std.specs.Option.{option_or}
 use Rattle.std.proofs.Math.Path.{fun_ext}
 use Rattle.uca_weights.specs.Streams.{SourceState}
@@ -49,6 +50,17 @@ both_known (Some table_bytes) (Some data_bytes) table_left data_left P result co
 pub runs_over_both : {A : Type 0} (table table_new properties properties_new : SourceState) (P : TableContent → Properties → Type 0) (result : Result A RunFault) (content : TableContent) (points : Properties) → is_file result ≡ false → IfSome table.remaining (λ bytes. tables.Means bytes content) → IfSome properties.remaining (λ bytes. data_files.Means bytes points) → P content points → RunsOver table table_new properties properties_new P result
 runs_over_both table table_new properties properties_new P result content points h means_table means_data holds =
     both_known table.remaining properties.remaining table_new.remaining properties_new.remaining P result content points h holds means_table means_data
+
+-- a growth that is refused behind both files
+pub no_memory : {A : Type 0} (table table_new properties properties_new : SourceState) (P : Result A RunFault → TableContent → Properties → Type 0) (fault : RunFault) (content : TableContent) (points : Properties) → fault ≡ Memory → IfSome table.remaining (λ bytes. tables.Means bytes content) → IfSome properties.remaining (λ bytes. data_files.Means bytes points) → P (Err Memory) content points → RunsOver {A = A} table table_new properties properties_new (P (Err fault)) (Err fault)
+no_memory {A} table table_new properties properties_new P fault content points same means_table means_data holds =
+    subst (λ f. RunsOver {A = A} table table_new properties properties_new (P (Err f)) (Err f)) (sym same)
+    (runs_over_both {A = A} table table_new properties properties_new (P (Err Memory)) (Err Memory) content points refl means_table means_data holds)
+
+-- what holds of all bytes
+pub whatever_bytes : (known : Option (List ℕ)) → IfSome known (λ bytes. ⊤)
+whatever_bytes None = tt
+whatever_bytes (Some bytes) = tt
 
 -- what is no file's fault is no failed read of a file
 pub no_file_read : {A : Type 0} (role : Role) (result : Result A RunFault) → is_file result ≡ false → is_file_read role result ≡ false

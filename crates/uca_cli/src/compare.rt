@@ -10,13 +10,13 @@ ghost use Rattle.uca_cli.specs.Runs.{is_before_output, is_file_read, is_write, R
 ghost use Rattle.uca_cli.specs.CompareRun.{sign_of, comparison_line, RefusesWord, RunsCompare};
 
 use crate::faults::{Role, RunFault};
-use crate::files::{chosen_weighting, read_files};
+use crate::files::{chosen_weighting, read_files, rows_of_table};
 use crate::output::write_text;
 use std::alloc::{AllocError, Allocator, Global};
 use std::cmp::Ordering;
 use std::io::{Read, Write};
 use uca_key::{compare_keys, key_in, level_count};
-use uca_match::{Collator, Lookup, RowList};
+use uca_match::{Collator, Lookup};
 use uca_text::{Normal, normal};
 use uca_values::Data;
 use uca_weights::{Sink, Source, Weighting};
@@ -27,9 +27,10 @@ use uca_weights::{Sink, Source, Weighting};
 ///
 /// # Errors
 ///
-/// `File` where the table, or else the data file, is refused; `Text` where the left text, or else the
-/// right one, is; `Memory` where a growth was refused for a key. Nothing was written then. `Write` where
-/// the writer failed: the first `written` bytes of the line went out.
+/// `File` where the table, or else the data file, is refused; `Memory` where a growth was refused for
+/// looking up rows, before the texts are judged; `Text` where the left text, or else the right one, is
+/// refused; `Memory` where a growth was refused for a key. Nothing was written then. `Write` where the
+/// writer failed: the first `written` bytes of the line went out.
 pub fn run_compare<T: Read, D: Read, W: Write>(
     alloc: Global,
     table: &mut Source<T>,
@@ -52,7 +53,7 @@ pub fn run_compare<T: Read, D: Read, W: Write>(
     run_compare_in(alloc, alloc, table, properties, left, right, out, weighting)
 }
 
-/// The same with the growths of the table, the data file and the keys in memory of any allocator; those of
+/// The same with the growths of the two files, the trie and the keys in memory of any allocator; those of
 /// Normalization Form D are in `global`.
 pub fn run_compare_in<A: Allocator + Copy, T: Read, D: Read, W: Write>(
     alloc: A,
@@ -75,9 +76,9 @@ pub fn run_compare_in<A: Allocator + Copy, T: Read, D: Read, W: Write>(
     ensures out_failed { out.new.failed ≡ (out.old.failed || is_write result) }
 {
     let files = read_files(alloc, table, properties)?;
+    let rows = rows_of_table(&files.table)?;
     let left = text_of(global, left, false, &files.properties)?;
     let right = text_of(global, right, true, &files.properties)?;
-    let rows = RowList::new(&files.table);
     let header = &files.table.header;
     let collator = Collator::new(&rows, header, &files.properties);
     let weighting = chosen_weighting(weighting, header);

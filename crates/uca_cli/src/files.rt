@@ -1,9 +1,10 @@
 //! The table and the data file that a run goes by.
 
-ghost use Rattle.std.specs.Prelude.{◌≡◌, ◌||◌, is_err, IfOk, IfSome, OnErr};
+ghost use Rattle.std.specs.Prelude.{◌≡◌, ◌||◌, ℕ, List, is_err, IfOk, IfErr, IfSome, OnErr};
 ghost use Rattle.uca_values.specs.Content.{properties_of};
 ghost use Rattle.uca_table.specs.Lines as tables;
 ghost use Rattle.uca_data.specs.Said as data_files;
+ghost use Rattle.uca_match.specs.Rows.{rows_of};
 ghost use Rattle.uca_cli.specs.Keys.{weighting_by};
 ghost use Rattle.uca_cli.specs.Runs.{is_file, is_file_read, RunsOver};
 
@@ -11,6 +12,7 @@ use crate::faults::{Role, RunFault};
 use std::alloc::{Allocator, Global};
 use std::io::Read;
 use uca_data::read_data_in;
+use uca_match::{Lookup, Trie};
 use uca_table::read_table_in;
 use uca_values::{Data, Header, Table};
 use uca_weights::{Source, Weighting};
@@ -60,6 +62,22 @@ pub fn read_files<A: Allocator + Copy, T: Read, D: Read>(
             role: Role::Data,
             fault,
         }),
+    }
+}
+
+/// The rows of a table, ready to be looked up.
+///
+/// # Errors
+///
+/// `Memory` where a growth was refused.
+pub fn rows_of_table<A: Allocator + Copy>(table: &Table<A>) -> Result<Trie<A>, RunFault>
+    ensures rows { IfOk result (λ rows. (key : List ℕ) →
+        ⟦<Trie<A> as Lookup>⟧.content rows key ≡ rows_of table.now.rows key) }
+    ensures refused { IfErr result (λ fault. fault ≡ RunFault.Memory) }
+{
+    match Trie::new(table) {
+        Ok(rows) => Ok(rows),
+        Err(_) => Err(RunFault::Memory),
     }
 }
 

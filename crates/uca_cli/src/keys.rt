@@ -17,14 +17,14 @@ ghost use Rattle.uca_cli.specs.KeysRun.{is_before_input, WritesKeys, RunsKeys};
 ghost use Rattle.uca_cli.specs.KeysSoFar.{HasPrinted, PrintsNext, PrintsText, PrintsRest};
 
 use crate::faults::{InputKind, Role, RunFault};
-use crate::files::{chosen_weighting, read_files};
+use crate::files::{chosen_weighting, read_files, rows_of_table};
 use crate::input::{LONGEST_INPUT_LINE, next_text};
 use crate::print::print_key;
 use std::alloc::{Allocator, Global};
 use std::io::{Read, Write};
 use uca_key::KeyBuffer;
 use uca_lines::{LINE_LIMIT, LineReader, NextLine, OutputBuffer};
-use uca_match::{Collator, Lookup, RowList};
+use uca_match::{Collator, Lookup};
 use uca_text::Normal;
 use uca_weights::{Sink, Source, Weighting};
 
@@ -208,9 +208,10 @@ pub fn print_keys<L: Lookup, T: Allocator, A: Allocator + Copy, I: Read, W: Writ
 ///
 /// # Errors
 ///
-/// `File` where the table, or else the data file, is refused: nothing was written. `Input` for the
-/// first faulty line, where the keys of the lines before it were written. `Write` where the writer
-/// failed, also where a later line is faulty: the first `written` bytes of the whole output went out.
+/// `File` where the table, or else the data file, is refused, and then `Memory` where a growth was refused
+/// for looking up rows: nothing was written, and nothing of the input was read. `Input` for the first
+/// faulty line, where the keys of the lines before it were written. `Write` where the writer failed, also
+/// where a later line is faulty: the first `written` bytes of the whole output went out.
 pub fn run_keys<T: Read, D: Read, I: Read, W: Write>(
     alloc: Global,
     table: &mut Source<T>,
@@ -234,8 +235,7 @@ pub fn run_keys<T: Read, D: Read, I: Read, W: Write>(
     run_keys_in(alloc, alloc, table, properties, input, out, weighting)
 }
 
-/// The same with the growths of the table, the data file, the lines and the keys in memory of any
-/// allocator; those of Normalization Form D are in `global`.
+/// The same with the growths of the two files, the trie, the lines and the keys in memory of any allocator; those of Normalization Form D are in `global`.
 pub fn run_keys_in<A: Allocator + Copy, T: Read, D: Read, I: Read, W: Write>(
     alloc: A,
     global: Global,
@@ -258,7 +258,7 @@ pub fn run_keys_in<A: Allocator + Copy, T: Read, D: Read, I: Read, W: Write>(
     ensures out_failed { out.new.failed ≡ (out.old.failed || is_write result) }
 {
     let files = read_files(alloc, table, properties)?;
-    let rows = RowList::new(&files.table);
+    let rows = rows_of_table(&files.table)?;
     let header = &files.table.header;
     let collator = Collator::new(&rows, header, &files.properties);
     let weighting = chosen_weighting(weighting, header);

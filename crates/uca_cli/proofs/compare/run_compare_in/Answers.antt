@@ -1,16 +1,26 @@
 -- The whole run, from what its two files mean, what is said of its two texts and what went out of its line.
+use Rattle.std.specs.Prelude.{⊤}
 use Rattle.std.proofs.Common.{true, false, chars, ap, subst, sym, ◌∙◌}
 use Rattle.uca_values.specs.Content.{properties_of}
 use Rattle.uca_text.specs.Texts.{spelled}
 use Rattle.uca_text.specs.Limits.{IsAccepted}
 use Rattle.uca_match.specs.Rows.{rows_of}
+use Rattle.uca_match.specs.Tries.{held}
 use Rattle.uca_cli.specs.Keys.{collation_by, weighting_by}
 use Rattle.uca_cli.specs.declared.faults.Role.TheVariants as roles
-use Rattle.uca_cli.specs.CompareRun.{RefusesWord}
-use Rattle.uca_cli.proofs.Running.{same_collation}
+use Rattle.uca_cli.specs.CompareRun.{RefusesWord, RunsCompare}
+use Rattle.uca_cli.proofs.Running.{same_collation, no_memory}
 use Rattle.std.proofs.lemmas.Result.{err_from_is_err_and}
 use Rattle.uca_cli.proofs.Verdicts.{refused_not_written, left_refused, right_refused, no_comparison, comparison_written, files_unfailed}
 use Rattle.uca_cli.proofs.compare.run_compare_in.Goals as goal
+
+pub returns-in_err-rows-clause-runs : goal.returns-in_err-rows-clause-runs
+returns-in_err-rows-clause-runs g c =
+    let p = err_from_is_err_and c.from_residual-in_err-rows.result c.from_residual-in_err-rows.ensures.1 in
+    rw (p.1, p.2) (no_memory {A = ⊤} c.args.table.now c.read_files.new.table c.args.properties.now c.read_files.new.properties
+    (RunsCompare c.args.weighting c.args.left.now c.args.right.now c.args.out.now c.args.out.now)
+    c.in_err-rows.field-0.0 c.in_ok-files.files.table (properties_of c.in_ok-files.files.properties)
+    c.in_err-rows.ensures.refused c.in_ok-files.ensures.table c.in_ok-files.ensures.properties tt)
 
 pub returns-in_err-left-clause-runs : goal.returns-in_err-left-clause-runs
 returns-in_err-left-clause-runs g c =
@@ -43,13 +53,13 @@ returns-in_default-clause-runs g c =
 pub returns-clause-runs : goal.returns-clause-runs
 returns-clause-runs g c =
     let points = properties_of c.in_ok-files.files.properties in
-    let by = collation_by (rows_of c.new-collator.result.lookup.now.rows.now) c.new-collator.result.header.now.ranges (properties_of c.new-collator.result.data.now) c.chosen_weighting-weighting.result in
+    let by = collation_by (held c.new-collator.result.lookup.now) c.new-collator.result.header.now.ranges (properties_of c.new-collator.result.data.now) c.chosen_weighting-weighting.result in
     comparison_written c.args.weighting c.args.table.now c.read_files.new.table c.args.properties.now c.read_files.new.properties c.args.left.now c.args.right.now c.args.out.now c.write_text.new.out
     c.in_ok-files.files.table points by c.in_ok-left.left c.in_ok-right.right c.in-Ok.order c.in-Ok.level c.line_of.result c.write_text.result
     c.in_ok-files.ensures.table c.in_ok-files.ensures.properties
-    (ap (λ d. collation_by (rows_of c.new-collator.result.lookup.now.rows.now) c.new-collator.result.header.now.ranges (properties_of d) c.chosen_weighting-weighting.result) (c.new-collator.ensures.data_file ∙ ap (λ f. f.properties) c.files.view_is)
-    ∙ same_collation c.args.weighting c.in_ok-files.files.table points (rows_of c.new-collator.result.lookup.now.rows.now) c.new-collator.result.header.now.ranges c.chosen_weighting-weighting.result
-    (λ key. ap (λ l. rows_of l.rows.now key) c.new-collator.ensures.lookup ∙ c.new-rows.ensures key ∙ ap (λ f. rows_of f.table.rows key) c.files.view_is)
+    (ap (λ d. collation_by (held c.new-collator.result.lookup.now) c.new-collator.result.header.now.ranges (properties_of d) c.chosen_weighting-weighting.result) (c.new-collator.ensures.data_file ∙ ap (λ f. f.properties) c.files.view_is)
+    ∙ same_collation c.args.weighting c.in_ok-files.files.table points (held c.new-collator.result.lookup.now) c.new-collator.result.header.now.ranges c.chosen_weighting-weighting.result
+    (λ key. ap (λ l. held l key) c.new-collator.ensures.lookup ∙ c.in_ok-rows.ensures.rows key ∙ ap (λ f. rows_of f.table.rows key) c.files.view_is)
     (ap (λ h. h.ranges) c.new-collator.ensures.header ∙ ap (λ f. f.table.header.ranges) c.files.view_is) (c.chosen_weighting-weighting.ensures ∙ ap (λ f. weighting_by c.args.weighting f.table.header.setting) c.files.view_is))
     (c.in_ok-left.ensures.found ∙ ap (λ d. spelled (properties_of d) (chars c.args.left.now)) (sym c.new-collator.ensures.data_file)) (c.in_ok-right.ensures.found ∙ ap (λ d. spelled (properties_of d) (chars c.args.right.now)) (sym c.new-collator.ensures.data_file))
     c.in_ok-left.ensures.accepted c.in_ok-right.ensures.accepted
