@@ -1,5 +1,6 @@
 //! The table and the data file of the tests, and runs over bytes in memory.
 
+use crate::rows::check_over_rows;
 use crate::runs::{Run, Streams, told};
 use std::alloc::{AllocError, Global};
 use std::process::Abort;
@@ -62,24 +63,21 @@ pub fn acutes(alloc: Global, count: usize) -> Result<String, AllocError> {
     Ok(text)
 }
 
-// A weight in each of so many elements, as it is printed.
+// A weight in each of so many elements, as it is printed with its space.
 fn push_weights(text: &mut String, weight: &str, count: usize) -> Result<(), AllocError> {
     for _ in 0..count {
         text.push_str(weight)?;
-        text.push(' ')?;
     }
     Ok(())
 }
 
 /// Adds the key of a line of so many `a` under `TABLE`, by three levels.
 pub fn push_key(text: &mut String, count: usize) -> Result<(), AllocError> {
-    push_weights(text, "1C47", count)?;
+    push_weights(text, "1C47 ", count)?;
     text.push_str("0000 ")?;
-    push_weights(text, "0020", count)?;
+    push_weights(text, "0020 ", count)?;
     text.push_str("0000")?;
-    for _ in 0..count {
-        text.push_str(" 0002")?;
-    }
+    push_weights(text, " 0002", count)?;
     text.push('\n')
 }
 
@@ -125,8 +123,21 @@ pub const SHORT: Files = Files {
     input: b"",
 };
 
-/// Checks what a run prints, and what is told of its end. None of its streams fails.
+/// Checks what a run prints, and what is told of its end; and that the library's calls over a list of rows
+/// give the same.
 pub fn check(
+    rt: &(impl Abort + AllocGlobal),
+    files: Files,
+    run: Run,
+    printed: &str,
+    end: &str,
+) -> Result<(), Fail> {
+    check_run(rt, files, run, printed, end)?;
+    check_over_rows(rt, files, run, printed, end)
+}
+
+/// Checks what a run prints, and what is told of its end. None of its streams fails.
+pub fn check_run(
     rt: &(impl Abort + AllocGlobal),
     files: Files,
     run: Run,

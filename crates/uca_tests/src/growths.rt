@@ -1,20 +1,23 @@
 //! Runs in heaps of rising sizes, so that each growth is refused in turn.
 
 use crate::files;
-use crate::files::{A_ACUTE_GRAVE, Files, check, joined, push_key};
+use crate::files::{
+    A_ACUTE, A_ACUTE_GRAVE, Files, X_ACUTE, acutes, check, check_run, joined, push_key,
+};
 use crate::runs::{Answer, Run, Streams, told};
 use linked_list_allocator::LocalHeap;
-use std::alloc::{AllocError, Global};
+use std::alloc::{AllocError, Allocator, Global};
 use std::process::Abort;
 use std::test::Fail;
 use uca_cli::{InputKind, Role, RunFault};
-use uca_data::read_data;
+use uca_data::{read_data, read_data_in};
 use uca_fakes::{Calls, FakeReader, Pace};
 use uca_files::{FaultKind, TableFault};
 use uca_key::{key, key_in};
-use uca_match::{Collator, RowList};
+use uca_match::{Collator, RowList, Trie};
 use uca_table::{read_table, read_table_in};
 use uca_text::normal;
+use uca_values::{Data, Table};
 use uca_weights::Weighting::{NonIgnorable, Shifted};
 use uca_weights::{Sink, Source};
 
@@ -68,17 +71,19 @@ fn keys_before(alloc: Global, line: usize) -> Result<String, AllocError> {
     Ok(text)
 }
 
-// The places of refused growths: the texts, and what belongs to none of them, before the whole input was
-// read and behind it.
+// The places of refused growths: the texts; the trie of the table's rows, which comes behind both files and
+// before the input; and what belongs to none of them, before the whole input was read and behind it.
 const TABLE: usize = 0;
 
 const DATA: usize = 1;
 
 const INPUT: usize = 2;
 
-const BETWEEN: usize = 3;
+const ROWS: usize = 3;
 
-const BEHIND: usize = 4;
+const BETWEEN: usize = 4;
+
+const BEHIND: usize = 5;
 
 /// The bytes of a table, a data file and an input.
 type Texts<'a> = [&'a [u8]; 3];
@@ -92,6 +97,8 @@ struct Outcome {
     printed: Vec<u8>,
     /// How many bytes of each text were read.
     read: [usize; 3],
+    /// Whether the reader of the input was called.
+    is_input_asked: bool,
 }
 
 // A run in a heap, over readers that give a byte a call. No stream fails, and the heap is given back.
@@ -120,7 +127,28 @@ fn run_in(
             calls[DATA].bytes.get(),
             calls[INPUT].bytes.get(),
         ],
+        is_input_asked: calls[INPUT].all.get() > 0,
     })
+}
+
+// What is refused its growth before any text is read, if anything is: the table, the data file, or the trie
+// of the table's rows. It is found by the library's calls in the same heap, in the order of the runs. A
+// check of the table makes no trie.
+fn refused_before_texts(heap: &LocalHeap, run: Run, texts: Texts) -> Option<usize> {
+    let calls = [Calls::new(), Calls::new()];
+    let pace = Pace::steps(1);
+    let mut source = Source::new(FakeReader::new(texts[TABLE], pace, &calls[TABLE]));
+    let Ok(table) = read_table_in(heap, &mut source) else {
+        return Some(TABLE);
+    };
+    let mut source = Source::new(FakeReader::new(texts[DATA], pace, &calls[DATA]));
+    let Ok(_properties) = read_data_in(heap, &mut source) else {
+        return Some(DATA);
+    };
+    if !matches!(run, Run::Check) && Trie::new(&table).is_err() {
+        return Some(ROWS);
+    }
+    None
 }
 
 /// The text and the line at which a growth was refused.
@@ -148,15 +176,19 @@ fn place_of(fault: &RunFault) -> Option<(usize, u32)> {
     }
 }
 
-// The place of a refused growth. That of a text is in the line of the last byte that was read. Nothing was
-// printed, but the keys of the lines before it.
+// The place at which a run was refused a growth; and this is what is refused before any text is read. That
+// of a text is in the line of the last byte that was read. Nothing was printed, but the keys of the lines
+// before it.
 fn judge(
     rt: &(impl Abort + AllocGlobal),
     run: Run,
     texts: Texts,
     outcome: &Outcome,
-    fault: &RunFault,
+    before_texts: Option<usize>,
 ) -> Result<usize, Fail> {
+    let Err(fault) = &outcome.end else {
+        return Err(Fail::new("no growth was refused"));
+    };
     let mut keys = String::new(rt.alloc());
     let place = match place_of(fault) {
         Some((text, line)) => {
@@ -170,7 +202,9 @@ fn judge(
         }
         None => {
             assert!(rt; matches!(fault, RunFault::Memory), "{fault}");
-            if outcome.read[INPUT] < texts[INPUT].len() {
+            if before_texts.is_some() {
+                ROWS
+            } else if outcome.read[INPUT] < texts[INPUT].len() {
                 BETWEEN
             } else {
                 BEHIND
@@ -181,40 +215,76 @@ fn judge(
     Ok(place)
 }
 
-// Runs in heaps whose sizes rise by a step, until one has room enough: each before is refused a growth.
-// With more room that does not come earlier, and over ample memory the run then does all. Answers at which
-// places growths were refused.
+// The reader of the input is called exactly where nothing is refused before any text is read, by a run that
+// has one. What stands before the refused growth was read to its end.
+fn check_order(
+    rt: &(impl Abort + AllocGlobal),
+    run: Run,
+    texts: Texts,
+    outcome: &Outcome,
+    before_texts: Option<usize>,
+) {
+    let has_input = matches!(run, Run::Keys(_) | Run::Sort(_));
+    assert_eq!(rt; outcome.is_input_asked, has_input && before_texts.is_none());
+    if before_texts != Some(TABLE) {
+        assert_eq!(rt; outcome.read[TABLE], texts[TABLE].len());
+        if before_texts != Some(DATA) {
+            assert_eq!(rt; outcome.read[DATA], texts[DATA].len());
+        }
+    }
+}
+
+/// What was met in heaps of rising sizes.
+#[derive(Clone, Copy)]
+struct Met {
+    /// At which places growths were refused.
+    refused: [bool; 6],
+    /// The size of the first heap that had room enough.
+    enough: usize,
+}
+
+// Runs in heaps of rising sizes, until one has room enough and the run ends so: each before is refused a
+// growth. With more room that does not come earlier, and over ample memory a run does all behind a refusal
+// at each place.
 fn refused_places(
     rt: &(impl Abort + AllocGlobal),
     run: Run,
     files: Files,
     (printed, end): (&str, &str),
     step: usize,
-) -> Result<[bool; 5], Fail> {
-    assert!(rt; step < 1000);
+) -> Result<Met, Fail> {
     let table = joined(rt.alloc(), files.table)?;
     let texts = [table.as_bytes(), files.data.as_bytes(), files.input];
-    let mut refused = [false; 5];
+    check(rt, files, run, printed, end)?;
+    let mut refused = [false; 6];
     let mut last = 0usize;
-    for size in 0..1000usize {
-        let heap = LocalHeap::new(rt.alloc(), size * step)?;
+    for round in 0..1000usize {
+        let size = round.saturating_mul(step);
+        let heap = LocalHeap::new(rt.alloc(), size)?;
         let outcome = run_in(rt, &heap, run, texts)?;
+        let before_texts = refused_before_texts(&heap, run, texts);
+        check_order(rt, run, texts, &outcome, before_texts);
         let mut read = 0usize;
         for count in outcome.read {
             read = read.saturating_add(count);
         }
         assert!(rt; last <= read);
         last = read;
-        let Err(fault) = &outcome.end else {
-            let said = told(rt.alloc(), &outcome.end)?;
-            assert_eq!(rt; said.as_str(), end);
+        if told(rt.alloc(), &outcome.end)?.as_str() == end {
             assert_eq!(rt; outcome.printed.as_slice(), printed.as_bytes());
-            return Ok(refused);
-        };
-        let place = judge(rt, run, texts, &outcome, fault)?;
-        assert!(rt; place < 5);
+            assert_eq!(rt; before_texts, None);
+            return Ok(Met {
+                refused,
+                enough: size,
+            });
+        }
+        let place = judge(rt, run, texts, &outcome, before_texts)?;
+        assert_eq!(rt; before_texts.unwrap_or(place), place);
+        assert!(rt; place < 6);
+        if !refused[place] {
+            check_run(rt, files, run, printed, end)?;
+        }
         refused[place] = true;
-        check(rt, files, run, printed, end)?;
     }
     Err(Fail::new("no run had room enough"))
 }
@@ -228,8 +298,8 @@ fn keys_of_lines_in_little_memory(rt: HostRuntime) -> Result<(), Fail> {
         .with_data(data.as_str())
         .with_input(input.as_bytes());
     let run = Run::Keys(Some(NonIgnorable));
-    let places = refused_places(&rt, run, files, (keys.as_str(), "done"), 48)?;
-    assert_eq!(rt; places, [true, true, true, false, false]);
+    let met = refused_places(&rt, run, files, (keys.as_str(), "done"), 48)?;
+    assert_eq!(rt; met.refused, [true, true, true, true, false, false]);
     Ok(())
 }
 
@@ -247,8 +317,8 @@ fn sorts_in_little_memory(rt: HostRuntime) -> Result<(), Fail> {
         .with_data(data.as_str())
         .with_input(input.as_bytes());
     let run = Run::Sort(Some(NonIgnorable));
-    let places = refused_places(&rt, run, files, (sorted.as_str(), "done"), 48)?;
-    assert_eq!(rt; places, [true; 5]);
+    let met = refused_places(&rt, run, files, (sorted.as_str(), "done"), 48)?;
+    assert_eq!(rt; met.refused, [true; 6]);
     Ok(())
 }
 
@@ -262,8 +332,8 @@ fn checks_in_little_memory(rt: HostRuntime) -> Result<(), Fail> {
     ];
     for (table, printed, end) in cases {
         let files = files::SMALL.with_table(table).with_data(data.as_str());
-        let places = refused_places(&rt, Run::Check, files, (printed, end), 16)?;
-        assert_eq!(rt; places, [true, true, false, false, false]);
+        let met = refused_places(&rt, Run::Check, files, (printed, end), 16)?;
+        assert_eq!(rt; met.refused, [true, true, false, false, false, false]);
     }
     Ok(())
 }
@@ -274,8 +344,14 @@ fn comparisons_in_little_memory(rt: HostRuntime) -> Result<(), Fail> {
     let left = lines(rt.alloc())?;
     let files = files::SMALL.with_data(data.as_str());
     let run = Run::Compare(left.as_str(), "b", Some(NonIgnorable));
-    let places = refused_places(&rt, run, files, ("< 1\n", "done"), 16)?;
-    assert_eq!(rt; places, [true, true, false, false, true]);
+    let met = refused_places(&rt, run, files, ("< 1\n", "done"), 48)?;
+    assert_eq!(rt; met.refused, [true, true, false, true, false, true]);
+    // A faulty text comes behind the trie and before the keys.
+    let long = acutes(rt.alloc(), 65)?;
+    let run = Run::Compare(long.as_str(), "b", Some(NonIgnorable));
+    let faulty = refused_places(&rt, run, files, ("", "left: LongRun at 0"), 48)?;
+    assert_eq!(rt; faulty.refused, [true, true, false, true, false, false]);
+    assert!(rt; faulty.enough < met.enough);
     Ok(())
 }
 
@@ -311,6 +387,75 @@ fn tables_in_little_memory(rt: HostRuntime) -> Result<(), Fail> {
         assert_eq!(rt; heap.used(), 0);
     }
     assert!(rt; done && refused > 2);
+    Ok(())
+}
+
+// A collator over the trie of a table finds the elements of each row by its key.
+fn check_rows<A: Allocator + Copy>(
+    rt: &(impl Abort + AllocGlobal),
+    table: &Table<A>,
+    rows: &Trie<A>,
+    properties: &Data<A>,
+) -> Result<(), Fail> {
+    let collator = Collator::new(rows, &table.header, properties);
+    for row in &table.rows {
+        let mut key = String::new(rt.alloc());
+        for point in &row.key {
+            key.push(*point)?;
+        }
+        let text = normal(rt.alloc(), &key, properties)?;
+        let mut elements = Vec::new(rt.alloc());
+        for element in collator.elements(&text) {
+            elements.push(element)?;
+        }
+        assert_eq!(rt; elements.as_slice(), row.elements.as_slice(), "{key:?}");
+    }
+    Ok(())
+}
+
+// Whether a heap that has room for a table and a data file has room for the trie of the table too. All that
+// a trie took is given back where it has not.
+fn has_room_for_trie(
+    rt: &(impl Abort + AllocGlobal),
+    heap: &LocalHeap,
+    table: &str,
+) -> Result<Option<bool>, Fail> {
+    let Ok(table) = read_table_in(heap, &mut Source::new(table.as_bytes())) else {
+        return Ok(None);
+    };
+    let Ok(properties) = read_data_in(heap, &mut Source::new(files::DATA.as_bytes())) else {
+        return Ok(None);
+    };
+    let taken = heap.used();
+    let Ok(rows) = Trie::new(&table) else {
+        assert_eq!(rt; heap.used(), taken);
+        return Ok(Some(false));
+    };
+    check_rows(rt, &table, &rows, &properties)?;
+    Ok(Some(true))
+}
+
+#[test]
+fn tries_in_little_memory(rt: HostRuntime) -> Result<(), Fail> {
+    let table = joined(rt.alloc(), &[files::TABLE, A_ACUTE_GRAVE, X_ACUTE, A_ACUTE])?;
+    let mut refused = false;
+    let mut done = false;
+    for round in 0..700usize {
+        let heap = LocalHeap::new(rt.alloc(), round.saturating_mul(16))?;
+        match has_room_for_trie(&rt, &heap, &table)? {
+            Some(true) => {
+                assert!(rt; refused);
+                done = true;
+            }
+            Some(false) => {
+                assert!(rt; !done);
+                refused = true;
+            }
+            None => assert!(rt; !refused),
+        }
+        assert_eq!(rt; heap.used(), 0);
+    }
+    assert!(rt; done);
     Ok(())
 }
 

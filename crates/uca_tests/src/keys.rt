@@ -175,9 +175,16 @@ fn check_long(
 #[test]
 fn long_lines(rt: HostRuntime) -> Result<(), Fail> {
     check_long(&rt, 0xFF, 4_194_304, "input line 2: Utf8")?;
-    check_long(&rt, 0xFF, 4_194_305, "input line 2: TooLong")?;
-    check_long(&rt, b'a', 1_048_577, "input line 2: TooLong")?;
-    // The longest text.
+    check_long(&rt, 0xFF, 4_194_305, "input line 2: TooLong")
+}
+
+#[test]
+fn a_long_text(rt: HostRuntime) -> Result<(), Fail> {
+    check_long(&rt, b'a', 1_048_577, "input line 2: TooLong")
+}
+
+#[test]
+fn the_longest_text(rt: HostRuntime) -> Result<(), Fail> {
     let input = vec![in rt.alloc(); b'a'; 1_048_576]?;
     let files = SMALL.with_input(input.as_slice());
     let mut key = String::new(rt.alloc());
