@@ -16,9 +16,10 @@ The script makes its own inputs and needs nothing but Python:
 
 It prints three tables:
 
-- check: `uca check` of each table, beside reading the same files (`uca keys` of no lines). With
-  `--worst N` also a table of N rows, each of which but the last has a long key whose shorter one stands
-  in the last row: the time grows with the square of N;
+- check: `uca check` of each table, beside `uca keys` of no lines over it, which reads the same files and
+  builds the trie; and that again of the same rows in a random order. With `--worst N` also a table of N
+  rows, each of which but the last has a long key whose shorter one stands in the last row: the time of
+  the check grows with the square of N;
 - sort: `uca sort` of lines of ten letters over a table of 27 rows, beside `uca keys` of the same;
 - keys: `uca keys` of each kind of lines.
 
@@ -147,6 +148,16 @@ def worst_table_text(rows):
     text.extend("0061 0062 %04X ; %s" % (0x20000 + number, own) for number in range(rows - 1))
     text.append("0061 0062 ; %s" % own)
     return "".join(line + "\n" for line in text)
+
+
+def shuffled_text(table, seed=4):
+    """The same table with its rows in a random order."""
+    with open(table, encoding="utf-8") as file:
+        lines = file.readlines()
+    head = [line for line in lines if line[0] in "@#\n"]
+    rows = [line for line in lines if line[0] not in "@#\n"]
+    random.Random(seed).shuffle(rows)
+    return "".join(head + rows)
 
 
 WORST_DATA = "@data 1\nccc 20000..5FFFF 230\n"
@@ -316,15 +327,17 @@ class Report:
 
 def measure_check(options, folder, tables, data, report):
     empty, out = write(folder, "empty", ""), os.path.join(folder, "out")
-    report.head("check", "%8s %10s %10s %10s %10s", ("rows", "table, MB", "reading, s", "check, s", "peak, MB"))
+    report.head("check", "%8s %10s %10s %10s %10s %10s", ("rows", "table, MB", "start, s", "peak, MB", "shuffled", "check, s"))
     cases = [(rows, table, data) for rows, table in tables.items()]
     for rows in options.worst:
         cases.append((rows, write(folder, "worst-%d" % rows, worst_table_text(rows)), write(folder, "worst-data", WORST_DATA)))
     for rows, table, properties in cases:
-        reading, _, first = run(options.binary, ["keys", table, properties], empty, out, options.limit)
-        seconds, peak, second = run(options.binary, ["check", table, properties], empty, out, options.limit)
-        size = os.path.getsize(table) / 1e6
-        report.row((rows, "%.1f" % size, "%.3f" % reading, "%.3f" % seconds, "%.1f" % (peak / 1024)), first, second)
+        shuffled = write(folder, "shuffled", shuffled_text(table))
+        start, peak, first = run(options.binary, ["keys", table, properties], empty, out, options.limit)
+        other, _, second = run(options.binary, ["keys", shuffled, properties], empty, out, options.limit)
+        seconds, _, third = run(options.binary, ["check", table, properties], empty, out, options.limit)
+        sizes = ("%.1f" % (os.path.getsize(table) / 1e6), "%.3f" % start, "%.1f" % (peak / 1024))
+        report.row((rows,) + sizes + ("%.3f" % other, "%.3f" % seconds), first, second, third)
 
 
 def measure_sort(options, folder, data, report):
@@ -374,7 +387,7 @@ def main():
     parser = argparse.ArgumentParser(description=__doc__.split("\n")[0])
     parser.add_argument("--binary", default=os.path.join(top, "crates", "uca", "out", "uca"))
     parser.add_argument("--rows", type=numbers_of, default=[33000, 200000], help="rows of the tables, as 33000,200000")
-    parser.add_argument("--lines", type=numbers_of, default=[1000, 10000], help="lines of the inputs of keys, as 1000,10000; none where it is empty")
+    parser.add_argument("--lines", type=numbers_of, default=[10000, 100000], help="lines of the inputs of keys, as 10000,100000; none where it is empty")
     parser.add_argument("--sorted", type=numbers_of, default=[100000], help="lines that are sorted, as 100000")
     parser.add_argument("--worst", type=numbers_of, default=[], help="rows of the worst tables for check, as 10000,20000")
     parser.add_argument("--kinds", type=lambda text: text.split(","), default=list(KINDS), help="kinds of lines: " + ", ".join(KINDS))
