@@ -228,9 +228,9 @@ fn finds_nothing_in_an_empty_table(rt: HostRuntime) -> Result<(), Fail> {
     check(&rt, &[], &cases)
 }
 
-/// Letters on both sides of the limit below which a trie over them takes its first step by a list. One is no
-/// key, but begins one.
-const FIRST_STEPS: [Line; 11] = [
+/// Letters on both sides of the limit below which a trie over them takes its first step by a list: seven of
+/// them begin keys, so the list has the places U+0000 to U+006F. One is no key, but begins one.
+const FIRST_STEPS: [Line; 13] = [
     (&['\u{4E00}', '\u{33FF}'], 1),
     (&['\u{10FFFF}'], 2),
     (&['\u{3400}'], 3),
@@ -242,9 +242,11 @@ const FIRST_STEPS: [Line; 11] = [
     (&['\u{3400}', 'a'], 9),
     (&['\0', '\0'], 10),
     (&['\u{4E00}', '\u{3400}'], 11),
+    (&['\u{70}'], 12),
+    (&['\u{6F}'], 13),
 ];
 
-const FIRST_STEPS_CASES: [Case; 25] = [
+const FIRST_STEPS_CASES: [Case; 29] = [
     (&[], Said::Beginning),
     (&['\0'], Said::Key(5)),
     (&['\0', '\0'], Said::Key(10)),
@@ -270,6 +272,10 @@ const FIRST_STEPS_CASES: [Case; 25] = [
     (&['\u{10FFFF}', '\u{10FFFE}'], Said::Nothing),
     (&['\u{10FFFF}', '\u{10FFFF}'], Said::Key(7)),
     (&['a'], Said::Nothing),
+    (&['\u{6E}'], Said::Nothing),
+    (&['\u{6F}'], Said::Key(13)),
+    (&['\u{70}'], Said::Key(12)),
+    (&['\u{71}'], Said::Nothing),
 ];
 
 #[test]
