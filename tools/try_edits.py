@@ -1,0 +1,46 @@
+#!/usr/bin/env python3
+"""Tries by hand the wrong bodies that are no part of the gate: tools/edits/CRATE/*.edit.
+
+    tools/try_edits.py [CRATE..]          all crates that have some, unless they are named
+
+They have the form of the must-fail edits of `rt ci`, which tries those under crates/*/must-fail/ alone. Of each it
+says that the prover refuses it, as it must, or that it no longer applies, or NOT REFUSED: then the status is 1.
+"""
+import importlib.machinery
+import importlib.util
+import os
+import shutil
+import sys
+
+TOP = os.path.dirname(os.path.dirname(os.path.realpath(__file__)))
+
+
+def load(path):
+    """The command `rt`, as a module."""
+    sys.path.insert(0, os.path.dirname(path))
+    loader = importlib.machinery.SourceFileLoader("rt", path)
+    module = importlib.util.module_from_spec(importlib.util.spec_from_loader("rt", loader))
+    loader.exec_module(module)
+    return module
+
+
+def main(names):
+    rt = load(os.path.realpath(shutil.which("rt")))
+    os.chdir(TOP)
+    rt.rtlib.guarded()
+    status = 0
+    for crate in rt.rtlib.crates_below(TOP):
+        folder = f"{TOP}/tools/edits/{crate.name}"
+        if not os.path.isdir(folder) or names and crate.name not in names:
+            continue
+        edits = sorted(f"{folder}/{it}" for it in os.listdir(folder) if it.endswith(".edit"))
+        if any(dep.build_rlib(["--jobs", "1"], anew=False) for dep in crate.below()):
+            return 1
+        for well, text in rt.must_fail_all(crate, edits, ["--jobs", "1"]):
+            print(text, flush=True)
+            status = status or int(not well)
+    return status
+
+
+if __name__ == "__main__":
+    sys.exit(main(sys.argv[1:]))
