@@ -38,9 +38,7 @@ impl<'a, L: Lookup, A: Allocator> Collator<'a, L, A> {
         ensures { result ≡ elements_of (collation_of L.content self.now) text.now }
     {
         Elements {
-            data: self.data,
-            lookup: self.lookup,
-            header: self.header,
+            collator: *self,
             text,
             place: Place::start(),
             second: None,
