@@ -1,12 +1,11 @@
 //! Stored keys, which give the order of their texts and the level at which they differ.
 
-ghost use Rattle.std.specs.Prelude.{◌≡◌, ◌+◌, List, min};
-ghost use Rattle.uca_weights.specs.declared.Element.{Element};
-ghost use Rattle.uca_weights.specs.declared.Weighting.{Weighting};
+ghost use Rattle.std.specs.Prelude.{◌≡◌, ◌+◌, min};
 ghost use Rattle.uca_key.specs.Levels;
-ghost use Rattle.uca_key.specs.Levels.{dictionary, compared, key_bytes};
+ghost use Rattle.uca_key.specs.Levels.{dictionary};
 ghost use Rattle.uca_key.specs.StoredKeys.{shared_separators, stored_level};
 
+use crate::levels::SEPARATOR;
 use std::cmp::Ordering;
 use uca_weights::Weighting;
 
@@ -26,15 +25,12 @@ pub fn level_count(weighting: Weighting) -> u8
 /// The order is that of the bytes, where a beginning is less. The level is one more than the groups `00 00`
 /// among the groups of two bytes before the first group that differs, or that one side is without; a last
 /// single byte is a group. So every two slices have an answer. For two keys of one weighting and its
-/// [`level_count`] these are the order and the level of multilevel comparison (UTS #10, section 1.1).
+/// [`level_count`] these are the order and the level of multilevel comparison (UTS #10, section 1.1), as
+/// [`stored_keys_compare_as_elements`](crate::laws::stored_keys_compare_as_elements) says.
+#[tactic(auto, using(crate::proofs::StoredOrder::equal_level, crate::proofs::StoredOrder::differing_level))]
 pub fn compare_keys(left: &[u8], right: &[u8], levels: u8) -> (Ordering, u8)
     ensures order { result.0 ≡ dictionary left.now right.now }
     ensures level { result.1 ≡ stored_level levels left.now right.now }
-    ensures keys { (weighting : Weighting) (first second : List Element) →
-        left.now ≡ key_bytes weighting first → right.now ≡ key_bytes weighting second →
-        levels ≡ Levels.level_count weighting →
-        (result.0 ≡ (compared weighting first second).order)
-        × (result.1 ≡ (compared weighting first second).level) }
 {
     match left.cmp(right) {
         Ordering::Equal => (Ordering::Equal, 0),
@@ -51,10 +47,11 @@ fn difference_level(mut left: &[u8], mut right: &[u8], levels: u8) -> u8
         && let [a, b, left_rest @ ..] = left
         && let [c, d, right_rest @ ..] = right
     {
-        if a != c || b != d {
+        let group = [*a, *b];
+        if group != [*c, *d] {
             return level;
         }
-        if *a == 0 && *b == 0 {
+        if group == SEPARATOR {
             level += 1;
         }
         left = left_rest;
