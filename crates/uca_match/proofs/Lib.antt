@@ -10,7 +10,9 @@ pub mod Going
 pub mod Ending
 pub mod Walking
 pub mod Portions
-pub mod SameReading
+pub mod Occurring
+pub mod RelatedReading
+pub mod ReadingParts
 pub mod RowsByKey
 pub mod TrieEdges
 pub mod TrieSteps

@@ -1,5 +1,5 @@
 -- `read` is the one reading.
-use Rattle.std.proofs.Common.{◌≡◌, ◌≢◌, ℕ, zero, suc, ◌+◌, ◌-◌, ◌<◌, ◌≤◌, List, [], ◌∷◌, ◌++◌, length, take, drop, Bool, Option, Some, None, unwrap_or, sym, ap, subst, refl, ◌∙◌, append_assoc, ⊎_elim, arith, length-append, length-drop, length-take-le, take-append-drop, take_at, drop_at, ap₂, is_some}
+use Rattle.std.proofs.Common.{◌≡◌, ◌≢◌, ℕ, zero, suc, ◌+◌, ◌-◌, ◌<◌, ◌≤◌, List, [], ◌∷◌, ◌++◌, length, take, drop, Bool, Option, Some, None, unwrap_or, sym, ap, subst, refl, ◌∙◌, append_assoc, append-nil, ⊎_elim, arith, length-append, length-drop, length-take-le, take-append-drop, take_at, drop_at, ap₂, is_some}
 use Rattle.std.proofs.lemmas.Bool.{cases_order, false≢true}
 use Rattle.std.proofs.Math.Seq.{take-append-add}
 use Rattle.uca_weights.specs.declared.Element.{Element}
@@ -90,7 +90,7 @@ portion_listed implicit rows c front rest found =
     ap (portion_at implicit rows c (front ++ rest)) (longest_match rows (c ∷ front) rest found)
     ∙ ap₂ (λ f r. row_portion rows (c ∷ f) r) (take_at front rest (length front) refl) (drop_at front rest (length front) refl)
 
-row_portion_shorter : (rows : Rows) (front s : Text) → length (row_portion rows front s).rest ≤ length s
+pub row_portion_shorter : (rows : Rows) (front s : Text) → length (row_portion rows front s).rest ≤ length s
 row_portion_shorter rows front s =
     let set : List Bool = removed rows front [] (marks_at_front s) in
     omega (arith, length-append (others set (marks_at_front s)) (after_marks s), length-others set (marks_at_front s), length-append (marks_at_front s) (after_marks s), ap length (marks-append s))
@@ -185,3 +185,15 @@ pub read_of_longest : (implicit : ℕ → List Element) (rows : Rows) (t : Text)
 read_of_longest implicit rows [] k found = absurd (omega arith)
 read_of_longest implicit rows (c ∷ t) k found =
     read_portion implicit rows c t ∙ ap (λ n. (portion_at implicit rows c t n).elements ++ read implicit rows (portion_at implicit rows c t n).rest) found
+
+-- ---- A text that is a key
+
+-- no letter follows it, so it is its longest key and takes no marks
+pub key_reads_as_row : (implicit : ℕ → List Element) (rows : Rows) (t : Text) (row : List Element) → t ≢ [] → rows (code_points t) ≡ Some row → read implicit rows t ≡ row
+key_reads_as_row implicit rows t row some found =
+    let all : t ++ [] ≡ t = append-nil t in
+    let nothing_more : (more after : Text) → [] ≡ more ++ after → more ≢ [] → IsKey rows (code_points (t ++ more)) → ⊥ = λ more after split there key. let left : 0 < length more = not_nil more there in omega (arith, ap length split, length-append more after) in
+    let matched : IsRowMatch rows t [] = record { some = some; key = ap is_some found; longest = nothing_more } in
+    ap (read implicit rows) (sym all)
+    ∙ read_listed implicit rows t [] [] [] row matched (record { non_starters = tt; ends = tt }) (AreRemoved-removed rows t []) (ap (λ s. rows (code_points s)) all ∙ found)
+    ∙ append-nil row
