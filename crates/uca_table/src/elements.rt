@@ -8,7 +8,7 @@ ghost use Rattle.uca_table.specs.Steps;
 
 use std::alloc::Allocator;
 use uca_fields::{skip_blanks, weight};
-use uca_files::FaultKind;
+use uca_values::FaultKind;
 use uca_weights::Element;
 
 /// How many elements a row may have.

@@ -6,8 +6,7 @@ ghost use Rattle.uca_table.specs.Rows.{IsKey, KeyCause, IsRow, RowTextCause};
 use crate::elements::read_elements;
 use std::alloc::Allocator;
 use uca_fields::{code_point, cut_at, cut_word, skip_blanks};
-use uca_files::FaultKind;
-use uca_values::Row;
+use uca_values::{FaultKind, Row};
 
 /// How many code points the key of a row may have.
 const MOST_CODE_POINTS: usize = 16;
