@@ -140,10 +140,7 @@ impl<A: Allocator + Copy> TableLines<A> {
             return Err(FaultKind::Line);
         }
         let name = str::from_utf8(name).unwrap();
-        let Ok(version) = String::from_str(self.alloc, name) else {
-            return Err(FaultKind::Memory);
-        };
-        self.version = Some(version);
+        self.version = Some(String::from_str(self.alloc, name)?);
         Ok(())
     }
 
@@ -186,19 +183,14 @@ impl<A: Allocator + Copy> TableLines<A> {
             return Err(FaultKind::Order);
         }
         let (_, rest) = cut_word(text);
-        let range = match read_range(rest) {
-            Ok(range) => range,
-            Err(kind) => return Err(kind),
-        };
+        let range = read_range(rest)?;
         if !may_follow(self.ranges.as_slice(), range) {
             return Err(FaultKind::Range);
         }
         if self.ranges.len() >= MOST_RANGES {
             return Err(FaultKind::Limit);
         }
-        let Ok(()) = self.ranges.push(range) else {
-            return Err(FaultKind::Memory);
-        };
+        self.ranges.push(range)?;
         Ok(())
     }
 
@@ -211,10 +203,8 @@ impl<A: Allocator + Copy> TableLines<A> {
         if self.version.is_none() {
             return Err(FaultKind::Order);
         }
-        match read_row(self.alloc, text) {
-            Ok(row) => self.add_row(row),
-            Err(kind) => Err(kind),
-        }
+        let row = read_row(self.alloc, text)?;
+        self.add_row(row)
     }
 
     // Adds a row after the others.
@@ -233,18 +223,10 @@ impl<A: Allocator + Copy> TableLines<A> {
         if self.rows.len() >= MOST_ROWS {
             return Err(FaultKind::Limit);
         }
-        let Ok(key) = Vec::from_slice(self.alloc, row.key.as_slice()) else {
-            return Err(FaultKind::Memory);
-        };
-        let Ok(()) = self.rows.reserve(1) else {
-            return Err(FaultKind::Memory);
-        };
-        let Ok(_) = self.keys.insert(key) else {
-            return Err(FaultKind::Memory);
-        };
-        let Ok(()) = self.rows.push(row) else {
-            return Err(FaultKind::Memory);
-        };
+        let key = Vec::from_slice(self.alloc, row.key.as_slice())?;
+        self.rows.reserve(1)?;
+        self.keys.insert(key)?;
+        self.rows.push(row)?;
         Ok(())
     }
 }

@@ -34,7 +34,7 @@ pub fn read_row<A: Allocator + Copy>(alloc: A, text: &[u8]) -> Result<Row<A>, Fa
 /// # Errors
 ///
 /// At the first word that is refused: `CodePoint` where it is no code point, and `Limit` where it is the
-/// seventeenth. `Line` where there is no word, `Memory` where a growth was refused.
+/// seventeenth. `Line` where there is no word, `Memory` where an allocation failed.
 pub fn read_key<A: Allocator>(alloc: A, text: &[u8]) -> Result<Vec<char, A>, FaultKind>
     ensures found { IfOk result (λ key. IsKey text.now key.items) }
     ensures fault { IfErr result (λ kind. (kind ≡ FaultKind.Memory) ⊎ KeyCause text.now kind) }
@@ -49,9 +49,7 @@ pub fn read_key<A: Allocator>(alloc: A, text: &[u8]) -> Result<Vec<char, A>, Fau
         if key.len() == MOST_CODE_POINTS {
             return Err(FaultKind::Limit);
         }
-        if key.push(point).is_err() {
-            return Err(FaultKind::Memory);
-        }
+        key.push(point)?;
         rest = skip_blanks(more);
     }
     if key.is_empty() {
