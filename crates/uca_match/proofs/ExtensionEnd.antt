@@ -1,30 +1,6 @@
 -- The non-starters after a key from the first to the last.
-use Rattle.std.proofs.Common.{
-  ◌≡◌,
-  ◌≢◌,
-  ℕ,
-  suc,
-  ◌+◌,
-  ◌-◌,
-  ◌<◌,
-  ◌≤◌,
-  List,
-  [],
-  ◌∷◌,
-  ◌++◌,
-  length,
-  get_or,
-  true,
-  false,
-  nat_lt,
-  sym,
-  ap,
-  refl,
-  ◌∙◌,
-  ⊎_elim,
-  arith,
-  unwrap_or,
-}
+use Rattle.std.proofs.Common.{◌≡◌, ◌≢◌, ℕ, suc, ◌+◌, ◌-◌, ◌<◌, ◌≤◌, List, [], ◌∷◌, ◌++◌, length, get_or, true, false, nat_lt, sym, ap, refl, ◌∙◌}
+use Rattle.std.proofs.Common.{⊎_elim, arith, unwrap_or}
 use Rattle.std.proofs.lemmas.Bool.{cases_lt, cases_eq, both_ways}
 use Rattle.std.proofs.lemmas.Bool.Decides.{nat_tests}
 use Rattle.std.specs.Borrow.{Bor}

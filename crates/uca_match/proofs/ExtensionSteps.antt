@@ -1,42 +1,7 @@
 -- What the non-starters after a key make of it, one at a time.
-use Rattle.std.proofs.Common.{
-  ◌≡◌,
-  ℕ,
-  suc,
-  ◌+◌,
-  ◌-◌,
-  ◌<◌,
-  ◌≤◌,
-  [],
-  ◌∷◌,
-  ◌++◌,
-  length,
-  take,
-  drop,
-  get_or,
-  true,
-  false,
-  sym,
-  ap,
-  ap₂,
-  ◌∙◌,
-  append-nil,
-  arith,
-  length-drop,
-  length-take-le,
-  take-append-drop,
-  ◌≢◌,
-  List,
-  Bool,
-  ◌&&◌,
-  nat_lt,
-  None,
-  is_some,
-  ⊎_elim,
-  subst,
-  refl,
-  add-one,
-}
+use Rattle.std.proofs.Common.{◌≡◌, ℕ, suc, ◌+◌, ◌-◌, ◌<◌, ◌≤◌, [], ◌∷◌, ◌++◌, length, take, drop, get_or, true, false, sym, ap, ap₂, ◌∙◌, append-nil}
+use Rattle.std.proofs.Common.{arith, length-drop, length-take-le, take-append-drop, ◌≢◌, List, Bool, ◌&&◌, nat_lt, None, is_some, ⊎_elim, subst, refl}
+use Rattle.std.proofs.Common.{add-one}
 use Rattle.std.proofs.lemmas.Bool.{cond-true, cond-false, and_from, cases_lt}
 use Rattle.std.proofs.lemmas.List.{take_more, get_or-drop, drop-drop, get_or_read}
 use Rattle.uca_text.specs.Texts.{Letter, Text, Spelled, is_starter, letters_of, code_points}

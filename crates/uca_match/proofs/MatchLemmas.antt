@@ -1,56 +1,12 @@
 -- The longest key at the front of a text, the non-starters after it, and the walk to it.
-use Rattle.std.proofs.Common.{
-  ◌≡◌,
-  ℕ,
-  zero,
-  suc,
-  ◌<◌,
-  ◌≤◌,
-  List,
-  [],
-  ◌∷◌,
-  ◌++◌,
-  length,
-  take,
-  Bool,
-  true,
-  false,
-  cond,
-  IsFalse,
-  sym,
-  ap,
-  subst,
-  refl,
-  ◌∙◌,
-  append-nil,
-  ⊎_elim,
-  arith,
-  ◌+◌,
-  drop,
-  get_or,
-  Option,
-  Some,
-  None,
-  is_some,
-  add-one,
-  length-drop,
-  take-append-drop,
-}
+use Rattle.std.proofs.Common.{◌≡◌, ℕ, zero, suc, ◌<◌, ◌≤◌, List, [], ◌∷◌, ◌++◌, length, take, Bool, true, false, cond, IsFalse, sym, ap, subst, refl}
+use Rattle.std.proofs.Common.{◌∙◌, append-nil, ⊎_elim, arith, ◌+◌, drop, get_or, Option, Some, None, is_some, add-one, length-drop, take-append-drop}
 use Rattle.std.proofs.lemmas.Bool.{cond_both, cond-true, cond-false, cases_Bool, cases_eq, both_ways}
 use Rattle.std.specs.List.{AllByRecursion}
 use Rattle.uca_text.specs.Texts.{Letter, Text, code_points, is_starter, Spelled}
 use Rattle.uca_match.specs.Rows.{Rows, is_key, IsKey}
-use Rattle.uca_match.specs.Reading.{
-  is_taken,
-  removed,
-  members,
-  others,
-  longest_key,
-  non_starters_at_front,
-  after_non_starters,
-  IsAtStarter,
-  AreNonStartersBefore,
-}
+use Rattle.uca_match.specs.Reading.{is_taken, removed, members, others, longest_key, non_starters_at_front, after_non_starters, IsAtStarter}
+use Rattle.uca_match.specs.Reading.{AreNonStartersBefore}
 use Rattle.uca_match.proofs.RemovedLemmas.{members_taken, members_skipped, taken_iff, code_points-append, code_points-push}
 use Rattle.std.proofs.lemmas.List.{take-take}
 use Rattle.std.proofs.Math.Seq.{take-suc, drop-cons}

@@ -1,80 +1,17 @@
 -- `read` is the one reading.
-use Rattle.std.proofs.Common.{
-  ◌≡◌,
-  ◌≢◌,
-  ℕ,
-  zero,
-  suc,
-  ◌+◌,
-  ◌-◌,
-  ◌<◌,
-  ◌≤◌,
-  List,
-  [],
-  ◌∷◌,
-  ◌++◌,
-  length,
-  take,
-  drop,
-  Bool,
-  Option,
-  Some,
-  None,
-  unwrap_or,
-  sym,
-  ap,
-  subst,
-  refl,
-  ◌∙◌,
-  append_assoc,
-  append-nil,
-  ⊎_elim,
-  arith,
-  length-append,
-  length-drop,
-  length-take-le,
-  take-append-drop,
-  take_at,
-  drop_at,
-  ap₂,
-  is_some,
-}
+use Rattle.std.proofs.Common.{◌≡◌, ◌≢◌, ℕ, zero, suc, ◌+◌, ◌-◌, ◌<◌, ◌≤◌, List, [], ◌∷◌, ◌++◌, length, take, drop, Bool, Option, Some, None}
+use Rattle.std.proofs.Common.{unwrap_or, sym, ap, subst, refl, ◌∙◌, append_assoc, append-nil, ⊎_elim, arith, length-append, length-drop}
+use Rattle.std.proofs.Common.{length-take-le, take-append-drop, take_at, drop_at, ap₂, is_some}
 use Rattle.std.proofs.lemmas.Bool.{cases_order, false≢true}
 use Rattle.std.proofs.Math.Seq.{take-append-add}
 use Rattle.uca_weights.specs.declared.Element.{Element}
 use Rattle.uca_text.specs.Texts.{Letter, Text, code_points}
 use Rattle.uca_match.specs.Rows.{Rows, IsKey}
-use Rattle.uca_match.specs.Reading.{
-  IsRowMatch,
-  NoRowBegins,
-  AreNonStartersBefore,
-  AreRemoved,
-  IsReading,
-  removed,
-  members,
-  others,
-  longest_key,
-  non_starters_at_front,
-  after_non_starters,
-  Portion,
-  row_portion,
-  portion_at,
-  portion,
-  read_within,
-  read,
-}
+use Rattle.uca_match.specs.Reading.{IsRowMatch, NoRowBegins, AreNonStartersBefore, AreRemoved, IsReading, removed, members, others, longest_key}
+use Rattle.uca_match.specs.Reading.{non_starters_at_front, after_non_starters, Portion, row_portion, portion_at, portion, read_within, read}
 use Rattle.uca_match.proofs.RemovedLemmas.{AreRemoved-removed, removed_unique}
-use Rattle.uca_match.proofs.MatchLemmas.{
-  longest_within,
-  longest_is_key,
-  longest_is_last,
-  marks-append,
-  AreNonStartersBefore-split,
-  marks_of_split,
-  after_of_split,
-  length-others,
-  extended_is_key,
-}
+use Rattle.uca_match.proofs.MatchLemmas.{longest_within, longest_is_key, longest_is_last, marks-append, AreNonStartersBefore-split, marks_of_split}
+use Rattle.uca_match.proofs.MatchLemmas.{after_of_split, length-others, extended_is_key}
 
 -- ---- The key at the front
 

@@ -1,41 +1,7 @@
 -- Where two maps have related rows at the keys that occur in a text, its two readings are related.
-use Rattle.std.proofs.Common.{
-  ◌≡◌,
-  ℕ,
-  zero,
-  suc,
-  ◌≤◌,
-  List,
-  [],
-  ◌∷◌,
-  ◌++◌,
-  length,
-  take,
-  drop,
-  Bool,
-  true,
-  false,
-  cond,
-  ◌&&◌,
-  nat_lt,
-  Option,
-  Some,
-  None,
-  is_some,
-  unwrap_or,
-  inl,
-  refl,
-  sym,
-  ap,
-  ap₂,
-  subst,
-  subst₂,
-  ◌∙◌,
-  append_assoc,
-  arith,
-  length-drop,
-  take-append-drop,
-}
+use Rattle.std.proofs.Common.{◌≡◌, ℕ, zero, suc, ◌≤◌, List, [], ◌∷◌, ◌++◌, length, take, drop, Bool, true, false, cond, ◌&&◌, nat_lt, Option, Some}
+use Rattle.std.proofs.Common.{None, is_some, unwrap_or, inl, refl, sym, ap, ap₂, subst, subst₂, ◌∙◌, append_assoc, arith, length-drop}
+use Rattle.std.proofs.Common.{take-append-drop}
 use Rattle.std.specs.List.{AllByRecursion, list_all}
 use Rattle.uca_weights.specs.declared.Element.{Element}
 use Rattle.uca_text.specs.Texts.{Letter, Text, code_points}
@@ -43,18 +9,8 @@ use Rattle.uca_match.specs.Rows.{Rows, is_key}
 use Rattle.uca_match.specs.Reading.{is_taken, removed, members, others, longest_key, non_starters_at_front, after_non_starters, row_portion, read}
 use Rattle.uca_match.specs.Occurring.{OccursInOrder}
 use Rattle.uca_match.specs.Laws.{AreRelatedRows, IsKeptByAppend}
-use Rattle.uca_match.proofs.Occurring.{
-  occurs_refl,
-  occurs_more,
-  occurs_front,
-  occurs_trans,
-  occurs_append,
-  occurs_take,
-  occurs_members,
-  occurs_others,
-  occurs_code_points,
-  each_occurring,
-}
+use Rattle.uca_match.proofs.Occurring.{occurs_refl, occurs_more, occurs_front, occurs_trans, occurs_append, occurs_take, occurs_members}
+use Rattle.uca_match.proofs.Occurring.{occurs_others, occurs_code_points, each_occurring}
 use Rattle.uca_match.proofs.MatchLemmas.{marks-append}
 use Rattle.uca_match.proofs.ReadingLemmas.{portion_of, row_portion_shorter, read_of_none, read_of_longest}
 

@@ -1,28 +1,6 @@
 -- Which non-starters a key takes, one at a time.
-use Rattle.std.proofs.Common.{
-  ◌≡◌,
-  [],
-  ◌∷◌,
-  ◌++◌,
-  true,
-  false,
-  cond,
-  sym,
-  ap,
-  refl,
-  append_assoc,
-  ◌∙◌,
-  suc,
-  List,
-  length,
-  Bool,
-  ◌↔◌,
-  IsTrue,
-  subst₂,
-  append-nil,
-  arith,
-  nat_lt,
-}
+use Rattle.std.proofs.Common.{◌≡◌, [], ◌∷◌, ◌++◌, true, false, cond, sym, ap, refl, append_assoc, ◌∙◌, suc, List, length, Bool, ◌↔◌, IsTrue, subst₂}
+use Rattle.std.proofs.Common.{append-nil, arith, nat_lt}
 use Rattle.uca_text.specs.Texts.{Letter, Text, code_points}
 use Rattle.uca_match.specs.Rows.{Rows, is_key, IsKey}
 use Rattle.uca_match.specs.Reading.{is_taken, removed, members, others, IsFree, AreRemoved}

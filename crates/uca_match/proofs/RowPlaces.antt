@@ -1,42 +1,6 @@
 -- The rows of a list by their places.
-use Rattle.std.proofs.Common.{
-  ◌≡◌,
-  ℕ,
-  zero,
-  suc,
-  ◌+◌,
-  ◌<◌,
-  ◌≤◌,
-  List,
-  [],
-  ◌∷◌,
-  ◌++◌,
-  length,
-  take,
-  drop,
-  get_or,
-  min,
-  Bool,
-  true,
-  false,
-  ◌&&◌,
-  cond,
-  ◌↔◌,
-  IsTrue,
-  Some,
-  None,
-  nat_eq,
-  is_some,
-  sym,
-  ap,
-  subst,
-  refl,
-  ◌∙◌,
-  arith,
-  add-one,
-  take_at,
-  take-append-drop,
-}
+use Rattle.std.proofs.Common.{◌≡◌, ℕ, zero, suc, ◌+◌, ◌<◌, ◌≤◌, List, [], ◌∷◌, ◌++◌, length, take, drop, get_or, min, Bool, true, false, ◌&&◌, cond}
+use Rattle.std.proofs.Common.{◌↔◌, IsTrue, Some, None, nat_eq, is_some, sym, ap, subst, refl, ◌∙◌, arith, add-one, take_at, take-append-drop}
 use Rattle.std.proofs.lemmas.Bool.{cond-true, cond-false}
 use Rattle.std.proofs.lemmas.List.{take_more, take_min, same_from_push}
 use Rattle.std.proofs.lemmas.Slice.Eq.{bytes_eq-Decides}

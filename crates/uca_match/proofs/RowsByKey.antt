@@ -1,34 +1,6 @@
 -- What is found at a key: the row that has it.
-use Rattle.std.proofs.Common.{
-  ◌≡◌,
-  ℕ,
-  zero,
-  suc,
-  ◌<◌,
-  List,
-  [],
-  ◌∷◌,
-  length,
-  map,
-  get_or,
-  true,
-  Some,
-  Contains,
-  ◌↔◌,
-  ◌⊎◌,
-  inl,
-  inr,
-  ⊎_elim,
-  nat_eq,
-  is_some,
-  sym,
-  ap,
-  ap₂,
-  subst,
-  refl,
-  ◌∙◌,
-  arith,
-}
+use Rattle.std.proofs.Common.{◌≡◌, ℕ, zero, suc, ◌<◌, List, [], ◌∷◌, length, map, get_or, true, Some, Contains, ◌↔◌, ◌⊎◌, inl, inr, ⊎_elim, nat_eq}
+use Rattle.std.proofs.Common.{is_some, sym, ap, ap₂, subst, refl, ◌∙◌, arith}
 use Rattle.std.proofs.lemmas.Bool.{and_parts, and_from, eqb-true, eq-eqb, cond_both, cond-true, cond-false, false≢true, false_from_ne_true}
 use Rattle.std.proofs.lemmas.List.{length-map, get_or-map}
 use Rattle.uca_weights.specs.declared.Element.{Element}

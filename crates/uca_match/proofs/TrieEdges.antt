@@ -1,33 +1,6 @@
 -- Edges in rising order: the edge of a code point, and a new edge put between the others.
-use Rattle.std.proofs.Common.{
-  ◌≡◌,
-  ℕ,
-  zero,
-  suc,
-  ◌<◌,
-  ◌≤◌,
-  inl,
-  inr,
-  true,
-  false,
-  ltb,
-  eqb,
-  cond,
-  List,
-  [],
-  ◌∷◌,
-  length,
-  get_or,
-  Option,
-  Some,
-  None,
-  refl,
-  ap,
-  subst,
-  sym,
-  ◌∙◌,
-  arith,
-}
+use Rattle.std.proofs.Common.{◌≡◌, ℕ, zero, suc, ◌<◌, ◌≤◌, inl, inr, true, false, ltb, eqb, cond, List, [], ◌∷◌, length, get_or, Option, Some, None}
+use Rattle.std.proofs.Common.{refl, ap, subst, sym, ◌∙◌, arith}
 use Rattle.std.proofs.lemmas.Bool.{ltb-true, ltb-false, eq-eqb, ne_eqb, cases_Bool, cases_lt, cases_order, cond-true, cond-false}
 use Rattle.std.proofs.lemmas.List.Recursion.{found_at, found_nowhere}
 use Rattle.std.specs.List.{AllByRecursion, insert}

@@ -1,33 +1,6 @@
 -- Where the first code points lead from the root, edge by edge.
-use Rattle.std.proofs.Common.{
-  ◌≡◌,
-  ℕ,
-  zero,
-  suc,
-  ◌+◌,
-  ◌<◌,
-  ◌≤◌,
-  List,
-  [],
-  ◌∷◌,
-  ◌++◌,
-  length,
-  take,
-  set,
-  replicate,
-  get_or,
-  Some,
-  None,
-  cond,
-  nat_eq,
-  ⊎_elim,
-  sym,
-  ap,
-  subst,
-  refl,
-  ◌∙◌,
-  arith,
-}
+use Rattle.std.proofs.Common.{◌≡◌, ℕ, zero, suc, ◌+◌, ◌<◌, ◌≤◌, List, [], ◌∷◌, ◌++◌, length, take, set, replicate, get_or, Some, None, cond, nat_eq}
+use Rattle.std.proofs.Common.{⊎_elim, sym, ap, subst, refl, ◌∙◌, arith}
 use Rattle.std.proofs.lemmas.Bool.{cond-true, cond-false, cond_both, cases_eq, eq-eqb, ne_eqb}
 use Rattle.std.proofs.lemmas.List.{length-set, take_more, take_all, get_or-set_same, get_or-set_other, get_or-replicate, length-replicate}
 use Rattle.uca_values.proofs.Rising.{all_at}

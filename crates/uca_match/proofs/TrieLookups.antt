@@ -1,38 +1,6 @@
 -- Which lists of code points begin a key of a trie, and where its first steps lead.
-use Rattle.std.proofs.Common.{
-  ◌≡◌,
-  ◌≢◌,
-  ℕ,
-  zero,
-  suc,
-  ◌+◌,
-  ◌<◌,
-  ◌≤◌,
-  List,
-  [],
-  ◌∷◌,
-  ◌++◌,
-  length,
-  Option,
-  Some,
-  None,
-  ◌⊎◌,
-  inl,
-  inr,
-  ⊎_elim,
-  true,
-  nat_eq,
-  is_some,
-  option_and_then,
-  slice_index_or,
-  IsTrue,
-  sym,
-  ap,
-  subst,
-  refl,
-  ◌∙◌,
-  arith,
-}
+use Rattle.std.proofs.Common.{◌≡◌, ◌≢◌, ℕ, zero, suc, ◌+◌, ◌<◌, ◌≤◌, List, [], ◌∷◌, ◌++◌, length, Option, Some, None, ◌⊎◌, inl, inr, ⊎_elim, true}
+use Rattle.std.proofs.Common.{nat_eq, is_some, option_and_then, slice_index_or, IsTrue, sym, ap, subst, refl, ◌∙◌, arith}
 use Rattle.std.proofs.lemmas.Bool.{cond-true, eq-eqb, false≢true}
 use Rattle.std.proofs.lemmas.List.{length_push, get_or_read}
 use Rattle.uca_weights.specs.declared.Element.{Element}

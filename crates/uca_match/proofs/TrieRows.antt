@@ -1,35 +1,6 @@
 -- What rows do to a trie: the elements of one key after another.
-use Rattle.std.proofs.Common.{
-  ◌≡◌,
-  ℕ,
-  zero,
-  suc,
-  ◌+◌,
-  ◌<◌,
-  List,
-  [],
-  ◌∷◌,
-  ◌++◌,
-  length,
-  set,
-  get_or,
-  take,
-  drop,
-  true,
-  cond,
-  Option,
-  Some,
-  None,
-  option_and_then,
-  Contains,
-  ⊎_elim,
-  sym,
-  ap,
-  subst,
-  refl,
-  ◌∙◌,
-  arith,
-}
+use Rattle.std.proofs.Common.{◌≡◌, ℕ, zero, suc, ◌+◌, ◌<◌, List, [], ◌∷◌, ◌++◌, length, set, get_or, take, drop, true, cond, Option, Some, None}
+use Rattle.std.proofs.Common.{option_and_then, Contains, ⊎_elim, sym, ap, subst, refl, ◌∙◌, arith}
 use Rattle.std.specs.List.Sorted.{IsPermutation}
 use Rattle.std.proofs.lemmas.Bool.{cond_both, cond-true, false≢true, cases_eq}
 use Rattle.std.proofs.lemmas.List.{length-set, get_or-set_same, get_or-set_other, take_more, take-append-drop}

@@ -1,52 +1,13 @@
 -- One more code point on the way to a key: the nodes with a new one, to which an edge leads.
-use Rattle.std.proofs.Common.{
-  ◌≡◌,
-  ◌≢◌,
-  ◌⊎◌,
-  ℕ,
-  suc,
-  ◌<◌,
-  inl,
-  inr,
-  List,
-  [],
-  ◌∷◌,
-  ◌++◌,
-  length,
-  get_or,
-  set,
-  Option,
-  Some,
-  None,
-  option_and_then,
-  refl,
-  ap,
-  subst,
-  sym,
-  ◌∙◌,
-  arith,
-  length-append,
-  length-set,
-}
+use Rattle.std.proofs.Common.{◌≡◌, ◌≢◌, ◌⊎◌, ℕ, suc, ◌<◌, inl, inr, List, [], ◌∷◌, ◌++◌, length, get_or, set, Option, Some, None, option_and_then}
+use Rattle.std.proofs.Common.{refl, ap, subst, sym, ◌∙◌, arith, length-append, length-set}
 use Rattle.std.proofs.lemmas.Bool.{cases_eq, cases_order}
 use Rattle.std.proofs.lemmas.List.{get_or_append_left, get_or-set_same, get_or-set_other, get_or_push, get_or_default, length_push}
 use Rattle.std.proofs.lemmas.Option.{none-some, same_Some}
 use Rattle.std.specs.List.{insert}
 use Rattle.uca_weights.specs.declared.Element.{Element}
-use Rattle.uca_match.specs.Tries.{
-  NodeContent,
-  empty_node,
-  node_at,
-  target_of,
-  walk,
-  held,
-  LeadsOn,
-  AreNodes,
-  AreRisingEdges,
-  IsNoDeadEnd,
-  IsNewPlace,
-  IsAlong,
-}
+use Rattle.uca_match.specs.Tries.{NodeContent, empty_node, node_at, target_of, walk, held, LeadsOn, AreNodes, AreRisingEdges, IsNoDeadEnd, IsNewPlace}
+use Rattle.uca_match.specs.Tries.{IsAlong}
 use Rattle.uca_match.specs.declared.trie.Edge.{Edge}
 use Rattle.uca_match.proofs.TrieWalks.{walk_push, walk_root}
 use Rattle.uca_match.proofs.TrieEdges.{none_at_new_place, target_of_new, target_of_others, rising_with_new}

@@ -1,31 +1,6 @@
 -- The collation elements of a text (UTS #10, step S2), first by equations, then by a function that computes them.
-use Rattle.std.specs.Prelude.{
-  ◌≡◌,
-  ◌≢◌,
-  ℕ,
-  zero,
-  suc,
-  ◌<◌,
-  List,
-  [],
-  ◌∷◌,
-  ◌++◌,
-  Bool,
-  true,
-  false,
-  ◌&&◌,
-  ◌↔◌,
-  length,
-  take,
-  drop,
-  Some,
-  IsTrue,
-  IsFalse,
-  nat_lt,
-  ⊤,
-  if◌then◌else◌,
-  unwrap_or,
-}
+use Rattle.std.specs.Prelude.{◌≡◌, ◌≢◌, ℕ, zero, suc, ◌<◌, List, [], ◌∷◌, ◌++◌, Bool, true, false, ◌&&◌, ◌↔◌, length, take, drop, Some, IsTrue}
+use Rattle.std.specs.Prelude.{IsFalse, nat_lt, ⊤, if◌then◌else◌, unwrap_or}
 use Rattle.std.specs.List.{AllByRecursion, list_all}
 use Rattle.uca_weights.specs.declared.Element.{Element}
 use Rattle.uca_text.specs.Texts.{Letter, Text, code_points, is_starter}

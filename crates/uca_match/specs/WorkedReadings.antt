@@ -1,15 +1,7 @@
 -- The collation elements of some texts, worked out over the definitions.
 use Rattle.std.specs.Prelude.{◌≡◌, [], ◌∷◌}
-use Rattle.uca_match.specs.WorkedTable.{
-  plain,
-  variable,
-  small_rows,
-  with_contraction,
-  with_long_contraction,
-  with_unlisted_start,
-  with_letters,
-  elements_under,
-}
+use Rattle.uca_match.specs.WorkedTable.{plain, variable, small_rows, with_contraction, with_long_contraction, with_unlisted_start, with_letters}
+use Rattle.uca_match.specs.WorkedTable.{elements_under}
 
 pub record WorkedReadings : Type 0 where
   -- the empty text has no elements

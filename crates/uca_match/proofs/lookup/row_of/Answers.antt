@@ -1,29 +1,5 @@
-use Rattle.std.proofs.Common.{
-  ◌≡◌,
-  ℕ,
-  ◌+◌,
-  ◌<◌,
-  List,
-  [],
-  ◌∷◌,
-  ◌++◌,
-  length,
-  take,
-  drop,
-  get_or,
-  true,
-  Option,
-  Some,
-  None,
-  is_some,
-  MatchOption,
-  refl,
-  sym,
-  ap,
-  subst,
-  ◌∙◌,
-  take-append-drop,
-}
+use Rattle.std.proofs.Common.{◌≡◌, ℕ, ◌+◌, ◌<◌, List, [], ◌∷◌, ◌++◌, length, take, drop, get_or, true, Option, Some, None, is_some, MatchOption, refl}
+use Rattle.std.proofs.Common.{sym, ap, subst, ◌∙◌, take-append-drop}
 use Rattle.std.proofs.lemmas.List.{take_more}
 use Rattle.uca_weights.specs.declared.Element.{Element}
 use Rattle.uca_match.specs.Rows.{Rows, is_key}

@@ -2,17 +2,8 @@ use Rattle.std.proofs.Common.{◌≡◌, ◌<◌, map, get_or, rules, arith}
 use Rattle.std.proofs.lemmas.List.{length-map}
 use Rattle.std.specs.Char.{IsScalar}
 use Rattle.uca_values.specs.Ranges.{class_in}
-use Rattle.uca_text.proofs.Runs.{
-  after_starter,
-  after_non_starter,
-  first_long_run,
-  no_long_run,
-  class_at,
-  classes_more,
-  all_classes,
-  scalars_more,
-  all_scalars,
-}
+use Rattle.uca_text.proofs.Runs.{after_starter, after_non_starter, first_long_run, no_long_run, class_at, classes_more, all_classes, scalars_more}
+use Rattle.uca_text.proofs.Runs.{all_scalars}
 use Rattle.uca_text.proofs.limits.classify.Goals as goal
 use Rattle.uca_text.proofs.limits.classify.Goals.{then-class-eq0, else-class-eq0+then-run-lt-LONGEST_RUN}
 
