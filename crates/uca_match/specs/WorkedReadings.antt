@@ -25,7 +25,7 @@ pub record WorkedReadings : Type 0 where
       ≡ plain 0x1C50 0x20 2 ∷ plain 0 0x2C 2 ∷ plain 0x1C60 0x20 2 ∷ []
   -- a non-starter of the same class blocks, and so does a starter
   pub blocked : elements_under with_contraction (0x61 ∷ 0x300 ∷ 0x301 ∷ []) ≡ plain 0x1C47 0x20 2 ∷ plain 0 0x25 2 ∷ plain 0 0x24 2 ∷ []
-  pub behind_starter : elements_under with_contraction (0x61 ∷ 0x62 ∷ 0x301 ∷ []) ≡ plain 0x1C47 0x20 2 ∷ plain 0x1C60 0x20 2 ∷ plain 0 0x24 2 ∷ []
+  pub after_starter : elements_under with_contraction (0x61 ∷ 0x62 ∷ 0x301 ∷ []) ≡ plain 0x1C47 0x20 2 ∷ plain 0x1C60 0x20 2 ∷ plain 0 0x24 2 ∷ []
   -- a non-starter that was removed blocks no later one of its class
   pub removed_twice : elements_under with_long_contraction (0x61 ∷ 0x323 ∷ 0x301 ∷ 0x300 ∷ []) ≡ plain 0x1C58 0x20 2 ∷ plain 0 0x2C 2 ∷ []
   -- non-starters before and after a removed one keep their order

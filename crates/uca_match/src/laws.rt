@@ -31,7 +31,11 @@ pub fn keys_read_as_rows()
     ensures { KeysReadAsRows }
 {}
 
-/// A relation between lists of elements that is kept where lists are put one after the other.
+/// A relation between lists of elements that holds of two empty lists, and is kept where lists are put one
+/// after the other.
+///
+/// A relation that depends on the values of a program has no type to stand for it: there
+/// [`same_keys_read_by_parts`] serves, from which the same follows for every relation.
 pub trait RelatesElements {
     // which lists are related
     ghost related: { List Element → List Element → Type 0 };

@@ -10,7 +10,7 @@ use Rattle.uca_text.proofs.limits.classify.Goals.{then-class-eq0, else-class-eq0
 pub returns-else-run-lt-LONGEST_RUN-clause-fault :
     goal.returns-else-run-lt-LONGEST_RUN-clause-fault
 returns-else-run-lt-LONGEST_RUN-clause-fault g c =
-    let f = class_in c.args.data.now.classes in
+    let f = class_in c.args.properties.now.classes in
     let points = c.args.points.now in
     let here = c.loop-place.place in
     let same : get_or (map f points) here 0 ≡ c.class-class.result =
@@ -23,7 +23,7 @@ returns-else-run-lt-LONGEST_RUN-clause-fault g c =
 
 pub loop-place-preserved : goal.loop-place-preserved
 loop-place-preserved g c =
-    let f = class_in c.args.data.now.classes in
+    let f = class_in c.args.properties.now.classes in
     let points = c.args.points.now in
     let here = c.loop-place.place in
     let counted = c.loop-place.invariant.counted in
@@ -44,7 +44,7 @@ loop-place-preserved g c =
 
 pub returns-clause-short_runs : goal.returns-clause-short_runs
 returns-clause-short_runs g c =
-    let f = class_in c.args.data.now.classes in
+    let f = class_in c.args.properties.now.classes in
     let all : c.loop-place.classes.items ≡ map f c.args.points.now =
     all_classes f c.args.points.now c.loop-place.classes.items c.loop-place.place c.loop-place.invariant.items c.loop-place-test.false in
     rw all (no_long_run (map f c.args.points.now) c.loop-place.place c.loop-place.run c.loop-place.invariant.counted
