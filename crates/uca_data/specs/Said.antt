@@ -1,9 +1,10 @@
 -- What the lines of a data file say together, and why a line is refused.
-use Rattle.std.specs.Prelude.{◌≡◌, ◌≢◌, ◌⊎◌, ℕ, ◌+◌, ◌<◌, ◌≤◌, ⊤, Bool, true, false, List, [], ◌∷◌, ◌++◌, length, Result, Ok, Err}
+use Rattle.std.specs.Prelude.{◌≡◌, ◌≢◌, ◌⊎◌, ℕ, ◌+◌, ◌<◌, ◌≤◌, ⊤, Bool, true, false, List, [], ◌∷◌, ◌++◌, length, Option, Result, Ok, Err}
 use Rattle.std.specs.List.{AllByRecursion, AllZip}
 use Rattle.uca_fields.specs.Text.{text_of}
 use Rattle.uca_files.specs.declared.FaultKind.{FaultKind}
 use Rattle.uca_files.specs.declared.FaultKind.TheVariants as kinds
+use Rattle.uca_files.specs.declared.TableFault.{TableFault}
 use Rattle.uca_files.specs.Files as files
 use Rattle.uca_values.specs.Content.{DataContent, IsClass, Properties, properties_of}
 use Rattle.uca_values.specs.Adding.{with_class, with_core, with_other, HasClassBetween, HasHanBetween}
@@ -151,3 +152,7 @@ abbrev pub Cause : Said → List ℕ → FaultKind → Type 0
 Cause said line kind =
     ((kind ≡ kinds.Order) × OrderCause said (text_of line))
     ⊎ (IsRangeDue said (text_of line) × ((words : List (List ℕ)) × AreWords (text_of line) words × RangeCause said (read_words words) kind))
+
+-- why the bytes of a data file are refused, of which the source has `left` left
+abbrev pub Refuses : List ℕ → Option (List ℕ) → TableFault → Type 0
+Refuses bytes left fault = files.Refuses Says Cause IsUnfinished bytes left fault.line fault.kind

@@ -3,8 +3,7 @@
 ghost use Rattle.std.specs.Prelude.{◌≡◌, ◌||◌, IfOk, IfErr, IfSome, MatchResult};
 ghost use Rattle.uca_values.specs.Content.{Properties, properties_of};
 ghost use Rattle.uca_files.specs.Faults.{IsStop, is_read};
-ghost use Rattle.uca_files.specs.Files.{Refuses};
-ghost use Rattle.uca_data.specs.Said.{Says, Cause, Means, IsUnfinished};
+ghost use Rattle.uca_data.specs.Said.{Means, Refuses};
 
 use crate::begun::Begun;
 use std::alloc::{Allocator, Global};
@@ -43,8 +42,8 @@ pub fn read_data<R: Read>(alloc: Global, source: &mut Source<R>) -> Result<Data,
         Means bytes (properties_of read))) }
     ensures only { IfSome source.old.remaining (λ bytes. (properties : Properties) → Means bytes properties →
         MatchResult result (λ read. properties_of read ≡ properties) (λ fault. IsStop fault.kind)) }
-    ensures fault { IfSome source.old.remaining (λ bytes. IfErr result (λ fault.
-        Refuses Says Cause IsUnfinished bytes source.new.remaining fault.line fault.kind)) }
+    ensures fault { IfSome source.old.remaining (λ bytes. IfErr result (
+        Refuses bytes source.new.remaining)) }
 
     // At any source.
     ensures failed { source.new.failed ≡ (source.old.failed || is_read result) }
@@ -62,8 +61,8 @@ pub fn read_data_in<A: Allocator + Copy, R: Read>(
         Means bytes (properties_of read))) }
     ensures only { IfSome source.old.remaining (λ bytes. (properties : Properties) → Means bytes properties →
         MatchResult result (λ read. properties_of read ≡ properties) (λ fault. IsStop fault.kind)) }
-    ensures fault { IfSome source.old.remaining (λ bytes. IfErr result (λ fault.
-        Refuses Says Cause IsUnfinished bytes source.new.remaining fault.line fault.kind)) }
+    ensures fault { IfSome source.old.remaining (λ bytes. IfErr result (
+        Refuses bytes source.new.remaining)) }
 
     // At any source.
     ensures failed { source.new.failed ≡ (source.old.failed || is_read result) }
@@ -77,8 +76,8 @@ fn read_to_end<A: Allocator + Copy, R: Read>(
 ) -> Result<Data<A>, TableFault>
     ensures found { IfSome source.old.remaining (λ bytes. IfOk result (λ read.
         Means bytes (properties_of read))) }
-    ensures fault { IfSome source.old.remaining (λ bytes. IfErr result (λ fault.
-        Refuses Says Cause IsUnfinished bytes source.new.remaining fault.line fault.kind)) }
+    ensures fault { IfSome source.old.remaining (λ bytes. IfErr result (
+        Refuses bytes source.new.remaining)) }
     ensures failed { source.new.failed ≡ (source.old.failed || is_read result) }
 {
     let mut begun = Begun {

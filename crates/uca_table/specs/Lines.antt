@@ -1,10 +1,11 @@
 -- What the lines of a table file say, and why a line is refused.
-use Rattle.std.specs.Prelude.{◌≡◌, ◌≢◌, ℕ, ◌⊎◌, ◌==◌, Bool, true, false, List, [], ◌∷◌, ◌++◌, map, Some, None, IsSome}
+use Rattle.std.specs.Prelude.{◌≡◌, ◌≢◌, ℕ, ◌⊎◌, ◌==◌, Bool, true, false, List, [], ◌∷◌, ◌++◌, map, Option, Some, None, IsSome}
 use Rattle.std.specs.List.{AllZip}
 use Rattle.std.specs.Option.{option_to_list}
 use Rattle.uca_weights.specs.declared.Weighting.{Weighting}
 use Rattle.uca_files.specs.declared.FaultKind.{FaultKind}
 use Rattle.uca_files.specs.declared.FaultKind.TheVariants as kinds
+use Rattle.uca_files.specs.declared.TableFault.{TableFault}
 use Rattle.uca_fields.specs.Text.{text_of, word_of, after_word}
 use Rattle.uca_values.specs.declared.ImplicitRange.{ImplicitRange}
 use Rattle.uca_values.specs.Content.{Entry, TableContent}
@@ -114,6 +115,10 @@ TextCause b text kind = ((kind ≡ kinds.Line) × (begins_at text ≡ true) × (
 
 abbrev pub Cause : Begun → List ℕ → FaultKind → Type 0
 Cause b line kind = TextCause b (text_of line) kind
+
+-- why the bytes of a table file are refused, of which the source has `left` left
+abbrev pub Refuses : List ℕ → Option (List ℕ) → TableFault → Type 0
+Refuses bytes left fault = Files.Refuses Says Cause IsUnfinished bytes left fault.line fault.kind
 
 -- ---- One more line
 

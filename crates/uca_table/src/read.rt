@@ -3,8 +3,7 @@
 ghost use Rattle.std.specs.Prelude.{◌≡◌, ◌||◌, IfOk, IfErr, IfSome, MatchResult};
 ghost use Rattle.uca_values.specs.Content.{TableContent};
 ghost use Rattle.uca_files.specs.Faults.{IsStop, is_read};
-ghost use Rattle.uca_files.specs.Files.{Refuses};
-ghost use Rattle.uca_table.specs.Lines.{Says, Cause, Means, IsUnfinished};
+ghost use Rattle.uca_table.specs.Lines.{Means, Refuses};
 
 use crate::lines::TableLines;
 use std::alloc::{Allocator, Global};
@@ -45,8 +44,8 @@ pub fn read_table<R: Read>(alloc: Global, source: &mut Source<R>) -> Result<Tabl
     ensures found { IfSome source.old.remaining (λ bytes. IfOk result (λ read. Means bytes read)) }
     ensures only { IfSome source.old.remaining (λ bytes. (table : TableContent) → Means bytes table →
         MatchResult result (λ read. read ≡ table) (λ fault. IsStop fault.kind)) }
-    ensures fault { IfSome source.old.remaining (λ bytes. IfErr result (λ fault.
-        Refuses Says Cause IsUnfinished bytes source.new.remaining fault.line fault.kind)) }
+    ensures fault { IfSome source.old.remaining (λ bytes. IfErr result (
+        Refuses bytes source.new.remaining)) }
 
     // At any source.
     ensures failed { source.new.failed ≡ (source.old.failed || is_read result) }
@@ -63,8 +62,8 @@ pub fn read_table_in<A: Allocator + Copy, R: Read>(
     ensures found { IfSome source.old.remaining (λ bytes. IfOk result (λ read. Means bytes read)) }
     ensures only { IfSome source.old.remaining (λ bytes. (table : TableContent) → Means bytes table →
         MatchResult result (λ read. read ≡ table) (λ fault. IsStop fault.kind)) }
-    ensures fault { IfSome source.old.remaining (λ bytes. IfErr result (λ fault.
-        Refuses Says Cause IsUnfinished bytes source.new.remaining fault.line fault.kind)) }
+    ensures fault { IfSome source.old.remaining (λ bytes. IfErr result (
+        Refuses bytes source.new.remaining)) }
 
     // At any source.
     ensures failed { source.new.failed ≡ (source.old.failed || is_read result) }
@@ -77,8 +76,8 @@ fn read_to_end<A: Allocator + Copy, R: Read>(
     source: &mut Source<R>,
 ) -> Result<Table<A>, TableFault>
     ensures found { IfSome source.old.remaining (λ bytes. IfOk result (λ read. Means bytes read)) }
-    ensures fault { IfSome source.old.remaining (λ bytes. IfErr result (λ fault.
-        Refuses Says Cause IsUnfinished bytes source.new.remaining fault.line fault.kind)) }
+    ensures fault { IfSome source.old.remaining (λ bytes. IfErr result (
+        Refuses bytes source.new.remaining)) }
     ensures failed { source.new.failed ≡ (source.old.failed || is_read result) }
 {
     let mut lines = TableLines::new(alloc);
