@@ -15,7 +15,8 @@ use Rattle.std.specs.Iterator.Runs.{Run, WholeRun}
 use Rattle.std.proofs.iter.runs.Made.{took}
 use Rattle.uca_match.specs.Rows.{Rows, rows_of, same_key}
 use Rattle.uca_match.specs.Reading.{others, marks_at_front, after_marks, removed, longest_key, Portion, portion_at, portion, read_within, collation_elements}
-use Rattle.uca_key.specs.Levels.{Weights, weight_at, level_list, level_lists_from, weighted, level_bytes, levels_bytes, shifted_behind, plain_weights, key_bytes}
+use Rattle.uca_match.specs.Collations.{Collation, elements_of}
+use Rattle.uca_key.specs.Levels.{Weights, weight_at, level_list, level_lists_from, weighted, level_bytes, levels_bytes, weighted_behind, key_bytes}
 use Rattle.uca_key.specs.Lengths.{HasShortRows}
 use Rattle.uca_key.specs.Laws.{KeysAreShort, RowsAreShort}
 use Rattle.std.specs.List.{AllByRecursion}
@@ -34,13 +35,10 @@ pub length-level_bytes : (ws : List ℕ) → length (level_bytes ws) ≡ 2 * len
 length-level_bytes [] = refl
 length-level_bytes (w ∷ ws) = omega (arith, length-level_bytes ws)
 
-pub length-shifted : (earlier es : List Element) → length (shifted_behind earlier es) ≡ length es
-length-shifted earlier [] = refl
-length-shifted earlier (e ∷ es) = ap suc (length-shifted (e ∷ earlier) es)
-
-pub length-weighted : (weighting : Weighting) (es : List Element) → length (weighted weighting es) ≡ length es
-length-weighted NonIgnorable es = length-map es plain_weights
-length-weighted Shifted es = length-shifted [] es
+-- each element has weights
+pub length-weighted : (weighting : Weighting) (earlier es : List Element) → length (weighted_behind weighting earlier es) ≡ length es
+length-weighted weighting earlier [] = refl
+length-weighted weighting earlier (e ∷ es) = ap suc (length-weighted weighting (e ∷ earlier) es)
 
 -- a level has at most two bytes for each element
 pub length-level : (n : ℕ) (ws : List Weights) → length (level_bytes (level_list n ws)) ≤ 2 * length ws
@@ -50,40 +48,40 @@ length-level n ws =
     let c = length-map ws (weight_at n) in
     omega (arith, a, b, c)
 
-pub length-three : (ws : List Weights) → length (levels_bytes (level_lists_from 0 3 ws)) ≤ 6 * length ws + 4
+pub length-three : (ws : List Weights) → length (levels_bytes (level_lists_from 1 3 ws)) ≤ 6 * length ws + 4
 length-three ws =
-    let one = level_bytes (level_list 0 ws) in
-    let two = level_bytes (level_list 1 ws) in
-    let three = level_bytes (level_list 2 ws) in
+    let one = level_bytes (level_list 1 ws) in
+    let two = level_bytes (level_list 2 ws) in
+    let three = level_bytes (level_list 3 ws) in
     omega (
       arith,
-      length-level 0 ws,
       length-level 1 ws,
       length-level 2 ws,
+      length-level 3 ws,
       length-append one (0 ∷ 0 ∷ (two ++ (0 ∷ 0 ∷ three))),
       length-append two (0 ∷ 0 ∷ three),
     )
 
-pub length-four : (ws : List Weights) → length (levels_bytes (level_lists_from 0 4 ws)) ≤ 8 * length ws + 6
+pub length-four : (ws : List Weights) → length (levels_bytes (level_lists_from 1 4 ws)) ≤ 8 * length ws + 6
 length-four ws =
-    let one = level_bytes (level_list 0 ws) in
-    let two = level_bytes (level_list 1 ws) in
-    let three = level_bytes (level_list 2 ws) in
-    let four = level_bytes (level_list 3 ws) in
+    let one = level_bytes (level_list 1 ws) in
+    let two = level_bytes (level_list 2 ws) in
+    let three = level_bytes (level_list 3 ws) in
+    let four = level_bytes (level_list 4 ws) in
     omega (
       arith,
-      length-level 0 ws,
       length-level 1 ws,
       length-level 2 ws,
       length-level 3 ws,
+      length-level 4 ws,
       length-append one (0 ∷ 0 ∷ (two ++ (0 ∷ 0 ∷ (three ++ (0 ∷ 0 ∷ four))))),
       length-append two (0 ∷ 0 ∷ (three ++ (0 ∷ 0 ∷ four))),
       length-append three (0 ∷ 0 ∷ four),
     )
 
 pub length-key : (weighting : Weighting) (es : List Element) → length (key_bytes weighting es) ≤ 8 * length es + 6
-length-key NonIgnorable es = omega (arith, length-three (weighted NonIgnorable es), length-weighted NonIgnorable es)
-length-key Shifted es = omega (arith, length-four (weighted Shifted es), length-weighted Shifted es)
+length-key NonIgnorable es = omega (arith, length-three (weighted NonIgnorable es), length-weighted NonIgnorable [] es)
+length-key Shifted es = omega (arith, length-four (weighted Shifted es), length-weighted Shifted [] es)
 
 -- ---- Of texts
 
@@ -140,23 +138,27 @@ length-read_within implicit rows (suc n) (c ∷ t) few short =
     let p : IsShortPortion first (length t) = short_portion implicit rows c t (longest_key rows (c ∷ t) (length (c ∷ t))) few short in
     omega (arith, p.few, p.rest, length-append first.elements (read_within implicit rows n first.rest), length-read_within implicit rows n first.rest few short)
 
-pub length-elements : (rows : Rows) (ranges : List ImplicitRange) (properties : Properties) (t : Text) → HasShortRows rows → length (collation_elements rows ranges properties t) ≤ 32 * length t
-length-elements rows ranges properties t short = length-read_within (implicit ranges properties) rows (length t) t (few_implicit ranges properties) short
+-- of the texts that a collation reads
+pub length-elements : (c : Collation) (t : Text) → HasShortRows c.rows → length (collation_elements c.rows c.ranges c.properties t) ≤ 32 * length t
+length-elements c t short = length-read_within (implicit c.ranges c.properties) c.rows (length t) t (few_implicit c.ranges c.properties) short
 
+-- a text has a letter for each code point that has a class
 pub length-letters : (points classes : List ℕ) → length (letters points classes) ≤ length points
 length-letters [] classes = omega arith
 length-letters (c ∷ points) [] = omega arith
 length-letters (c ∷ points) (k ∷ classes) = omega (arith, length-letters points classes)
 
 -- the key of a text within the limits
-pub key_is_short : (rows : Rows) (ranges : List ImplicitRange) (properties : Properties) (weighting : Weighting) (points classes : List ℕ) → HasShortRows rows → length points ≤ 1048576 → length (key_bytes weighting (collation_elements rows ranges properties (letters points classes))) < 2 ^ 40
-key_is_short rows ranges properties weighting points classes short few =
-    let t = letters points classes in
-    let es = collation_elements rows ranges properties t in
-    omega (arith, length-key weighting es, length-elements rows ranges properties t short, length-letters points classes, few)
-
 pub keys_short : KeysAreShort
-keys_short rows ranges properties weighting text short accepted = key_is_short rows ranges properties weighting text.points text.classes short accepted.few
+keys_short c weighting text short accepted =
+    let t = letters_of text in
+    omega (
+      arith,
+      length-key weighting (elements_of c text),
+      length-elements c t short,
+      length-letters text.points text.classes,
+      accepted.few,
+    )
 
 -- of an iterator that shows its items a whole run gives them all
 pub shown : {X : Type 0} (s : List X) (xs : List X) (t u : List X) → Yields (YieldsFirst (λ (rest : List X). rest)) s xs t → YieldsFirst (λ (rest : List X). rest) t None u → xs ≡ s
@@ -170,14 +172,13 @@ whole_is s p from whole =
     shown p.from p.items t u ran ended ∙ from
 
 -- so a key that was written of a text is short
-pub written_short : {U E : Type 0} (r : Result U E) (key : List ℕ) (weighting : Weighting) (rows : Rows) (ranges : List ImplicitRange) (properties : Properties) (text : Spelled) (es : List Element)
-    → es ≡ collation_elements rows ranges properties (letters_of text)
-    → OnOk r (WholeRun (YieldsFirst (λ (rest : List Element). rest)) es (λ p. key ≡ key_bytes weighting p.items))
-    → HasShortRows rows → IsAccepted text → OnOk r (length key < 2 ^ 40)
-written_short (Ok v) key weighting rows ranges properties text es are (p, from, whole, is) short accepted =
-    let e : key ≡ key_bytes weighting (collation_elements rows ranges properties (letters_of text)) = is ∙ ap (key_bytes weighting) (whole_is es p from whole ∙ are) in
-    subst (λ (l : List ℕ). length l < 2 ^ 40) (sym e) (keys_short rows ranges properties weighting text short accepted)
-written_short (Err e) key weighting rows ranges properties text es are whole short accepted = tt
+pub written_short : {U E : Type 0} (r : Result U E) (key : List ℕ) (weighting : Weighting) (c : Collation) (text : Spelled) (es : List Element)
+    → es ≡ elements_of c text → OnOk r (WholeRun (YieldsFirst (λ (rest : List Element). rest)) es (λ p. key ≡ key_bytes weighting p.items))
+    → HasShortRows c.rows → IsAccepted text → OnOk r (length key < 2 ^ 40)
+written_short (Ok v) key weighting c text es are (p, from, whole, is) short accepted =
+    let e : key ≡ key_bytes weighting (elements_of c text) = is ∙ ap (key_bytes weighting) (whole_is es p from whole ∙ are) in
+    subst (λ (l : List ℕ). length l < 2 ^ 40) (sym e) (keys_short c weighting text short accepted)
+written_short (Err e) key weighting c text es are whole short accepted = tt
 
 -- ---- Rows
 

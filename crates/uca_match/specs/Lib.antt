@@ -1,5 +1,6 @@
 pub mod Rows
 pub mod Reading
+pub mod Collations
 pub mod Lookups
 pub mod RowLists
 pub mod Tries

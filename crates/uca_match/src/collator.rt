@@ -1,8 +1,6 @@
 //! What a text is read by.
 ghost use Rattle.std.specs.Prelude.{◌≡◌};
-ghost use Rattle.uca_text.specs.Texts.{letters_of};
-ghost use Rattle.uca_values.specs.Content.{properties_of};
-ghost use Rattle.uca_match.specs.Reading.{collation_elements};
+ghost use Rattle.uca_match.specs.Collations.{collation_of, elements_of};
 
 use crate::places::Place;
 use crate::{Elements, Lookup};
@@ -37,13 +35,10 @@ impl<'a, L: Lookup, A: Allocator> Collator<'a, L, A> {
 
     /// The collation elements of `text`, in order (UTS #10, section 7.2). It takes no memory.
     pub fn elements<'t>(&'t self, text: &'t Normal) -> Elements<'t, L, A>
-        ensures { result ≡ collation_elements (L.content self.now.lookup.now) self.now.header.now.ranges
-            (properties_of self.now.data.now) (letters_of text.now) }
+        ensures { result ≡ elements_of (collation_of L.content self.now) text.now }
     {
         Elements {
-            data: self.data,
-            lookup: self.lookup,
-            header: self.header,
+            collator: *self,
             text,
             place: Place::start(),
             second: None,

@@ -1,13 +1,12 @@
 //! The collation elements of a text, one after the other.
 ghost use Rattle.std.specs.Iterator.{YieldsFirst, item_count};
 
-use crate::Lookup;
 use crate::matches::{Given, next_portion};
 use crate::places::Place;
+use crate::{Collator, Lookup};
 use std::alloc::{Allocator, Global};
 use std::marker::Model;
 use uca_text::Normal;
-use uca_values::{Data, Header};
 use uca_weights::Element;
 
 /// The collation elements of a text (UTS #10, section 7.2), seen as the list of those that are left.
@@ -15,9 +14,7 @@ use uca_weights::Element;
 /// It takes no memory: the elements of a row are those that the lookup lends.
 #[derive(Drop)]
 pub struct Elements<'a, L: Lookup, A: Allocator = Global> {
-    pub(crate) lookup: &'a L,
-    pub(crate) header: &'a Header<A>,
-    pub(crate) data: &'a Data<A>,
+    pub(crate) collator: Collator<'a, L, A>,
     pub(crate) text: &'a Normal,
     // what follows the elements below is what the text is read as from here on
     pub(crate) place: Place,
@@ -30,15 +27,13 @@ pub struct Elements<'a, L: Lookup, A: Allocator = Global> {
 impl<'a, L: Lookup, A: Allocator> Model for Elements<'a, L, A> {
     ghost use Rattle.std.specs.Prelude.{List};
     ghost use Rattle.uca_weights.specs.declared.Element.{Element};
-    ghost use Rattle.uca_values.specs.Content.{properties_of};
-    ghost use Rattle.uca_values.specs.Implicit.{implicit};
+    ghost use Rattle.uca_match.specs.Collations.{collation_of};
     ghost use Rattle.uca_match.specs.Places.{left_of, IsPlace};
     ghost use Rattle.uca_match.specs.Rest.{rest_of};
 
     ghost Value = { List Element };
 
-    ghost view = { λ s. rest_of (implicit s.header.now.ranges (properties_of s.data.now)) (L.content s.lookup.now)
-        s.second s.row.now (left_of s.text.now s.place) };
+    ghost view = { λ s. rest_of (collation_of L.content s.collator) s.second s.row.now (left_of s.text.now s.place) };
 
     ghost invariant = { λ s. IsPlace s.text.now s.place };
 }
@@ -59,12 +54,13 @@ impl<'a, L: Lookup, A: Allocator> Iterator for Elements<'a, L, A> {
                 self.row = rest;
                 return Some(*first);
             }
-            let portion = next_portion(self.lookup, self.text, self.place)?;
+            let portion = next_portion(self.collator.lookup, self.text, self.place)?;
             self.place = portion.next;
             match portion.given {
                 Given::Row(row) => self.row = row,
                 Given::Unlisted(point) => {
-                    let [first, second] = self.header.implicit(self.data, point);
+                    let Collator { header, data, .. } = self.collator;
+                    let [first, second] = header.implicit(data, point);
                     self.second = Some(second);
                     return Some(first);
                 }

@@ -132,7 +132,7 @@ fn check_lookup<L: Lookup>(rt: &impl Abort, lookup: &L, cases: &[Case]) {
 fn check(rt: &(impl Abort + AllocGlobal), lines: &[Line], cases: &[Case]) -> Result<(), Fail> {
     let table = table(rt, rt.alloc(), lines)?;
     check_lookup(rt, &RowList::new(&table), cases);
-    check_lookup(rt, &Trie::new(&table)?, cases);
+    check_lookup(rt, &Trie::new(rt.alloc(), &table)?, cases);
     Ok(())
 }
 
@@ -335,7 +335,7 @@ fn finds_each_of_many_followers(rt: HostRuntime) -> Result<(), Fail> {
         }
         let table = table(&rt, alloc, &numbered(alloc, &keys)?)?;
         let list = RowList::new(&table);
-        let trie = Trie::new(&table)?;
+        let trie = Trie::new(rt.alloc(), &table)?;
         check_numbered(&rt, &list, &keys)?;
         check_numbered(&rt, &trie, &keys)?;
         assert_eq!(rt; found(&list, &['x']), Said::Beginning);
@@ -355,7 +355,7 @@ fn finds_each_of_many_letters(rt: HostRuntime) -> Result<(), Fail> {
         letters.push(vec![in alloc; point(&rt, code)]?)?;
     }
     let table = table(&rt, alloc, &numbered(alloc, &letters)?)?;
-    check_numbered(&rt, &Trie::new(&table)?, &letters)?;
+    check_numbered(&rt, &Trie::new(rt.alloc(), &table)?, &letters)?;
     Ok(())
 }
 
@@ -385,7 +385,7 @@ fn a_refused_growth_leaves_nothing(rt: HostRuntime) -> Result<(), Fail> {
             continue;
         };
         let before = heap.used();
-        match Trie::new(&table) {
+        match Trie::new(&heap, &table) {
             Ok(trie) => {
                 check_lookup(&rt, &trie, &cases);
                 made = made.saturating_add(1);
@@ -434,12 +434,12 @@ fn reads_texts(rt: HostRuntime) -> Result<(), Fail> {
     ];
     let table = table(&rt, rt.alloc(), &lines)?;
     check_texts(&rt, &RowList::new(&table), &table.header, &texts)?;
-    check_texts(&rt, &Trie::new(&table)?, &table.header, &texts)
+    check_texts(&rt, &Trie::new(rt.alloc(), &table)?, &table.header, &texts)
 }
 
 #[test]
 fn gives_no_elements_after_the_last(rt: HostRuntime) -> Result<(), Fail> {
     let table = table(&rt, rt.alloc(), &[(&['a'], 1)])?;
     check_end(&rt, &RowList::new(&table), &table.header)?;
-    check_end(&rt, &Trie::new(&table)?, &table.header)
+    check_end(&rt, &Trie::new(rt.alloc(), &table)?, &table.header)
 }

@@ -76,36 +76,44 @@ pub struct TrieNode {
 }
 
 impl<A: Allocator + Copy> Trie<A> {
-    /// The trie of the rows of `table`, with copies of their elements, in memory of the table's allocator.
-    /// The error says that no memory was left.
-    pub fn new(table: &Table<A>) -> Result<Self, AllocError>
+    /// The trie of the rows of `table`, with copies of their elements.
+    ///
+    /// # Errors
+    ///
+    /// An allocation that fails.
+    pub fn new<T: Allocator>(alloc: A, table: &Table<T>) -> Result<Self, AllocError>
         ensures { IfOk result (λ trie. (key : List ℕ) →
             ⟦<Trie<A> as Lookup>⟧.content trie key ≡ rows_of table.now.rows key) }
     {
-        let nodes = nodes_of(&table.rows)?;
-        let heads = heads_of(&nodes)?;
+        let nodes = nodes_of(alloc, &table.rows)?;
+        let heads = heads_of(alloc, &nodes)?;
         Ok(Trie { nodes, heads })
     }
 }
 
 /// The nodes of all rows.
-fn nodes_of<A: Allocator + Copy>(rows: &Vec<Row<A>, A>) -> Result<Vec<Node<A>, A>, AllocError>
-    requires { AreDistinct rows.now.items }
+fn nodes_of<A: Allocator + Copy, T: Allocator>(
+    alloc: A,
+    rows: &[Row<T>],
+) -> Result<Vec<Node<A>, A>, AllocError>
+    requires { AreDistinct rows.now }
     ensures tree { IfOk result (λ nodes. IsTree nodes.items) }
-    ensures rows { IfOk result (λ nodes. (key : List ℕ) → held nodes.items key ≡ rows_of rows.now.items key) }
+    ensures rows { IfOk result (λ nodes. (key : List ℕ) → held nodes.items key ≡ rows_of rows.now key) }
 {
-    let alloc = *rows.allocator();
     let mut nodes = Vec::new(alloc);
     nodes.push(empty_node(alloc))?;
     for headed in &sorted(alloc, rows)? {
-        add_row(&mut nodes, alloc, headed.row)?;
+        add_row(alloc, &mut nodes, headed.row)?;
     }
     Ok(nodes)
 }
 
 /// The rows in the order of their keys, in which the edges of each node are met in rising order. That order
 /// saves time, and nothing more: the nodes are those of the rows in any order.
-fn sorted<A: Allocator + Copy>(alloc: A, rows: &[Row<A>]) -> Result<Vec<Headed<A>, A>, AllocError>
+fn sorted<A: Allocator, T: Allocator>(
+    alloc: A,
+    rows: &[Row<T>],
+) -> Result<Vec<Headed<T>, A>, AllocError>
     ensures { IfOk result (λ list. IsPermutation rows.now (map (λ headed. headed.row.now) list.items)) }
 {
     let mut list = Vec::with_capacity(alloc, rows.len())?;
@@ -119,14 +127,14 @@ fn sorted<A: Allocator + Copy>(alloc: A, rows: &[Row<A>]) -> Result<Vec<Headed<A
 
 /// A row beside the first code point of its key, by which most rows are told apart without a look at them.
 #[derive(Clone, Copy)]
-pub(crate) struct Headed<'a, A: Allocator> {
+pub(crate) struct Headed<'a, T: Allocator> {
     head: Option<char>,
-    row: &'a Row<A>,
+    row: &'a Row<T>,
 }
 
-impl<'a, A: Allocator> Headed<'a, A> {
+impl<'a, T: Allocator> Headed<'a, T> {
     /// The order of the two keys.
-    fn order(&self, other: &Headed<'a, A>) -> Ordering {
+    fn order(&self, other: &Headed<'a, T>) -> Ordering {
         if self.head != other.head {
             return self.head.cmp(&other.head);
         }
@@ -146,10 +154,10 @@ fn empty_node<A: Allocator>(alloc: A) -> Node<A>
 }
 
 /// Adds the nodes of a row, as far as they are not there, and its elements.
-fn add_row<A: Allocator + Copy>(
-    nodes: &mut Vec<Node<A>, A>,
+fn add_row<A: Allocator + Copy, T: Allocator>(
     alloc: A,
-    row: &Row<A>,
+    nodes: &mut Vec<Node<A>, A>,
+    row: &Row<T>,
 ) -> Result<(), AllocError>
     requires { IsTree nodes.old.items }
     ensures tree { OnOk result (IsTree nodes.new.items) }
@@ -158,7 +166,7 @@ fn add_row<A: Allocator + Copy>(
 {
     let mut number = 0;
     for point in &row.key {
-        number = add_step(nodes, alloc, number, *point)?;
+        number = add_step(alloc, nodes, number, *point)?;
     }
     let elements = Vec::from_slice(alloc, &row.elements)?;
     nodes[number].row = Some(elements);
@@ -167,8 +175,8 @@ fn add_row<A: Allocator + Copy>(
 
 /// The node to which a code point leads from another node. It is added if it is not there.
 fn add_step<A: Allocator + Copy>(
-    nodes: &mut Vec<Node<A>, A>,
     alloc: A,
+    nodes: &mut Vec<Node<A>, A>,
     number: usize,
     point: char,
 ) -> Result<usize, AllocError>
@@ -209,13 +217,14 @@ fn place(edges: &[Edge], point: char) -> usize
 }
 
 /// Where the first code points lead from the root.
-fn heads_of<A: Allocator + Copy>(nodes: &Vec<Node<A>, A>) -> Result<Vec<usize, A>, AllocError>
-    requires { IsTree nodes.now.items }
-    ensures { IfOk result (λ heads. AreHeads (node_at nodes.now.items 0).edges heads.items) }
+fn heads_of<A: Allocator>(alloc: A, nodes: &[Node<A>]) -> Result<Vec<usize, A>, AllocError>
+    requires { IsTree nodes.now }
+    ensures { IfOk result (λ heads. AreHeads (node_at nodes.now 0).edges heads.items) }
 {
-    let edges = &nodes[0].edges;
+    let root = &nodes[0];
+    let edges = &root.edges;
     let len = edges.len().saturating_mul(HEADS_PER_EDGE).min(MOST_HEADS);
-    let mut heads = Vec::from_elem(*nodes.allocator(), 0, len)?;
+    let mut heads = Vec::from_elem(alloc, 0, len)?;
     for edge in edges {
         let code = edge.point as usize;
         if code < heads.len() {

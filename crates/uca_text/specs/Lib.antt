@@ -1,4 +1,5 @@
 pub mod Texts
 pub mod Limits
 pub mod Faults
+pub mod FaultText
 pub mod Laws

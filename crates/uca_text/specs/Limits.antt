@@ -1,5 +1,7 @@
 -- How long a text may be, and how many non-starters may stand in a row.
 use Rattle.std.specs.Prelude.{◌≡◌, ℕ, ◌+◌, ◌<◌, ◌≤◌, List, length, slice_index}
+use Rattle.std.specs.List.{AllByRecursion}
+use Rattle.std.specs.Char.{IsScalar}
 use Rattle.uca_text.specs.Texts.{Spelled}
 
 -- more than 64 non-starters in a row stand from `place` on
@@ -21,3 +23,8 @@ pub record IsAccepted (s : Spelled) : Type 0 where
   pub same : length s.classes ≡ length s.points
   pub few : length s.points ≤ 1048576
   pub short_runs : HasNoLongRun s.classes
+
+-- what holds of every text in Normalization Form D: it is accepted, and its code points are Unicode scalar values
+pub record IsNormal (s : Spelled) : Type 0 where
+  pub accepted : IsAccepted s
+  pub scalars : AllByRecursion IsScalar s.points

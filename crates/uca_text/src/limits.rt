@@ -1,15 +1,17 @@
 //! Bringing a text to Normalization Form D within the limits.
 ghost use Rattle.std.specs.Prelude.{◌≡◌, ◌≤◌, [], chars, length, map, IfOk, IfErr, OnOk, OnErr};
+ghost use Rattle.std.specs.List.{AllByRecursion};
+ghost use Rattle.std.specs.Char.{IsScalar};
 ghost use Rattle.unicode_normalization.specs.Forms.{nfd};
 ghost use Rattle.uca_values.specs.Content.{properties_of};
 ghost use Rattle.uca_values.specs.Ranges.{class_in};
 ghost use Rattle.uca_text.specs.Texts.{spelled};
-ghost use Rattle.uca_text.specs.Limits.{IsAccepted, HasNoLongRun};
+ghost use Rattle.uca_text.specs.Limits.{IsAccepted, IsNormal, HasNoLongRun};
 ghost use Rattle.uca_text.specs.Faults.{IsCause};
 
 use crate::Normal;
 use std::alloc::{AllocError, AllocFailed, Allocator, Global};
-use std::mem;
+use std::{fmt, mem};
 use thiserror::Error;
 use uca_values::Data;
 use unicode_normalization::slice::extend_nfd;
@@ -24,15 +26,27 @@ const LONGEST_RUN: usize = 64;
 #[derive(Clone, Copy, Debug, PartialEq, Eq, Error)]
 pub enum TextFault {
     /// It has more than 1,048,576 code points in Normalization Form D.
-    #[error("TooLong")]
     TooLong,
     /// More than 64 non-starters stand in a row. The number is the index, from 0, of the first of them
     /// in Normalization Form D, and the run is the first such run.
-    #[error("LongRun at {0}")]
     LongRun(u32),
-    /// There was no memory for the text.
-    #[error("Memory")]
+    /// An allocation failed.
     Memory,
+}
+
+impl fmt::Display for TextFault {
+    ghost use Rattle.std.specs.Prelude.{Some};
+    ghost use Rattle.uca_text.specs.FaultText.{text_fault_text};
+
+    ghost output = { λ fault. Some (text_fault_text fault) };
+
+    fn fmt<W: fmt::Write>(&self, f: &mut fmt::Formatter<W>) -> fmt::Result {
+        match self {
+            TextFault::TooLong => f.write_str("TooLong"),
+            TextFault::LongRun(place) => write!(f, "LongRun at {place}"),
+            TextFault::Memory => f.write_str("Memory"),
+        }
+    }
 }
 
 impl From<AllocError> for TextFault {
@@ -62,7 +76,7 @@ impl<T: Drop> From<AllocFailed<T>> for TextFault {
 /// # Errors
 ///
 /// `TooLong` where the text has more than 1,048,576 code points in that form, and otherwise `LongRun`
-/// where more than 64 non-starters stand in a row there; `Memory` where an allocation is refused.
+/// where more than 64 non-starters stand in a row there; `Memory` where an allocation fails.
 pub fn normal<A: Allocator>(alloc: Global, text: &str, data: &Data<A>) -> Result<Normal, TextFault>
     ensures found { IfOk result (λ n. n ≡ spelled (properties_of «data».now) (chars text.now)) }
     ensures accepted { IfOk result IsAccepted }
@@ -110,7 +124,7 @@ fn spell<A: Allocator>(
 ) -> Result<(), TextFault>
     ensures points { OnOk result (points.new.items ≡ nfd (chars text.now)) }
     ensures classes { OnOk result (classes.new.items ≡ map (class_in «data».now.classes) (nfd (chars text.now))) }
-    ensures accepted { OnOk result (IsAccepted (record { points = points.new.items; classes = classes.new.items })) }
+    ensures normal { OnOk result (IsNormal (record { points = points.new.items; classes = classes.new.items })) }
     ensures fault { IfErr result (IsCause (spelled (properties_of «data».now) (chars text.now))) }
 {
     decompose(points, spare, text)?;
@@ -157,6 +171,7 @@ fn classify<A: Allocator>(
     requires { length points.now ≤ 1048576 }
     ensures found { OnOk result (classes.new.items ≡ map (class_in «data».now.classes) points.now) }
     ensures short_runs { OnOk result (HasNoLongRun classes.new.items) }
+    ensures scalars { OnOk result (AllByRecursion IsScalar points.now) }
     ensures fault { IfErr result (IsCause (record { points = points.now; classes = map (class_in «data».now.classes) points.now })) }
 {
     classes.clear();

@@ -1,11 +1,12 @@
 //! Texts that are ready to be collated.
 
-use std::alloc::Global;
+use std::alloc::{AllocError, Global};
+use std::fmt;
 use std::marker::Model;
 
 /// A text in Normalization Form D, with the canonical combining class of each of its code points. It
 /// has at most 1,048,576 code points, and at most 64 non-starters stand in a row.
-#[derive(Debug, Drop)]
+#[derive(Drop)]
 pub struct Normal {
     pub(crate) chars: Vec<char>,
     pub(crate) classes: Vec<u8>,
@@ -15,17 +16,19 @@ pub struct Normal {
 
 impl Model for Normal {
     ghost use Rattle.uca_text.specs.Texts.{Spelled};
-    ghost use Rattle.uca_text.specs.Limits.{IsAccepted};
+    ghost use Rattle.uca_text.specs.Limits.{IsNormal};
 
     ghost Value = { Spelled };
 
     ghost view = { λ n. record { points = n.chars.items; classes = n.classes.items } };
 
-    ghost invariant = { λ n. IsAccepted (record { points = n.chars.items; classes = n.classes.items }) };
+    ghost invariant = { λ n. IsNormal (record { points = n.chars.items; classes = n.classes.items }) };
 }
 
 impl Normal {
     ghost use Rattle.std.specs.Prelude.{◌≡◌, []};
+    ghost use Rattle.std.specs.List.{AllByRecursion};
+    ghost use Rattle.std.specs.Char.{IsScalar};
     ghost use Rattle.uca_text.specs.Limits.{IsAccepted};
 
     /// The empty text. It takes no memory.
@@ -43,6 +46,7 @@ impl Normal {
     pub fn chars(&self) -> &[char]
         ensures value { result.now ≡ self.now.points }
         ensures accepted { IsAccepted self.now }
+        ensures scalars { AllByRecursion IsScalar self.now.points }
     {
         self.chars.as_slice()
     }
@@ -53,5 +57,30 @@ impl Normal {
         ensures accepted { IsAccepted self.now }
     {
         self.classes.as_slice()
+    }
+}
+
+/// The copy has the same code points and classes, in memory of its own.
+impl Clone for Normal {
+    ghost use Rattle.std.specs.Prelude.{◌≡◌};
+
+    ghost is_clone = { λ text copy. copy ≡ text };
+
+    fn clone(&self) -> Result<Normal, AllocError> {
+        let alloc = *self.chars.allocator();
+        Ok(Normal {
+            chars: Vec::from_slice(alloc, &self.chars)?,
+            classes: Vec::from_slice(alloc, &self.classes)?,
+            spare: Vec::new(alloc),
+        })
+    }
+}
+
+impl fmt::Debug for Normal {
+    fn fmt<W: fmt::Write>(&self, f: &mut fmt::Formatter<W>) -> fmt::Result {
+        f.debug_struct("Normal")
+            .field("chars", &self.chars)
+            .field("classes", &self.classes)
+            .finish()
     }
 }

@@ -10,12 +10,12 @@ loop-edge-init g c = heads_none c.in_ok-heads.heads.items _ (c.in_ok-heads.ensur
 
 pub loop-edge-preserved : goal.loop-edge-preserved
 loop-edge-preserved g c =
-    let nodes = c.args.nodes.now.items in
+    let nodes = c.args.nodes.now in
     let edges = c.deref-edge-items.result.now in
     let i = c.loop-edge.edge-index in
     let heads = c.loop-edge.heads.items in
-    let node = branch_read nodes nodes 0 c.index.result.now refl c.requires.shape.some c.index.ensures in
-    let root = c.deref-edge-items.ensures.value ∙ ap (λ b. b.edges) (c.behind-nodes.view_is ∙ node) in
+    let node = branch_read nodes nodes 0 c.index-nodes-0.result refl c.requires.shape.some c.index-nodes-0.is in
+    let root = c.deref-edge-items.ensures.value ∙ ap (λ b. b.edges) (c.root.view_is ∙ node) in
     elim c.if-code-len.branch [
       | then-code-len w ↦ subst (λ v. AreHeads (take (i + 1) edges) v.items) (sym w.heads-is)
           (heads_more_put nodes c.requires edges root heads i _ c.loop-edge-test.true c.loop-edge.invariant (omega (arith, w.if-code-len.true, c.len-in-loop-edge.ensures, c.loop-edge.heads.ok.0)))
@@ -25,7 +25,7 @@ loop-edge-preserved g c =
 
 pub returns : goal.returns
 returns g c =
-    let nodes = c.args.nodes.now.items in
-    let node = branch_read nodes nodes 0 c.index.result.now refl c.requires.shape.some c.index.ensures in
-    let root = c.deref-edge-items.ensures.value ∙ ap (λ b. b.edges) (c.behind-nodes.view_is ∙ node) in
+    let nodes = c.args.nodes.now in
+    let node = branch_read nodes nodes 0 c.index-nodes-0.result refl c.requires.shape.some c.index-nodes-0.is in
+    let root = c.deref-edge-items.ensures.value ∙ ap (λ b. b.edges) (c.root.view_is ∙ node) in
     heads_all (node_at nodes 0).edges c.deref-edge-items.result.now root c.loop-edge.heads.items c.loop-edge.edge-index c.loop-edge-test.false c.loop-edge.invariant

@@ -19,11 +19,11 @@ add_row-requires g c = c.loop-headed.invariant.tree
 pub loop-headed-preserved : goal.loop-headed-preserved
 loop-headed-preserved g c =
     let now : Headed _ → Entry = λ headed. headed.row.now in
-    let rows = c.args.rows.now.items in
+    let rows = c.args.rows.now in
     let items = c.deref-headed-items.result.now in
     let i = c.loop-headed.headed-index in
     let headed = c.headed-item.result in
-    let same : IsPermutation rows (map now items) = subst (λ list. IsPermutation rows (map now list)) (sym c.deref-headed-items.ensures.value) (subst (λ all. IsPermutation all (map now c.in_ok-sorted.field-0.items)) c.deref.ensures.value c.in_ok-sorted.ensures) in
+    let same : IsPermutation rows (map now items) = subst (λ list. IsPermutation rows (map now list)) (sym c.deref-headed-items.ensures.value) c.in_ok-sorted.ensures in
     let within : i < length (map now items) = omega (arith, length-map items now) in
     let is : headed.row.now ≡ get_or (map now items) i headed.row.now = ap now c.headed-item.is ∙ sym (get_or-map now items i headed headed.row.now c.loop-headed-test.true) in
     IsBuilt-more rows (map now items) c.requires same i headed.row.now within is c.loop-headed.nodes.items c.add_row.new.nodes.items c.loop-headed.invariant c.in_ok-add_row.ensures.tree c.in_ok-add_row.ensures.row
@@ -31,9 +31,9 @@ loop-headed-preserved g c =
 pub returns : goal.returns
 returns g c =
     let now : Headed _ → Entry = λ headed. headed.row.now in
-    let rows = c.args.rows.now.items in
+    let rows = c.args.rows.now in
     let items = c.deref-headed-items.result.now in
-    let same : IsPermutation rows (map now items) = subst (λ list. IsPermutation rows (map now list)) (sym c.deref-headed-items.ensures.value) (subst (λ all. IsPermutation all (map now c.in_ok-sorted.field-0.items)) c.deref.ensures.value c.in_ok-sorted.ensures) in
+    let same : IsPermutation rows (map now items) = subst (λ list. IsPermutation rows (map now list)) (sym c.deref-headed-items.ensures.value) c.in_ok-sorted.ensures in
     let all : take c.loop-headed.headed-index (map now items) ≡ map now items = take_all c.loop-headed.headed-index (map now items) (omega (arith, length-map items now)) in
     let built : IsBuilt (map now items) c.loop-headed.nodes.items = subst (λ list. IsBuilt list c.loop-headed.nodes.items) all c.loop-headed.invariant in
     record { tree = built.tree; rows = IsBuilt-all rows (map now items) c.requires same c.loop-headed.nodes.items built }

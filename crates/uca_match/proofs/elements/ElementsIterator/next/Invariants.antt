@@ -1,6 +1,5 @@
 use Rattle.std.proofs.Common.{◌≡◌, ◌-◌, None, length}
-use Rattle.uca_values.specs.Content.{properties_of}
-use Rattle.uca_values.specs.Implicit.{implicit}
+use Rattle.uca_match.specs.Collations.{collation_of}
 use Rattle.uca_match.specs.Places.{IsPlace, left_of}
 use Rattle.uca_match.specs.Rest.{rest_of}
 use Rattle.uca_match.proofs.elements.ElementsIterator.next.Given as goal
@@ -12,7 +11,7 @@ invariant-loop-first g l =
     record {
       no_second : now.second ≡ None;
       is_place : IsPlace now.text.now now.place;
-      same_rest : rest_of (implicit now.header.now.ranges (properties_of now.data.now)) (g.L.Lookup.content now.lookup.now) None now.row.now (left_of now.text.now now.place) ≡ rest_of (implicit before.header.now.ranges (properties_of before.data.now)) (g.L.Lookup.content before.lookup.now) None before.row.now (left_of before.text.now before.place);
+      same_rest : rest_of (collation_of g.L.Lookup.content now.collator) None now.row.now (left_of now.text.now now.place) ≡ rest_of (collation_of g.L.Lookup.content before.collator) None before.row.now (left_of before.text.now before.place);
     }
 
 abbrev pub decreases-loop-first : goal.decreases-loop-first
