@@ -6,6 +6,7 @@ pub mod LinesSoFar
 pub mod KeysSoFar
 pub mod SortRun
 pub mod SortSoFar
+pub mod Verdicts
 pub mod CheckRun
 pub mod CompareRun
 pub mod Laws

@@ -13,7 +13,7 @@ pub mod print;
 pub mod reporting;
 pub mod sort;
 
-pub use check::{run_check, run_check_in};
+pub use check::run_check;
 pub use compare::{run_compare, run_compare_in};
 pub use faults::{FileFault, InputKind, Role, RunFault};
 pub use keys::{print_keys, run_keys, run_keys_in};
