@@ -1,4 +1,3 @@
-pub mod Parts
 pub mod DigitLaws
 pub mod Texts
 pub mod Sizes

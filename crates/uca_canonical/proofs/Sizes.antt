@@ -16,7 +16,8 @@ use Rattle.uca_canonical.specs.Elements.{element_text}
 use Rattle.uca_canonical.specs.Canonical.{point_width, point_text, key_point_text, key_text, version_line, setting_line, range_line, row_line}
 use Rattle.uca_weights.specs.Streams.{SinkState}
 use Rattle.uca_lines.specs.OutputBuffer.{BufferState}
-use Rattle.uca_canonical.specs.Handing.{count_of, HasRoom, HasHanded, setting_text, range_lines, header_text, row_lines}
+use Rattle.uca_lines.specs.Handing.{count_of, HasRoom, HasHanded}
+use Rattle.uca_canonical.specs.LineTexts.{setting_text, range_lines, header_text, row_lines}
 use Rattle.uca_canonical.proofs.Texts.{header_text_is}
 
 -- as many texts of n bytes at most

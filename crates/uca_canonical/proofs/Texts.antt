@@ -13,8 +13,8 @@ use Rattle.uca_values.specs.Content.{Entry, HeaderContent, TableContent}
 use Rattle.uca_canonical.specs.Words.{at_version, at_ranges}
 use Rattle.uca_canonical.specs.Elements.{element_text}
 use Rattle.uca_canonical.specs.Canonical.{point_text, key_point_text, key_text, version_line, setting_line, range_line, row_line, header_lines, canonical}
-use Rattle.uca_canonical.specs.Handing.{setting_text, range_lines, header_text, row_lines}
-use Rattle.uca_canonical.proofs.Parts.{part}
+use Rattle.uca_canonical.specs.LineTexts.{setting_text, range_lines, header_text, row_lines}
+use Rattle.uca_lines.proofs.HandingLemmas.{part}
 
 abbrev pub point_parts : ℕ → List (List ℕ)
 point_parts c = point_text c ∷ (32 ∷ []) ∷ []

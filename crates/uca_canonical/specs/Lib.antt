@@ -1,4 +1,4 @@
 pub mod Words
 pub mod Elements
 pub mod Canonical
-pub mod Handing
+pub mod LineTexts

@@ -2,7 +2,7 @@
 
 ghost use Rattle.std.specs.Prelude.{◌≡◌, ◌-◌, length};
 ghost use Rattle.uca_canonical.specs.Canonical.{point_width, point_text};
-ghost use Rattle.uca_canonical.specs.Handing.{HasRoom, Hands};
+ghost use Rattle.uca_lines.specs.Handing.{HasRoom, Hands};
 
 use crate::digits::six_digits;
 use std::io::Write;

@@ -4,7 +4,8 @@ ghost use Rattle.std.specs.Prelude.{◌≡◌, [], ◌∷◌, ◌++◌, ◌≤�
 ghost use Rattle.uca_lines.specs.Lines.{ended};
 ghost use Rattle.uca_fields.specs.Number.{digits};
 ghost use Rattle.uca_canonical.specs.Canonical.{version_line, setting_line, range_line};
-ghost use Rattle.uca_canonical.specs.Handing.{count_of, HasRoom, Hands, setting_text, range_lines, header_text};
+ghost use Rattle.uca_lines.specs.Handing.{count_of, HasRoom, Hands};
+ghost use Rattle.uca_canonical.specs.LineTexts.{setting_text, range_lines, header_text};
 
 use crate::digits::four_digits;
 use crate::handing::{hand, hand_point};

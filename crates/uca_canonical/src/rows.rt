@@ -5,7 +5,8 @@ ghost use Rattle.std.specs.List.{flat_map};
 ghost use Rattle.uca_lines.specs.Lines.{ended};
 ghost use Rattle.uca_canonical.specs.Elements.{element_text};
 ghost use Rattle.uca_canonical.specs.Canonical.{key_point_text, key_text, row_line};
-ghost use Rattle.uca_canonical.specs.Handing.{HasRoom, Hands, row_lines};
+ghost use Rattle.uca_lines.specs.Handing.{HasRoom, Hands};
+ghost use Rattle.uca_canonical.specs.LineTexts.{row_lines};
 
 use crate::digits::element_text;
 use crate::handing::{hand, hand_point};

@@ -2,20 +2,20 @@
 use Rattle.std.proofs.Common.{◌≡◌, ◌⊎◌, inl, inr, ℕ, ◌<◌, ◌≤◌, Bool, true, false, ◌||◌, List, [], ◌∷◌, ◌++◌, codes, Result, Ok, Err, refl, sym, ap, ◌∙◌, subst, arith, append_assoc, append-nil}
 use Rattle.std.specs.List.{AllByRecursion, AllZip}
 use Rattle.uca_fields.specs.Text.{text_of}
-use Rattle.uca_files.specs.declared.FaultKind.{FaultKind}
-use Rattle.uca_files.specs.declared.FaultKind.TheVariants as kinds
+use Rattle.uca_values.specs.declared.faults.FaultKind.{FaultKind}
+use Rattle.uca_values.specs.declared.faults.FaultKind.TheVariants as kinds
 use Rattle.uca_files.specs.Laws.{IsExact, IsExactByLine}
 use Rattle.uca_files.proofs.ByLine.{exact_by_line}
 use Rattle.uca_values.specs.declared.ClassRange.{ClassRange}
 use Rattle.uca_values.specs.declared.CodePointRange.{CodePointRange}
 use Rattle.uca_values.specs.Ranges.{is_between, is_within, class_in}
-use Rattle.uca_values.specs.Content.{DataContent, Properties, properties_of}
-use Rattle.uca_values.specs.Adding.{HasHanBetween}
+use Rattle.uca_values.specs.Content.{DataContent, Properties, properties_of, HasHanBetween}
 use Rattle.uca_values.proofs.Rising.{between_false}
 use Rattle.uca_data.specs.declared.lines.RangeLine.{RangeLine}
 use Rattle.uca_data.specs.declared.lines.RangeLine.TheVariants.{Class, Core, Other}
 use Rattle.uca_data.specs.Lines.{Item, Nothing, Start, OfRange, AreWords, read_words, header, IsText, IsLine}
-use Rattle.uca_data.specs.Said.{Said, Says, Takes, Cause, RangeCause, OrderCause, IsRangeDue, IsAdded, IsBarred, Adds, Gives, IsUnfinished, count_before, with_range, AreInOrder, AreRanges, AreApart, MayStand, ranges_of, summary}
+use Rattle.uca_data.specs.Said.{Said, Says, Cause, RangeCause, OrderCause, IsRangeDue, IsBarred, Gives, IsUnfinished, count_before, AreInOrder, AreRanges, AreApart, MayStand, ranges_of, summary}
+use Rattle.uca_data.specs.Steps.{Takes, IsAdded, Adds, with_range}
 use Rattle.uca_data.specs.OneMore.{Apart, AllApart, IsRising, apart_swap, put_last, ranges_more, ranges_nothing, ranges_start, summary_more, within_append, length_more}
 use Rattle.uca_data.proofs.Words.{words_same}
 

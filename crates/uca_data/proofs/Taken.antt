@@ -4,12 +4,13 @@ use Rattle.std.specs.Str.{bytes_eq}
 use Rattle.std.proofs.lemmas.Slice.Eq.{bytes_eq-Decides}
 use Rattle.std.proofs.lemmas.Result.{on_ok_weaker, MatchResult-weaker}
 use Rattle.uca_fields.specs.Text.{text_of}
-use Rattle.uca_files.specs.declared.FaultKind.{FaultKind}
-use Rattle.uca_files.specs.declared.FaultKind.TheVariants as kinds
+use Rattle.uca_values.specs.declared.faults.FaultKind.{FaultKind}
+use Rattle.uca_values.specs.declared.faults.FaultKind.TheVariants as kinds
 use Rattle.uca_values.specs.Content.{DataContent}
 use Rattle.uca_data.specs.declared.lines.RangeLine.{RangeLine}
 use Rattle.uca_data.specs.Lines.{OfRange, AreWords, read_words, header}
-use Rattle.uca_data.specs.Said.{Said, Takes, Cause, RangeCause, IsRangeDue, IsAdded, summary}
+use Rattle.uca_data.specs.Said.{Said, Cause, RangeCause, IsRangeDue, summary}
+use Rattle.uca_data.specs.Steps.{Takes, IsAdded}
 use Rattle.uca_data.proofs.Words.{words_exist}
 
 pub not_header : (text : List ℕ) (b : Bool) → b ≡ bytes_eq text header → b ≡ false → text ≢ header

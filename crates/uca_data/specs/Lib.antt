@@ -1,3 +1,4 @@
 pub mod Lines
 pub mod Said
+pub mod Steps
 pub mod OneMore

@@ -7,8 +7,8 @@ use Rattle.uca_fields.specs.Text.{text_of}
 use Rattle.uca_fields.specs.Number.{class_of}
 use Rattle.uca_fields.specs.Ranges.{range_of}
 use Rattle.uca_fields.specs.Leads.{Leads, BeginsWord}
-use Rattle.uca_files.specs.declared.FaultKind.{FaultKind}
-use Rattle.uca_files.specs.declared.FaultKind.TheVariants as kinds
+use Rattle.uca_values.specs.declared.faults.FaultKind.{FaultKind}
+use Rattle.uca_values.specs.declared.faults.FaultKind.TheVariants as kinds
 use Rattle.uca_values.specs.declared.CodePointRange.{CodePointRange}
 use Rattle.uca_data.specs.declared.lines.RangeLine.{RangeLine}
 use Rattle.uca_data.specs.declared.lines.RangeLine.TheVariants.{Class, Core, Other}

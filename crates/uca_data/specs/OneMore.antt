@@ -1,27 +1,29 @@
--- Proofs that the lines of a data file can be taken one by one. Nothing here has to be believed.
-use Rattle.std.proofs.Common.{◌≡◌, ◌⊎◌, inl, inr, ℕ, zero, suc, ◌+◌, ◌<◌, ◌≤◌, Bool, true, false, ltb, leb, max, cond, ◌&&◌, ◌||◌, List, [], ◌∷◌, ◌++◌, length, codes, Option, Some, None, Result, Ok, Err, refl, sym, ap, ◌∙◌, subst, arith, length-append, append_assoc, append-nil}
+-- Proofs that the lines of a data file can be taken one by one, which the impl of `TakesLines` names. Nothing here has to be
+-- believed.
+use Rattle.std.proofs.Common.{◌≡◌, ◌⊎◌, inl, inr, ℕ, zero, suc, ◌+◌, ◌<◌, ◌≤◌, Bool, true, false, ltb, leb, max, cond, ◌||◌, List, [], ◌∷◌, ◌++◌, length, codes, Option, Some, None, Result, Ok, Err, refl, sym, ap, ◌∙◌, subst, arith, length-append, append_assoc, append-nil}
 use mathlib.Core.Path.{fun_ext}
 use Rattle.std.specs.List.{AllByRecursion, AllZip}
 use Rattle.std.specs.Str.{bytes_eq}
+use Rattle.std.proofs.lemmas.Bool.{and_parts}
 use Rattle.std.proofs.lemmas.Bool.Decides.{nat_tests}
 use Rattle.uca_fields.specs.declared.RangeFault.{RangeFault}
 use Rattle.uca_fields.specs.declared.RangeFault.TheVariants as ends
 use Rattle.std.specs.Str.Parse.{digits_value}
 use Rattle.uca_fields.specs.Number.{class_of, is_class}
 use Rattle.uca_fields.specs.Ranges.{range_of}
-use Rattle.uca_files.specs.declared.FaultKind.{FaultKind}
-use Rattle.uca_files.specs.declared.FaultKind.TheVariants as kinds
+use Rattle.uca_values.specs.declared.faults.FaultKind.{FaultKind}
+use Rattle.uca_values.specs.declared.faults.FaultKind.TheVariants as kinds
 use Rattle.uca_values.specs.declared.ClassRange.{ClassRange}
 use Rattle.uca_values.specs.declared.CodePointRange.{CodePointRange}
 use Rattle.uca_values.specs.Ranges.{is_between, is_within, class_in}
-use Rattle.uca_values.specs.Content.{DataContent, IsClass, properties_of}
-use Rattle.uca_values.specs.Adding.{HasHanBetween}
+use Rattle.uca_values.specs.Content.{DataContent, IsClass, properties_of, HasHanBetween}
 use Rattle.uca_values.proofs.Rising.{less_true, less_false, between_true, between_from}
 use Rattle.uca_values.proofs.Gaps.{all_put, within_put, same_properties}
 use Rattle.uca_data.specs.declared.lines.RangeLine.{RangeLine}
 use Rattle.uca_data.specs.declared.lines.RangeLine.TheVariants.{Class, Core, Other}
 use Rattle.uca_data.specs.Lines.{Item, Nothing, Start, OfRange, range_read, han_read, class_read, read_words, IsLine}
-use Rattle.uca_data.specs.Said.{Said, Says, Takes, Cause, RangeCause, IsNumbered, IsAdded, IsBarred, Adds, count_before, with_range, AreInOrder, AreRanges, AreApart, MayStand, ranges_of, put, summary}
+use Rattle.uca_data.specs.Said.{Said, Says, Cause, RangeCause, IsBarred, count_before, AreInOrder, AreRanges, AreApart, MayStand, ranges_of, put, summary}
+use Rattle.uca_data.specs.Steps.{Takes, IsNumbered, IsAdded, Adds, with_range}
 
 pub by_cases : {P : Type 0} (b : Bool) → (b ≡ true → P) → (b ≡ false → P) → P
 by_cases true yes_ no_ = yes_ refl
@@ -39,11 +41,6 @@ abbrev pub ReadsWell : Result RangeLine FaultKind → Type 0
 ReadsWell (Ok r) = IsNumbered r
 ReadsWell (Err kind) = IsWordFault kind
 
-and_true : (a b : Bool) → (a && b) ≡ true → (a ≡ true) × (b ≡ true)
-and_true true true e = (refl, refl)
-and_true true false e = cc
-and_true false b e = cc
-
 le_true : (a b : ℕ) → leb a b ≡ true → a ≤ b
 le_true a b e = grind (arith, nat_tests)
 
@@ -53,8 +50,8 @@ class_is word n h =
     (λ e.
     let value : Some (digits_value 10 word) ≡ Some n = rw e at h in
     let is : digits_value 10 word ≡ n = cc in
-    let last = and_true _ _ e in
-    let before = and_true _ _ last.0 in
+    let last = and_parts _ _ e in
+    let before = and_parts _ _ last.0 in
     let P : ℕ → Type 0 = IsClass in
     subst P is (le_true _ _ before.1, le_true _ _ last.1))
     (λ e. let none : None ≡ Some n = rw e at h in cc)

@@ -1,13 +1,13 @@
 -- What the lines of a data file say together, and why a line is refused.
-use Rattle.std.specs.Prelude.{◌≡◌, ◌≢◌, ◌⊎◌, ℕ, ◌+◌, ◌<◌, ◌≤◌, ⊤, Bool, true, false, List, [], ◌∷◌, ◌++◌, length, Option, Result, Ok, Err}
+use Rattle.std.specs.Prelude.{◌≡◌, ◌≢◌, ◌⊎◌, ℕ, ◌<◌, ◌≤◌, ⊤, Bool, true, false, List, [], ◌∷◌, ◌++◌, length, Option, Result, Ok, Err}
 use Rattle.std.specs.List.{AllByRecursion, AllZip}
 use Rattle.uca_fields.specs.Text.{text_of}
-use Rattle.uca_files.specs.declared.FaultKind.{FaultKind}
-use Rattle.uca_files.specs.declared.FaultKind.TheVariants as kinds
-use Rattle.uca_files.specs.declared.TableFault.{TableFault}
+use Rattle.uca_values.specs.declared.faults.FaultKind.{FaultKind}
+use Rattle.uca_values.specs.declared.faults.FaultKind.TheVariants as kinds
+use Rattle.uca_values.specs.declared.faults.TableFault.{TableFault}
+use Rattle.uca_files.specs.declared.TheConstants.{TABLE_FORM}
 use Rattle.uca_files.specs.Files as files
-use Rattle.uca_values.specs.Content.{DataContent, IsClass, Properties, properties_of}
-use Rattle.uca_values.specs.Adding.{with_class, with_core, with_other, HasClassBetween, HasHanBetween}
+use Rattle.uca_values.specs.Content.{DataContent, Properties, properties_of, HasClassBetween, HasHanBetween}
 use Rattle.uca_data.specs.declared.lines.RangeLine.{RangeLine}
 use Rattle.uca_data.specs.declared.lines.RangeLine.TheVariants.{Class, Core, Other}
 use Rattle.uca_data.specs.Lines.{Item, Nothing, Start, OfRange, AreWords, read_words, header, IsLine}
@@ -83,13 +83,13 @@ pub record Gives (said : Said) (properties : Properties) : Type 0 where
 
 -- the bytes are a data file that gives code points these properties
 abbrev pub Means : List ℕ → Properties → Type 0
-Means bytes properties = files.Means Says Gives bytes properties
+Means bytes properties = files.Means TABLE_FORM Says Gives bytes properties
 
 -- a file may not end before its header
 abbrev pub IsUnfinished : Said → Type 0
 IsUnfinished said = said.started ≡ false
 
--- ---- One more line
+-- ---- Why a line is refused
 
 -- the range is empty, or has a code point in common with those before it
 abbrev pub IsBarred : Said → RangeLine → Type 0
@@ -102,33 +102,6 @@ abbrev pub count_before : Said → RangeLine → ℕ
 count_before said (Class r) = said.classes
 count_before said (Core r) = said.core
 count_before said (Other r) = said.other
-
-abbrev pub with_range : Said → RangeLine → Said
-with_range said (Class r) = record said { properties = with_class r said.properties; classes = said.classes + 1 }
-with_range said (Core r) = record said { properties = with_core r said.properties; core = said.core + 1 }
-with_range said (Other r) = record said { properties = with_other r said.properties; other = said.other + 1 }
-
--- the class of a range is one that a range may have
-abbrev pub IsNumbered : RangeLine → Type 0
-IsNumbered (Class r) = IsClass r.class
-IsNumbered _ = ⊤
-
--- the range may stand there, and the second is what is said with it
-pub record IsAdded (old : Said) (r : RangeLine) (new : Said) : Type 0 where
-  pub free : IsBarred old r → ⊥
-  pub room : count_before old r < 4096
-  pub with : new ≡ with_range old r
-
--- what is said, with what a line says
-abbrev pub Adds : Said → Item → Said → Type 0
-Adds old Nothing new = new ≡ old
-Adds old Start new = (old.started ≡ false) × (new ≡ record old { started = true })
-Adds old (OfRange r) new = (old.started ≡ true) × IsAdded old r new
-
-pub record Takes (old : Said) (line : List ℕ) (new : Said) : Type 0 where
-  pub item : Item
-  pub form : IsLine line item
-  pub adds : Adds old item new
 
 -- a second header, or something else where the header is due
 abbrev pub OrderCause : Said → List ℕ → Type 0
@@ -155,4 +128,4 @@ Cause said line kind =
 
 -- why the bytes of a data file are refused, of which the source has `left` left
 abbrev pub Refuses : List ℕ → Option (List ℕ) → TableFault → Type 0
-Refuses bytes left fault = files.Refuses Says Cause IsUnfinished bytes left fault.line fault.kind
+Refuses bytes left fault = files.Refuses TABLE_FORM Says Cause IsUnfinished bytes left fault.line fault.kind

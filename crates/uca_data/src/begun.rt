@@ -1,15 +1,19 @@
 //! What the lines of a data file say, taken one after the other.
 
-ghost use Rattle.std.specs.Prelude.{◌≡◌, ◌⊎◌, ◌<◌, ◌≤◌, List, ℕ, length, true, false, OnOk, IfErr, Ok};
-ghost use Rattle.uca_files.specs.declared.FaultKind.{FaultKind};
-ghost use Rattle.uca_data.specs.Said.{Says, Takes, Cause, RangeCause, summary, IsAdded, IsNumbered};
+ghost use Rattle.std.specs.Prelude.{◌≡◌, ◌⊎◌, ◌<◌, ◌≤◌, List, ℕ, length, true, false, refl, OnOk, IfErr, Ok};
+ghost use Rattle.uca_values.specs.declared.faults.FaultKind.{FaultKind};
+ghost use Rattle.uca_files.specs.declared.TheConstants.{TABLE_FORM};
+ghost use Rattle.uca_files.specs.Faults.{is_read_kind};
+ghost use Rattle.uca_data.specs.Said.{Says, Cause, RangeCause, summary};
+ghost use Rattle.uca_data.specs.Steps.{Takes, IsAdded, IsNumbered};
+ghost use Rattle.uca_files.proofs.KindLemmas.{not_read};
 ghost use Rattle.uca_data.specs.OneMore.{no_read, says_more};
 
 use crate::lines::{RangeLine, range_line};
 use std::alloc::Allocator;
 use uca_fields::line_text;
-use uca_files::{FaultKind, TakesLines};
-use uca_values::{Data, RangeFault};
+use uca_files::{FileForm, TABLE_FORM, TakesLines};
+use uca_values::{Data, FaultKind, RangeFault};
 
 /// The line before all ranges.
 const HEADER: &[u8] = b"@data 1";
@@ -22,11 +26,21 @@ pub struct Begun<A: Allocator> {
 }
 
 impl<A: Allocator> TakesLines for Begun<A> {
+    type Kind = FaultKind;
+
+    ghost form = { TABLE_FORM };
+
+    ghost is_read = { is_read_kind };
+
     ghost says = { λ lines begun. Says lines (summary begun.started begun.«data») };
 
     ghost takes = { λ old line new. Takes (summary old.started old.«data») line (summary new.started new.«data») };
 
     ghost cause = { λ begun line kind. Cause (summary begun.started begun.«data») line kind };
+
+    fn form() -> FileForm<FaultKind> {
+        TABLE_FORM
+    }
 
     fn take(&mut self, line: &[u8]) -> Result<(), FaultKind> {
         let text = line_text(line);
@@ -42,9 +56,13 @@ impl<A: Allocator> TakesLines for Begun<A> {
         add(&mut self.data, range_line(text)?)
     }
 
-    ghost no_read = { λ begun. no_read (summary begun.started begun.«data») };
+    ghost apart = { record { failed_read = refl; too_long = refl; too_many = refl; no_lf = refl; no_memory = refl } };
+
+    ghost no_read = { λ begun line. not_read (Cause (summary begun.started begun.«data») line) (no_read (summary begun.started begun.«data») line) };
 
     ghost says_more = { λ lines old line new before taken _ _. says_more lines (summary old.started old.«data») line (summary new.started new.«data») before taken };
+
+    ghost few = { λ _ _ none _. Prim.cc };
 }
 
 // The header stands from now on, if it does not stand already.

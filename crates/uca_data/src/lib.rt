@@ -7,4 +7,4 @@ mod read;
 #[cfg(test)]
 mod tests;
 
-pub use read::{read_data, read_data_in};
+pub use read::read_data;

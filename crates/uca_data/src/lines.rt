@@ -5,7 +5,7 @@ ghost use Rattle.uca_fields.specs.Leads.{BeginsWord};
 ghost use Rattle.uca_fields.specs.Number.{class_of};
 ghost use Rattle.uca_fields.specs.Ranges.{range_of};
 ghost use Rattle.uca_data.specs.Lines.{AreWords, read_words, range_read};
-ghost use Rattle.uca_data.specs.Said.{IsNumbered};
+ghost use Rattle.uca_data.specs.Steps.{IsNumbered};
 
 use uca_fields::{RangeFault, class_number, code_point_range, cut_word, skip_blanks};
 use uca_files::FaultKind;

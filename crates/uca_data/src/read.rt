@@ -6,10 +6,10 @@ ghost use Rattle.uca_files.specs.Faults.{IsStop, is_read};
 ghost use Rattle.uca_data.specs.Said.{Means, Refuses};
 
 use crate::begun::Begun;
-use std::alloc::{Allocator, Global};
+use std::alloc::Allocator;
 use std::io::Read;
-use uca_files::{FaultKind, TableFault, read_lines};
-use uca_values::Data;
+use uca_files::read_lines;
+use uca_values::{Data, FaultKind, TableFault};
 use uca_weights::Source;
 
 /// Reads a data file: the combining classes of code points (UAX #44), and which of them are core Han or
@@ -34,25 +34,9 @@ use uca_weights::Source;
 /// - `Limit`: line 4,097 of a kind.
 /// - `Line`: no LF ends the line.
 ///
-/// `Read` where the source failed, and `Memory` where a growth was refused, come with the line that was
+/// `Read` where the source failed, and `Memory` where an allocation failed, come with the line that was
 /// being read.
-pub fn read_data<R: Read>(alloc: Global, source: &mut Source<R>) -> Result<Data, TableFault>
-    // Where the bytes are known.
-    ensures found { IfSome source.old.remaining (λ bytes. IfOk result (λ read.
-        Means bytes (properties_of read))) }
-    ensures only { IfSome source.old.remaining (λ bytes. (properties : Properties) → Means bytes properties →
-        MatchResult result (λ read. properties_of read ≡ properties) (λ fault. IsStop fault.kind)) }
-    ensures fault { IfSome source.old.remaining (λ bytes. IfErr result (
-        Refuses bytes source.new.remaining)) }
-
-    // At any source.
-    ensures failed { source.new.failed ≡ (source.old.failed || is_read result) }
-{
-    read_data_in(alloc, source)
-}
-
-/// The same with any allocator.
-pub fn read_data_in<A: Allocator + Copy, R: Read>(
+pub fn read_data<A: Allocator + Copy, R: Read>(
     alloc: A,
     source: &mut Source<R>,
 ) -> Result<Data<A>, TableFault>
@@ -61,8 +45,7 @@ pub fn read_data_in<A: Allocator + Copy, R: Read>(
         Means bytes (properties_of read))) }
     ensures only { IfSome source.old.remaining (λ bytes. (properties : Properties) → Means bytes properties →
         MatchResult result (λ read. properties_of read ≡ properties) (λ fault. IsStop fault.kind)) }
-    ensures fault { IfSome source.old.remaining (λ bytes. IfErr result (
-        Refuses bytes source.new.remaining)) }
+    ensures fault { IfSome source.old.remaining (λ bytes. IfErr result (Refuses bytes source.new.remaining)) }
 
     // At any source.
     ensures failed { source.new.failed ≡ (source.old.failed || is_read result) }
@@ -76,8 +59,7 @@ fn read_to_end<A: Allocator + Copy, R: Read>(
 ) -> Result<Data<A>, TableFault>
     ensures found { IfSome source.old.remaining (λ bytes. IfOk result (λ read.
         Means bytes (properties_of read))) }
-    ensures fault { IfSome source.old.remaining (λ bytes. IfErr result (
-        Refuses bytes source.new.remaining)) }
+    ensures fault { IfSome source.old.remaining (λ bytes. IfErr result (Refuses bytes source.new.remaining)) }
     ensures failed { source.new.failed ≡ (source.old.failed || is_read result) }
 {
     let mut begun = Begun {

@@ -1,6 +1,6 @@
 //! Data files: each fault, each order of two causes in one line, and what accepted files say.
 
-use crate::{read_data, read_data_in};
+use crate::read_data;
 use linked_list_allocator::LocalHeap;
 use std::io;
 use std::io::Read;
@@ -270,7 +270,7 @@ fn readers_that_drip_and_fail(rt: HostRuntime) -> Result<(), Fail> {
 /// The kind and the line of the fault, or the class of U+0323.
 fn read_in(heap: &LocalHeap) -> Result<u8, (FaultKind, u32)> {
     let mut source = Source::new(SMALL);
-    match read_data_in(heap, &mut source) {
+    match read_data(heap, &mut source) {
         Ok(data) => Ok(data.class('\u{0323}')),
         Err(fault) => Err((fault.kind, fault.line)),
     }

@@ -2,6 +2,7 @@
 use Rattle.std.proofs.Common.{◌≡◌, ℕ, false, List, [], ◌∷◌, ◌++◌, refl, sym, ◌∙◌, ap, subst, append_assoc}
 use Rattle.std.specs.List.{flat_map, AllByRecursion}
 use Rattle.uca_lines.specs.Lines.{is_lf, Lacks, ended}
+use Rattle.uca_files.specs.declared.FileForm.{FileForm}
 use Rattle.uca_files.specs.Files.{EndsLine, IsFileLine, AreLines}
 
 lf_stands : (z : ℕ) → is_lf z ≡ false → z ≡ 10 → ⊥
@@ -28,10 +29,10 @@ ended-not_empty [] x e = cc
 ended-not_empty (b ∷ bs) x e = cc
 
 -- lines that begin with other lines go on as the text does
-pub lines_cut : (before lines : List (List ℕ)) (rest : List ℕ) → AllByRecursion IsFileLine before → AllByRecursion IsFileLine lines → flat_map ended lines ≡ flat_map ended before ++ rest → (more : List (List ℕ)) × (lines ≡ before ++ more) × (rest ≡ flat_map ended more)
-lines_cut [] lines rest hb hl e = (lines, refl, sym e)
-lines_cut (b ∷ bs) [] rest hb hl e = absurd (ended-not_empty b (flat_map ended bs ++ rest) (e ∙ append_assoc (ended b) (flat_map ended bs) rest))
-lines_cut (b ∷ bs) (l ∷ ls) rest hb hl e =
+pub lines_cut : {K : Type 0} (form : FileForm K) (before lines : List (List ℕ)) (rest : List ℕ) → AllByRecursion (IsFileLine form) before → AllByRecursion (IsFileLine form) lines → flat_map ended lines ≡ flat_map ended before ++ rest → (more : List (List ℕ)) × (lines ≡ before ++ more) × (rest ≡ flat_map ended more)
+lines_cut form [] lines rest hb hl e = (lines, refl, sym e)
+lines_cut form (b ∷ bs) [] rest hb hl e = absurd (ended-not_empty b (flat_map ended bs ++ rest) (e ∙ append_assoc (ended b) (flat_map ended bs) rest))
+lines_cut form (b ∷ bs) (l ∷ ls) rest hb hl e =
     let left = ended-append l (flat_map ended ls) in
     let right = ended-append b (flat_map ended bs ++ rest) in
     let joined = append_assoc (ended b) (flat_map ended bs) rest in
@@ -39,7 +40,7 @@ lines_cut (b ∷ bs) (l ∷ ls) rest hb hl e =
     let same : b ≡ l = cut.0 in
     let tail : 10 ∷ (flat_map ended bs ++ rest) ≡ 10 ∷ flat_map ended ls = cut.1 in
     let on : flat_map ended ls ≡ flat_map ended bs ++ rest = cc in
-    let r = lines_cut bs ls rest hb.1 hl.1 on in
+    let r = lines_cut form bs ls rest hb.1 hl.1 on in
     let others : ls ≡ bs ++ r.0 = r.1 in
     (r.0, cc, r.2)
 
@@ -52,10 +53,10 @@ append_nothing [] = refl
 append_nothing (x ∷ xs) = ap (λ ys. x ∷ ys) (append_nothing xs)
 
 -- bytes are cut into lines in one way
-pub lines_same : (bytes : List ℕ) (these those : List (List ℕ)) → AreLines bytes these → AreLines bytes those → these ≡ those
-lines_same bytes these those h k =
+pub lines_same : {K : Type 0} (form : FileForm K) (bytes : List ℕ) (these those : List (List ℕ)) → AreLines form bytes these → AreLines form bytes those → these ≡ those
+lines_same form bytes these those h k =
     let e : flat_map ended those ≡ flat_map ended these ++ [] = sym k.parts ∙ h.parts ∙ sym (append_nothing (flat_map ended these)) in
-    let r = lines_cut these those [] h.each k.each e in
+    let r = lines_cut form these those [] h.each k.each e in
     let none : r.0 ≡ [] = no_lines r.0 r.2 in
     let whole : those ≡ these ++ r.0 = r.1 in
     sym (whole ∙ ap (λ ls. these ++ ls) none ∙ append_nothing these)

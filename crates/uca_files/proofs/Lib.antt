@@ -2,3 +2,4 @@ pub mod Cuts
 pub mod FileLaws
 pub mod ByLine
 pub mod StepLemmas
+pub mod KindLemmas

@@ -1,5 +1,5 @@
 pub mod Faults
 pub mod Files
-pub mod KindText
+pub mod Kinds
 pub mod Laws
 pub mod Steps

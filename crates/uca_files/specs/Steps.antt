@@ -1,21 +1,20 @@
--- What one step of the reader of a file does: it takes the next line.
+-- What one step of the reader of a file does: it takes the next line. For private contracts alone.
 use Rattle.std.specs.Prelude.{◌≡◌, ◌⊎◌, ℕ, List, Option, IfSome, IsSomeAnd}
 use Rattle.std.specs.Io.KnownBytes.{Consumes}
 use Rattle.uca_lines.specs.Lines.{ended}
-use Rattle.uca_files.specs.declared.FaultKind.{FaultKind}
-use Rattle.uca_files.specs.declared.FaultKind.TheVariants as kinds
+use Rattle.uca_files.specs.declared.FileForm.{FileForm}
 use Rattle.uca_files.specs.Files.{IsFileLine, BeginsFault, LosesPart}
 
 -- known bytes lose a line and its LF, and the line is taken after what makes s
-pub record TakesNext {S : Type 0} (Takes : S → List ℕ → S → Type 0) (old new : Option (List ℕ)) (s t : S) : Type 0 where
+pub record TakesNext {K S : Type 0} (form : FileForm K) (Takes : S → List ℕ → S → Type 0) (old new : Option (List ℕ)) (s t : S) : Type 0 where
   pub line : List ℕ
   pub gone : Consumes old new (ended line)
-  pub form : IsFileLine line
+  pub fits : IsFileLine form line
   pub takes : Takes s line t
 
--- Why line `number`, with which known bytes begin, is not taken: the source failed, which leaves these bytes; a
--- growth was refused; or a cause of the kind stands there.
-abbrev pub RefusesNext : {S : Type 0} → (S → List ℕ → FaultKind → Type 0) → Option (List ℕ) → Option (List ℕ) → ℕ → S → FaultKind → Type 0
-RefusesNext Cause known left number s kind = ((kind ≡ kinds.Read) × IfSome known (λ text. IsSomeAnd left (LosesPart text)))
-    ⊎ (kind ≡ kinds.Memory)
-    ⊎ IfSome known (λ text. BeginsFault Cause s number text kind)
+-- Why line `number`, with which known bytes begin, is not taken: the source failed, which leaves these bytes; an
+-- allocation failed; or a cause of the kind stands there.
+abbrev pub RefusesNext : {K S : Type 0} → FileForm K → (S → List ℕ → K → Type 0) → Option (List ℕ) → Option (List ℕ) → ℕ → S → K → Type 0
+RefusesNext form Cause known left number s kind = ((kind ≡ form.failed_read) × IfSome known (λ text. IsSomeAnd left (LosesPart form text)))
+    ⊎ (kind ≡ form.no_memory)
+    ⊎ IfSome known (λ text. BeginsFault form Cause s number text kind)

@@ -15,10 +15,10 @@ pub trait ExactLines: TakesLines {
 
 /// The law that the bytes of a file mean at most one thing.
 pub fn one_meaning<T: ExactLines>()
-    ensures { OneMeaning T.says }
+    ensures { OneMeaning T.form T.says }
 {}
 
 /// The law that bytes in which a fault stands mean nothing with which a file may end.
 pub fn no_meaning_with_fault<T: ExactLines>()
-    ensures { NoMeaning T.says T.cause T.is_unfinished }
+    ensures { NoMeaning T.form T.says T.cause T.is_unfinished }
 {}

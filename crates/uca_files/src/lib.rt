@@ -2,9 +2,9 @@
 //! reads them.
 #![tactic(auto)]
 
-ghost use Rattle.std.specs.Prelude.{◌≡◌, ◌⊎◌, ℕ, ◌<◌, ◌≤◌, List, [], ◌∷◌, ◌++◌, length, Some, OnOk, IfErr};
-ghost use Rattle.uca_files.specs.declared.FaultKind.{FaultKind};
-ghost use Rattle.uca_files.specs.KindText.{kind_text};
+ghost use Rattle.std.specs.Prelude.{◌≡◌, ◌⊎◌, ℕ, ◌<◌, ◌≤◌, List, [], ◌∷◌, ◌++◌, length, Bool, false, None, OnOk, IfErr};
+ghost use Rattle.uca_files.specs.Kinds.{CallsReadsAlone};
+ghost use Rattle.uca_files.specs.declared.FileForm.{FileForm};
 
 pub mod laws;
 mod reading;
@@ -12,72 +12,69 @@ mod reading;
 mod tests;
 
 pub use reading::read_lines;
-use std::fmt;
-use thiserror::Error;
+pub use uca_values::{FaultKind, TableFault};
 
-/// Why a table file or a data file is refused.
+/// How files of one kind are cut into lines, and what their faults are called.
 #[derive(Clone, Copy, Debug, PartialEq, Eq)]
-pub enum FaultKind {
-    /// The line has none of the forms of the file.
-    Line,
-    /// The line stands where it may not, or a line that has to be there is missing.
-    Order,
-    /// Something else stands where a code point is due.
-    CodePoint,
-    /// Something else stands where a weight or a class is due.
-    Weight,
-    /// The key of the row is that of an earlier row.
-    DuplicateKey,
-    /// A range is empty, overlaps another, or has a lead that it may not have.
-    Range,
-    /// A count or a length is above its limit.
-    Limit,
-    /// The reader failed.
-    Read,
-    /// A growth was refused.
-    Memory,
+pub struct FileForm<K> {
+    /// How many bytes a line may have, its LF not counted.
+    pub longest: usize,
+    /// The fault of a line with more bytes.
+    pub too_long: K,
+    /// The fault of line 1,000,001. None where the lines that a file may have are fewer in any case.
+    pub too_many: Option<K>,
+    /// The fault of a last line that no LF ends.
+    pub no_lf: K,
+    /// The fault where the reader failed.
+    pub failed_read: K,
+    /// The fault where an allocation failed.
+    pub no_memory: K,
+    /// The fault of a file that ends too early. None where a file may end after any line.
+    pub early_end: Option<K>,
 }
 
-impl FaultKind {
-    /// The name of the kind, as it stands in a fault line.
-    pub fn name(self) -> &'static str
-        ensures { result.now ≡ kind_text self }
-    {
-        match self {
-            FaultKind::Line => "Line",
-            FaultKind::Order => "Order",
-            FaultKind::CodePoint => "CodePoint",
-            FaultKind::Weight => "Weight",
-            FaultKind::DuplicateKey => "DuplicateKey",
-            FaultKind::Range => "Range",
-            FaultKind::Limit => "Limit",
-            FaultKind::Read => "Read",
-            FaultKind::Memory => "Memory",
+/// The form of table files and of data files.
+pub const TABLE_FORM: FileForm<FaultKind> = FileForm {
+    longest: 4096,
+    too_long: FaultKind::Limit,
+    too_many: Some(FaultKind::Limit),
+    no_lf: FaultKind::Line,
+    failed_read: FaultKind::Read,
+    no_memory: FaultKind::Memory,
+    early_end: Some(FaultKind::Order),
+};
+
+/// A file is refused: the line, and why. A file that ends too early has the number of its lines plus one.
+#[derive(Clone, Copy, Debug, PartialEq, Eq)]
+pub struct FileFault<K> {
+    /// The line, counted from 1.
+    pub line: u32,
+    /// Why it is refused.
+    pub kind: K,
+}
+
+impl From<FileFault<FaultKind>> for TableFault {
+    ghost from_gives = { λ fault given. given ≡ record { line = fault.line; kind = fault.kind } };
+
+    fn from(fault: FileFault<FaultKind>) -> TableFault {
+        TableFault {
+            line: fault.line,
+            kind: fault.kind,
         }
     }
 }
 
-impl fmt::Display for FaultKind {
-    ghost output = { λ kind. Some (kind_text kind) };
-
-    fn fmt<W: fmt::Write>(&self, f: &mut fmt::Formatter<W>) -> fmt::Result {
-        f.write_str(self.name())
-    }
-}
-
-/// A table file or a data file is refused: the line, and why. A file that ends too early has the number
-/// of its lines plus one.
-#[derive(Clone, Copy, Debug, PartialEq, Eq, Error)]
-#[error("line {line}: {kind}")]
-pub struct TableFault {
-    /// The line, counted from 1.
-    pub line: u32,
-    /// Why it is refused.
-    pub kind: FaultKind,
-}
-
 /// What the lines of a file say, taken one after the other.
 pub trait TakesLines {
+    /// Why a file is refused.
+    type Kind: Copy + Drop;
+
+    // how the file is cut into lines, and what its faults are called
+    ghost form: { FileForm Self.Kind };
+
+    // whether the kind is that of a reader that failed
+    ghost is_read: { Self.Kind → Bool };
+
     // the lines, from the first on, are acceptable in order and say this
     ghost says: { List (List ℕ) → Self → Type 0 };
 
@@ -85,17 +82,27 @@ pub trait TakesLines {
     ghost takes: { Self → List ℕ → Self → Type 0 };
 
     // a cause of the kind stands in the next line
-    ghost cause: { Self → List ℕ → FaultKind → Type 0 };
+    ghost cause: { Self → List ℕ → Self.Kind → Type 0 };
+
+    /// How the file is cut into lines, and what its faults are called.
+    fn form() -> FileForm<Self::Kind>
+        ensures { result ≡ form };
 
     /// Takes the next line, without its LF.
-    fn take(&mut self, line: &[u8]) -> Result<(), FaultKind>
-        requires { length line.now ≤ 4096 }
+    fn take(&mut self, line: &[u8]) -> Result<(), Self::Kind>
+        requires { length line.now ≤ form.longest }
         ensures ok { OnOk result (takes self.old line.now self.new) }
-        ensures fault { IfErr result (λ kind. (kind ≡ FaultKind.Memory) ⊎ cause self.old line.now kind) };
+        ensures fault { IfErr result (λ kind. (kind ≡ form.no_memory) ⊎ cause self.old line.now kind) };
+
+    // of the kinds of the form, that of a reader that failed alone is so called
+    ghost apart: { CallsReadsAlone form is_read };
 
     // no line is to blame for a reader that fails
-    ghost no_read: { (said : Self) (line : List ℕ) → cause said line FaultKind.Read → ⊥ };
+    ghost no_read: { (said : Self) (line : List ℕ) (kind : Self.Kind) → cause said line kind → is_read kind ≡ false };
 
     // one more line
-    ghost says_more: { (lines : List (List ℕ)) (old : Self) (line : List ℕ) (new : Self) → says lines old → takes old line new → length line ≤ 4096 → length lines < 1000000 → says (lines ++ line ∷ []) new };
+    ghost says_more: { (lines : List (List ℕ)) (old : Self) (line : List ℕ) (new : Self) → says lines old → takes old line new → length line ≤ form.longest → length lines < 1000000 → says (lines ++ line ∷ []) new };
+
+    // with no limit on lines, there are always fewer
+    ghost few: { (lines : List (List ℕ)) (said : Self) → form.too_many ≡ None → says lines said → length lines < 1000000 };
 }

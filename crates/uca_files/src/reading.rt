@@ -1,49 +1,47 @@
 //! The loop that reads a file of lines.
 
-ghost use Rattle.std.specs.Prelude.{◌≡◌, ◌+◌, ◌<◌, ◌≤◌, ◌||◌, [], IfOk, IfErr, IfSome};
+ghost use Rattle.std.specs.Prelude.{◌≡◌, ◌+◌, ◌<◌, ◌≤◌, ◌||◌, [], None, IfOk, IfErr, IfSome};
 ghost use Rattle.std.specs.Bool.{OnTrue, OnFalse};
 ghost use Rattle.std.specs.Io.KnownBytes.{IsAtEnd};
-ghost use Rattle.uca_files.specs.Faults.{is_read, is_read_step, kind_of_fault};
 ghost use Rattle.uca_files.specs.Files.{ReadsLines, RefusesLine};
+ghost use Rattle.uca_files.specs.Kinds.{is_read_fault, is_read_step, kind_of_fault};
 ghost use Rattle.uca_files.specs.Steps.{TakesNext, RefusesNext};
 ghost use Rattle.uca_lines.specs.LineReader.{left_of};
 
-use crate::{FaultKind, TableFault, TakesLines};
+use crate::{FileFault, FileForm, TakesLines};
 use std::alloc::Allocator;
 use std::io::Read;
 use uca_lines::{LineFault, LineReader, NextLine};
 use uca_weights::Source;
 
-/// How many bytes a line of a file may have, its LF not counted.
-const LONGEST_LINE: usize = 4096;
-
 /// Reads a file of lines from a source to its end, or to its first fault, and lets `taker` take each
-/// line in turn. Answers how many lines the file has.
+/// line in turn. Returns how many lines the file has.
 ///
 /// # Errors
 ///
-/// The line, counted from 1, and of its faults the first in this order: `Limit` where it is line
-/// 1,000,001 or has more than 4,096 bytes, its LF not counted; what `taker` answers; `Line` where no LF
-/// ends it. `Read` where the source failed, and `Memory` where a growth was refused, come with the line
-/// that was being read. After a fault the source is not used further.
+/// The line, counted from 1, and of its faults the first in this order, each called as the form of the
+/// taker says: it is line 1,000,001 or has more bytes than the form allows; what `taker` returns; no LF
+/// ends it. A source that fails and an allocation that fails come with the line that was being read.
+/// After a fault the source is not used further.
 pub fn read_lines<T: TakesLines, R: Read, A: Allocator>(
     alloc: A,
     source: &mut Source<R>,
     taker: &mut T,
-) -> Result<u32, TableFault>
+) -> Result<u32, FileFault<T::Kind>>
     requires { T.says [] taker.old }
 
     // Where the bytes are known.
     ensures found { IfSome source.old.remaining (λ bytes. IfOk result (λ count.
-        ReadsLines T.says bytes count taker.new)) }
+        ReadsLines T.form T.says bytes count taker.new)) }
     ensures fault { IfSome source.old.remaining (λ bytes. IfErr result (λ fault.
-        RefusesLine T.says T.cause bytes source.new.remaining fault.line fault.kind)) }
+        RefusesLine T.form T.says T.cause bytes source.new.remaining fault.line fault.kind)) }
 
     // At any source.
     ensures count { IfOk result (λ count. count ≤ 1000000) }
-    ensures failed { source.new.failed ≡ (source.old.failed || is_read result) }
+    ensures failed { source.new.failed ≡ (source.old.failed || is_read_fault T.is_read result) }
 {
-    let mut lines = LineReader::new(LONGEST_LINE);
+    let form = T::form();
+    let mut lines = LineReader::new(form.longest);
     let mut line = Vec::new(alloc);
     loop {
         let count = lines.number();
@@ -51,7 +49,7 @@ pub fn read_lines<T: TakesLines, R: Read, A: Allocator>(
             Ok(true) => {}
             Ok(false) => return Ok(count),
             Err(kind) => {
-                return Err(TableFault {
+                return Err(FileFault {
                     line: count + 1,
                     kind,
                 });
@@ -60,24 +58,25 @@ pub fn read_lines<T: TakesLines, R: Read, A: Allocator>(
     }
 }
 
-// Reads the next line and lets the taker take it. Answers whether there was one.
+// Reads the next line and lets the taker take it. Returns whether there was one.
 fn take_line<T: TakesLines, R: Read, A: Allocator>(
     lines: &mut LineReader,
     source: &mut Source<R>,
     line: &mut Vec<u8, A>,
     taker: &mut T,
-) -> Result<bool, FaultKind>
-    requires { lines.old.longest ≡ 4096 }
-    ensures taken { IfOk result (λ more. OnTrue more (TakesNext T.takes
+) -> Result<bool, T::Kind>
+    requires longest { lines.old.longest ≡ T.form.longest }
+    requires few { T.form.too_many ≡ None → lines.old.number < 1000000 }
+    ensures taken { IfOk result (λ more. OnTrue more (TakesNext T.form T.takes
         (left_of lines.old source.old) (left_of lines.new source.new) taker.old taker.new)) }
     ensures end { IfOk result (λ more. OnFalse more (IsAtEnd (left_of lines.old source.old))) }
     ensures unchanged { IfOk result (λ more. OnFalse more (taker.new ≡ taker.old)) }
-    ensures fault { IfErr result (λ kind. RefusesNext T.cause
+    ensures fault { IfErr result (λ kind. RefusesNext T.form T.cause
         (left_of lines.old source.old) source.new.remaining (lines.old.number + 1) taker.old kind) }
     ensures number { IfOk result (λ more. OnTrue more (lines.new.number ≡ lines.old.number + 1)) }
     ensures below { IfOk result (λ more. OnTrue more (lines.old.number < 1000000)) }
     ensures longest { lines.new.longest ≡ lines.old.longest }
-    ensures failed { source.new.failed ≡ (source.old.failed || is_read_step result) }
+    ensures failed { source.new.failed ≡ (source.old.failed || is_read_step T.is_read result) }
 {
     match lines.next_line(source, line) {
         Ok(NextLine::Ended) => {
@@ -86,20 +85,21 @@ fn take_line<T: TakesLines, R: Read, A: Allocator>(
         }
         Ok(NextLine::Cut) => {
             taker.take(line)?;
-            Err(FaultKind::Line)
+            Err(T::form().no_lf)
         }
         Ok(NextLine::End) => Ok(false),
-        Err(fault) => Err(kind_of(fault)),
+        Err(fault) => Err(kind_of(T::form(), fault)),
     }
 }
 
-// The kind of a fault of a line reader.
-fn kind_of(fault: LineFault) -> FaultKind
-    ensures { result ≡ kind_of_fault fault }
+// What the form calls a fault of a line reader.
+fn kind_of<K: Copy + Drop>(form: FileForm<K>, fault: LineFault) -> K
+    ensures { result ≡ kind_of_fault form fault }
 {
     match fault {
-        LineFault::TooLong | LineFault::Limit => FaultKind::Limit,
-        LineFault::Read => FaultKind::Read,
-        LineFault::Memory => FaultKind::Memory,
+        LineFault::TooLong => form.too_long,
+        LineFault::Limit => form.too_many.unwrap_or(form.too_long),
+        LineFault::Read => form.failed_read,
+        LineFault::Memory => form.no_memory,
     }
 }

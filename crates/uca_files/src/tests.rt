@@ -5,7 +5,7 @@ ghost use Rattle.std.specs.Char.{is_ascii_digit};
 ghost use Rattle.std.specs.List.{list_all};
 
 use super::laws::{ExactLines, no_meaning_with_fault, one_meaning};
-use super::{FaultKind, TableFault, TakesLines, read_lines};
+use super::{FaultKind, FileFault, FileForm, TABLE_FORM, TableFault, TakesLines, read_lines};
 use std::io;
 use std::io::Read;
 use std::test::Fail;
@@ -24,18 +24,30 @@ struct Digits {
 }
 
 impl TakesLines for Digits {
-    ghost use Rattle.std.specs.Prelude.{◌≡◌, true, false};
+    ghost use Rattle.std.specs.Prelude.{◌≡◌, true, false, refl};
     ghost use Rattle.std.specs.Char.{is_ascii_digit};
     ghost use Rattle.std.specs.List.{AllByRecursion, list_all};
     ghost use Rattle.std.proofs.Common.{rules};
     ghost use Rattle.std.proofs.lemmas.Grind.{common_steps};
-    ghost use Rattle.uca_files.specs.declared.FaultKind.TheVariants.{CodePoint};
+    ghost use Rattle.uca_values.specs.declared.faults.FaultKind.TheVariants.{CodePoint};
+    ghost use Rattle.uca_files.specs.declared.TheConstants.{TABLE_FORM};
+    ghost use Rattle.uca_files.specs.Faults.{is_read_kind};
+
+    type Kind = FaultKind;
+
+    ghost form = { TABLE_FORM };
+
+    ghost is_read = { is_read_kind };
 
     ghost says = { λ lines _. AllByRecursion (λ line. list_all is_ascii_digit line ≡ true) lines };
 
     ghost takes = { λ _ line _. list_all is_ascii_digit line ≡ true };
 
     ghost cause = { λ _ line kind. (list_all is_ascii_digit line ≡ false) × (kind ≡ CodePoint) };
+
+    fn form() -> FileForm<FaultKind> {
+        TABLE_FORM
+    }
 
     fn take(&mut self, line: &[u8]) -> Result<(), FaultKind> {
         if !are_digits(line) {
@@ -45,9 +57,13 @@ impl TakesLines for Digits {
         Ok(())
     }
 
-    ghost no_read = { λ _ _ cause. Prim.cc };
+    ghost apart = { record { failed_read = refl; too_long = refl; too_many = refl; no_lf = refl; no_memory = refl } };
+
+    ghost no_read = { λ _ _ kind cause. let e = cause.1 in rw e refl };
 
     ghost says_more = { λ lines old line new says takes _ _. Prim.search (rules, common_steps) };
+
+    ghost few = { λ _ _ none _. Prim.cc };
 }
 
 /// Gives one byte a call, and fails where it has given `good`.
@@ -75,13 +91,13 @@ impl Read for Dripping<'_> {
     }
 }
 
-fn fault(line: u32, kind: FaultKind) -> Result<u32, TableFault> {
-    Err(TableFault { line, kind })
+fn fault(line: u32, kind: FaultKind) -> Result<u32, FileFault<FaultKind>> {
+    Err(FileFault { line, kind })
 }
 
 #[test]
 fn files_of_digits(rt: HostRuntime) -> Result<(), Fail> {
-    let cases: [(&[u8], Result<u32, TableFault>); 9] = [
+    let cases: [(&[u8], Result<u32, FileFault<FaultKind>>); 9] = [
         (b"", Ok(0)),
         (b"\n", Ok(1)),
         (b"12\n\n3\n", Ok(3)),
@@ -105,7 +121,7 @@ fn files_of_digits(rt: HostRuntime) -> Result<(), Fail> {
 #[test]
 fn long_lines(rt: HostRuntime) -> Result<(), Fail> {
     // The length, the byte, whether an LF ends the line. A line that is too long is not looked at.
-    let cases: [(usize, u8, bool, Result<u32, TableFault>); 6] = [
+    let cases: [(usize, u8, bool, Result<u32, FileFault<FaultKind>>); 6] = [
         (4096, b'1', true, Ok(1)),
         (4097, b'1', true, fault(1, FaultKind::Limit)),
         (4097, b'x', true, fault(1, FaultKind::Limit)),
@@ -156,7 +172,7 @@ fn a_million_lines(rt: HostRuntime) -> Result<(), Fail> {
 #[test]
 fn readers_that_drip_and_fail(rt: HostRuntime) -> Result<(), Fail> {
     // After how many bytes the reader fails, and the answer.
-    let cases: [(usize, Result<u32, TableFault>); 6] = [
+    let cases: [(usize, Result<u32, FileFault<FaultKind>>); 6] = [
         (0, fault(1, FaultKind::Read)),
         (1, fault(1, FaultKind::Read)),
         (3, fault(2, FaultKind::Read)),
@@ -202,7 +218,15 @@ fn words_of_faults(rt: HostRuntime) -> Result<(), Fail> {
 struct AnyLines;
 
 impl TakesLines for AnyLines {
-    ghost use Rattle.std.specs.Prelude.{⊤};
+    ghost use Rattle.std.specs.Prelude.{⊤, refl, false};
+    ghost use Rattle.uca_files.specs.declared.TheConstants.{TABLE_FORM};
+    ghost use Rattle.uca_files.specs.Faults.{is_read_kind};
+
+    type Kind = FaultKind;
+
+    ghost form = { TABLE_FORM };
+
+    ghost is_read = { is_read_kind };
 
     ghost says = { λ _ _. ⊤ };
 
@@ -210,13 +234,21 @@ impl TakesLines for AnyLines {
 
     ghost cause = { λ _ _ _. ⊥ };
 
+    fn form() -> FileForm<FaultKind> {
+        TABLE_FORM
+    }
+
     fn take(&mut self, _line: &[u8]) -> Result<(), FaultKind> {
         Ok(())
     }
 
-    ghost no_read = { λ _ _ cause. cause };
+    ghost apart = { record { failed_read = refl; too_long = refl; too_many = refl; no_lf = refl; no_memory = refl } };
+
+    ghost no_read = { λ _ _ _ cause. absurd cause };
 
     ghost says_more = { λ _ _ _ _ _ _ _ _. tt };
+
+    ghost few = { λ _ _ none _. Prim.cc };
 }
 
 impl ExactLines for AnyLines {

@@ -3,3 +3,4 @@ pub mod LineReader
 pub mod NextLine
 pub mod Taking
 pub mod OutputBuffer
+pub mod Handing

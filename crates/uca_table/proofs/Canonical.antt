@@ -8,6 +8,7 @@ use Rattle.uca_values.specs.declared.ImplicitRange.{ImplicitRange}
 use Rattle.uca_values.specs.Content.{Entry, TableContent, IsTable, IsEntry, IsImplicitRange, AreImplicitRanges}
 use Rattle.uca_canonical.specs.Canonical.{setting_line, range_line, row_line, canonical_lines, canonical}
 use Rattle.uca_canonical.proofs.Sizes.{length-version_line, length-setting_line, length-range_line, length-row_line}
+use Rattle.uca_files.specs.declared.TheConstants.{TABLE_FORM}
 use Rattle.uca_files.specs.Files.{IsFileLine}
 use Rattle.uca_files.proofs.FileLaws.{one_value}
 use Rattle.uca_table.specs.Begun.{IsBegun}
@@ -30,7 +31,7 @@ zip_append R (x ∷ xs) ys [] vs h k = absurd h
 zip_append R (x ∷ xs) ys (u ∷ us) vs h k = (h.0, zip_append R xs ys us vs h.1 k)
 
 -- a line for each of some things, of which P holds
-each_line : {X : Type 0} (P : X → Type 0) (line : X → List ℕ) → ((x : X) → P x → IsFileLine (line x)) → (xs : List X) → AllByRecursion P xs → AllByRecursion IsFileLine (map line xs)
+each_line : {X : Type 0} (P : X → Type 0) (line : X → List ℕ) → ((x : X) → P x → IsFileLine TABLE_FORM (line x)) → (xs : List X) → AllByRecursion P xs → AllByRecursion (IsFileLine TABLE_FORM) (map line xs)
 each_line P line is [] h = tt
 each_line P line is (x ∷ xs) h = (is x h.0, each_line P line is xs h.1)
 
@@ -62,24 +63,24 @@ each_range (r ∷ ranges) h = (h.0, each_range ranges h.2)
 
 -- ---- The lines of a table
 
-range_line_is : (r : ImplicitRange) → IsImplicitRange r → IsFileLine (range_line r)
+range_line_is : (r : ImplicitRange) → IsImplicitRange r → IsFileLine TABLE_FORM (range_line r)
 range_line_is r h = record { lacks = range_has_no_lf r h; short = omega (arith, length-range_line r) }
 
-setting_line_is : (setting : Weighting) → Unit {0} → IsFileLine (setting_line setting)
+setting_line_is : (setting : Weighting) → Unit {0} → IsFileLine TABLE_FORM (setting_line setting)
 setting_line_is setting h = record { lacks = setting_has_no_lf setting; short = omega (arith, length-setting_line setting) }
 
-row_line_is : (row : Entry) → IsEntry row → IsFileLine (row_line row)
+row_line_is : (row : Entry) → IsEntry row → IsFileLine TABLE_FORM (row_line row)
 row_line_is row h = record { lacks = row_has_no_lf row h; short = omega (arith, length-row_line row h) }
 
-lines_are : (table : TableContent) → IsTable table → AllByRecursion IsFileLine (canonical_lines table)
+lines_are : (table : TableContent) → IsTable table → AllByRecursion (IsFileLine TABLE_FORM) (canonical_lines table)
 lines_are table h =
     let header = table.header in
     let settings = option_to_list header.setting in
     let before = map setting_line settings ++ map range_line header.ranges in (
       record { lacks = version_has_no_lf header.version h.header.named; short = omega (arith, length-version_line header.version h.header.named) },
-      each_append IsFileLine before (map row_line table.rows)
+      each_append (IsFileLine TABLE_FORM) before (map row_line table.rows)
           (
-          each_append IsFileLine (map setting_line settings) (map range_line header.ranges)
+          each_append (IsFileLine TABLE_FORM) (map setting_line settings) (map range_line header.ranges)
           (each_line (λ _. Unit {0}) setting_line setting_line_is settings (any settings))
           (each_line IsImplicitRange range_line range_line_is header.ranges (each_range header.ranges h.header.ranges))
           )
@@ -167,4 +168,4 @@ canonical_means table h = (
 pub canonical_means_only : (table : TableContent) → IsTable table → MeansOnly (canonical table) table
 canonical_means_only table h =
     let means = canonical_means table h in
-    (means, (λ other also. one_value Says Gives exact.same gives_one (canonical table) other table also means))
+    (means, (λ other also. one_value TABLE_FORM Says Gives exact.same gives_one (canonical table) other table also means))

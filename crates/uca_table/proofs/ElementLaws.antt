@@ -7,7 +7,7 @@ use borrow.Author.Tests.{eqb-true}
 use Rattle.uca_weights.specs.declared.Element.{Element}
 use Rattle.uca_fields.specs.Number.{weight_of, digits}
 use Rattle.uca_fields.proofs.Digits.{weight_takes, weight_of-digits, length-digits}
-use Rattle.uca_files.specs.declared.FaultKind.TheVariants as kinds
+use Rattle.uca_values.specs.declared.faults.FaultKind.TheVariants as kinds
 use Rattle.uca_fields.specs.Text.{skip_blanks}
 use Rattle.uca_fields.specs.Leads.{Leads}
 use Rattle.uca_fields.proofs.LeadLaws.{IsExact, leads_push}

@@ -6,15 +6,16 @@ use Rattle.std.specs.Option.{option_to_list}
 use Rattle.uca_weights.specs.declared.Weighting.{Weighting}
 use Rattle.uca_values.specs.declared.ImplicitRange.{ImplicitRange}
 use Rattle.uca_values.specs.Content.{Entry, TableContent, AreDistinct, AreImplicitRanges}
-use Rattle.uca_files.specs.declared.FaultKind.{FaultKind}
-use Rattle.uca_files.specs.declared.FaultKind.TheVariants as kinds
+use Rattle.uca_values.specs.declared.faults.FaultKind.{FaultKind}
+use Rattle.uca_values.specs.declared.faults.FaultKind.TheVariants as kinds
 use Rattle.uca_files.specs.Laws.{IsExact, IsExactByLine}
 use Rattle.uca_files.proofs.ByLine.{exact_by_line}
 use Rattle.uca_fields.specs.Text.{text_of, after_word}
 use Rattle.uca_table.specs.Begun.{Begun, IsBegun}
 use Rattle.uca_table.specs.Rows.{AddCause}
 use Rattle.uca_table.specs.Headers.{FollowCause}
-use Rattle.uca_table.specs.Lines.{Item, Nothing, OfVersion, OfSetting, OfRange, OfRow, IsItem, IsLine, said, in_order, Says, Gives, IsUnfinished, all_of, Purpose, ForVersion, ForSetting, ForRange, ForRow, begins_at, Has, IsDue, PurposeCause, TakesText, Takes, TextCause, Cause}
+use Rattle.uca_table.specs.Lines.{Item, Nothing, OfVersion, OfSetting, OfRange, OfRow, IsItem, IsLine, said, in_order, Says, Gives, IsUnfinished, all_of, Purpose, ForVersion, ForSetting, ForRange, ForRow, begins_at, Has, IsDue, PurposeCause, TextCause, Cause}
+use Rattle.uca_table.specs.Taking.{TakesText, Takes}
 use Rattle.uca_table.specs.OneMore.{said-append}
 use Rattle.uca_table.proofs.OrderLaws.{not_nil, by_last, last_same, distinct_last, ranges_last, versions_in-in_order, settings_in-in_order, ranges_in-in_order, rows_in-in_order, versions_in, settings_in, ranges_in, rows_in, versions_in-append, settings_in-append, ranges_in-append, rows_in-append, option_same, option_last, in_order_same, in_order-row, in_order-range, ends_empty, EndsIn, drop_last, with_parts}
 use Rattle.uca_table.proofs.FormLaws.{is_version, is_setting, is_range, is_row, item_same, row_same, range_same, row_text_barred, range_text_barred, row_begins}

@@ -9,8 +9,8 @@ use Rattle.uca_weights.specs.declared.Weighting.{Weighting}
 use Rattle.uca_weights.specs.declared.Weighting.TheVariants as weightings
 use Rattle.uca_values.specs.declared.ImplicitRange.{ImplicitRange}
 use Rattle.uca_values.specs.Content.{Entry}
-use Rattle.uca_files.specs.declared.FaultKind.{FaultKind}
-use Rattle.uca_files.specs.declared.FaultKind.TheVariants as kinds
+use Rattle.uca_values.specs.declared.faults.FaultKind.{FaultKind}
+use Rattle.uca_values.specs.declared.faults.FaultKind.TheVariants as kinds
 use Rattle.uca_fields.specs.declared.RangeFault.{RangeFault}
 use Rattle.uca_fields.specs.Text.{is_blank, is_semicolon, up_to, from_first, skip_blanks, trim, word_of, after_word}
 use Rattle.uca_fields.specs.Number.{code_point_of, weight_of}

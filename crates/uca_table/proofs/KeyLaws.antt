@@ -1,7 +1,7 @@
 -- The key of a row.
 use Rattle.std.proofs.Common.{◌≡◌, ℕ, ◌<◌, ◌≤◌, Bool, true, false, ◌&&◌, List, [], ◌∷◌, ◌++◌, length, Some, refl, ap, sym, ◌∙◌, arith, length-append}
 use borrow.Author.Tests.{leb-true}
-use Rattle.uca_files.specs.declared.FaultKind.TheVariants as kinds
+use Rattle.uca_values.specs.declared.faults.FaultKind.TheVariants as kinds
 use Rattle.uca_fields.specs.Text.{skip_blanks, word_of, after_word}
 use Rattle.uca_fields.specs.Number.{is_code_point, code_point_of}
 use Rattle.uca_fields.specs.Leads.{Leads, BeginsCodePoint}

@@ -1,4 +1,3 @@
-pub mod Pushes
 pub mod ElementLaws
 pub mod KeyLaws
 pub mod RowLaws

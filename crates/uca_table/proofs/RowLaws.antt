@@ -1,8 +1,8 @@
 -- Rows from their parts.
 use Rattle.std.proofs.Common.{◌≡◌, ℕ, List, ◌∷◌, ◌∙◌, ◌⊎◌, sym, ap, subst, inl, inr}
 use borrow.Author.Tests.{eqb-true}
-use Rattle.uca_files.specs.declared.FaultKind.{FaultKind}
-use Rattle.uca_files.specs.declared.FaultKind.TheVariants as kinds
+use Rattle.uca_values.specs.declared.faults.FaultKind.{FaultKind}
+use Rattle.uca_values.specs.declared.faults.FaultKind.TheVariants as kinds
 use Rattle.uca_fields.specs.Text.{is_semicolon, up_to, from_first}
 use Rattle.uca_fields.proofs.CutLaws.{from_first_passes}
 use Rattle.uca_values.specs.Content.{Entry}

@@ -1,8 +1,8 @@
 -- The elements of a row (UTS #10, section 9.1): `[.1C47.0020.0002][*0209.0020.0002]`.
 use Rattle.std.specs.Prelude.{◌≡◌, ◌≢◌, ℕ, ◌<◌, ◌≤◌, ◌⊎◌, ◌&&◌, ◌||◌, ◌==◌, Bool, true, false, List, [], ◌∷◌, ◌++◌, length}
 use Rattle.uca_weights.specs.declared.Element.{Element}
-use Rattle.uca_files.specs.declared.FaultKind.{FaultKind}
-use Rattle.uca_files.specs.declared.FaultKind.TheVariants as kinds
+use Rattle.uca_values.specs.declared.faults.FaultKind.{FaultKind}
+use Rattle.uca_values.specs.declared.faults.FaultKind.TheVariants as kinds
 use Rattle.uca_fields.specs.Text.{skip_blanks}
 use Rattle.uca_fields.specs.Leads.{Leads}
 use Rattle.uca_values.specs.Content.{Fits}

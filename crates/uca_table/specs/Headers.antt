@@ -2,8 +2,8 @@
 use Rattle.std.specs.Prelude.{◌≡◌, ℕ, ◌≤◌, ◌⊎◌, true, List, [], ◌∷◌, length, Some, None, Ok, Err}
 use Rattle.std.specs.List.{AllByRecursion}
 use Rattle.uca_weights.specs.declared.Weighting.{Weighting}
-use Rattle.uca_files.specs.declared.FaultKind.{FaultKind}
-use Rattle.uca_files.specs.declared.FaultKind.TheVariants as kinds
+use Rattle.uca_values.specs.declared.faults.FaultKind.{FaultKind}
+use Rattle.uca_values.specs.declared.faults.FaultKind.TheVariants as kinds
 use Rattle.uca_fields.specs.declared.RangeFault.TheVariants as faults
 use Rattle.uca_fields.specs.Text.{is_semicolon, up_to, from_first, skip_blanks, trim, word_of, after_word}
 use Rattle.uca_fields.specs.Number.{weight_of}

@@ -3,8 +3,9 @@ pub mod Elements
 pub mod Rows
 pub mod Headers
 pub mod Lines
+pub mod Taking
 pub mod Steps
 pub mod Keeping
-pub mod OneMore
 pub mod Worked
 pub mod Laws
+pub mod OneMore

@@ -3,12 +3,13 @@ use Rattle.std.specs.Prelude.{◌≡◌, ◌≢◌, ℕ, ◌⊎◌, ◌==◌, Bo
 use Rattle.std.specs.List.{AllZip}
 use Rattle.std.specs.Option.{option_to_list}
 use Rattle.uca_weights.specs.declared.Weighting.{Weighting}
-use Rattle.uca_files.specs.declared.FaultKind.{FaultKind}
-use Rattle.uca_files.specs.declared.FaultKind.TheVariants as kinds
-use Rattle.uca_files.specs.declared.TableFault.{TableFault}
+use Rattle.uca_values.specs.declared.faults.FaultKind.{FaultKind}
+use Rattle.uca_values.specs.declared.faults.FaultKind.TheVariants as kinds
+use Rattle.uca_values.specs.declared.faults.TableFault.{TableFault}
 use Rattle.uca_fields.specs.Text.{text_of, word_of, after_word}
 use Rattle.uca_values.specs.declared.ImplicitRange.{ImplicitRange}
 use Rattle.uca_values.specs.Content.{Entry, TableContent}
+use Rattle.uca_files.specs.declared.TheConstants.{TABLE_FORM}
 use Rattle.uca_files.specs.Files
 use Rattle.uca_table.specs.Begun.{Begun, IsBegun}
 use Rattle.uca_table.specs.Headers.{IsVersion, IsSetting, IsRange, RangeCause}
@@ -66,7 +67,7 @@ Gives b table = b ≡ all_of table
 
 -- the bytes mean this table
 abbrev pub Means : List ℕ → TableContent → Type 0
-Means bytes table = Files.Means Says Gives bytes table
+Means bytes table = Files.Means TABLE_FORM Says Gives bytes table
 
 -- a file may not end here
 abbrev pub IsUnfinished : Begun → Type 0
@@ -118,16 +119,4 @@ Cause b line kind = TextCause b (text_of line) kind
 
 -- why the bytes of a table file are refused, of which the source has `left` left
 abbrev pub Refuses : List ℕ → Option (List ℕ) → TableFault → Type 0
-Refuses bytes left fault = Files.Refuses Says Cause IsUnfinished bytes left fault.line fault.kind
-
--- ---- One more line
-
--- with one more line, whose text says the item, the new is said in order
-pub record TakesText (old : Begun) (text : List ℕ) (new : Begun) : Type 0 where
-  pub item : Item
-  pub form : IsItem text item
-  pub order : in_order new ≡ in_order old ++ said (item ∷ [])
-  pub begun : IsBegun new
-
-abbrev pub Takes : Begun → List ℕ → Begun → Type 0
-Takes old line new = TakesText old (text_of line) new
+Refuses bytes left fault = Files.Refuses TABLE_FORM Says Cause IsUnfinished bytes left fault.line fault.kind

@@ -3,9 +3,10 @@
 use Rattle.std.specs.Prelude.{◌≡◌, ℕ, List, [], ◌∷◌, ◌++◌, refl}
 use Rattle.std.specs.List.{AllZip}
 use Rattle.std.proofs.Common.{sym, ap, ◌∙◌, inl, inr}
-use Rattle.uca_files.specs.declared.FaultKind.TheVariants as kinds
+use Rattle.uca_values.specs.declared.faults.FaultKind.TheVariants as kinds
 use Rattle.uca_table.specs.Begun.{Begun}
-use Rattle.uca_table.specs.Lines.{Item, Nothing, OfVersion, OfSetting, OfRange, OfRow, IsLine, said, Purpose, ForVersion, ForSetting, ForRange, ForRow, PurposeCause, Says, Takes, Cause}
+use Rattle.uca_table.specs.Lines.{Item, Nothing, OfVersion, OfSetting, OfRange, OfRow, IsLine, said, Purpose, ForVersion, ForSetting, ForRange, ForRow, PurposeCause, Says, Cause}
+use Rattle.uca_table.specs.Taking.{Takes}
 
 no_read_in_purpose : (b : Begun) (text : List ℕ) (purpose : Purpose) → PurposeCause b text purpose kinds.Read → ⊥
 no_read_in_purpose b text ForVersion h = let e = h.0 in cc

@@ -1,7 +1,7 @@
 -- The rows of a table file (UTS #10, section 9.1): `0061 0301 ; [.1C50.0020.0002]`.
 use Rattle.std.specs.Prelude.{◌≡◌, ◌≢◌, ℕ, ◌<◌, ◌≤◌, ◌⊎◌, List, [], ◌∷◌, length, None, Contains}
-use Rattle.uca_files.specs.declared.FaultKind.{FaultKind}
-use Rattle.uca_files.specs.declared.FaultKind.TheVariants as kinds
+use Rattle.uca_values.specs.declared.faults.FaultKind.{FaultKind}
+use Rattle.uca_values.specs.declared.faults.FaultKind.TheVariants as kinds
 use Rattle.uca_fields.specs.Text.{is_semicolon, up_to, from_first, skip_blanks, word_of}
 use Rattle.uca_fields.specs.Number.{code_point_of}
 use Rattle.uca_fields.specs.Leads.{Leads, BeginsCodePoint}

@@ -8,7 +8,7 @@ ghost use Rattle.uca_table.specs.Steps;
 
 use std::alloc::Allocator;
 use uca_fields::{skip_blanks, weight};
-use uca_files::FaultKind;
+use uca_values::FaultKind;
 use uca_weights::Element;
 
 /// How many elements a row may have.
@@ -20,7 +20,7 @@ const MOST_ELEMENTS: usize = 32;
 ///
 /// At the first element that is none: `Line` where it does not begin as an element does, `Weight` where
 /// it does not go on so, and `Limit` where it is the thirty-third. `Line` where there is no element,
-/// `Memory` where a growth was refused.
+/// `Memory` where an allocation failed.
 pub fn read_elements<A: Allocator>(alloc: A, text: &[u8]) -> Result<Vec<Element, A>, FaultKind>
     ensures found { IfOk result (λ elements. AreElements text.now elements.items) }
     ensures fault { IfErr result (λ kind. (kind ≡ FaultKind.Memory) ⊎ ElementsCause text.now kind) }
@@ -37,9 +37,7 @@ pub fn read_elements<A: Allocator>(alloc: A, text: &[u8]) -> Result<Vec<Element,
         if elements.len() == MOST_ELEMENTS {
             return Err(FaultKind::Limit);
         }
-        if elements.push(found.0).is_err() {
-            return Err(FaultKind::Memory);
-        }
+        elements.push(found.0)?;
         rest = skip_blanks(found.1);
     }
     if elements.is_empty() {

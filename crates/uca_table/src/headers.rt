@@ -7,8 +7,7 @@ ghost use Rattle.uca_table.specs.Headers.{IsRangeText, MayFollow, RangeTextCause
 ghost use Rattle.uca_canonical.specs.Words.{setting_word};
 
 use uca_fields::{RangeFault, code_point_range, cut_at, trim, weight};
-use uca_files::FaultKind;
-use uca_values::ImplicitRange;
+use uca_values::{FaultKind, ImplicitRange};
 use uca_weights::Weighting;
 
 /// How many bytes the name of a version may have.

@@ -13,9 +13,8 @@ mod rows;
 mod tests;
 
 pub use laws::{canonical_text_means_its_table, canonical_text_means_the_same, worked_lines};
-pub use read::{read_table, read_table_in};
+pub use read::read_table;
 pub use uca_canonical::write_table;
 pub use uca_check::{IllFormed, check};
-pub use uca_data::{read_data, read_data_in};
-pub use uca_files::{FaultKind, TableFault};
-pub use uca_values::{Data, Header, ImplicitRange, Row, Table};
+pub use uca_data::read_data;
+pub use uca_values::{Data, FaultKind, Header, ImplicitRange, Row, Table, TableFault};

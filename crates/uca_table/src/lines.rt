@@ -10,8 +10,8 @@ use std::collections::BTreeSet;
 use std::marker::Model;
 use std::str;
 use uca_fields::{cut_word, line_text, skip_blanks};
-use uca_files::{FaultKind, TakesLines};
-use uca_values::{Header, ImplicitRange, Row, Table};
+use uca_files::{FileForm, TABLE_FORM, TakesLines};
+use uca_values::{FaultKind, Header, ImplicitRange, Row, Table};
 use uca_weights::Weighting;
 
 /// How many `@implicitweights` lines a table may have.
@@ -105,7 +105,8 @@ impl<A: Allocator + Copy> TableLines<A> {
     ghost use Rattle.uca_values.specs.Content.{IsEntry, keys_of};
     ghost use Rattle.uca_canonical.specs.Words.{at_version, at_variable, at_ranges};
     ghost use Rattle.uca_table.specs.Rows.{AddCause};
-    ghost use Rattle.uca_table.specs.Lines.{begins_at, IsDue, ForSetting, ForRange, TakesText, TextCause};
+    ghost use Rattle.uca_table.specs.Lines.{begins_at, IsDue, ForSetting, ForRange, TextCause};
+    ghost use Rattle.uca_table.specs.Taking.{TakesText};
 
     // Takes the text of a line that begins with `@`.
     fn take_header_line(&mut self, text: &[u8]) -> Result<(), FaultKind>
@@ -139,10 +140,7 @@ impl<A: Allocator + Copy> TableLines<A> {
             return Err(FaultKind::Line);
         }
         let name = str::from_utf8(name).unwrap();
-        let Ok(version) = String::from_str(self.alloc, name) else {
-            return Err(FaultKind::Memory);
-        };
-        self.version = Some(version);
+        self.version = Some(String::from_str(self.alloc, name)?);
         Ok(())
     }
 
@@ -185,19 +183,14 @@ impl<A: Allocator + Copy> TableLines<A> {
             return Err(FaultKind::Order);
         }
         let (_, rest) = cut_word(text);
-        let range = match read_range(rest) {
-            Ok(range) => range,
-            Err(kind) => return Err(kind),
-        };
+        let range = read_range(rest)?;
         if !may_follow(self.ranges.as_slice(), range) {
             return Err(FaultKind::Range);
         }
         if self.ranges.len() >= MOST_RANGES {
             return Err(FaultKind::Limit);
         }
-        let Ok(()) = self.ranges.push(range) else {
-            return Err(FaultKind::Memory);
-        };
+        self.ranges.push(range)?;
         Ok(())
     }
 
@@ -210,10 +203,8 @@ impl<A: Allocator + Copy> TableLines<A> {
         if self.version.is_none() {
             return Err(FaultKind::Order);
         }
-        match read_row(self.alloc, text) {
-            Ok(row) => self.add_row(row),
-            Err(kind) => Err(kind),
-        }
+        let row = read_row(self.alloc, text)?;
+        self.add_row(row)
     }
 
     // Adds a row after the others.
@@ -232,31 +223,38 @@ impl<A: Allocator + Copy> TableLines<A> {
         if self.rows.len() >= MOST_ROWS {
             return Err(FaultKind::Limit);
         }
-        let Ok(key) = Vec::from_slice(self.alloc, row.key.as_slice()) else {
-            return Err(FaultKind::Memory);
-        };
-        let Ok(()) = self.rows.reserve(1) else {
-            return Err(FaultKind::Memory);
-        };
-        let Ok(_) = self.keys.insert(key) else {
-            return Err(FaultKind::Memory);
-        };
-        let Ok(()) = self.rows.push(row) else {
-            return Err(FaultKind::Memory);
-        };
+        let key = Vec::from_slice(self.alloc, row.key.as_slice())?;
+        self.rows.reserve(1)?;
+        self.keys.insert(key)?;
+        self.rows.push(row)?;
         Ok(())
     }
 }
 
 impl<A: Allocator + Copy> TakesLines for TableLines<A> {
-    ghost use Rattle.uca_table.specs.Lines.{Says, Takes, Cause};
+    ghost use Rattle.uca_table.specs.Lines.{Says, Cause};
+    ghost use Rattle.uca_table.specs.Taking.{Takes};
     ghost use Rattle.uca_table.specs.OneMore as one_more;
+    ghost use Rattle.std.specs.Prelude.{refl};
+    ghost use Rattle.uca_files.specs.declared.TheConstants.{TABLE_FORM};
+    ghost use Rattle.uca_files.specs.Faults.{is_read_kind};
+    ghost use Rattle.uca_files.proofs.KindLemmas.{not_read};
+
+    type Kind = FaultKind;
+
+    ghost form = { TABLE_FORM };
+
+    ghost is_read = { is_read_kind };
 
     ghost says = { Says };
 
     ghost takes = { Takes };
 
     ghost cause = { Cause };
+
+    fn form() -> FileForm<FaultKind> {
+        TABLE_FORM
+    }
 
     fn take(&mut self, line: &[u8]) -> Result<(), FaultKind> {
         let text = line_text(line);
@@ -271,9 +269,13 @@ impl<A: Allocator + Copy> TakesLines for TableLines<A> {
         }
     }
 
-    ghost no_read = { one_more.no_read };
+    ghost apart = { record { failed_read = refl; too_long = refl; too_many = refl; no_lf = refl; no_memory = refl } };
+
+    ghost no_read = { λ begun line. not_read (Cause begun line) (one_more.no_read begun line) };
 
     ghost says_more = { λ lines old line new said takes short few. one_more.says_more lines old line new said takes };
+
+    ghost few = { λ _ _ none _. Prim.cc };
 }
 
 // What follows the first word of a text, blanks between them aside.

@@ -6,10 +6,10 @@ ghost use Rattle.uca_files.specs.Faults.{IsStop, is_read};
 ghost use Rattle.uca_table.specs.Lines.{Means, Refuses};
 
 use crate::lines::TableLines;
-use std::alloc::{Allocator, Global};
+use std::alloc::Allocator;
 use std::io::Read;
-use uca_files::{FaultKind, TableFault, read_lines};
-use uca_values::Table;
+use uca_files::read_lines;
+use uca_values::{FaultKind, Table, TableFault};
 use uca_weights::Source;
 
 /// Reads a table file: collation elements in the form of Unicode's own `allkeys.txt` (UTS #10, section
@@ -37,24 +37,9 @@ use uca_weights::Source;
 /// - `Line`: no LF ends the line.
 /// - `Order`, with the number of lines plus one: the file ends without a version.
 ///
-/// `Read` where the source failed, and `Memory` where a growth was refused, come with the line that was
+/// `Read` where the source failed, and `Memory` where an allocation failed, come with the line that was
 /// being read.
-pub fn read_table<R: Read>(alloc: Global, source: &mut Source<R>) -> Result<Table, TableFault>
-    // Where the bytes are known.
-    ensures found { IfSome source.old.remaining (λ bytes. IfOk result (λ read. Means bytes read)) }
-    ensures only { IfSome source.old.remaining (λ bytes. (table : TableContent) → Means bytes table →
-        MatchResult result (λ read. read ≡ table) (λ fault. IsStop fault.kind)) }
-    ensures fault { IfSome source.old.remaining (λ bytes. IfErr result (
-        Refuses bytes source.new.remaining)) }
-
-    // At any source.
-    ensures failed { source.new.failed ≡ (source.old.failed || is_read result) }
-{
-    read_table_in(alloc, source)
-}
-
-/// The same with any allocator.
-pub fn read_table_in<A: Allocator + Copy, R: Read>(
+pub fn read_table<A: Allocator + Copy, R: Read>(
     alloc: A,
     source: &mut Source<R>,
 ) -> Result<Table<A>, TableFault>
@@ -62,8 +47,7 @@ pub fn read_table_in<A: Allocator + Copy, R: Read>(
     ensures found { IfSome source.old.remaining (λ bytes. IfOk result (λ read. Means bytes read)) }
     ensures only { IfSome source.old.remaining (λ bytes. (table : TableContent) → Means bytes table →
         MatchResult result (λ read. read ≡ table) (λ fault. IsStop fault.kind)) }
-    ensures fault { IfSome source.old.remaining (λ bytes. IfErr result (
-        Refuses bytes source.new.remaining)) }
+    ensures fault { IfSome source.old.remaining (λ bytes. IfErr result (Refuses bytes source.new.remaining)) }
 
     // At any source.
     ensures failed { source.new.failed ≡ (source.old.failed || is_read result) }
@@ -76,8 +60,7 @@ fn read_to_end<A: Allocator + Copy, R: Read>(
     source: &mut Source<R>,
 ) -> Result<Table<A>, TableFault>
     ensures found { IfSome source.old.remaining (λ bytes. IfOk result (λ read. Means bytes read)) }
-    ensures fault { IfSome source.old.remaining (λ bytes. IfErr result (
-        Refuses bytes source.new.remaining)) }
+    ensures fault { IfSome source.old.remaining (λ bytes. IfErr result (Refuses bytes source.new.remaining)) }
     ensures failed { source.new.failed ≡ (source.old.failed || is_read result) }
 {
     let mut lines = TableLines::new(alloc);

@@ -6,8 +6,7 @@ ghost use Rattle.uca_table.specs.Rows.{IsKey, KeyCause, IsRow, RowTextCause};
 use crate::elements::read_elements;
 use std::alloc::Allocator;
 use uca_fields::{code_point, cut_at, cut_word, skip_blanks};
-use uca_files::FaultKind;
-use uca_values::Row;
+use uca_values::{FaultKind, Row};
 
 /// How many code points the key of a row may have.
 const MOST_CODE_POINTS: usize = 16;
@@ -35,7 +34,7 @@ pub fn read_row<A: Allocator + Copy>(alloc: A, text: &[u8]) -> Result<Row<A>, Fa
 /// # Errors
 ///
 /// At the first word that is refused: `CodePoint` where it is no code point, and `Limit` where it is the
-/// seventeenth. `Line` where there is no word, `Memory` where a growth was refused.
+/// seventeenth. `Line` where there is no word, `Memory` where an allocation failed.
 pub fn read_key<A: Allocator>(alloc: A, text: &[u8]) -> Result<Vec<char, A>, FaultKind>
     ensures found { IfOk result (λ key. IsKey text.now key.items) }
     ensures fault { IfErr result (λ kind. (kind ≡ FaultKind.Memory) ⊎ KeyCause text.now kind) }
@@ -50,9 +49,7 @@ pub fn read_key<A: Allocator>(alloc: A, text: &[u8]) -> Result<Vec<char, A>, Fau
         if key.len() == MOST_CODE_POINTS {
             return Err(FaultKind::Limit);
         }
-        if key.push(point).is_err() {
-            return Err(FaultKind::Memory);
-        }
+        key.push(point)?;
         rest = skip_blanks(more);
     }
     if key.is_empty() {

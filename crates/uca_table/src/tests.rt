@@ -1,6 +1,6 @@
 //! Table files: each fault, each order of two causes in one line, and what accepted files say.
 
-use crate::{read_table, read_table_in, write_table};
+use crate::{read_table, write_table};
 use linked_list_allocator::LocalHeap;
 use std::io;
 use std::io::Read;
@@ -493,7 +493,7 @@ fn readers_that_drip_and_fail(rt: HostRuntime) -> Result<(), Fail> {
 /// The kind and the line of the fault, or how many rows the table has.
 fn read_in(heap: &LocalHeap) -> Result<usize, (FaultKind, u32)> {
     let mut source = Source::new(SMALL);
-    match read_table_in(heap, &mut source) {
+    match read_table(heap, &mut source) {
         Ok(table) => Ok(table.rows.len()),
         Err(fault) => Err((fault.kind, fault.line)),
     }

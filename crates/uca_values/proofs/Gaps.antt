@@ -9,8 +9,8 @@ use Rattle.uca_values.specs.declared.ClassRange.{ClassRange}
 use Rattle.uca_values.specs.declared.CodePointRange.{CodePointRange}
 use Rattle.uca_values.specs.Ranges.{is_between, is_within, class_in, RiseBy, AreRising, AreRisingClasses}
 use Rattle.uca_values.specs.Gaps.{IsGap}
-use Rattle.uca_values.specs.Content.{properties_of, IsClass, IsData, DataContent, Properties}
-use Rattle.uca_values.specs.Adding.{HasClassBetween, HasHanBetween, AddsClass, AddsCore, AddsOther}
+use Rattle.uca_values.specs.Content.{properties_of, IsClass, IsData, DataContent, Properties, HasClassBetween, HasHanBetween}
+use Rattle.uca_values.specs.Adding.{AddsClass, AddsCore, AddsOther}
 use Rattle.uca_values.proofs.Rising.{all_at, sound_at, apart_at, IsPlace, between_true, between_false, between_from}
 
 from_cases : (i j : ℕ) → i ≤ j → (i ≡ j) ⊎ (i < j)

@@ -1,11 +1,11 @@
 -- One more range: the properties that it gives, and why it is refused.
-use Rattle.std.specs.Prelude.{◌≡◌, ◌≢◌, ◌⊎◌, ℕ, ◌+◌, ◌<◌, ◌≤◌, true, ⊤, length, ◌||◌, if◌then◌else◌}
+use Rattle.std.specs.Prelude.{◌≡◌, ℕ, ◌+◌, ◌<◌, ◌≤◌, ⊤, length, ◌||◌, if◌then◌else◌}
 use Rattle.uca_values.specs.declared.ClassRange.{ClassRange}
 use Rattle.uca_values.specs.declared.CodePointRange.{CodePointRange}
 use Rattle.uca_values.specs.declared.characters.RangeFault.{RangeFault}
 use Rattle.uca_values.specs.declared.characters.RangeFault.TheVariants as faults
 use Rattle.uca_values.specs.Ranges.{is_between}
-use Rattle.uca_values.specs.Content.{Properties, DataContent, properties_of}
+use Rattle.uca_values.specs.Content.{Properties, DataContent, properties_of, HasClassBetween, HasHanBetween}
 
 -- the class on the range, and elsewhere what there was
 abbrev pub with_class : ClassRange → Properties → Properties
@@ -16,14 +16,6 @@ with_core r properties = record properties { is_core = λ point. is_between r.fi
 
 abbrev pub with_other : CodePointRange → Properties → Properties
 with_other r properties = record properties { is_other = λ point. is_between r.first r.last point || properties.is_other point }
-
--- a code point from `first` to `last` has a class
-abbrev pub HasClassBetween : Properties → ℕ → ℕ → Type 0
-HasClassBetween properties first last = (point : ℕ) × (first ≤ point) × (point ≤ last) × (properties.class point ≢ 0)
-
--- a code point from `first` to `last` is core Han or another unified ideograph
-abbrev pub HasHanBetween : Properties → ℕ → ℕ → Type 0
-HasHanBetween properties first last = (point : ℕ) × (first ≤ point) × (point ≤ last) × ((properties.is_core point ≡ true) ⊎ (properties.is_other point ≡ true))
 
 -- the range is added: it is not empty, none of its code points had a class, there was room, and there is one
 -- more range

@@ -1,5 +1,5 @@
 -- What tables and data files mean, without where it lies in memory, and what holds of every such value.
-use Rattle.std.specs.Prelude.{◌≡◌, ◌⊎◌, ℕ, ◌+◌, ◌<◌, ◌≤◌, ◌&&◌, ◌||◌, ◌==◌, Bool, true, ⊤, nat_le, List, [], ◌∷◌, length, map, Option, Contains}
+use Rattle.std.specs.Prelude.{◌≡◌, ◌≢◌, ◌⊎◌, ℕ, ◌+◌, ◌<◌, ◌≤◌, ◌&&◌, ◌||◌, ◌==◌, Bool, true, ⊤, nat_le, List, [], ◌∷◌, length, map, Option, Contains}
 use Rattle.std.specs.List.{list_all, AllByRecursion}
 use Rattle.std.specs.Char.{IsScalar}
 use Rattle.uca_weights.specs.declared.Element.{Element}
@@ -110,6 +110,14 @@ pub record Properties : Type 0 where
 
 abbrev pub properties_of : DataContent → Properties
 properties_of content = record { class = class_in content.classes; is_core = is_within content.core; is_other = is_within content.other }
+
+-- a code point from `first` to `last` has a class
+abbrev pub HasClassBetween : Properties → ℕ → ℕ → Type 0
+HasClassBetween properties first last = (point : ℕ) × (first ≤ point) × (point ≤ last) × (properties.class point ≢ 0)
+
+-- a code point from `first` to `last` is core Han or another unified ideograph
+abbrev pub HasHanBetween : Properties → ℕ → ℕ → Type 0
+HasHanBetween properties first last = (point : ℕ) × (first ≤ point) × (point ≤ last) × ((properties.is_core point ≡ true) ⊎ (properties.is_other point ≡ true))
 
 -- a class that a range may have
 abbrev pub IsClass : ℕ → Type 0

@@ -4,3 +4,4 @@ pub mod Content
 pub mod Implicit
 pub mod Worked
 pub mod Adding
+pub mod FaultText

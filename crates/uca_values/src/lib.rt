@@ -3,12 +3,14 @@
 #![tactic(auto)]
 
 pub mod characters;
+pub mod faults;
 pub mod implicit;
 pub mod tables;
 #[cfg(test)]
 mod tests;
 
 pub use characters::{Data, RangeFault};
+pub use faults::{FaultKind, TableFault};
 pub use implicit::worked_implicit_weights;
 pub use tables::{Header, Row, Table};
 

@@ -2,8 +2,8 @@ use Rattle.std.proofs.Common.{[], ap, subst, ◌∙◌, arith}
 use Rattle.uca_values.specs.Content.{HeaderContent, IsHeader}
 use Rattle.uca_lines.specs.Lines.{ended}
 use Rattle.uca_canonical.specs.Canonical.{version_line}
-use Rattle.uca_canonical.specs.Handing.{setting_text, range_lines}
-use Rattle.uca_canonical.proofs.Parts.{part, handed_none, part_fits, part_handed, returns_fault, returns_last}
+use Rattle.uca_canonical.specs.LineTexts.{setting_text, range_lines}
+use Rattle.uca_lines.proofs.HandingLemmas.{part, handed_none, part_fits, part_handed, returns_fault, returns_last}
 use Rattle.uca_canonical.proofs.Sizes.{length-header_text, header_fits}
 use Rattle.uca_canonical.proofs.Texts.{header_parts, header_text_is}
 use Rattle.uca_canonical.proofs.header.hand_header.Goals as goal

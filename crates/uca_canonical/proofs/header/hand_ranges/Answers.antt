@@ -1,8 +1,8 @@
 use Rattle.std.proofs.Common.{refl}
 use Rattle.uca_lines.specs.Lines.{ended}
 use Rattle.uca_canonical.specs.Canonical.{range_line}
-use Rattle.uca_canonical.specs.Handing.{range_lines}
-use Rattle.uca_canonical.proofs.Parts.{part_fits, part_handed, returns_fault, all_handed}
+use Rattle.uca_canonical.specs.LineTexts.{range_lines}
+use Rattle.uca_lines.proofs.HandingLemmas.{part_fits, part_handed, returns_fault, all_handed}
 use Rattle.uca_canonical.proofs.header.hand_ranges.Goals as goal
 
 pub hand_range-requires : goal.hand_range-requires

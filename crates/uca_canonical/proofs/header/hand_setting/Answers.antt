@@ -1,6 +1,6 @@
 use Rattle.std.proofs.Common.{ℕ, List, sym, subst, length}
-use Rattle.uca_canonical.specs.Handing.{HasRoom, HasHanded, Hands}
-use Rattle.uca_canonical.proofs.Parts.{handed_none}
+use Rattle.uca_lines.specs.Handing.{HasRoom, HasHanded, Hands}
+use Rattle.uca_lines.proofs.HandingLemmas.{handed_none}
 use Rattle.uca_canonical.proofs.Texts.{setting_text_some, setting_text_none}
 use Rattle.uca_canonical.proofs.header.hand_setting.Goals as goal
 

@@ -1,5 +1,5 @@
 use Rattle.std.proofs.Common.{[], refl, arith}
-use Rattle.uca_canonical.proofs.Parts.{part, handed_none, part_fits, part_handed, returns_fault, returns_last}
+use Rattle.uca_lines.proofs.HandingLemmas.{part, handed_none, part_fits, part_handed, returns_fault, returns_last}
 use Rattle.uca_canonical.proofs.Texts.{version_parts, version_text_is}
 use Rattle.uca_canonical.proofs.header.hand_version.Goals as goal
 

@@ -1,6 +1,6 @@
 use Rattle.std.proofs.Common.{refl}
 use Rattle.uca_canonical.specs.Elements.{element_text}
-use Rattle.uca_canonical.proofs.Parts.{part_fits, part_handed, returns_fault, all_handed}
+use Rattle.uca_lines.proofs.HandingLemmas.{part_fits, part_handed, returns_fault, all_handed}
 use Rattle.uca_canonical.proofs.rows.hand_elements.Goals as goal
 
 pub hand-requires : goal.hand-requires

@@ -1,6 +1,6 @@
 use Rattle.std.proofs.Common.{refl, ap}
 use Rattle.uca_canonical.specs.Canonical.{key_point_text, key_text}
-use Rattle.uca_canonical.proofs.Parts.{part_fits, part_handed, returns_fault, all_handed}
+use Rattle.uca_lines.proofs.HandingLemmas.{part_fits, part_handed, returns_fault, all_handed}
 use Rattle.uca_canonical.proofs.rows.hand_key.Goals as goal
 
 pub hand_key_point-requires : goal.hand_key_point-requires

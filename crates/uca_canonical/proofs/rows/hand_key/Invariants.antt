@@ -1,7 +1,7 @@
 use Rattle.std.proofs.Common.{take}
 use Rattle.std.specs.List.{flat_map}
 use Rattle.uca_canonical.specs.Canonical.{key_point_text}
-use Rattle.uca_canonical.specs.Handing.{HasHanded}
+use Rattle.uca_lines.specs.Handing.{HasHanded}
 use Rattle.uca_canonical.proofs.rows.hand_key.Given as goal
 
 abbrev pub invariant-loop-point : goal.invariant-loop-point

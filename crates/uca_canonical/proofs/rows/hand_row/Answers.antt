@@ -3,7 +3,7 @@ use Rattle.std.specs.List.{flat_map}
 use Rattle.uca_values.specs.Content.{Entry}
 use Rattle.uca_canonical.specs.Elements.{element_text}
 use Rattle.uca_canonical.specs.Canonical.{key_text}
-use Rattle.uca_canonical.proofs.Parts.{part, handed_none, part_fits, part_handed, returns_fault, returns_last}
+use Rattle.uca_lines.proofs.HandingLemmas.{part, handed_none, part_fits, part_handed, returns_fault, returns_last}
 use Rattle.uca_canonical.proofs.Texts.{row_parts, row_text_is}
 use Rattle.uca_canonical.proofs.rows.hand_row.Goals as goal
 

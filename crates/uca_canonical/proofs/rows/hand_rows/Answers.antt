@@ -1,8 +1,8 @@
 use Rattle.std.proofs.Common.{refl, ap}
 use Rattle.uca_lines.specs.Lines.{ended}
 use Rattle.uca_canonical.specs.Canonical.{row_line}
-use Rattle.uca_canonical.specs.Handing.{row_lines}
-use Rattle.uca_canonical.proofs.Parts.{part_fits, part_handed, returns_fault, all_handed}
+use Rattle.uca_canonical.specs.LineTexts.{row_lines}
+use Rattle.uca_lines.proofs.HandingLemmas.{part_fits, part_handed, returns_fault, all_handed}
 use Rattle.uca_canonical.proofs.rows.hand_rows.Goals as goal
 
 pub hand_row-requires : goal.hand_row-requires

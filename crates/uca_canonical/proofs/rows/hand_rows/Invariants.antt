@@ -2,7 +2,7 @@ use Rattle.std.proofs.Common.{take}
 use Rattle.std.specs.List.{flat_map}
 use Rattle.uca_lines.specs.Lines.{ended}
 use Rattle.uca_canonical.specs.Canonical.{row_line}
-use Rattle.uca_canonical.specs.Handing.{HasHanded}
+use Rattle.uca_lines.specs.Handing.{HasHanded}
 use Rattle.uca_canonical.proofs.rows.hand_rows.Given as goal
 
 abbrev pub invariant-loop-row : goal.invariant-loop-row

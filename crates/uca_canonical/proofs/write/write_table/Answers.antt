@@ -1,8 +1,8 @@
 use Rattle.std.proofs.Common.{[], ap, sym, subst, ◌∙◌, arith}
 use Rattle.uca_values.specs.Content.{TableContent, AreRows}
 use Rattle.uca_canonical.specs.Canonical.{canonical}
-use Rattle.uca_canonical.specs.Handing.{header_text, row_lines}
-use Rattle.uca_canonical.proofs.Parts.{part, handed_none, part_handed, part_fails, all_handed, nothing_handed, nothing_counted, fault_writes, fault_leaves_some, flush_leaves_some}
+use Rattle.uca_canonical.specs.LineTexts.{header_text, row_lines}
+use Rattle.uca_lines.proofs.HandingLemmas.{part, handed_none, part_handed, part_fails, all_handed, nothing_handed, nothing_counted, fault_writes, fault_leaves_some, flush_leaves_some}
 use Rattle.uca_canonical.proofs.Texts.{table_parts, canonical_is}
 use Rattle.uca_canonical.proofs.Sizes.{rows_fit}
 use Rattle.uca_canonical.proofs.write.write_table.Goals as goal

@@ -2,7 +2,6 @@
 use Rattle.std.proofs.Common.{[], ◌∷◌, length, length-append, arith, sym, ◌∙◌, ap, inr}
 use Rattle.uca_fields.proofs.CutLaws.{length-skip_blanks}
 use Rattle.uca_fields.proofs.LeadLaws.{leads_more}
-use Rattle.uca_table.proofs.Pushes.{pushed}
 use Rattle.uca_table.specs.Elements.{BeginsElement}
 use Rattle.uca_table.proofs.ElementLaws.{element_takes, after_element, weight_cause, limit_cause}
 use Rattle.uca_table.proofs.elements.read_elements.Goals as goal
@@ -24,7 +23,7 @@ loop-rest-smaller g c =
 pub loop-rest-preserved : goal.loop-rest-preserved
 loop-rest-preserved g c =
     let begins = element_takes c.loop-rest.rest.now c.in-Some.found.0 c.in-Some.found.1.now (sym c.in-Some.ensures) in
-    let items = pushed c.push.new.self.items c.loop-rest.elements.items c.in-Some.found.0 _ _ c.push.ensures.items c.is_err.ensures.negation c.if-is_err.false in
+    let items = c.in_ok-push.ensures.items in
     record {
       leads = leads_more BeginsElement c.args.text.now _ _ _ _ _ _ c.loop-rest.invariant.leads begins items c.skip_blanks-rest-in-loop-rest.ensures;
       few = omega (arith, ap length items, length-append c.loop-rest.elements.items (c.in-Some.found.0 ∷ []));

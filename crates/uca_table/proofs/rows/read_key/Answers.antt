@@ -3,7 +3,6 @@ use Rattle.std.proofs.Common.{[], ◌∷◌, length, length-append, arith, ap, i
 use Rattle.uca_fields.specs.Leads.{BeginsCodePoint}
 use Rattle.uca_fields.proofs.CutLaws.{length-skip_blanks}
 use Rattle.uca_fields.proofs.LeadLaws.{leads_more}
-use Rattle.uca_table.proofs.Pushes.{pushed}
 use Rattle.uca_table.proofs.KeyLaws.{code_point_begins, after_code_point, key_limit_cause}
 use Rattle.uca_table.proofs.rows.read_key.Goals as goal
 
@@ -20,7 +19,7 @@ loop-rest-smaller g c =
 pub loop-rest-preserved : goal.loop-rest-preserved
 loop-rest-preserved g c =
     let begins = code_point_begins c.loop-rest.rest.now _ c.in-Some.point _ c.in-Some.ensures c.cut_word.ensures.word c.cut_word.ensures.rest in
-    let items = pushed c.push.new.self.items c.loop-rest.key.items c.in-Some.point _ _ c.push.ensures.items c.is_err.ensures.negation c.if-is_err.false in
+    let items = c.in_ok-push.ensures.items in
     record {
       leads = leads_more BeginsCodePoint c.args.text.now _ _ _ _ _ _ c.loop-rest.invariant.leads begins items c.skip_blanks-rest-in-loop-rest.ensures;
       few = omega (arith, ap length items, length-append c.loop-rest.key.items (c.in-Some.point ∷ []));

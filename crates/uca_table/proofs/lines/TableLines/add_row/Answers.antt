@@ -12,20 +12,20 @@ returns-then-contains-clause-fault g c =
     let key = ap (λ (r : Entry). r.key) c.row.view_is in
     inr (contained _ _ _ _ rows key ((c.self.invariant.keys c.row.inside.key).0 (sym c.contains.ensures ∙ c.if-contains.true)))
 
-pub invariant_of-self-in_default-insert : goal.invariant_of-self-in_default-insert
-invariant_of-self-in_default-insert g c =
-    keeps_same _ _ _ _ _ c.self.invariant (ap (with_rows _ _ _) c.in-Ok-reserve.ensures.items) (λ q. rw c.in_default-insert.ensures.err refl)
+pub invariant_of-self-in_err-insert : goal.invariant_of-self-in_err-insert
+invariant_of-self-in_err-insert g c =
+    keeps_same _ _ _ _ _ c.self.invariant (ap (with_rows _ _ _) c.in_ok-reserve.ensures.items) (λ q. rw c.in_err-insert.ensures.err refl)
 
 pub invariant_of-self-2 : goal.invariant_of-self-2
 invariant_of-self-2 g c =
     let key = ap (λ (r : Entry). r.key) c.row.view_is in
-    let items = c.in-Ok-push.ensures.items ∙ ap (λ rs. rs ++ c.args.row ∷ []) c.in-Ok-reserve.ensures.items in
+    let items = c.in_ok-push.ensures.items ∙ ap (λ rs. rs ++ c.args.row ∷ []) c.in_ok-reserve.ensures.items in
     keeps_row _ _ _ _ _ c.args.row c.self.invariant c.requires.entry
     (not_contained _ _ _ _ refl key _ (c.self.invariant.keys c.row.inside.key) (sym c.contains.ensures ∙ c.if-contains.false))
     (omega arith)
     (let P : Begun → Type 0 = λ b. IsSome b.version in subst P (sym c.self.view_is) c.requires.versioned)
     (ap (with_rows _ _ _) items)
-    (λ q. added_at _ _ _ _ _ (c.in-Ok.ensures.items ∙ c.as_slice.ensures.value ∙ key) (c.in-Ok-insert.ensures.updates.0 q))
+    (λ q. added_at _ _ _ _ _ (c.in_ok-key.ensures.items ∙ c.as_slice.ensures.value ∙ key) (c.in_ok-insert.ensures.updates.0 q))
 
 pub returns-clause-new : goal.returns-clause-new
 returns-clause-new g c =

@@ -10,7 +10,7 @@ unwrap-name-requires g c = is_ok_by _ _ _ _ c.from_utf8.ensures.cases (name_is_t
 pub invariant_of-self : goal.invariant_of-self
 invariant_of-self g c =
     let named = sym c.is_version_name.ensures ∙ c.if-not-is_version_name.false in
-    let name = ap Some (c.in-Ok.ensures.ok ∙ (MatchResult-at_ok _ _ _ c.unwrap-name.ensures c.from_utf8.ensures.cases).0) in
+    let name = ap Some (c.in_ok-from_str.ensures.ok ∙ (MatchResult-at_ok _ _ _ c.unwrap-name.ensures c.from_utf8.ensures.cases).0) in
     keeps_version _ _ _ c.args.self.now c.args.text.now c.argument-name.result.now _ c.self.invariant
     (takes_version c.args.self.now _ c.args.text.now c.argument-name.result.now _ c.self.view_is c.self.invariant.begun
     (absent _ c.self.inside.version _ c.is_some.ensures c.if-is_some.false) c.requires c.argument-name.ensures named name)
@@ -19,6 +19,6 @@ invariant_of-self g c =
 pub returns-clause-ok : goal.returns-clause-ok
 returns-clause-ok g c =
     let named = sym c.is_version_name.ensures ∙ c.if-not-is_version_name.false in
-    let name = ap Some (c.in-Ok.ensures.ok ∙ (MatchResult-at_ok _ _ _ c.unwrap-name.ensures c.from_utf8.ensures.cases).0) in
+    let name = ap Some (c.in_ok-from_str.ensures.ok ∙ (MatchResult-at_ok _ _ _ c.unwrap-name.ensures c.from_utf8.ensures.cases).0) in
     takes_version c.args.self.now _ c.args.text.now c.argument-name.result.now _ c.self.view_is c.self.invariant.begun
     (absent _ c.self.inside.version _ c.is_some.ensures c.if-is_some.false) c.requires c.argument-name.ensures named name

@@ -11,9 +11,9 @@ use Rattle.uca_weights.specs.Streams.{SinkState}
 use Rattle.uca_weights.specs.Writes.{WentOut, Writes}
 use Rattle.uca_weights.specs.declared.streams.sink.WriteFault.{WriteFault}
 use Rattle.uca_lines.specs.OutputBuffer.{BufferState, HandedOver}
-use Rattle.uca_canonical.specs.Handing.{count_of, HasRoom, HasHanded, FailsToHand, Hands}
+use Rattle.uca_lines.specs.Handing.{count_of, HasRoom, HasHanded, FailsToHand, Hands}
 
--- ---- Two texts, one behind the other
+-- ---- Two texts, one after the other
 
 pub handed_none : (buffer : BufferState) (out : SinkState) → HasHanded [] buffer buffer out out
 handed_none buffer out = record {

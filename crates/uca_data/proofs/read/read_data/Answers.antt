@@ -1,0 +1,11 @@
+use Rattle.uca_files.proofs.FileLaws.{only_known}
+use Rattle.uca_files.specs.declared.TheConstants.{TABLE_FORM}
+use Rattle.uca_values.specs.declared.faults.TableFault.{TableFault}
+use Rattle.uca_values.specs.Content.{DataContent, properties_of}
+use Rattle.uca_data.specs.Said.{Says, Cause, IsUnfinished, Gives}
+use Rattle.uca_data.proofs.Exact.{exact, gives_one, gives_finished}
+use Rattle.uca_data.proofs.read.read_data.Goals as goal
+
+pub returns-clause-only : goal.returns-clause-only
+returns-clause-only g c =
+    only_known {X = DataContent} {F = TableFault} properties_of (λ fault. fault.line) (λ fault. fault.kind) TABLE_FORM Says Cause IsUnfinished Gives exact gives_one gives_finished _ _ c.read_to_end.result c.read_to_end.ensures.found c.read_to_end.ensures.fault

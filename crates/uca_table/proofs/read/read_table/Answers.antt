@@ -1,0 +1,12 @@
+-- Bytes mean one table at most, and none where a fault stands.
+use Rattle.uca_files.proofs.FileLaws.{only_known}
+use Rattle.uca_files.specs.declared.TheConstants.{TABLE_FORM}
+use Rattle.uca_values.specs.declared.faults.TableFault.{TableFault}
+use Rattle.uca_values.specs.Content.{TableContent}
+use Rattle.uca_table.specs.Lines.{Says, Cause, IsUnfinished, Gives}
+use Rattle.uca_table.proofs.Exact.{exact, gives_one, gives_finished}
+use Rattle.uca_table.proofs.read.read_table.Goals as goal
+
+pub returns-clause-only : goal.returns-clause-only
+returns-clause-only g c =
+    only_known {X = TableContent} {F = TableFault} (λ table. table) (λ fault. fault.line) (λ fault. fault.kind) TABLE_FORM Says Cause IsUnfinished Gives exact gives_one gives_finished _ _ c.read_to_end.result c.read_to_end.ensures.found c.read_to_end.ensures.fault

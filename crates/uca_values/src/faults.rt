@@ -1,0 +1,95 @@
+//! Why a table file or a data file is refused.
+
+ghost use Rattle.std.specs.Prelude.{◌≡◌, Some};
+ghost use Rattle.uca_values.specs.declared.faults.FaultKind.{FaultKind};
+ghost use Rattle.uca_values.specs.FaultText.{kind_text, table_fault_text};
+
+use std::alloc::{AllocError, AllocFailed};
+use std::error::Error;
+use std::fmt;
+
+/// Why a table file or a data file is refused.
+#[derive(Clone, Copy, Debug, PartialEq, Eq)]
+pub enum FaultKind {
+    /// The line has none of the forms of the file.
+    Line,
+    /// The line stands where it may not, or a line that has to be there is missing.
+    Order,
+    /// Something else stands where a code point is due.
+    CodePoint,
+    /// Something else stands where a weight or a class is due.
+    Weight,
+    /// The key of the row is that of an earlier row.
+    DuplicateKey,
+    /// A range is empty, overlaps another, or has a lead that it may not have.
+    Range,
+    /// A count or a length is above its limit.
+    Limit,
+    /// The reader failed.
+    Read,
+    /// An allocation failed.
+    Memory,
+}
+
+impl FaultKind {
+    /// The name of the kind, as it stands in a fault line.
+    pub fn name(self) -> &'static str
+        ensures { result.now ≡ kind_text self }
+    {
+        match self {
+            FaultKind::Line => "Line",
+            FaultKind::Order => "Order",
+            FaultKind::CodePoint => "CodePoint",
+            FaultKind::Weight => "Weight",
+            FaultKind::DuplicateKey => "DuplicateKey",
+            FaultKind::Range => "Range",
+            FaultKind::Limit => "Limit",
+            FaultKind::Read => "Read",
+            FaultKind::Memory => "Memory",
+        }
+    }
+}
+
+impl fmt::Display for FaultKind {
+    ghost output = { λ kind. Some (kind_text kind) };
+
+    fn fmt<W: fmt::Write>(&self, f: &mut fmt::Formatter<W>) -> fmt::Result {
+        f.write_str(self.name())
+    }
+}
+
+/// A table file or a data file is refused: the line, and why. A file that ends too early has the number
+/// of its lines plus one.
+#[derive(Clone, Copy, Debug, PartialEq, Eq)]
+pub struct TableFault {
+    /// The line, counted from 1.
+    pub line: u32,
+    /// Why it is refused.
+    pub kind: FaultKind,
+}
+
+impl From<AllocError> for FaultKind {
+    ghost from_gives = { λ _ kind. kind ≡ FaultKind.Memory };
+
+    fn from(_error: AllocError) -> FaultKind {
+        FaultKind::Memory
+    }
+}
+
+impl<T: Drop> From<AllocFailed<T>> for FaultKind {
+    ghost from_gives = { λ _ kind. kind ≡ FaultKind.Memory };
+
+    fn from(_error: AllocFailed<T>) -> FaultKind {
+        FaultKind::Memory
+    }
+}
+
+impl fmt::Display for TableFault {
+    ghost output = { λ fault. Some (table_fault_text fault) };
+
+    fn fmt<W: fmt::Write>(&self, f: &mut fmt::Formatter<W>) -> fmt::Result {
+        write!(f, "line {}: {}", self.line, self.kind)
+    }
+}
+
+impl Error for TableFault {}
