@@ -8,7 +8,7 @@ use Rattle.uca_lines.specs.Lines.{lines_of}
 use Rattle.uca_lines.specs.LineReader.{LineState}
 use Rattle.uca_lines.specs.OutputBuffer.{BufferState, HandedOver}
 use Rattle.uca_cli.specs.declared.faults.RunFault.{RunFault}
-use Rattle.uca_cli.specs.declared.faults.RunFault.TheVariants.{File, Input, Write, Text, Open, Words, Memory}
+use Rattle.uca_cli.specs.declared.faults.RunFault.TheVariants.{File, Input, Write, Memory}
 use Rattle.uca_cli.specs.declared.faults.InputKind.{InputKind}
 use Rattle.uca_cli.specs.Keys.{Collation, key_lines, keys_output}
 use Rattle.uca_cli.specs.Runs.{IsInputFault, is_write, is_file}
@@ -37,11 +37,7 @@ pub write_stays : (c : Collation) (start begun left : Option (List ℕ)) (input 
 write_stays c start begun left input buffer out (Ok x) prints h = let never : ⊥ = cc in absurd never
 write_stays c start begun left input buffer out (Err (Write written)) prints h = part_of c start begun out.contents written prints.1
 write_stays c start begun left input buffer out (Err (Input number kind)) prints h = let never : ⊥ = cc in absurd never
-write_stays c start begun left input buffer out (Err (File role fault)) prints h = absurd prints.1
-write_stays c start begun left input buffer out (Err Memory) prints h = absurd prints.1
-write_stays c start begun left input buffer out (Err (Text right fault)) prints h = absurd prints.1
-write_stays c start begun left input buffer out (Err (Open role)) prints h = absurd prints.1
-write_stays c start begun left input buffer out (Err (Words fault)) prints h = absurd prints.1
+write_stays c start begun left input buffer out (Err _) prints h = absurd prints.1
 
 -- all that was handed over went out
 all_out : (c : Collation) (start begun now left : Option (List ℕ)) (x : Unit {0}) (all : List (List ℕ)) → IfSome start (λ bytes. AreAll c.properties bytes all) → Appends begun now (key_lines c all) → IfSome start (λ bytes. WritesKeys {A = Unit {0}} c bytes left begun now (Ok x))
@@ -56,11 +52,7 @@ pub flushed : (c : Collation) (start begun : Option (List ℕ)) (input : SourceS
 flushed c start begun input buffer out now (Ok x) prints h flush = all_out c start begun now.contents input.remaining x prints.all prints.are_all (flush _ prints.printed)
 flushed c start begun input buffer out now (Err (Input number kind)) prints h flush = stopped_out c start begun now.contents input.remaining prints.0 number kind prints.1.0 (flush _ prints.1.1)
 flushed c start begun input buffer out now (Err (Write written)) prints h flush = let never : ⊥ = cc in absurd never
-flushed c start begun input buffer out now (Err (File role fault)) prints h flush = absurd prints.1
-flushed c start begun input buffer out now (Err Memory) prints h flush = absurd prints.1
-flushed c start begun input buffer out now (Err (Text right fault)) prints h flush = absurd prints.1
-flushed c start begun input buffer out now (Err (Open role)) prints h flush = absurd prints.1
-flushed c start begun input buffer out now (Err (Words fault)) prints h flush = absurd prints.1
+flushed c start begun input buffer out now (Err _) prints h flush = absurd prints.1
 
 -- a part of it did
 all_part : (c : Collation) (start begun now : Option (List ℕ)) (all : List (List ℕ)) (written : ℕ) → IfSome start (λ bytes. AreAll c.properties bytes all) → WentOut begun now (key_lines c all) written → IfSome start (λ bytes. WentOut begun now (keys_output c (lines_of bytes)) written)
@@ -76,30 +68,17 @@ pub not_flushed : (c : Collation) (start begun left : Option (List ℕ)) (input 
 not_flushed c start begun left input buffer out now (Ok x) written prints h flush = all_part c start begun now.contents prints.all written prints.are_all (flush _ prints.printed)
 not_flushed c start begun left input buffer out now (Err (Input number kind)) written prints h flush = stopped_part c start begun now.contents input.remaining prints.0 number kind written prints.1.0 (flush _ prints.1.1)
 not_flushed c start begun left input buffer out now (Err (Write w)) written prints h flush = let never : ⊥ = cc in absurd never
-not_flushed c start begun left input buffer out now (Err (File role fault)) written prints h flush = absurd prints.1
-not_flushed c start begun left input buffer out now (Err Memory) written prints h flush = absurd prints.1
-not_flushed c start begun left input buffer out now (Err (Text right fault)) written prints h flush = absurd prints.1
-not_flushed c start begun left input buffer out now (Err (Open role)) written prints h flush = absurd prints.1
-not_flushed c start begun left input buffer out now (Err (Words fault)) written prints h flush = absurd prints.1
+not_flushed c start begun left input buffer out now (Err _) written prints h flush = absurd prints.1
 
 -- a run of lines ends by its lines alone
 pub of_lines : (c : Collation) (start begun : Option (List ℕ)) (input : SourceState) (buffer : BufferState) (out : SinkState) (end : Result (Unit {0}) RunFault) → PrintsRest c start begun input buffer out end → is_before_input end ≡ false
 of_lines c start begun input buffer out (Ok x) prints = refl
-of_lines c start begun input buffer out (Err (Input number kind)) prints = refl
-of_lines c start begun input buffer out (Err (Write written)) prints = refl
 of_lines c start begun input buffer out (Err (File role fault)) prints = absurd prints.1
 of_lines c start begun input buffer out (Err Memory) prints = absurd prints.1
-of_lines c start begun input buffer out (Err (Text right fault)) prints = refl
-of_lines c start begun input buffer out (Err (Open role)) prints = refl
-of_lines c start begun input buffer out (Err (Words fault)) prints = refl
+of_lines c start begun input buffer out (Err _) prints = refl
 
 -- what ended by the lines is no file's fault
 pub before_file : (end : Result (Unit {0}) RunFault) → is_before_input end ≡ false → is_file end ≡ false
 before_file (Ok x) h = refl
-before_file (Err (Input number kind)) h = refl
-before_file (Err (Write written)) h = refl
 before_file (Err (File role fault)) h = let never : ⊥ = cc in absurd never
-before_file (Err Memory) h = refl
-before_file (Err (Text right fault)) h = refl
-before_file (Err (Open role)) h = refl
-before_file (Err (Words fault)) h = refl
+before_file (Err _) h = refl

@@ -18,7 +18,7 @@ use Rattle.uca_cli.specs.Keys.{Collation, line_key, key_lines, keys_output}
 use Rattle.uca_cli.specs.LinesSoFar.{IsKnownBehind, AreAll}
 use Rattle.uca_cli.specs.KeysSoFar.{HasPrinted, HasPrintedAll, IsPartOfOutput, IsStopped, PrintsText}
 use Rattle.uca_cli.specs.declared.faults.RunFault.{RunFault}
-use Rattle.uca_cli.specs.declared.faults.RunFault.TheVariants.{File, Input, Write, Text, Open, Words, Memory as NoMemory}
+use Rattle.uca_cli.specs.declared.faults.RunFault.TheVariants.{Input, Write}
 use Rattle.uca_key.specs.Levels.{key_bytes}
 use Rattle.uca_match.specs.Reading.{collation_elements}
 use Rattle.uca_cli.specs.Texts.{IsTextOf, SaysNext}
@@ -129,19 +129,11 @@ ended_stopped c start begun before reader now input unread buffer held out sink 
     memory_refused c start begun before reader input unread buffer held out sink number n kind p place (ended_left (left_of reader input) (left_of now unread) line takes) prints
 ended_stopped c start begun before reader now input unread buffer held out sink line text number (Write written) p place t takes prints =
     ended_part c start begun sink.contents (left_of reader input) (left_of now unread) before line _ written p.behind takes t.lacks (subst (λ m. cause_of c.properties m line ≡ None) p.count t.clean) (printed_text c before reader.number line text t) prints
-ended_stopped c start begun before reader now input unread buffer held out sink line text number (File role fault) p place t takes prints = absurd prints
-ended_stopped c start begun before reader now input unread buffer held out sink line text number NoMemory p place t takes prints = absurd prints
-ended_stopped c start begun before reader now input unread buffer held out sink line text number (Text right fault) p place t takes prints = absurd prints
-ended_stopped c start begun before reader now input unread buffer held out sink line text number (Open role) p place t takes prints = absurd prints
-ended_stopped c start begun before reader now input unread buffer held out sink line text number (Words fault) p place t takes prints = absurd prints
+ended_stopped c start begun before reader now input unread buffer held out sink line text number _ p place t takes prints = absurd prints
 
 pub cut_stopped : (c : Collation) (start begun : Option (List ℕ)) (before : List (List ℕ)) (reader now : LineState) (input unread : SourceState) (buffer held : BufferState) (out sink : SinkState) (line : List ℕ) (text : Spelled) (number : ℕ) (fault : RunFault) → HasPrinted c start begun before reader input buffer out → number ≡ reader.number + 1 → IsTextOf c.properties reader.number line text → 0 < length line → Consumes (left_of reader input) (left_of now unread) line → IsAtEnd (left_of now unread) → PrintsText {A = Unit {0}} begun (key_lines c before) (print_line (key_bytes c.weighting (collation_elements c.rows c.ranges c.properties (letters_of text)))) number buffer out held sink (Err fault) → IsStopped c start begun before unread held sink fault
 cut_stopped c start begun before reader now input unread buffer held out sink line text number (Input n kind) p place t some takes ends prints =
     memory_refused c start begun before reader input unread buffer held out sink number n kind p place (cut_left (left_of reader input) (left_of now unread) line takes some) prints
 cut_stopped c start begun before reader now input unread buffer held out sink line text number (Write written) p place t some takes ends prints =
     cut_part c start begun sink.contents (left_of reader input) (left_of now unread) before line _ written p.behind takes ends some t.lacks (subst (λ m. cause_of c.properties m line ≡ None) p.count t.clean) (printed_text c before reader.number line text t) prints
-cut_stopped c start begun before reader now input unread buffer held out sink line text number (File role fault) p place t some takes ends prints = absurd prints
-cut_stopped c start begun before reader now input unread buffer held out sink line text number NoMemory p place t some takes ends prints = absurd prints
-cut_stopped c start begun before reader now input unread buffer held out sink line text number (Text right fault) p place t some takes ends prints = absurd prints
-cut_stopped c start begun before reader now input unread buffer held out sink line text number (Open role) p place t some takes ends prints = absurd prints
-cut_stopped c start begun before reader now input unread buffer held out sink line text number (Words fault) p place t some takes ends prints = absurd prints
+cut_stopped c start begun before reader now input unread buffer held out sink line text number _ p place t some takes ends prints = absurd prints

@@ -13,7 +13,7 @@ use Rattle.uca_data.specs.Said as data_files
 use Rattle.uca_files.specs.Files.{Refuses}
 use Rattle.uca_files.specs.declared.TableFault.{TableFault}
 use Rattle.uca_cli.specs.declared.faults.RunFault.{RunFault}
-use Rattle.uca_cli.specs.declared.faults.RunFault.TheVariants.{File, Input, Write, Text, Open, Words, Memory}
+use Rattle.uca_cli.specs.declared.faults.RunFault.TheVariants.{File, Memory}
 use Rattle.uca_cli.specs.declared.faults.Role.{Role}
 use Rattle.uca_cli.specs.Keys.{collation_by, collation, weighting_by}
 use Rattle.uca_cli.specs.Runs.{BothMean, AnswersOver, RunsOver, is_file, is_file_read}
@@ -27,13 +27,8 @@ data_refused (Some bytes) (Some data_bytes) data_left table fault means refuses 
 -- an answer behind both files
 answers_both : {A : Type 0} (table_bytes data_bytes : List ℕ) (table_left data_left : Option (List ℕ)) (P : TableContent → Properties → Type 0) (result : Result A RunFault) → is_file result ≡ false → BothMean table_bytes data_bytes P → AnswersOver table_bytes data_bytes table_left data_left P result
 answers_both table_bytes data_bytes table_left data_left P (Ok x) h both = both
-answers_both table_bytes data_bytes table_left data_left P (Err (Input number kind)) h both = both
-answers_both table_bytes data_bytes table_left data_left P (Err (Write written)) h both = both
 answers_both table_bytes data_bytes table_left data_left P (Err (File role fault)) h both = let never : ⊥ = cc in absurd never
-answers_both table_bytes data_bytes table_left data_left P (Err Memory) h both = both
-answers_both table_bytes data_bytes table_left data_left P (Err (Text right fault)) h both = both
-answers_both table_bytes data_bytes table_left data_left P (Err (Open role)) h both = both
-answers_both table_bytes data_bytes table_left data_left P (Err (Words fault)) h both = both
+answers_both table_bytes data_bytes table_left data_left P (Err _) h both = both
 
 both_known : {A : Type 0} (table_known data_known table_left data_left : Option (List ℕ)) (P : TableContent → Properties → Type 0) (result : Result A RunFault) (content : TableContent) (points : Properties) → is_file result ≡ false → P content points → IfSome table_known (λ bytes. tables.Means bytes content) → IfSome data_known (λ bytes. data_files.Means bytes points) → IfSome table_known (λ table_bytes. IfSome data_known (λ data_bytes. AnswersOver table_bytes data_bytes table_left data_left P result))
 both_known None data_known table_left data_left P result content points h holds t d = tt
@@ -65,13 +60,8 @@ whatever_bytes (Some bytes) = tt
 -- what is no file's fault is no failed read of a file
 pub no_file_read : {A : Type 0} (role : Role) (result : Result A RunFault) → is_file result ≡ false → is_file_read role result ≡ false
 no_file_read role (Ok x) h = refl
-no_file_read role (Err (Input number kind)) h = refl
-no_file_read role (Err (Write written)) h = refl
 no_file_read role (Err (File other fault)) h = let never : ⊥ = cc in absurd never
-no_file_read role (Err Memory) h = refl
-no_file_read role (Err (Text right fault)) h = refl
-no_file_read role (Err (Open other)) h = refl
-no_file_read role (Err (Words fault)) h = refl
+no_file_read role (Err _) h = refl
 
 -- the weighting that was chosen
 pub chosen : (asked setting : Option Weighting) (other : Weighting) → unwrap_or (option_or asked setting) other ≡ unwrap_or asked (unwrap_or setting other)

@@ -8,7 +8,7 @@ use Rattle.uca_check.specs.declared.IllFormed.{IllFormed}
 use Rattle.uca_check.specs.WellFormed.{IsWellFormed, IsFirstFailure}
 use Rattle.uca_check.specs.FaultText.{ill_formed_text}
 use Rattle.uca_cli.specs.declared.faults.RunFault.{RunFault}
-use Rattle.uca_cli.specs.declared.faults.RunFault.TheVariants.{File, Input, Write, Memory, Text, Open, Words}
+use Rattle.uca_cli.specs.declared.faults.RunFault.TheVariants.{Write}
 
 -- The verdict on rows, and its line: that they are well-formed, or the first condition that fails and its first row.
 abbrev pub IsVerdict : (ℕ → ℕ) → List Entry → Bool → List ℕ → Type 0
@@ -19,12 +19,7 @@ IsVerdict class rows false line = (fault : IllFormed) × IsFirstFailure class ro
 abbrev pub WritesVerdict : TableContent → Properties → Option (List ℕ) → Option (List ℕ) → Result Bool RunFault → Type 0
 WritesVerdict table properties begun now (Ok well_formed) = (line : List ℕ) × IsVerdict properties.class table.rows well_formed line × Appends begun now line
 WritesVerdict table properties begun now (Err (Write written)) = (well_formed : Bool) × (line : List ℕ) × IsVerdict properties.class table.rows well_formed line × WentOut begun now line written
-WritesVerdict table properties begun now (Err Memory) = ⊥
-WritesVerdict table properties begun now (Err (Input number kind)) = ⊥
-WritesVerdict table properties begun now (Err (File role fault)) = ⊥
-WritesVerdict table properties begun now (Err (Text right fault)) = ⊥
-WritesVerdict table properties begun now (Err (Open role)) = ⊥
-WritesVerdict table properties begun now (Err (Words fault)) = ⊥
+WritesVerdict table properties begun now (Err _) = ⊥
 
 -- what a run of check answers under a table and properties
 abbrev pub RunsCheck : SinkState → SinkState → Result Bool RunFault → TableContent → Properties → Type 0

@@ -13,7 +13,7 @@ use Rattle.uca_text.specs.Faults.{IsCause}
 use Rattle.uca_text.specs.declared.limits.TextFault.{TextFault}
 use Rattle.uca_key.specs.Levels.{Comparison}
 use Rattle.uca_cli.specs.declared.faults.RunFault.{RunFault}
-use Rattle.uca_cli.specs.declared.faults.RunFault.TheVariants.{File, Input, Write, Memory, Text, Open, Words}
+use Rattle.uca_cli.specs.declared.faults.RunFault.TheVariants.{Write, Memory, Text}
 use Rattle.uca_cli.specs.Keys.{Collation, collation}
 use Rattle.uca_cli.specs.Laws.{lines_compared}
 
@@ -43,10 +43,7 @@ WritesComparison c left right begun now (Err (Text false fault)) = IsCause (spel
 WritesComparison c left right begun now (Err (Text true fault)) = IsWithinLimits c.properties left × IsCause (spelled c.properties (chars right)) fault
 WritesComparison c left right begun now (Err (Write written)) = IsWithinLimits c.properties left × IsWithinLimits c.properties right × WentOut begun now (comparison_line (lines_compared c left right)) written
 WritesComparison c left right begun now (Err Memory) = ⊤
-WritesComparison c left right begun now (Err (Input number kind)) = ⊥
-WritesComparison c left right begun now (Err (File role fault)) = ⊥
-WritesComparison c left right begun now (Err (Open role)) = ⊥
-WritesComparison c left right begun now (Err (Words fault)) = ⊥
+WritesComparison c left right begun now (Err _) = ⊥
 
 -- what a run of compare answers under a table and properties
 abbrev pub RunsCompare : {A : Type 0} → Option Weighting → List ℕ → List ℕ → SinkState → SinkState → Result A RunFault → TableContent → Properties → Type 0

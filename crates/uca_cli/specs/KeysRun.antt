@@ -7,7 +7,7 @@ use Rattle.uca_weights.specs.Writes.{WentOut}
 use Rattle.uca_values.specs.Content.{TableContent, Properties}
 use Rattle.uca_lines.specs.Lines.{lines_of}
 use Rattle.uca_cli.specs.declared.faults.RunFault.{RunFault}
-use Rattle.uca_cli.specs.declared.faults.RunFault.TheVariants.{File, Input, Write, Memory, Text, Open, Words}
+use Rattle.uca_cli.specs.declared.faults.RunFault.TheVariants.{File, Input, Write, Memory}
 use Rattle.uca_cli.specs.Keys.{Collation, collation, key_lines, keys_output}
 use Rattle.uca_cli.specs.Runs.{IsClean, IsInputFault}
 
@@ -17,10 +17,7 @@ WritesKeys c bytes left begun now (Ok x) = IsClean c.properties bytes × Appends
 WritesKeys c bytes left begun now (Err (Input number kind)) = (before : List (List ℕ)) × IsInputFault c.properties bytes left before number kind × Appends begun now (key_lines c before)
 WritesKeys c bytes left begun now (Err (Write written)) = WentOut begun now (keys_output c (lines_of bytes)) written
 WritesKeys c bytes left begun now (Err Memory) = ⊤
-WritesKeys c bytes left begun now (Err (File role fault)) = ⊥
-WritesKeys c bytes left begun now (Err (Text right fault)) = ⊥
-WritesKeys c bytes left begun now (Err (Open role)) = ⊥
-WritesKeys c bytes left begun now (Err (Words fault)) = ⊥
+WritesKeys c bytes left begun now (Err _) = ⊥
 
 -- What a run of keys answers under a table and properties, where the bytes of its input are known: the output of the
 -- keys went out, or as much of it as a fault of the input or of the writer leaves.

@@ -8,7 +8,7 @@ use Rattle.uca_lines.specs.Lines.{lines_of}
 use Rattle.uca_lines.specs.LineReader.{LineState, left_of}
 use Rattle.uca_lines.specs.OutputBuffer.{BufferState, HandedOver}
 use Rattle.uca_cli.specs.declared.faults.RunFault.{RunFault}
-use Rattle.uca_cli.specs.declared.faults.RunFault.TheVariants.{File, Input, Write, Memory, Text, Open, Words}
+use Rattle.uca_cli.specs.declared.faults.RunFault.TheVariants.{Input, Write}
 use Rattle.uca_cli.specs.declared.faults.InputKind.TheVariants.{Memory as InputMemory}
 use Rattle.uca_cli.specs.Keys.{Collation, key_lines, keys_output}
 use Rattle.uca_cli.specs.Runs.{IsInputFault}
@@ -37,11 +37,7 @@ pub record IsPartOfOutput (c : Collation) (start begun now : Option (List ℕ)) 
 abbrev pub IsStopped : Collation → Option (List ℕ) → Option (List ℕ) → List (List ℕ) → SourceState → BufferState → SinkState → RunFault → Type 0
 IsStopped c start begun before input buffer out (Input number kind) = IfSome start (λ bytes. IsInputFault c.properties bytes input.remaining before number kind) × HandedOver begun out.contents (key_lines c before) buffer
 IsStopped c start begun before input buffer out (Write written) = IsPartOfOutput c start begun out.contents written
-IsStopped c start begun before input buffer out (File role fault) = ⊥
-IsStopped c start begun before input buffer out Memory = ⊥
-IsStopped c start begun before input buffer out (Text right fault) = ⊥
-IsStopped c start begun before input buffer out (Open role) = ⊥
-IsStopped c start begun before input buffer out (Words fault) = ⊥
+IsStopped c start begun before input buffer out _ = ⊥
 
 -- What is answered of the next line: its key was handed over and lines may follow, or it was the last or none is
 -- left, or why it was not.
@@ -55,11 +51,7 @@ abbrev pub PrintsText : {A : Type 0} → Option (List ℕ) → List ℕ → List
 PrintsText begun before text number buffer out held now (Ok x) = HandedOver begun now.contents (before ++ text) held
 PrintsText begun before text number buffer out held now (Err (Input line kind)) = (line ≡ number) × (kind ≡ InputMemory) × (held ≡ buffer) × (now ≡ out)
 PrintsText begun before text number buffer out held now (Err (Write written)) = WentOut begun now.contents (before ++ text) written
-PrintsText begun before text number buffer out held now (Err (File role fault)) = ⊥
-PrintsText begun before text number buffer out held now (Err Memory) = ⊥
-PrintsText begun before text number buffer out held now (Err (Text right fault)) = ⊥
-PrintsText begun before text number buffer out held now (Err (Open role)) = ⊥
-PrintsText begun before text number buffer out held now (Err (Words fault)) = ⊥
+PrintsText begun before text number buffer out held now (Err _) = ⊥
 
 -- what is answered of all lines that are left: their keys were handed over, or why one was not
 abbrev pub PrintsRest : {A : Type 0} → Collation → Option (List ℕ) → Option (List ℕ) → SourceState → BufferState → SinkState → Result A RunFault → Type 0

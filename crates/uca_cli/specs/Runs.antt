@@ -11,6 +11,8 @@ use Rattle.uca_table.specs.Lines as tables
 use Rattle.uca_data.specs.Said as data_files
 use Rattle.uca_cli.specs.declared.faults.InputKind.{InputKind}
 use Rattle.uca_cli.specs.declared.faults.InputKind.TheVariants.{Utf8, TooLong, LongRun, Read, Limit, Memory as InputMemory}
+use Rattle.uca_cli.specs.declared.faults.FileFault.{FileFault}
+use Rattle.uca_cli.specs.declared.faults.FileFault.TheVariants.{Lines}
 use Rattle.uca_cli.specs.declared.faults.RunFault.{RunFault}
 use Rattle.uca_cli.specs.declared.faults.RunFault.TheVariants.{File, Input, Write}
 use Rattle.uca_cli.specs.declared.faults.Role.{Role}
@@ -30,8 +32,8 @@ pub record BothMean (table_bytes data_bytes : List ℕ) (P : TableContent → Pr
 -- What is answered over the bytes of a table file and of a data file, of which their sources have something left:
 -- the table is refused; the data file is, behind a table; or the bytes mean both, and this holds of them.
 abbrev pub AnswersOver : {A : Type 0} → List ℕ → List ℕ → Option (List ℕ) → Option (List ℕ) → (TableContent → Properties → Type 0) → Result A RunFault → Type 0
-AnswersOver table_bytes data_bytes table_left data_left P (Err (File roles.Table fault)) = Refuses tables.Says tables.Cause tables.IsUnfinished table_bytes table_left fault.line fault.kind
-AnswersOver table_bytes data_bytes table_left data_left P (Err (File roles.Data fault)) = ((table : TableContent) × tables.Means table_bytes table) × Refuses data_files.Says data_files.Cause data_files.IsUnfinished data_bytes data_left fault.line fault.kind
+AnswersOver table_bytes data_bytes table_left data_left P (Err (File roles.Table (Lines fault))) = Refuses tables.Says tables.Cause tables.IsUnfinished table_bytes table_left fault.line fault.kind
+AnswersOver table_bytes data_bytes table_left data_left P (Err (File roles.Data (Lines fault))) = ((table : TableContent) × tables.Means table_bytes table) × Refuses data_files.Says data_files.Cause data_files.IsUnfinished data_bytes data_left fault.line fault.kind
 AnswersOver table_bytes data_bytes table_left data_left P result = BothMean table_bytes data_bytes P
 
 -- The same of the sources of both before and after a run, where their bytes are known.
@@ -54,10 +56,14 @@ is_role roles.Base roles.Base = true
 is_role roles.Tailored roles.Tailored = true
 is_role _ _ = false
 
+-- whether the fault is that reading the file failed
+abbrev pub is_read_fault : FileFault → Bool
+is_read_fault (Lines fault) = is_read_kind fault.kind
+
 -- whether reading a file of this role failed
 abbrev pub is_file_read : {A : Type 0} → Role → Result A RunFault → Bool
 is_file_read role (Ok x) = false
-is_file_read role (Err (File other fault)) = is_role role other && is_read_kind fault.kind
+is_file_read role (Err (File other fault)) = is_role role other && is_read_fault fault
 is_file_read role (Err _) = false
 
 -- ---- The input

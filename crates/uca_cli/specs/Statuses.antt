@@ -9,15 +9,20 @@ use Rattle.uca_text.specs.declared.limits.TextFault.{TextFault}
 use Rattle.uca_text.specs.declared.limits.TextFault.TheVariants as text_fault
 use Rattle.uca_cli.specs.declared.faults.InputKind.{InputKind}
 use Rattle.uca_cli.specs.declared.faults.InputKind.TheVariants as input_kind
+use Rattle.uca_cli.specs.declared.faults.FileFault.{FileFault}
+use Rattle.uca_cli.specs.declared.faults.FileFault.TheVariants.{Lines}
 use Rattle.uca_cli.specs.declared.faults.RunFault.{RunFault}
 use Rattle.uca_cli.specs.declared.faults.RunFault.TheVariants.{File, Input, Write, Memory, Text, Open, Words}
 use Rattle.uca_words.specs.declared.WordFault.TheVariants as words
 
 -- 3 where a read failed, 4 where a growth was refused, and 1 for what the bytes are to blame for
-abbrev pub file_status : FaultKind → ℕ
-file_status kinds.Read = 3
-file_status kinds.Memory = 4
-file_status _ = 1
+abbrev pub line_status : FaultKind → ℕ
+line_status kinds.Read = 3
+line_status kinds.Memory = 4
+line_status _ = 1
+
+abbrev pub file_status : FileFault → ℕ
+file_status (Lines fault) = line_status fault.kind
 
 abbrev pub input_status : InputKind → ℕ
 input_status input_kind.Read = 3
@@ -40,7 +45,7 @@ IsRefusalStatus kind status = (status ≡ refusal_status kind) ⊎ (status ≡ 4
 
 -- the status of a fault
 abbrev pub IsStatus : RunFault → ℕ → Type 0
-IsStatus (File role fault) status = status ≡ file_status fault.kind
+IsStatus (File role fault) status = status ≡ file_status fault
 IsStatus (Input line kind) status = status ≡ input_status kind
 IsStatus (Write written) status = status ≡ 3
 IsStatus Memory status = status ≡ 4

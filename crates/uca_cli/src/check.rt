@@ -82,12 +82,7 @@ fn write_ill_formed<W: Write>(fault: IllFormed, out: &mut Sink<W>) -> Result<(),
     ensures no_file { is_file result ≡ false }
     ensures failed { out.new.failed ≡ (out.old.failed || is_write result) }
 {
-    match hand_ill_formed(fault, out) {
-        Ok(()) => Ok(()),
-        Err(fault) => Err(RunFault::Write {
-            written: fault.written,
-        }),
-    }
+    Ok(hand_ill_formed(fault, out)?)
 }
 
 fn hand_ill_formed<W: Write>(fault: IllFormed, out: &mut Sink<W>) -> Result<(), WriteFault>

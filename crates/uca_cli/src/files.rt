@@ -8,7 +8,7 @@ ghost use Rattle.uca_match.specs.Rows.{rows_of};
 ghost use Rattle.uca_cli.specs.Keys.{weighting_by};
 ghost use Rattle.uca_cli.specs.Runs.{is_file, is_file_read, RunsOver};
 
-use crate::faults::{Role, RunFault};
+use crate::faults::{FileFault, Role, RunFault};
 use std::alloc::{Allocator, Global};
 use std::io::Read;
 use uca_data::read_data_in;
@@ -49,7 +49,7 @@ pub fn read_files<A: Allocator + Copy, T: Read, D: Read>(
         Err(fault) => {
             return Err(RunFault::File {
                 role: Role::Table,
-                fault,
+                fault: FileFault::Lines(fault),
             });
         }
     };
@@ -60,7 +60,7 @@ pub fn read_files<A: Allocator + Copy, T: Read, D: Read>(
         }),
         Err(fault) => Err(RunFault::File {
             role: Role::Data,
-            fault,
+            fault: FileFault::Lines(fault),
         }),
     }
 }

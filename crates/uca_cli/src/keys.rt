@@ -69,12 +69,7 @@ impl<A: Allocator> KeyRun<A> {
                 kind: InputKind::Memory,
             });
         }
-        match print_key(&mut self.output, out, self.key.bytes()) {
-            Ok(()) => Ok(()),
-            Err(fault) => Err(RunFault::Write {
-                written: fault.written,
-            }),
-        }
+        Ok(print_key(&mut self.output, out, self.key.bytes())?)
     }
 
     // Hands over the key of the next line, and answers whether more lines may follow.
@@ -194,12 +189,8 @@ pub fn print_keys<L: Lookup, T: Allocator, A: Allocator + Copy, I: Read, W: Writ
     if is_write_fault(&end) {
         return end;
     }
-    match run.output.flush(out) {
-        Ok(()) => end,
-        Err(fault) => Err(RunFault::Write {
-            written: fault.written,
-        }),
-    }
+    run.output.flush(out)?;
+    end
 }
 
 /// Prints the sort key of each line of `input`, under the table and the data file that are read first:

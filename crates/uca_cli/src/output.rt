@@ -20,10 +20,5 @@ pub fn write_text<W: Write>(text: &[u8], out: &mut Sink<W>) -> Result<(), RunFau
     ensures no_file { is_file result ≡ false }
     ensures failed { out.new.failed ≡ (out.old.failed || is_write result) }
 {
-    match out.write_all(text) {
-        Ok(()) => Ok(()),
-        Err(fault) => Err(RunFault::Write {
-            written: fault.written,
-        }),
-    }
+    Ok(out.write_all(text)?)
 }

@@ -2,9 +2,9 @@
 
 ghost use Rattle.std.specs.Prelude.{◌≡◌, ◌≤◌};
 ghost use Rattle.clap.specs.Values.{kind_of};
-ghost use Rattle.uca_cli.specs.Statuses.{file_status, input_status, text_status, refusal_status, IsRefusalStatus, IsStatus};
+ghost use Rattle.uca_cli.specs.Statuses.{line_status, file_status, input_status, text_status, refusal_status, IsRefusalStatus, IsStatus};
 
-use crate::faults::{InputKind, RunFault};
+use crate::faults::{FileFault, InputKind, RunFault};
 use clap::error::ErrorKind;
 use std::alloc::Global;
 use std::fmt;
@@ -30,13 +30,21 @@ pub const NO_MEMORY: u8 = 4;
 /// How many bytes a fault line has at most, its LF counted.
 const LONGEST_LINE: usize = 128;
 
-fn status_of_file(kind: FaultKind) -> u8
-    ensures { result ≡ file_status kind }
+fn status_of_line(kind: FaultKind) -> u8
+    ensures { result ≡ line_status kind }
 {
     match kind {
         FaultKind::Read => STREAM_FAILED,
         FaultKind::Memory => NO_MEMORY,
         _ => REFUSED,
+    }
+}
+
+fn status_of_file(fault: FileFault) -> u8
+    ensures { result ≡ file_status fault }
+{
+    match fault {
+        FileFault::Lines(fault) => status_of_line(fault.kind),
     }
 }
 
@@ -136,7 +144,7 @@ pub fn report<W: Write, E: Write>(
         RunFault::Words(WordFault::Refused(error)) => return write_refusal(alloc, error, out, err),
         RunFault::Words(WordFault::Weighting) => WRONG_WORDS,
         RunFault::Words(WordFault::Memory) | RunFault::Memory => NO_MEMORY,
-        RunFault::File { fault, .. } => status_of_file(fault.kind),
+        RunFault::File { fault, .. } => status_of_file(*fault),
         RunFault::Input { kind, .. } => status_of_input(*kind),
         RunFault::Text { fault, .. } => status_of_text(*fault),
         RunFault::Write { .. } | RunFault::Open(_) => STREAM_FAILED,
