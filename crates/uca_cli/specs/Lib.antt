@@ -14,3 +14,5 @@ pub mod Print
 pub mod RoleText
 pub mod Texts
 pub mod Statuses
+pub mod FaultText
+pub mod Reports
