@@ -1,15 +1,19 @@
 //! Laws of the definitions of reading. Each is the contract of a function that does nothing.
 
-ghost use Rattle.uca_match.specs.Laws.{OneReading, RowsByKey};
+ghost use Rattle.std.specs.Prelude.{List, []};
+ghost use Rattle.uca_weights.specs.declared.Element.{Element};
+ghost use Rattle.uca_match.specs.Laws.{OneReading, RowsByKey, KeysReadAsRows, IsKeptByAppend, RelatedRowsReadAlike, SameKeysReadByParts};
 ghost use Rattle.uca_match.specs.WorkedReadings.{WorkedReadings};
+
+use std::marker::Brand;
 
 /// The collation elements of texts are defined twice, and both definitions give the same.
 ///
 /// The first definition is a system of three equations, after step S2 of UTS #10: the empty text
 /// has no elements; a text that no key begins has the implicit weights of its first code point and
 /// then the elements of what follows; a text that a key begins has the row of the longest such key
-/// (S2.1), extended by the marks that are removed behind it (S2.1.1 to S2.1.3), and then the
-/// elements of the skipped marks and what follows them. The second is a function that computes
+/// (S2.1), extended by the non-starters that are removed after it (S2.1.1 to S2.1.3), and then the
+/// elements of the skipped non-starters and what follows them. The second is a function that computes
 /// them. The law says that the function satisfies the equations, and that every function which
 /// satisfies them is this one, at all rows and all implicit weights.
 pub fn one_reading()
@@ -22,8 +26,54 @@ pub fn rows_by_key()
     ensures { RowsByKey }
 {}
 
+/// A text that is a key reads as its row: it is its own longest match, and nothing follows that would extend it.
+pub fn keys_read_as_rows()
+    ensures { KeysReadAsRows }
+{}
+
+/// A relation between lists of elements that holds of two empty lists, and is kept where lists are put one
+/// after the other.
+///
+/// A relation that depends on the values of a program has no type to stand for it: there
+/// [`same_keys_read_by_parts`] serves, from which the same follows for every relation.
+pub trait RelatesElements {
+    // which lists are related
+    ghost related: { List Element → List Element → Type 0 };
+
+    // two empty lists are
+    ghost empty: { related [] [] };
+
+    // the relation is kept where lists are put one after the other
+    ghost kept: { IsKeptByAppend related };
+}
+
+/// Equality, unless the proof of a caller picks another relation.
+impl RelatesElements for Brand {
+    ghost use Rattle.std.specs.Prelude.{◌≡◌, ◌++◌, refl};
+    ghost use Rattle.std.proofs.Common.{ap₂};
+
+    ghost related = { λ es fs. es ≡ fs };
+
+    ghost empty = { refl };
+
+    ghost kept = { λ es fs gs hs first second. ap₂ (λ front rest. front ++ rest) first second };
+}
+
+/// Where two maps have related rows at each key that occurs in order in a text, and the implicit weights of
+/// its code points are related, the two readings of the text are related: whatever the relation is, as long as
+/// it holds of empty lists and is kept where lists are put one after the other.
+pub fn related_rows_read_alike<R: RelatesElements>()
+    ensures { RelatedRowsReadAlike R.related }
+{}
+
+/// Where two maps have the same keys among those that occur in order in a text, its two readings have the same
+/// parts: each is the two rows of one such key, or the two implicit weights of one code point of the text.
+pub fn same_keys_read_by_parts()
+    ensures { SameKeysReadByParts }
+{}
+
 /// The definitions give the elements that were worked out by hand for some texts: letters, accents,
-/// code points with implicit weights, contractions, and marks that are skipped, blocked or removed.
+/// code points with implicit weights, contractions, and non-starters that are skipped, blocked or removed.
 pub fn worked_readings()
     ensures { WorkedReadings }
 {}

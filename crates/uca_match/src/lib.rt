@@ -13,6 +13,6 @@ mod trie;
 
 pub use collator::Collator;
 pub use elements::Elements;
-pub use lookup::Lookup;
+pub use lookup::{Lookup, row_of};
 pub use row_list::{RowList, RowNode};
 pub use trie::{Trie, TrieNode};

@@ -35,3 +35,15 @@ pub trait Lookup {
         ensures { (key : List ℕ) → stands_for self.now node key →
             MatchOption result (content self.now key ≡ None) (λ row. content self.now key ≡ Some row.now) };
 }
+
+/// The elements of a key, lent by the lookup, or `None` where the list is no key.
+pub fn row_of<'a, L: Lookup>(lookup: &'a L, key: &[char]) -> Option<&'a [Element]>
+    ensures { MatchOption result (L.content lookup.now key.now ≡ None)
+        (λ row. L.content lookup.now key.now ≡ Some row.now) }
+{
+    let mut node = lookup.root();
+    for point in key {
+        node = lookup.step(node, *point)?;
+    }
+    lookup.elements(node)
+}
