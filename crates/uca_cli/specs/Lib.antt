@@ -15,3 +15,4 @@ pub mod Texts
 pub mod Statuses
 pub mod FaultText
 pub mod Reports
+pub mod Command
