@@ -2,8 +2,8 @@
 
 use std::alloc::Global;
 use std::test::Fail;
-use uca_data::read_data_in;
-use uca_table::read_table_in;
+use uca_data::read_data;
+use uca_table::read_table;
 use uca_values::{Data, Table};
 use uca_weights::Source;
 
@@ -32,10 +32,10 @@ pub const CLASSES: &str = "@data 1\n\
 
 /// The table of a table file.
 pub fn table_of(alloc: Global, file: &str) -> Result<Table, Fail> {
-    Ok(read_table_in(alloc, &mut Source::new(file.as_bytes()))?)
+    Ok(read_table(alloc, &mut Source::new(file.as_bytes()))?)
 }
 
 /// The properties of a data file.
 pub fn data_of(alloc: Global, file: &str) -> Result<Data, Fail> {
-    Ok(read_data_in(alloc, &mut Source::new(file.as_bytes()))?)
+    Ok(read_data(alloc, &mut Source::new(file.as_bytes()))?)
 }
