@@ -15,7 +15,7 @@ use Rattle.std.specs.Iterator.Runs.{Run, WholeRun}
 use Rattle.std.proofs.iter.runs.Made.{took}
 use Rattle.uca_match.specs.Rows.{Rows, rows_of, same_key}
 use Rattle.uca_match.specs.Reading.{others, marks_at_front, after_marks, removed, longest_key, Portion, portion_at, portion, read_within, collation_elements}
-use Rattle.uca_key.specs.Levels.{Weights, weight_at, level_list, level_lists_from, weighted, level_bytes, levels_bytes, shifted_behind, plain_weights, key_bytes}
+use Rattle.uca_key.specs.Levels.{Weights, weight_at, level_list, level_lists_from, weighted, level_bytes, levels_bytes, weighted_behind, key_bytes}
 use Rattle.uca_key.specs.Lengths.{HasShortRows}
 use Rattle.uca_key.specs.Laws.{KeysAreShort, RowsAreShort}
 use Rattle.std.specs.List.{AllByRecursion}
@@ -34,13 +34,10 @@ pub length-level_bytes : (ws : List ℕ) → length (level_bytes ws) ≡ 2 * len
 length-level_bytes [] = refl
 length-level_bytes (w ∷ ws) = omega (arith, length-level_bytes ws)
 
-pub length-shifted : (earlier es : List Element) → length (shifted_behind earlier es) ≡ length es
-length-shifted earlier [] = refl
-length-shifted earlier (e ∷ es) = ap suc (length-shifted (e ∷ earlier) es)
-
-pub length-weighted : (weighting : Weighting) (es : List Element) → length (weighted weighting es) ≡ length es
-length-weighted NonIgnorable es = length-map es plain_weights
-length-weighted Shifted es = length-shifted [] es
+-- each element has weights
+pub length-weighted : (weighting : Weighting) (earlier es : List Element) → length (weighted_behind weighting earlier es) ≡ length es
+length-weighted weighting earlier [] = refl
+length-weighted weighting earlier (e ∷ es) = ap suc (length-weighted weighting (e ∷ earlier) es)
 
 -- a level has at most two bytes for each element
 pub length-level : (n : ℕ) (ws : List Weights) → length (level_bytes (level_list n ws)) ≤ 2 * length ws
@@ -50,40 +47,40 @@ length-level n ws =
     let c = length-map ws (weight_at n) in
     omega (arith, a, b, c)
 
-pub length-three : (ws : List Weights) → length (levels_bytes (level_lists_from 0 3 ws)) ≤ 6 * length ws + 4
+pub length-three : (ws : List Weights) → length (levels_bytes (level_lists_from 1 3 ws)) ≤ 6 * length ws + 4
 length-three ws =
-    let one = level_bytes (level_list 0 ws) in
-    let two = level_bytes (level_list 1 ws) in
-    let three = level_bytes (level_list 2 ws) in
+    let one = level_bytes (level_list 1 ws) in
+    let two = level_bytes (level_list 2 ws) in
+    let three = level_bytes (level_list 3 ws) in
     omega (
       arith,
-      length-level 0 ws,
       length-level 1 ws,
       length-level 2 ws,
+      length-level 3 ws,
       length-append one (0 ∷ 0 ∷ (two ++ (0 ∷ 0 ∷ three))),
       length-append two (0 ∷ 0 ∷ three),
     )
 
-pub length-four : (ws : List Weights) → length (levels_bytes (level_lists_from 0 4 ws)) ≤ 8 * length ws + 6
+pub length-four : (ws : List Weights) → length (levels_bytes (level_lists_from 1 4 ws)) ≤ 8 * length ws + 6
 length-four ws =
-    let one = level_bytes (level_list 0 ws) in
-    let two = level_bytes (level_list 1 ws) in
-    let three = level_bytes (level_list 2 ws) in
-    let four = level_bytes (level_list 3 ws) in
+    let one = level_bytes (level_list 1 ws) in
+    let two = level_bytes (level_list 2 ws) in
+    let three = level_bytes (level_list 3 ws) in
+    let four = level_bytes (level_list 4 ws) in
     omega (
       arith,
-      length-level 0 ws,
       length-level 1 ws,
       length-level 2 ws,
       length-level 3 ws,
+      length-level 4 ws,
       length-append one (0 ∷ 0 ∷ (two ++ (0 ∷ 0 ∷ (three ++ (0 ∷ 0 ∷ four))))),
       length-append two (0 ∷ 0 ∷ (three ++ (0 ∷ 0 ∷ four))),
       length-append three (0 ∷ 0 ∷ four),
     )
 
 pub length-key : (weighting : Weighting) (es : List Element) → length (key_bytes weighting es) ≤ 8 * length es + 6
-length-key NonIgnorable es = omega (arith, length-three (weighted NonIgnorable es), length-weighted NonIgnorable es)
-length-key Shifted es = omega (arith, length-four (weighted Shifted es), length-weighted Shifted es)
+length-key NonIgnorable es = omega (arith, length-three (weighted NonIgnorable es), length-weighted NonIgnorable [] es)
+length-key Shifted es = omega (arith, length-four (weighted Shifted es), length-weighted Shifted [] es)
 
 -- ---- Of texts
 

@@ -200,7 +200,7 @@ key_order weighting left right =
     ap (λ bytes. dictionary bytes (levels_bytes second)) (levels_bytes-joined first)
     ∙ ap (dictionary (level_bytes (joined first))) (levels_bytes-joined second)
     ∙ dictionary-level_bytes (joined first) (joined second)
-    ∙ joined_order 1 first second (AreLevels-from 0 (level_count weighting) (weighted weighting left) (weighted weighting right))
+    ∙ joined_order 1 first second (AreLevels-from 1 (level_count weighting) (weighted weighting left) (weighted weighting right))
 
 pub key_same : (weighting : Weighting) (left right : List Element) → (key_bytes weighting left ≡ key_bytes weighting right) ↔ ((compared weighting left right).level ≡ 0)
 key_same weighting left right =

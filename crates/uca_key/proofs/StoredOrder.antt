@@ -200,9 +200,9 @@ few_of (a ∷ left) right h some = fewer_zeros a left right h
 
 pub few_separators : (weighting : Weighting) (left right : List Element) → suc (zeros_joined (level_lists weighting left) (level_lists weighting right)) ≤ level_count weighting
 few_separators NonIgnorable left right =
-    few_of (level_lists NonIgnorable left) (level_lists NonIgnorable right) (AreLevels-from 0 3 (weighted NonIgnorable left) (weighted NonIgnorable right)) (omega arith)
+    few_of (level_lists NonIgnorable left) (level_lists NonIgnorable right) (AreLevels-from 1 3 (weighted NonIgnorable left) (weighted NonIgnorable right)) (omega arith)
 few_separators Shifted left right =
-    few_of (level_lists Shifted left) (level_lists Shifted right) (AreLevels-from 0 4 (weighted Shifted left) (weighted Shifted right)) (omega arith)
+    few_of (level_lists Shifted left) (level_lists Shifted right) (AreLevels-from 1 4 (weighted Shifted left) (weighted Shifted right)) (omega arith)
 
 stored_at : (same : Bool) (levels separators level : ℕ) → (same ≡ true → level ≡ 0) → (same ≡ false → level ≡ 1 + separators) → suc separators ≤ levels
     → cond same 0 (min levels (1 + separators)) ≡ level
@@ -219,7 +219,7 @@ stored_key_level weighting left right =
     ap (λ n. cond (bytes_eq one other) 0 (min (level_count weighting) (1 + n))) (separators_joined first second)
     ∙ stored_at (bytes_eq one other) (level_count weighting) (zeros_joined first second) (compared weighting left right).level
     (λ same. (key_same weighting left right).0 ((bytes_eq-Decides one other).0 same))
-    (λ apart. level_zeros 1 first second (AreLevels-from 0 (level_count weighting) (weighted weighting left) (weighted weighting right))
+    (λ apart. level_zeros 1 first second (AreLevels-from 1 (level_count weighting) (weighted weighting left) (weighted weighting right))
     (λ undecided. let t : bytes_eq one other ≡ true = same_bytes one other (same_from_dictionary one other (key_order weighting left right ∙ undecided)) in cc))
     (few_separators weighting left right)
 
@@ -242,13 +242,3 @@ pub differing_level : (levels level : ℕ) (left right : List ℕ) → (dictiona
 differing_level levels level left right differ is =
     let apart : bytes_eq left right ≡ false = other_bytes left right (λ same. differ (ap (dictionary left) (sym same) ∙ dictionary_itself left)) in
     rw apart is
-
-pub answer_of_keys : (levels level : ℕ) (order : Ordering) (left right : List ℕ) → order ≡ dictionary left right → level ≡ stored_level levels left right
-    → (weighting : Weighting) (first second : List Element) → left ≡ key_bytes weighting first → right ≡ key_bytes weighting second → levels ≡ level_count weighting
-    → (order ≡ (compared weighting first second).order) × (level ≡ (compared weighting first second).level)
-answer_of_keys levels level order left right order_is level_is weighting first second left_is right_is count =
-    let law = stored_keys_compare weighting first second in (
-      order_is ∙ ap (λ l. dictionary l right) left_is ∙ ap (dictionary (key_bytes weighting first)) right_is ∙ law.0,
-      level_is ∙ ap (λ n. stored_level n left right) count ∙ ap (λ l. stored_level (level_count weighting) l right) left_is
-          ∙ ap (stored_level (level_count weighting) (key_bytes weighting first)) right_is ∙ law.1,
-    )

@@ -1,5 +1,5 @@
 -- Weights, level lists, the order of texts by them, and their keys.
-use Rattle.std.specs.Prelude.{ℕ, zero, suc, ◌/◌, ◌%◌, List, [], ◌∷◌, ◌++◌, map, Bool, false, not, filter, nat_eq, if◌then◌else◌, flat_map}
+use Rattle.std.specs.Prelude.{ℕ, zero, suc, ◌/◌, ◌%◌, List, [], ◌∷◌, ◌++◌, map, Bool, false, ◌&&◌, not, filter, nat_eq, if◌then◌else◌, flat_map}
 use Rattle.std.specs.Ordering.{nat_cmp}
 use Rattle.std.specs.Cmp.Lexicographic.{slice_cmp}
 use Rattle.std.specs.declared.cmp.Ordering.{Ordering}
@@ -10,41 +10,44 @@ use Rattle.uca_weights.specs.declared.Weighting.TheVariants.{NonIgnorable, Shift
 
 -- ---- Weighted elements (UTS #10, section 4)
 
--- the weights of an element at the levels from 1 on
+-- the weights of an element, at the levels from 1 on
 abbrev pub Weights : Type 0
 Weights = List ℕ
 
-abbrev pub plain_weights : Element → Weights
-plain_weights e = e.primary ∷ e.secondary ∷ e.tertiary ∷ []
-
+-- it has no weight at level 1
 abbrev pub is_ignorable : Element → Bool
 is_ignorable e = nat_eq e.primary 0
 
+-- it has no weight
 abbrev pub is_completely_ignorable : Element → Bool
-is_completely_ignorable e = if is_ignorable e then (if nat_eq e.secondary 0 then nat_eq e.tertiary 0 else false) else false
+is_completely_ignorable e = is_ignorable e && nat_eq e.secondary 0 && nat_eq e.tertiary 0
 
 -- Whether the nearest of the elements with a non-zero primary is variable. They stand nearest first.
 abbrev pub follows_variable : List Element → Bool
 follows_variable [] = false
 follows_variable (e ∷ earlier) = if is_ignorable e then follows_variable earlier else e.mark
 
--- The shifted weights of an element behind earlier ones, nearest first. A variable element has its primary weight at the
--- fourth level alone; one without a primary weight behind a variable one has none at all; and of the others each that has
--- some weight has the greatest at the fourth level.
-abbrev pub shifted_weights : List Element → Element → Weights
-shifted_weights earlier e =
+-- The shifted weights of an element. A variable element has its primary weight at the fourth level alone; one without a
+-- primary weight that follows a variable one has none at all; and of the others each that has some weight has the greatest
+-- at the fourth level.
+abbrev pub shifted_weights : Bool → Element → Weights
+shifted_weights after_variable e =
     if e.mark then 0 ∷ 0 ∷ 0 ∷ e.primary ∷ [] else
-    if (if is_ignorable e then follows_variable earlier else false) then 0 ∷ 0 ∷ 0 ∷ 0 ∷ [] else
+    if is_ignorable e && after_variable then 0 ∷ 0 ∷ 0 ∷ 0 ∷ [] else
     e.primary ∷ e.secondary ∷ e.tertiary ∷ (if is_completely_ignorable e then 0 else 0xFFFF) ∷ []
 
--- each element's shifted weights, behind the earlier ones
-abbrev pub shifted_behind : List Element → List Element → List Weights
-shifted_behind earlier [] = []
-shifted_behind earlier (e ∷ es) = shifted_weights earlier e ∷ shifted_behind (e ∷ earlier) es
+-- the weights of an element, which follows a variable one or not
+abbrev pub weights_of : Weighting → Bool → Element → Weights
+weights_of NonIgnorable after_variable e = e.primary ∷ e.secondary ∷ e.tertiary ∷ []
+weights_of Shifted after_variable e = shifted_weights after_variable e
+
+-- each element's weights, after the earlier ones
+abbrev pub weighted_behind : Weighting → List Element → List Element → List Weights
+weighted_behind weighting earlier [] = []
+weighted_behind weighting earlier (e ∷ es) = weights_of weighting (follows_variable earlier) e ∷ weighted_behind weighting (e ∷ earlier) es
 
 abbrev pub weighted : Weighting → List Element → List Weights
-weighted NonIgnorable es = map plain_weights es
-weighted Shifted es = shifted_behind [] es
+weighted weighting es = weighted_behind weighting [] es
 
 abbrev pub level_count : Weighting → ℕ
 level_count NonIgnorable = 3
@@ -52,23 +55,24 @@ level_count Shifted = 4
 
 -- ---- Level lists and their order (UTS #10, sections 1.1 and 7.4)
 
--- the weight at a level, from 0 on; 0 where there is none
+-- the weight at a level, from 1 on; 0 where there is none
 abbrev pub weight_at : ℕ → Weights → ℕ
-weight_at n [] = 0
-weight_at zero (w ∷ ws) = w
-weight_at (suc n) (w ∷ ws) = weight_at n ws
+weight_at level [] = 0
+weight_at zero (w ∷ ws) = 0
+weight_at (suc zero) (w ∷ ws) = w
+weight_at (suc (suc level)) (w ∷ ws) = weight_at (suc level) ws
 
 -- the non-zero weights of a level, in order
 abbrev pub level_list : ℕ → List Weights → List ℕ
-level_list n ws = filter (λ w. not (nat_eq w 0)) (map (weight_at n) ws)
+level_list level ws = filter (λ w. not (nat_eq w 0)) (map (weight_at level) ws)
 
 -- the level lists of n levels from the level `from` on
 abbrev pub level_lists_from : ℕ → ℕ → List Weights → List (List ℕ)
-level_lists_from start zero ws = []
-level_lists_from start (suc n) ws = level_list start ws ∷ level_lists_from (suc start) n ws
+level_lists_from from zero ws = []
+level_lists_from from (suc n) ws = level_list from ws ∷ level_lists_from (suc from) n ws
 
 abbrev pub level_lists : Weighting → List Element → List (List ℕ)
-level_lists weighting es = level_lists_from 0 (level_count weighting) (weighted weighting es)
+level_lists weighting es = level_lists_from 1 (level_count weighting) (weighted weighting es)
 
 -- how two texts compare: the order, and the level at which they differ, 0 where none does
 pub record Comparison : Type 0 where
@@ -85,11 +89,11 @@ decided Less level later = record { order = Less; level = level }
 decided Equal level later = later
 decided Greater level later = record { order = Greater; level = level }
 
--- by the first level whose lists differ; the first of these is the level n
+-- by the first level whose lists differ; the first lists are those of `level`
 abbrev pub compare_from : ℕ → List (List ℕ) → List (List ℕ) → Comparison
-compare_from n (a ∷ left) (b ∷ right) = decided (dictionary a b) n (compare_from (suc n) left right)
-compare_from n [] right = record { order = Equal; level = 0 }
-compare_from n (a ∷ left) [] = record { order = Equal; level = 0 }
+compare_from level (a ∷ left) (b ∷ right) = decided (dictionary a b) level (compare_from (suc level) left right)
+compare_from level [] right = record { order = Equal; level = 0 }
+compare_from level (a ∷ left) [] = record { order = Equal; level = 0 }
 
 abbrev pub compared : Weighting → List Element → List Element → Comparison
 compared weighting left right = compare_from 1 (level_lists weighting left) (level_lists weighting right)

@@ -1,6 +1,8 @@
 pub mod Levels
 pub mod Laws
+pub mod StreamedWeights
 pub mod Buffers
+pub mod LevelBuffers
 pub mod StoredKeys
 pub mod Lengths
 pub mod WorkedKeys

@@ -1,6 +1,7 @@
 //! What holds of the keys of all texts. The functions do nothing: their contracts are the laws.
 
 ghost use Rattle.uca_key.specs.Laws.{KeysCompareAsElements, CanonicallyEquivalentTextsHaveEqualKeys, KeysAreShort, RowsAreShort, StoredKeysCompareAsElements, StoredKeysCompareAsTexts};
+ghost use Rattle.uca_key.specs.StreamedWeights.{WeightsMayBeStreamed, FindsCompletelyIgnorable};
 ghost use Rattle.uca_key.specs.WorkedKeys.{WorkedKeys};
 ghost use Rattle.uca_key.specs.WorkedComparisons.{WorkedComparisons};
 
@@ -36,6 +37,17 @@ pub fn keys_are_short()
 /// No row of a table has more than 32 elements, also where a lookup finds it.
 pub fn rows_are_short()
     ensures { RowsAreShort }
+{}
+
+/// The weights of elements may be worked out one after the other (UTS #10, section 4), by
+/// [`weights_of`](crate::weights_of) and [`is_after_variable`](crate::is_after_variable).
+pub fn weights_may_be_streamed()
+    ensures { WeightsMayBeStreamed }
+{}
+
+/// Shifting gives no weight to exactly the elements that are completely ignorable (UTS #10, section 3).
+pub fn finds_completely_ignorable()
+    ensures { FindsCompletelyIgnorable }
 {}
 
 /// The definitions give some keys that were worked out by hand.

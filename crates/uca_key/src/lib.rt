@@ -5,10 +5,13 @@
 pub mod buffers;
 pub mod keys;
 pub mod laws;
+mod levels;
 pub mod stored;
 #[cfg(test)]
 mod tests;
+pub mod weighting;
 
 pub use buffers::KeyBuffer;
 pub use keys::{key, key_in, key_of};
 pub use stored::{compare_keys, level_count};
+pub use weighting::{is_after_variable, weights_of};

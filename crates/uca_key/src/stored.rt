@@ -1,10 +1,8 @@
 //! Stored keys, which give the order of their texts and the level at which they differ.
 
-ghost use Rattle.std.specs.Prelude.{◌≡◌, ◌+◌, List, min};
-ghost use Rattle.uca_weights.specs.declared.Element.{Element};
-ghost use Rattle.uca_weights.specs.declared.Weighting.{Weighting};
+ghost use Rattle.std.specs.Prelude.{◌≡◌, ◌+◌, min};
 ghost use Rattle.uca_key.specs.Levels;
-ghost use Rattle.uca_key.specs.Levels.{dictionary, compared, key_bytes};
+ghost use Rattle.uca_key.specs.Levels.{dictionary};
 ghost use Rattle.uca_key.specs.StoredKeys.{shared_separators, stored_level};
 
 use std::cmp::Ordering;
@@ -26,15 +24,11 @@ pub fn level_count(weighting: Weighting) -> u8
 /// The order is that of the bytes, where a beginning is less. The level is one more than the groups `00 00`
 /// among the groups of two bytes before the first group that differs, or that one side is without; a last
 /// single byte is a group. So every two slices have an answer. For two keys of one weighting and its
-/// [`level_count`] these are the order and the level of multilevel comparison (UTS #10, section 1.1).
+/// [`level_count`] these are the order and the level of multilevel comparison (UTS #10, section 1.1), as
+/// [`stored_keys_compare_as_elements`](crate::laws::stored_keys_compare_as_elements) says.
 pub fn compare_keys(left: &[u8], right: &[u8], levels: u8) -> (Ordering, u8)
     ensures order { result.0 ≡ dictionary left.now right.now }
     ensures level { result.1 ≡ stored_level levels left.now right.now }
-    ensures keys { (weighting : Weighting) (first second : List Element) →
-        left.now ≡ key_bytes weighting first → right.now ≡ key_bytes weighting second →
-        levels ≡ Levels.level_count weighting →
-        (result.0 ≡ (compared weighting first second).order)
-        × (result.1 ≡ (compared weighting first second).level) }
 {
     match left.cmp(right) {
         Ordering::Equal => (Ordering::Equal, 0),

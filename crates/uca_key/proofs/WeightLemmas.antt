@@ -1,0 +1,24 @@
+-- Weights by a flag in place of the earlier elements, and which elements have none.
+use Rattle.std.proofs.Common.{◌≡◌, ◌↔◌, ℕ, List, [], ◌∷◌, nat_eq, ◌&&◌, refl, ap, arith, IsTrue}
+use Rattle.std.proofs.lemmas.Bool.Decides.{nat_tests}
+use Rattle.uca_weights.specs.declared.Element.{Element}
+use Rattle.uca_weights.specs.declared.Weighting.{Weighting}
+use Rattle.uca_key.specs.Levels.{weights_of, weighted_behind, follows_variable}
+use Rattle.uca_key.specs.StreamedWeights.{weighted_after, WeightsMayBeStreamed, FindsCompletelyIgnorable}
+
+-- the flag says all that the earlier elements do
+pub weighted_after-follows : (weighting : Weighting) (earlier es : List Element)
+    → weighted_after weighting (follows_variable earlier) es ≡ weighted_behind weighting earlier es
+weighted_after-follows weighting earlier [] = refl
+weighted_after-follows weighting earlier (e ∷ es) =
+    ap (λ l. weights_of weighting (follows_variable earlier) e ∷ l) (weighted_after-follows weighting (e ∷ earlier) es)
+
+pub streamed : WeightsMayBeStreamed
+streamed = record { after = weighted_after-follows; whole = λ weighting es. weighted_after-follows weighting [] es }
+
+-- three numbers are 0 exactly where the test of each is true
+pub all_zero : (a b c : ℕ) → IsTrue (nat_eq a 0 && nat_eq b 0 && nat_eq c 0) ↔ ((a ≡ 0) × (b ≡ 0) × (c ≡ 0))
+all_zero a b c = grind (arith, nat_tests)
+
+pub finds : FindsCompletelyIgnorable
+finds e = all_zero e.primary e.secondary e.tertiary

@@ -1,0 +1,31 @@
+-- The weights of elements that are read one after the other: a flag says whether the nearest earlier element with a
+-- non-zero primary is variable, in place of the list of the earlier elements.
+use Rattle.std.specs.Prelude.{◌≡◌, ◌↔◌, ℕ, List, [], ◌∷◌, Bool, false, IsTrue, if◌then◌else◌}
+use Rattle.uca_weights.specs.declared.Element.{Element}
+use Rattle.uca_weights.specs.declared.Weighting.{Weighting}
+use Rattle.uca_weights.specs.Kinds.{IsCompletelyIgnorable}
+use Rattle.uca_key.specs.Levels.{Weights, is_ignorable, is_completely_ignorable, follows_variable, weights_of, weight_at, weighted, weighted_behind}
+
+-- the weights at the levels 1 to 4, 0 at a level that there is not
+abbrev pub at_four_levels : Weights → List ℕ
+at_four_levels ws = weight_at 1 ws ∷ weight_at 2 ws ∷ weight_at 3 ws ∷ weight_at 4 ws ∷ []
+
+-- the flag after one more element: one without a primary weight leaves it as it was
+abbrev pub is_after_variable : Bool → Element → Bool
+is_after_variable after_variable e = if is_ignorable e then after_variable else e.mark
+
+-- each element's weights, after elements of which the flag is known
+abbrev pub weighted_after : Weighting → Bool → List Element → List Weights
+weighted_after weighting after_variable [] = []
+weighted_after weighting after_variable (e ∷ es) =
+    weights_of weighting after_variable e ∷ weighted_after weighting (is_after_variable after_variable e) es
+
+-- With the flag elements have the weights that they have with the earlier elements.
+pub record WeightsMayBeStreamed : Type 0 where
+  pub after : (weighting : Weighting) (earlier es : List Element) →
+      weighted_after weighting (follows_variable earlier) es ≡ weighted_behind weighting earlier es
+  pub whole : (weighting : Weighting) (es : List Element) → weighted_after weighting false es ≡ weighted weighting es
+
+-- The test of the weighting finds the completely ignorable elements of UTS #10, section 3.
+abbrev pub FindsCompletelyIgnorable : Type 0
+FindsCompletelyIgnorable = (e : Element) → IsTrue (is_completely_ignorable e) ↔ IsCompletelyIgnorable e

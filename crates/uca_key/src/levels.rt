@@ -1,0 +1,128 @@
+//! The levels of a key in the making: a buffer for each level.
+
+ghost use Rattle.std.specs.Prelude.{◌≡◌, ◌++◌, ◌∷◌, [], ◌==◌, List, OnOk, if◌then◌else◌};
+ghost use Rattle.uca_weights.specs.declared.Element.{Element};
+ghost use Rattle.uca_key.specs.Levels.{weight_bytes, key_bytes};
+ghost use Rattle.uca_key.specs.LevelBuffers.{HoldsLevels};
+
+use crate::weighting::{is_after_variable, weights_of};
+use std::alloc::{AllocError, Allocator};
+use std::marker::Model;
+use uca_weights::{Element, Weighting};
+
+/// The levels of the elements that were pushed, of which the first becomes the key.
+#[derive(Drop)]
+pub(crate) struct LevelBuffers<A: Allocator> {
+    // whether the nearest element with a primary weight is variable
+    after_variable: bool,
+    key: Vec<u8, A>,
+    secondary: Vec<u8, A>,
+    tertiary: Vec<u8, A>,
+    quaternary: Vec<u8, A>,
+}
+
+impl<A: Allocator> Model for LevelBuffers<A> {
+    ghost use Rattle.uca_key.specs.LevelBuffers.{LevelState};
+
+    ghost Value = { LevelState };
+
+    ghost view = { λ b. record {
+      after_variable = b.after_variable;
+      key = b.key.items;
+      secondary = b.secondary.items;
+      tertiary = b.tertiary.items;
+      quaternary = b.quaternary.items;
+    } };
+}
+
+impl<A: Allocator + Copy> LevelBuffers<A> {
+    /// Buffers that take no memory yet.
+    pub(crate) fn new(alloc: A) -> LevelBuffers<A>
+        ensures { result.key ≡ [] }
+    {
+        LevelBuffers {
+            after_variable: false,
+            key: Vec::new(alloc),
+            secondary: Vec::new(alloc),
+            tertiary: Vec::new(alloc),
+            quaternary: Vec::new(alloc),
+        }
+    }
+}
+
+impl<A: Allocator> LevelBuffers<A> {
+    /// Takes all weights out, and keeps the memory.
+    pub(crate) fn clear(&mut self)
+        ensures { (weighting : Weighting) → HoldsLevels weighting [] self.new }
+    {
+        self.after_variable = false;
+        self.key.clear();
+        self.secondary.clear();
+        self.tertiary.clear();
+        self.quaternary.clear();
+    }
+
+    /// Adds the weights of the next element.
+    pub(crate) fn push(&mut self, weighting: Weighting, element: Element) -> Result<(), AllocError>
+        ensures { (es : List Element) → HoldsLevels weighting es self.old →
+            OnOk result (HoldsLevels weighting (es ++ element ∷ []) self.new) }
+    {
+        let [primary, secondary, tertiary, quaternary] = weights_of(
+            weighting,
+            self.after_variable,
+            element,
+        );
+        push_weight(&mut self.key, primary)?;
+        push_weight(&mut self.secondary, secondary)?;
+        push_weight(&mut self.tertiary, tertiary)?;
+        push_weight(&mut self.quaternary, quaternary)?;
+        self.after_variable = is_after_variable(self.after_variable, element);
+        Ok(())
+    }
+
+    /// Puts the other levels of the weighting after the first.
+    pub(crate) fn join(&mut self, weighting: Weighting) -> Result<(), AllocError>
+        ensures { (es : List Element) → HoldsLevels weighting es self.old →
+            OnOk result (self.new.key ≡ key_bytes weighting es) }
+    {
+        push_level(&mut self.key, &self.secondary)?;
+        push_level(&mut self.key, &self.tertiary)?;
+        match weighting {
+            Weighting::NonIgnorable => Ok(()),
+            Weighting::Shifted => push_level(&mut self.key, &self.quaternary),
+        }
+    }
+
+    /// The first level, and the key once the levels are joined.
+    pub(crate) fn key(&self) -> &[u8]
+        ensures { result.now ≡ self.now.key }
+    {
+        self.key.as_slice()
+    }
+
+    /// The same, for the caller to keep.
+    pub(crate) fn into_key(self) -> Vec<u8, A>
+        ensures { result.items ≡ self.key }
+    {
+        let LevelBuffers { key, .. } = self;
+        key
+    }
+}
+
+// Adds a weight to its level, where 0 says that there is none.
+fn push_weight<A: Allocator>(level: &mut Vec<u8, A>, weight: u16) -> Result<(), AllocError>
+    ensures { OnOk result (level.new.items ≡ level.old.items ++ (if weight == 0 then [] else weight_bytes weight)) }
+{
+    if weight == 0 {
+        return Ok(());
+    }
+    level.extend_from_slice(&weight.to_be_bytes())
+}
+
+// Adds a level to a key, after two bytes 0.
+fn push_level<A: Allocator>(key: &mut Vec<u8, A>, level: &Vec<u8, A>) -> Result<(), AllocError>
+    ensures { OnOk result (key.new.items ≡ key.old.items ++ (0 ∷ 0 ∷ level.now.items)) }
+{
+    key.extend_from_slice(&[0, 0])?;
+    key.extend_from_slice(level.as_slice())
+}
