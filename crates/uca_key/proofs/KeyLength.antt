@@ -15,6 +15,7 @@ use Rattle.std.specs.Iterator.Runs.{Run, WholeRun}
 use Rattle.std.proofs.iter.runs.Made.{took}
 use Rattle.uca_match.specs.Rows.{Rows, rows_of, same_key}
 use Rattle.uca_match.specs.Reading.{others, marks_at_front, after_marks, removed, longest_key, Portion, portion_at, portion, read_within, collation_elements}
+use Rattle.uca_match.specs.Collations.{Collation, elements_of}
 use Rattle.uca_key.specs.Levels.{Weights, weight_at, level_list, level_lists_from, weighted, level_bytes, levels_bytes, weighted_behind, key_bytes}
 use Rattle.uca_key.specs.Lengths.{HasShortRows}
 use Rattle.uca_key.specs.Laws.{KeysAreShort, RowsAreShort}
@@ -137,23 +138,27 @@ length-read_within implicit rows (suc n) (c ∷ t) few short =
     let p : IsShortPortion first (length t) = short_portion implicit rows c t (longest_key rows (c ∷ t) (length (c ∷ t))) few short in
     omega (arith, p.few, p.rest, length-append first.elements (read_within implicit rows n first.rest), length-read_within implicit rows n first.rest few short)
 
-pub length-elements : (rows : Rows) (ranges : List ImplicitRange) (properties : Properties) (t : Text) → HasShortRows rows → length (collation_elements rows ranges properties t) ≤ 32 * length t
-length-elements rows ranges properties t short = length-read_within (implicit ranges properties) rows (length t) t (few_implicit ranges properties) short
+-- of the texts that a collation reads
+pub length-elements : (c : Collation) (t : Text) → HasShortRows c.rows → length (collation_elements c.rows c.ranges c.properties t) ≤ 32 * length t
+length-elements c t short = length-read_within (implicit c.ranges c.properties) c.rows (length t) t (few_implicit c.ranges c.properties) short
 
+-- a text has a letter for each code point that has a class
 pub length-letters : (points classes : List ℕ) → length (letters points classes) ≤ length points
 length-letters [] classes = omega arith
 length-letters (c ∷ points) [] = omega arith
 length-letters (c ∷ points) (k ∷ classes) = omega (arith, length-letters points classes)
 
 -- the key of a text within the limits
-pub key_is_short : (rows : Rows) (ranges : List ImplicitRange) (properties : Properties) (weighting : Weighting) (points classes : List ℕ) → HasShortRows rows → length points ≤ 1048576 → length (key_bytes weighting (collation_elements rows ranges properties (letters points classes))) < 2 ^ 40
-key_is_short rows ranges properties weighting points classes short few =
-    let t = letters points classes in
-    let es = collation_elements rows ranges properties t in
-    omega (arith, length-key weighting es, length-elements rows ranges properties t short, length-letters points classes, few)
-
 pub keys_short : KeysAreShort
-keys_short rows ranges properties weighting text short accepted = key_is_short rows ranges properties weighting text.points text.classes short accepted.few
+keys_short c weighting text short accepted =
+    let t = letters_of text in
+    omega (
+      arith,
+      length-key weighting (elements_of c text),
+      length-elements c t short,
+      length-letters text.points text.classes,
+      accepted.few,
+    )
 
 -- of an iterator that shows its items a whole run gives them all
 pub shown : {X : Type 0} (s : List X) (xs : List X) (t u : List X) → Yields (YieldsFirst (λ (rest : List X). rest)) s xs t → YieldsFirst (λ (rest : List X). rest) t None u → xs ≡ s
@@ -167,14 +172,13 @@ whole_is s p from whole =
     shown p.from p.items t u ran ended ∙ from
 
 -- so a key that was written of a text is short
-pub written_short : {U E : Type 0} (r : Result U E) (key : List ℕ) (weighting : Weighting) (rows : Rows) (ranges : List ImplicitRange) (properties : Properties) (text : Spelled) (es : List Element)
-    → es ≡ collation_elements rows ranges properties (letters_of text)
-    → OnOk r (WholeRun (YieldsFirst (λ (rest : List Element). rest)) es (λ p. key ≡ key_bytes weighting p.items))
-    → HasShortRows rows → IsAccepted text → OnOk r (length key < 2 ^ 40)
-written_short (Ok v) key weighting rows ranges properties text es are (p, from, whole, is) short accepted =
-    let e : key ≡ key_bytes weighting (collation_elements rows ranges properties (letters_of text)) = is ∙ ap (key_bytes weighting) (whole_is es p from whole ∙ are) in
-    subst (λ (l : List ℕ). length l < 2 ^ 40) (sym e) (keys_short rows ranges properties weighting text short accepted)
-written_short (Err e) key weighting rows ranges properties text es are whole short accepted = tt
+pub written_short : {U E : Type 0} (r : Result U E) (key : List ℕ) (weighting : Weighting) (c : Collation) (text : Spelled) (es : List Element)
+    → es ≡ elements_of c text → OnOk r (WholeRun (YieldsFirst (λ (rest : List Element). rest)) es (λ p. key ≡ key_bytes weighting p.items))
+    → HasShortRows c.rows → IsAccepted text → OnOk r (length key < 2 ^ 40)
+written_short (Ok v) key weighting c text es are (p, from, whole, is) short accepted =
+    let e : key ≡ key_bytes weighting (elements_of c text) = is ∙ ap (key_bytes weighting) (whole_is es p from whole ∙ are) in
+    subst (λ (l : List ℕ). length l < 2 ^ 40) (sym e) (keys_short c weighting text short accepted)
+written_short (Err e) key weighting c text es are whole short accepted = tt
 
 -- ---- Rows
 

@@ -227,8 +227,7 @@ pub stored_keys_compare : StoredKeysCompareAsElements
 stored_keys_compare weighting left right = (key_order weighting left right, stored_key_level weighting left right)
 
 pub stored_texts_compare : StoredKeysCompareAsTexts
-stored_texts_compare rows ranges properties weighting left right =
-    stored_keys_compare weighting (text_elements rows ranges properties left) (text_elements rows ranges properties right)
+stored_texts_compare c weighting left right = stored_keys_compare weighting (text_elements c left) (text_elements c right)
 
 -- ---- What `compare_keys` answers
 

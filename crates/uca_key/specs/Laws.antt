@@ -2,12 +2,11 @@
 use Rattle.std.specs.Prelude.{◌≡◌, ◌↔◌, ℕ, ◌<◌, ◌^◌, List, length}
 use Rattle.uca_weights.specs.declared.Element.{Element}
 use Rattle.uca_weights.specs.declared.Weighting.{Weighting}
-use Rattle.uca_values.specs.declared.ImplicitRange.{ImplicitRange}
-use Rattle.uca_values.specs.Content.{Properties, Entry, AreRows}
-use Rattle.uca_text.specs.Texts.{Spelled, AreCanonicallyEquivalent, spelled, letters_of}
+use Rattle.uca_values.specs.Content.{Entry, AreRows}
+use Rattle.uca_text.specs.Texts.{Spelled, AreCanonicallyEquivalent, spelled}
 use Rattle.uca_text.specs.Limits.{IsAccepted}
 use Rattle.uca_match.specs.Rows.{Rows, rows_of}
-use Rattle.uca_match.specs.Reading.{collation_elements}
+use Rattle.uca_match.specs.Collations.{Collation, elements_of}
 use Rattle.uca_key.specs.Levels.{level_count, dictionary, compared, key_bytes}
 use Rattle.uca_key.specs.StoredKeys.{stored_level}
 use Rattle.uca_key.specs.Lengths.{HasShortRows}
@@ -19,12 +18,12 @@ KeysCompareAsElements = (weighting : Weighting) (left right : List Element) →
     × ((key_bytes weighting left ≡ key_bytes weighting right) ↔ ((compared weighting left right).level ≡ 0))
 
 -- the collation elements of a text, given as its code points before normalization
-abbrev pub text_elements : Rows → List ImplicitRange → Properties → List ℕ → List Element
-text_elements rows ranges properties points = collation_elements rows ranges properties (letters_of (spelled properties points))
+abbrev pub text_elements : Collation → List ℕ → List Element
+text_elements c points = elements_of c (spelled c.properties points)
 
 -- its key
-abbrev pub text_key : Rows → List ImplicitRange → Properties → Weighting → List ℕ → List ℕ
-text_key rows ranges properties weighting points = key_bytes weighting (text_elements rows ranges properties points)
+abbrev pub text_key : Collation → Weighting → List ℕ → List ℕ
+text_key c weighting points = key_bytes weighting (text_elements c points)
 
 -- Two stored keys give the order of their elements and the level at which they differ, by their bytes alone.
 abbrev pub StoredKeysCompareAsElements : Type 0
@@ -34,22 +33,23 @@ StoredKeysCompareAsElements = (weighting : Weighting) (left right : List Element
 
 -- So do the stored keys of two texts, given as their code points before normalization.
 abbrev pub StoredKeysCompareAsTexts : Type 0
-StoredKeysCompareAsTexts = (rows : Rows) (ranges : List ImplicitRange) (properties : Properties) (weighting : Weighting) (left right : List ℕ) →
-    let left_key = text_key rows ranges properties weighting left in
-    let right_key = text_key rows ranges properties weighting right in
-    let answer = compared weighting (text_elements rows ranges properties left) (text_elements rows ranges properties right) in
+StoredKeysCompareAsTexts = (c : Collation) (weighting : Weighting) (left right : List ℕ) →
+    let left_key = text_key c weighting left in
+    let right_key = text_key c weighting right in
+    let answer = compared weighting (text_elements c left) (text_elements c right) in
     (dictionary left_key right_key ≡ answer.order) × (stored_level (level_count weighting) left_key right_key ≡ answer.level)
 
 -- Canonically equivalent texts have one key.
 abbrev pub CanonicallyEquivalentTextsHaveEqualKeys : Type 0
-CanonicallyEquivalentTextsHaveEqualKeys = (rows : Rows) (ranges : List ImplicitRange) (properties : Properties) (weighting : Weighting) (left right : List ℕ) →
-    AreCanonicallyEquivalent left right → text_key rows ranges properties weighting left ≡ text_key rows ranges properties weighting right
+CanonicallyEquivalentTextsHaveEqualKeys = (c : Collation) (weighting : Weighting) (left right : List ℕ) →
+    AreCanonicallyEquivalent left right → text_key c weighting left ≡ text_key c weighting right
 
 -- The key of every accepted text is short, under rows as those of a table.
 abbrev pub KeysAreShort : Type 0
-KeysAreShort = (rows : Rows) (ranges : List ImplicitRange) (properties : Properties) (weighting : Weighting) (text : Spelled) →
-    HasShortRows rows → IsAccepted text → length (key_bytes weighting (collation_elements rows ranges properties (letters_of text))) < 2 ^ 40
+KeysAreShort = (c : Collation) (weighting : Weighting) (text : Spelled) →
+    HasShortRows c.rows → IsAccepted text → length (key_bytes weighting (elements_of c text)) < 2 ^ 40
 
 -- The rows of a table are short, under any lookup that finds them.
 abbrev pub RowsAreShort : Type 0
-RowsAreShort = (entries : List Entry) (rows : Rows) → AreRows entries → ((key : List ℕ) → rows key ≡ rows_of entries key) → HasShortRows rows
+RowsAreShort = (entries : List Entry) (rows : Rows) →
+    AreRows entries → ((key : List ℕ) → rows key ≡ rows_of entries key) → HasShortRows rows

@@ -3,10 +3,7 @@
 ghost use Rattle.std.specs.Prelude.{◌≡◌, [], ◌<◌, ◌^◌, length, OnOk};
 ghost use Rattle.std.specs.Iterator.{IsFinite};
 ghost use Rattle.std.specs.Iterator.Runs.{WholeRun};
-ghost use Rattle.uca_values.specs.Content.{properties_of};
-ghost use Rattle.uca_text.specs.Texts.{letters_of};
-ghost use Rattle.uca_text.specs.Limits.{IsAccepted};
-ghost use Rattle.uca_match.specs.Reading.{collation_elements};
+ghost use Rattle.uca_match.specs.Collations.{collation_of, elements_of};
 ghost use Rattle.uca_key.specs.Levels.{key_bytes};
 ghost use Rattle.uca_key.specs.Lengths.{HasShortRows};
 
@@ -74,12 +71,13 @@ impl<A: Allocator> KeyBuffer<A> {
         text: &Normal,
     ) -> Result<(), AllocError>
         ensures key { OnOk result (self.new.key ≡ key_bytes self.old.weighting
-            (collation_elements (L.content collator.now.lookup.now) collator.now.header.now.ranges
-            (properties_of collator.now.data.now) (letters_of text.now))) }
-        ensures short { HasShortRows (L.content collator.now.lookup.now) → IsAccepted text.now →
+            (elements_of (collation_of L.content collator.now) text.now)) }
+        ensures short { HasShortRows (collation_of L.content collator.now).rows →
             OnOk result (length self.new.key < 2 ^ 40) }
         ensures weighting { self.new.weighting ≡ self.old.weighting }
     {
+        // The text keeps the limits of `Normal`, so its key is short.
+        let _ = text.chars();
         self.write(collator.elements(text))
     }
 

@@ -3,47 +3,27 @@
 ghost use Rattle.std.specs.Prelude.{◌≡◌, ◌<◌, ◌^◌, length, IfOk};
 ghost use Rattle.std.specs.Iterator.{IsFinite};
 ghost use Rattle.std.specs.Iterator.Runs.{WholeRun};
-ghost use Rattle.uca_values.specs.Content.{properties_of};
-ghost use Rattle.uca_text.specs.Texts.{letters_of};
-ghost use Rattle.uca_text.specs.Limits.{IsAccepted};
-ghost use Rattle.uca_match.specs.Reading.{collation_elements};
+ghost use Rattle.uca_match.specs.Collations.{collation_of, elements_of};
 ghost use Rattle.uca_key.specs.Levels.{key_bytes};
 ghost use Rattle.uca_key.specs.Lengths.{HasShortRows};
 
 use crate::KeyBuffer;
-use std::alloc::{AllocError, Allocator, Global};
+use std::alloc::{AllocError, Allocator};
 use uca_match::{Collator, Lookup};
 use uca_text::Normal;
 use uca_weights::{Element, Weighting};
 
-/// The sort key of a text (UTS #10, section 7.3): that of its collation elements, by [`key_of`]. The error
-/// says that no memory was left.
-pub fn key<L: Lookup, A: Allocator>(
-    alloc: Global,
-    collator: &Collator<L, A>,
-    weighting: Weighting,
-    text: &Normal,
-) -> Result<Vec<u8>, AllocError>
-    ensures found { IfOk result (λ key. key.items ≡ key_bytes weighting
-        (collation_elements (L.content collator.now.lookup.now) collator.now.header.now.ranges
-        (properties_of collator.now.data.now) (letters_of text.now))) }
-    ensures short { HasShortRows (L.content collator.now.lookup.now) → IsAccepted text.now →
-        IfOk result (λ key. length key.items < 2 ^ 40) }
-{
-    key_in(alloc, collator, weighting, text)
-}
-
-/// The same in memory of any allocator.
-pub fn key_in<K: Allocator + Copy, L: Lookup, A: Allocator>(
+/// The sort key of a text (UTS #10, section 7.3): that of its collation elements, by [`key_of`], in memory of
+/// `alloc`. The error says that no memory was left.
+pub fn key<K: Allocator + Copy, L: Lookup, A: Allocator>(
     alloc: K,
     collator: &Collator<L, A>,
     weighting: Weighting,
     text: &Normal,
 ) -> Result<Vec<u8, K>, AllocError>
     ensures found { IfOk result (λ key. key.items ≡ key_bytes weighting
-        (collation_elements (L.content collator.now.lookup.now) collator.now.header.now.ranges
-        (properties_of collator.now.data.now) (letters_of text.now))) }
-    ensures short { HasShortRows (L.content collator.now.lookup.now) → IsAccepted text.now →
+        (elements_of (collation_of L.content collator.now) text.now)) }
+    ensures short { HasShortRows (collation_of L.content collator.now).rows →
         IfOk result (λ key. length key.items < 2 ^ 40) }
 {
     let mut buffer = KeyBuffer::new(alloc, weighting);

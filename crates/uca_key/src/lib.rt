@@ -12,6 +12,6 @@ mod tests;
 pub mod weighting;
 
 pub use buffers::KeyBuffer;
-pub use keys::{key, key_in, key_of};
+pub use keys::{key, key_of};
 pub use stored::{compare_keys, level_count};
 pub use weighting::{is_after_variable, weights_of};
