@@ -1,5 +1,6 @@
 -- What one more element adds to the levels of a key in the making, and what the levels make when they are joined.
-use Rattle.std.proofs.Common.{Option, None, Result, Ok, Err, OnOk, ◌≡◌, ℕ, List, [], ◌∷◌, ◌++◌, Bool, true, false, cond, not, nat_eq, filter, map, refl, sym, ap, ◌∙◌, subst, get_or}
+use Rattle.std.proofs.Common.{Option, None, Result, Ok, Err, OnOk, ◌≡◌, ℕ, List, [], ◌∷◌, ◌++◌, Bool, true, false}
+use Rattle.std.proofs.Common.{cond, not, nat_eq, filter, map, refl, sym, ap, ◌∙◌, subst, get_or}
 use Rattle.std.specs.Prelude.{reverse, if◌then◌else◌}
 use Rattle.std.proofs.lemmas.List.{reverse-append, map-append}
 use Rattle.std.proofs.lemmas.List.Elements.{filter-append}
@@ -10,7 +11,8 @@ use Rattle.std.specs.Iterator.Runs.{WholeRun}
 use Rattle.std.proofs.iter.runs.Made.{run, to_end}
 use Rattle.uca_weights.specs.declared.Element.{Element}
 use Rattle.uca_weights.specs.declared.Weighting.{Weighting}
-use Rattle.uca_key.specs.Levels.{weight_at, level_list, weighted, weight_bytes, level_bytes, weighted_behind, weights_of, follows_variable, key_bytes}
+use Rattle.uca_key.specs.Levels.{weight_at, level_list, weighted, weight_bytes, level_bytes, weighted_behind}
+use Rattle.uca_key.specs.Levels.{weights_of, follows_variable, key_bytes}
 use Rattle.uca_key.specs.StreamedWeights.{at_four_levels, is_after_variable}
 use Rattle.uca_key.specs.LevelBuffers.{LevelState, HoldsLevels, bytes_of_level}
 
@@ -22,7 +24,8 @@ added w = if nat_eq w 0 then [] else weight_bytes w
 
 -- the weights of one more element come last
 pub weighted_behind-push : (weighting : Weighting) (earlier es : List Element) (e : Element)
-    → weighted_behind weighting earlier (es ++ e ∷ []) ≡ weighted_behind weighting earlier es ++ weights_of weighting (follows_variable (reverse_aux es earlier)) e ∷ []
+    → weighted_behind weighting earlier (es ++ e ∷ [])
+    ≡ weighted_behind weighting earlier es ++ weights_of weighting (follows_variable (reverse_aux es earlier)) e ∷ []
 weighted_behind-push weighting earlier [] e = refl
 weighted_behind-push weighting earlier (d ∷ es) e =
     ap (λ l. weights_of weighting (follows_variable earlier) d ∷ l) (weighted_behind-push weighting (d ∷ earlier) es e)
@@ -79,7 +82,8 @@ pushed weighting inside old new es e ws same holds weighs after primary secondar
 -- ---- The whole key
 
 -- a key of the items that a loop took up to the end is the key of a whole run
-pub written : {S U E : Type 0} (steps : S → Option Element → S → Type 0) (s start t u : S) (es : List Element) (r : Result U E) (key : List ℕ) (weighting same : Weighting)
+pub written : {S U E : Type 0} (steps : S → Option Element → S → Type 0) (s start t u : S)
+    (es : List Element) (r : Result U E) (key : List ℕ) (weighting same : Weighting)
     → start ≡ s → Yields steps start es t → steps t None u → weighting ≡ same → OnOk r (key ≡ key_bytes weighting es)
     → OnOk r (WholeRun steps s (λ p. key ≡ key_bytes same p.items))
 written {S} steps s start t u es (Ok v) key weighting same begins ran ends under is =

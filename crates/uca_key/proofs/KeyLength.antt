@@ -1,5 +1,7 @@
 -- How long a key may be.
-use Rattle.std.proofs.Common.{sym, subst, ◌∙◌, Result, Ok, Err, OnOk, ◌≡◌, ℕ, zero, suc, ◌+◌, ◌*◌, ◌<◌, ◌≤◌, ◌^◌, List, [], ◌∷◌, ◌++◌, Bool, true, false, cond, not, nat_eq, Option, Some, None, filter, map, length, take, drop, refl, ap, arith, length-append, length-drop}
+use Rattle.std.proofs.Common.{sym, subst, ◌∙◌, Result, Ok, Err, OnOk, ◌≡◌, ℕ, zero, suc, ◌+◌, ◌*◌, ◌<◌, ◌≤◌, ◌^◌, List}
+use Rattle.std.proofs.Common.{[], ◌∷◌, ◌++◌, Bool, true, false, cond, not, nat_eq, Option, Some, None, filter, map}
+use Rattle.std.proofs.Common.{length, take, drop, refl, ap, arith, length-append, length-drop}
 use Rattle.std.specs.Prelude.{unwrap_or}
 use Rattle.std.proofs.lemmas.List.{length-map}
 use Rattle.uca_weights.specs.declared.Element.{Element}
@@ -14,15 +16,18 @@ use Rattle.std.specs.Iterator.{Yields, YieldsFirst}
 use Rattle.std.specs.Iterator.Runs.{Run, WholeRun}
 use Rattle.std.proofs.iter.runs.Made.{took}
 use Rattle.uca_match.specs.Rows.{Rows, rows_of, same_key}
-use Rattle.uca_match.specs.Reading.{others, marks_at_front, after_marks, removed, longest_key, Portion, portion_at, portion, read_within, collation_elements}
+use Rattle.uca_match.specs.Reading.{others, marks_at_front, after_marks, removed, longest_key, Portion, portion_at}
+use Rattle.uca_match.specs.Reading.{portion, read_within, collation_elements}
 use Rattle.uca_match.specs.Collations.{Collation, elements_of}
-use Rattle.uca_key.specs.Levels.{Weights, weight_at, level_list, level_lists_from, weighted, level_bytes, levels_bytes, weighted_behind, key_bytes}
+use Rattle.uca_key.specs.Levels.{Weights, weight_at, level_list, level_lists_from, weighted, level_bytes, levels_bytes}
+use Rattle.uca_key.specs.Levels.{weighted_behind, key_bytes}
 use Rattle.uca_key.specs.Lengths.{HasShortRows}
 use Rattle.uca_key.specs.Laws.{KeysAreShort, RowsAreShort}
 use Rattle.std.specs.List.{AllByRecursion}
 
 -- ---- Of elements
 
+-- a filter keeps at most what there is
 pub length-filter : (p : ℕ → Bool) (ws : List ℕ) → length (filter p ws) ≤ length ws
 length-filter p [] = omega arith
 length-filter p (w ∷ ws) = step (p w) (length-filter p ws)
@@ -31,6 +36,7 @@ length-filter p (w ∷ ws) = step (p w) (length-filter p ws)
     step true h = omega (arith, h)
     step false h = omega (arith, h)
 
+-- two bytes for each weight
 pub length-level_bytes : (ws : List ℕ) → length (level_bytes ws) ≡ 2 * length ws
 length-level_bytes [] = refl
 length-level_bytes (w ∷ ws) = omega (arith, length-level_bytes ws)
@@ -48,6 +54,7 @@ length-level n ws =
     let c = length-map ws (weight_at n) in
     omega (arith, a, b, c)
 
+-- three levels and two separators
 pub length-three : (ws : List Weights) → length (levels_bytes (level_lists_from 1 3 ws)) ≤ 6 * length ws + 4
 length-three ws =
     let one = level_bytes (level_list 1 ws) in
@@ -62,6 +69,7 @@ length-three ws =
       length-append two (0 ∷ 0 ∷ three),
     )
 
+-- four levels and three separators
 pub length-four : (ws : List Weights) → length (levels_bytes (level_lists_from 1 4 ws)) ≤ 8 * length ws + 6
 length-four ws =
     let one = level_bytes (level_list 1 ws) in
@@ -79,23 +87,27 @@ length-four ws =
       length-append three (0 ∷ 0 ∷ four),
     )
 
+-- the key of some elements has at most eight bytes for each, and three separators
 pub length-key : (weighting : Weighting) (es : List Element) → length (key_bytes weighting es) ≤ 8 * length es + 6
 length-key NonIgnorable es = omega (arith, length-three (weighted NonIgnorable es), length-weighted NonIgnorable [] es)
 length-key Shifted es = omega (arith, length-four (weighted Shifted es), length-weighted Shifted [] es)
 
 -- ---- Of texts
 
+-- what is left at some places is no longer than the whole
 pub length-others : (set : List Bool) (t : Text) → length (others set t) ≤ length t
 length-others [] t = omega arith
 length-others (b ∷ set) [] = omega arith
 length-others (true ∷ set) (c ∷ t) = omega (arith, length-others set t)
 length-others (false ∷ set) (c ∷ t) = omega (arith, length-others set t)
 
+-- the marks and what follows them are the whole
 pub length-marks : (t : Text) → length (marks_at_front t) + length (after_marks t) ≡ length t
 length-marks [] = refl
 length-marks (c ∷ t) = step (is_starter c) (length-marks t)
   where
-    step : (b : Bool) → length (marks_at_front t) + length (after_marks t) ≡ length t → length (cond b [] (c ∷ marks_at_front t)) + length (cond b (c ∷ t) (after_marks t)) ≡ suc (length t)
+    step : (b : Bool) → length (marks_at_front t) + length (after_marks t) ≡ length t
+        → length (cond b [] (c ∷ marks_at_front t)) + length (cond b (c ∷ t) (after_marks t)) ≡ suc (length t)
     step true h = omega arith
     step false h = omega (arith, h)
 
@@ -104,6 +116,7 @@ pub few_in_row : (rows : Rows) (key : List ℕ) (o : Option (List Element)) → 
 few_in_row rows key None short is = omega arith
 few_in_row rows key (Some row) short is = short key row is
 
+-- implicit weights are at most 32 elements
 pub few_implicit : (ranges : List ImplicitRange) (properties : Properties) (point : ℕ) → length (implicit ranges properties point) ≤ 32
 few_implicit ranges properties point = by_lead (lead_of ranges point)
   where
@@ -116,27 +129,34 @@ few_implicit ranges properties point = by_lead (lead_of ranges point)
     by_lead (Some lead) = omega arith
     by_lead None = block (properties.is_core point) (properties.is_other point) _ _ _ (omega arith) (omega arith) (omega arith)
 
+-- a portion of at most 32 elements, after which at most n letters are left
 pub record IsShortPortion (p : Portion) (n : ℕ) : Type 0 where
   pub few : length p.elements ≤ 32
   pub rest : length p.rest ≤ n
 
-pub short_portion : (implicit : ℕ → List Element) (rows : Rows) (c : Letter) (t : Text) (n : ℕ) → ((point : ℕ) → length (implicit point) ≤ 32) → HasShortRows rows → IsShortPortion (portion_at implicit rows c t n) (length t)
+-- each portion is such a one
+pub short_portion : (implicit : ℕ → List Element) (rows : Rows) (c : Letter) (t : Text) (n : ℕ)
+    → ((point : ℕ) → length (implicit point) ≤ 32) → HasShortRows rows → IsShortPortion (portion_at implicit rows c t n) (length t)
 short_portion implicit rows c t zero few short = record { few = few c.code; rest = omega arith }
 short_portion implicit rows c t (suc n) few short =
     let rest = drop n t in
     let marks = marks_at_front rest in
+    let set = removed rows (take (suc n) (c ∷ t)) [] marks in
     record {
       few = few_in_row rows _ _ short refl;
-      rest = omega (arith, length-append (others (removed rows (take (suc n) (c ∷ t)) [] marks) marks) (after_marks rest), length-others (removed rows (take (suc n) (c ∷ t)) [] marks) marks, length-marks rest, length-drop n t);
+      rest = omega (arith, length-append (others set marks) (after_marks rest), length-others set marks, length-marks rest, length-drop n t);
     }
 
-pub length-read_within : (implicit : ℕ → List Element) (rows : Rows) (n : ℕ) (t : Text) → ((point : ℕ) → length (implicit point) ≤ 32) → HasShortRows rows → length (read_within implicit rows n t) ≤ 32 * length t
+-- so a text has at most 32 elements for each letter
+pub length-read_within : (implicit : ℕ → List Element) (rows : Rows) (n : ℕ) (t : Text)
+    → ((point : ℕ) → length (implicit point) ≤ 32) → HasShortRows rows → length (read_within implicit rows n t) ≤ 32 * length t
 length-read_within implicit rows zero t few short = omega arith
 length-read_within implicit rows (suc n) [] few short = omega arith
 length-read_within implicit rows (suc n) (c ∷ t) few short =
     let first = portion implicit rows c t in
     let p : IsShortPortion first (length t) = short_portion implicit rows c t (longest_key rows (c ∷ t) (length (c ∷ t))) few short in
-    omega (arith, p.few, p.rest, length-append first.elements (read_within implicit rows n first.rest), length-read_within implicit rows n first.rest few short)
+    let later = read_within implicit rows n first.rest in
+    omega (arith, p.few, p.rest, length-append first.elements later, length-read_within implicit rows n first.rest few short)
 
 -- of the texts that a collation reads
 pub length-elements : (c : Collation) (t : Text) → HasShortRows c.rows → length (collation_elements c.rows c.ranges c.properties t) ≤ 32 * length t
@@ -161,10 +181,12 @@ keys_short c weighting text short accepted =
     )
 
 -- of an iterator that shows its items a whole run gives them all
-pub shown : {X : Type 0} (s : List X) (xs : List X) (t u : List X) → Yields (YieldsFirst (λ (rest : List X). rest)) s xs t → YieldsFirst (λ (rest : List X). rest) t None u → xs ≡ s
+pub shown : {X : Type 0} (s : List X) (xs : List X) (t u : List X)
+    → Yields (YieldsFirst (λ (rest : List X). rest)) s xs t → YieldsFirst (λ (rest : List X). rest) t None u → xs ≡ s
 shown s [] t u ran ends = sym (ran ∙ ends.0)
 shown s (x ∷ xs) t u (j, step, ran) ends = ap (λ l. x ∷ l) (shown j xs t u ran ends) ∙ sym step
 
+-- so a whole run has all items
 pub whole_is : {X : Type 0} (s : List X) (p : Run (YieldsFirst (λ (rest : List X). rest))) → p.from ≡ s → p.whole ≡ true → p.items ≡ s
 whole_is s p from whole =
     let (t, ran, ends) = took p in
@@ -182,6 +204,7 @@ written_short (Err e) key weighting c text es are whole short accepted = tt
 
 -- ---- Rows
 
+-- the row that a list of rows gives is one of them
 pub short_of : (entries : List Entry) (key : List ℕ) (row : List Element) → AllByRecursion IsEntry entries → rows_of entries key ≡ Some row → length row ≤ 32
 short_of [] key row all found = cc
 short_of (r ∷ entries) key row (first, all) found = at (same_key r.key key) (short_of entries key row all) found
@@ -190,5 +213,6 @@ short_of (r ∷ entries) key row (first, all) found = at (same_key r.key key) (s
     at true later e = let same : r.elements ≡ row = cc in subst (λ (l : List Element). length l ≤ 32) same first.few_elements
     at false later e = later e
 
+-- so the rows of a table are short
 pub rows_short : RowsAreShort
 rows_short entries rows are same key row found = short_of entries key row are.entries (sym (same key) ∙ found)

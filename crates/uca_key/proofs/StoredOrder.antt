@@ -1,5 +1,6 @@
 -- Stored keys compare as the elements that they are of.
-use Rattle.std.proofs.Common.{◌≡◌, ◌≢◌, ℕ, suc, ◌+◌, ◌/◌, ◌%◌, ◌<◌, ◌≤◌, List, [], ◌∷◌, ◌++◌, length, Bool, true, false, cond, nat_eq, refl, sym, ap, ◌∙◌, arith, eq-eqb, min, count_by, bytes_eq}
+use Rattle.std.proofs.Common.{◌≡◌, ◌≢◌, ℕ, suc, ◌+◌, ◌/◌, ◌%◌, ◌<◌, ◌≤◌, List, [], ◌∷◌, ◌++◌, length, Bool, true}
+use Rattle.std.proofs.Common.{false, cond, nat_eq, refl, sym, ap, ◌∙◌, arith, eq-eqb, min, count_by, bytes_eq}
 use Rattle.std.specs.declared.cmp.Ordering.{Ordering}
 use Rattle.std.specs.declared.cmp.Ordering.TheVariants.{Less, Equal, Greater}
 use Rattle.std.proofs.lemmas.Bool.{eqb-true, ne_eqb}
@@ -8,16 +9,20 @@ use Rattle.std.proofs.lemmas.Slice.Eq.{bytes_eq-Decides}
 use Rattle.uca_weights.specs.declared.Element.{Element}
 use Rattle.uca_weights.specs.declared.Weighting.{Weighting}
 use Rattle.uca_weights.specs.declared.Weighting.TheVariants.{NonIgnorable, Shifted}
-use Rattle.uca_key.specs.Levels.{Comparison, level_lists, level_count, weighted, dictionary, decided, compare_from, compared, weight_bytes, level_bytes, levels_bytes, key_bytes}
+use Rattle.uca_key.specs.Levels.{Comparison, level_lists, level_count, weighted, dictionary, decided, compare_from}
+use Rattle.uca_key.specs.Levels.{compared, weight_bytes, level_bytes, levels_bytes, key_bytes}
 use Rattle.uca_key.specs.StoredKeys.{groups, shared_groups, shared_separators, stored_level}
 use Rattle.uca_key.specs.Laws.{StoredKeysCompareAsElements, StoredKeysCompareAsTexts, text_elements}
-use Rattle.uca_key.proofs.KeyOrder.{AreNonZero, AreLevels, AreLevels-from, joined, levels_bytes-joined, key_order, key_same, same_from_dictionary, dictionary_itself}
+use Rattle.uca_key.proofs.KeyOrder.{AreNonZero, AreLevels, AreLevels-from, joined, levels_bytes-joined, key_order}
+use Rattle.uca_key.proofs.KeyOrder.{key_same, same_from_dictionary, dictionary_itself}
 
 -- ---- Groups that both sides begin with
 
+-- the test of equal lists is true
 pub same_bytes : (xs ys : List ℕ) → xs ≡ ys → bytes_eq xs ys ≡ true
 same_bytes xs ys same = (bytes_eq-Decides xs ys).1 same
 
+-- and that of others is false
 pub other_bytes : (xs ys : List ℕ) → (xs ≡ ys → ⊥) → bytes_eq xs ys ≡ false
 other_bytes xs ys other = at (bytes_eq xs ys) refl
   where
@@ -29,18 +34,22 @@ other_bytes xs ys other = at (bytes_eq xs ys) refl
 pub shared_same : (a b : List ℕ) (left right : List (List ℕ)) → bytes_eq a b ≡ true → shared_groups (a ∷ left) (b ∷ right) ≡ a ∷ shared_groups left right
 shared_same a b left right same = rw same
 
+-- none where these groups differ
 pub shared_other : (a b : List ℕ) (left right : List (List ℕ)) → bytes_eq a b ≡ false → shared_groups (a ∷ left) (b ∷ right) ≡ []
 shared_other a b left right other = rw other
 
+-- whether a group stands between two levels
 abbrev pub is_separator : List ℕ → Bool
 is_separator = bytes_eq (0 ∷ 0 ∷ [])
 
 -- how many separators both have before the first group that differs, behind an equal group of each
-pub separators_same : (a b : ℕ) (left right : List ℕ) → shared_separators (a ∷ b ∷ left) (a ∷ b ∷ right) ≡ cond (is_separator (a ∷ b ∷ [])) 1 0 + shared_separators left right
+pub separators_same : (a b : ℕ) (left right : List ℕ)
+    → shared_separators (a ∷ b ∷ left) (a ∷ b ∷ right) ≡ cond (is_separator (a ∷ b ∷ [])) 1 0 + shared_separators left right
 separators_same a b left right =
     ap (count_by is_separator) (shared_same (a ∷ b ∷ []) (a ∷ b ∷ []) (groups left) (groups right) (same_bytes (a ∷ b ∷ []) (a ∷ b ∷ []) refl))
     ∙ sum_by-cons (λ group. cond (is_separator group) 1 0) (a ∷ b ∷ []) (shared_groups (groups left) (groups right))
 
+-- no separators, where the first groups differ
 pub separators_other : (a b c d : ℕ) (left right : List ℕ) → bytes_eq (a ∷ b ∷ []) (c ∷ d ∷ []) ≡ false → shared_separators (a ∷ b ∷ left) (c ∷ d ∷ right) ≡ 0
 separators_other a b c d left right other =
     ap (count_by is_separator) (shared_other (a ∷ b ∷ []) (c ∷ d ∷ []) (groups left) (groups right) other)
@@ -57,6 +66,7 @@ zeros_before (v ∷ vs) (w ∷ ws) = cond (nat_eq v w) (cond (nat_eq v 0) 1 0 + 
 pub same_weight : (v w : ℕ) → v / 256 ≡ w / 256 → v % 256 ≡ w % 256 → v ≡ w
 same_weight v w high low = omega arith
 
+-- so other weights have other bytes
 pub other_weight : (v w : ℕ) → (v ≡ w → ⊥) → weight_bytes v ≡ weight_bytes w → ⊥
 other_weight v w other same =
     let high : v / 256 ≡ w / 256 = cc in
@@ -71,7 +81,10 @@ separates v = at (nat_eq v 0) refl
     at true is = let e : v ≡ 0 = eqb-true v 0 is in ap (λ w. is_separator (weight_bytes w)) e ∙ sym is
     at false is = other_bytes (0 ∷ 0 ∷ []) (weight_bytes v) (other_weight 0 v (λ e. let t : nat_eq v 0 ≡ true = eq-eqb v 0 (sym e) in cc)) ∙ sym is
 
-separators_step : (v w : ℕ) (vs ws : List ℕ) (b : Bool) → nat_eq v w ≡ b → shared_separators (level_bytes vs) (level_bytes ws) ≡ zeros_before vs ws → shared_separators (level_bytes (v ∷ vs)) (level_bytes (w ∷ ws)) ≡ zeros_before (v ∷ vs) (w ∷ ws)
+-- with one more weight on both sides
+separators_step : (v w : ℕ) (vs ws : List ℕ) (b : Bool) → nat_eq v w ≡ b
+    → shared_separators (level_bytes vs) (level_bytes ws) ≡ zeros_before vs ws
+    → shared_separators (level_bytes (v ∷ vs)) (level_bytes (w ∷ ws)) ≡ zeros_before (v ∷ vs) (w ∷ ws)
 separators_step v w vs ws true is later =
     let same : v ≡ w = eqb-true v w is in
     ap (λ u. shared_separators (level_bytes (v ∷ vs)) (level_bytes (u ∷ ws))) (sym same)
@@ -82,6 +95,7 @@ separators_step v w vs ws false is later =
     (other_bytes (weight_bytes v) (weight_bytes w) (other_weight v w (λ e. let t : nat_eq v w ≡ true = eq-eqb v w e in cc)))
     ∙ rw is refl
 
+-- the separators are the weights 0
 pub separators_zeros : (vs ws : List ℕ) → shared_separators (level_bytes vs) (level_bytes ws) ≡ zeros_before vs ws
 separators_zeros [] ws = refl
 separators_zeros (v ∷ vs) [] = refl
@@ -130,7 +144,7 @@ zeros_same (v ∷ vs) xs ys a =
 pub unequal : (vs ws : List ℕ) → (vs ≡ ws → ⊥) → dictionary vs ws ≡ Equal → ⊥
 unequal vs ws other same = other (same_from_dictionary vs ws same)
 
--- what a level says of its own lists and of the levels behind it
+-- what a level says of its own lists and of the levels after it
 pub level_step : (o : Ordering) (n zeros rest : ℕ) (later : Comparison) → ((o ≡ Equal → ⊥) → zeros ≡ 0) → (o ≡ Equal → zeros ≡ suc rest)
     → ((later.order ≡ Equal → ⊥) → later.level ≡ suc n + rest) → ((decided o n later).order ≡ Equal → ⊥) → (decided o n later).level ≡ n + zeros
 level_step Less n zeros rest later apart same behind differ = let e : zeros ≡ 0 = apart differ in omega arith
@@ -144,11 +158,13 @@ level_step Greater n zeros rest later apart same behind differ = let e : zeros �
 abbrev pub zeros_joined : List (List ℕ) → List (List ℕ) → ℕ
 zeros_joined left right = zeros_before (joined left) (joined right)
 
+-- none where the first levels differ
 zeros_apart : (a b : List ℕ) (c d : List ℕ) (left right : List (List ℕ)) → AreNonZero a → AreNonZero b → (dictionary a b ≡ Equal → ⊥)
     → zeros_joined (a ∷ c ∷ left) (b ∷ d ∷ right) ≡ 0
 zeros_apart a b c d left right first second differ =
     zeros_other a b (joined (c ∷ left)) (joined (d ∷ right)) first second (λ same. differ (ap (dictionary a) (sym same) ∙ dictionary_itself a))
 
+-- and one more where they are the same
 zeros_behind : (a b : List ℕ) (c d : List ℕ) (left right : List (List ℕ)) → AreNonZero a → dictionary a b ≡ Equal
     → zeros_joined (a ∷ c ∷ left) (b ∷ d ∷ right) ≡ suc (zeros_joined (c ∷ left) (d ∷ right))
 zeros_behind a b c d left right first same =
@@ -167,16 +183,19 @@ level_zeros n (a ∷ []) (b ∷ []) h differ =
 level_zeros n (a ∷ []) (b ∷ d ∷ right) h differ = absurd h.2
 level_zeros n (a ∷ c ∷ left) (b ∷ []) h differ = absurd h.2
 level_zeros n (a ∷ c ∷ left) (b ∷ d ∷ right) h differ =
-    level_step (dictionary a b) n (zeros_joined (a ∷ c ∷ left) (b ∷ d ∷ right)) (zeros_joined (c ∷ left) (d ∷ right)) (compare_from (suc n) (c ∷ left) (d ∷ right))
+    level_step (dictionary a b) n (zeros_joined (a ∷ c ∷ left) (b ∷ d ∷ right)) (zeros_joined (c ∷ left) (d ∷ right))
+    (compare_from (suc n) (c ∷ left) (d ∷ right))
     (zeros_apart a b c d left right h.0 h.1) (zeros_behind a b c d left right h.0)
     (level_zeros (suc n) (c ∷ left) (d ∷ right) h.2) differ
 
 -- and there are fewer separators than levels
-fewer_step : (o : Ordering) (zeros rest levels : ℕ) → ((o ≡ Equal → ⊥) → zeros ≡ 0) → (o ≡ Equal → zeros ≡ suc rest) → suc rest ≤ levels → suc zeros ≤ suc levels
+fewer_step : (o : Ordering) (zeros rest levels : ℕ) → ((o ≡ Equal → ⊥) → zeros ≡ 0) → (o ≡ Equal → zeros ≡ suc rest)
+    → suc rest ≤ levels → suc zeros ≤ suc levels
 fewer_step Less zeros rest levels apart same few = let e : zeros ≡ 0 = apart (λ e. cc) in omega arith
 fewer_step Equal zeros rest levels apart same few = let e : zeros ≡ suc rest = same refl in omega arith
 fewer_step Greater zeros rest levels apart same few = let e : zeros ≡ 0 = apart (λ e. cc) in omega arith
 
+-- the same of lists of levels, of which there is one at least
 pub fewer_zeros : (a : List ℕ) (left right : List (List ℕ)) → AreLevels (a ∷ left) right → suc (zeros_joined (a ∷ left) right) ≤ length (a ∷ left)
 fewer_zeros a left [] h = absurd h
 fewer_zeros a [] (b ∷ []) h = let none : zeros_before a b ≡ 0 = zeros_none a b h.0 in omega arith
@@ -188,27 +207,35 @@ fewer_zeros a (c ∷ left) (b ∷ d ∷ right) h =
 
 -- ---- Stored keys
 
+-- the separators of two keys are the weights 0 of the joined lists
 separators_joined : (left right : List (List ℕ)) → shared_separators (levels_bytes left) (levels_bytes right) ≡ zeros_joined left right
 separators_joined left right =
     ap (λ bytes. shared_separators bytes (levels_bytes right)) (levels_bytes-joined left)
     ∙ ap (shared_separators (level_bytes (joined left))) (levels_bytes-joined right)
     ∙ separators_zeros (joined left) (joined right)
 
+-- fewer than the levels
 few_of : (left right : List (List ℕ)) → AreLevels left right → 0 < length left → suc (zeros_joined left right) ≤ length left
 few_of [] right h some = absurd (omega arith)
 few_of (a ∷ left) right h some = fewer_zeros a left right h
 
-pub few_separators : (weighting : Weighting) (left right : List Element) → suc (zeros_joined (level_lists weighting left) (level_lists weighting right)) ≤ level_count weighting
+-- so two keys share fewer separators than they have levels
+pub few_separators : (weighting : Weighting) (left right : List Element)
+    → suc (zeros_joined (level_lists weighting left) (level_lists weighting right)) ≤ level_count weighting
 few_separators NonIgnorable left right =
-    few_of (level_lists NonIgnorable left) (level_lists NonIgnorable right) (AreLevels-from 1 3 (weighted NonIgnorable left) (weighted NonIgnorable right)) (omega arith)
+    few_of (level_lists NonIgnorable left) (level_lists NonIgnorable right)
+    (AreLevels-from 1 3 (weighted NonIgnorable left) (weighted NonIgnorable right)) (omega arith)
 few_separators Shifted left right =
-    few_of (level_lists Shifted left) (level_lists Shifted right) (AreLevels-from 1 4 (weighted Shifted left) (weighted Shifted right)) (omega arith)
+    few_of (level_lists Shifted left) (level_lists Shifted right)
+    (AreLevels-from 1 4 (weighted Shifted left) (weighted Shifted right)) (omega arith)
 
+-- where that is the level
 stored_at : (same : Bool) (levels separators level : ℕ) → (same ≡ true → level ≡ 0) → (same ≡ false → level ≡ 1 + separators) → suc separators ≤ levels
     → cond same 0 (min levels (1 + separators)) ≡ level
 stored_at true levels separators level equal apart few = sym (equal refl)
 stored_at false levels separators level equal apart few = let e : level ≡ 1 + separators = apart refl in omega arith
 
+-- the level at which two keys differ is the one at which their elements do
 pub stored_key_level : (weighting : Weighting) (left right : List Element)
     → stored_level (level_count weighting) (key_bytes weighting left) (key_bytes weighting right) ≡ (compared weighting left right).level
 stored_key_level weighting left right =
@@ -220,22 +247,27 @@ stored_key_level weighting left right =
     ∙ stored_at (bytes_eq one other) (level_count weighting) (zeros_joined first second) (compared weighting left right).level
     (λ same. (key_same weighting left right).0 ((bytes_eq-Decides one other).0 same))
     (λ apart. level_zeros 1 first second (AreLevels-from 1 (level_count weighting) (weighted weighting left) (weighted weighting right))
-    (λ undecided. let t : bytes_eq one other ≡ true = same_bytes one other (same_from_dictionary one other (key_order weighting left right ∙ undecided)) in cc))
+    (λ undecided. let same : one ≡ other = same_from_dictionary one other (key_order weighting left right ∙ undecided) in
+    let t : bytes_eq one other ≡ true = same_bytes one other same in cc))
     (few_separators weighting left right)
 
+-- the law of elements
 pub stored_keys_compare : StoredKeysCompareAsElements
 stored_keys_compare weighting left right = (key_order weighting left right, stored_key_level weighting left right)
 
+-- the law of texts
 pub stored_texts_compare : StoredKeysCompareAsTexts
 stored_texts_compare c weighting left right = stored_keys_compare weighting (text_elements c left) (text_elements c right)
 
 -- ---- What `compare_keys` answers
 
+-- equal slices have the level 0
 pub equal_level : (levels : ℕ) (left right : List ℕ) → dictionary left right ≡ Equal → 0 ≡ stored_level levels left right
 equal_level levels left right same =
     let equal : bytes_eq left right ≡ true = same_bytes left right (same_from_dictionary left right same) in
     rw equal refl
 
+-- the others have the level that their separators give
 pub differing_level : (levels level : ℕ) (left right : List ℕ) → (dictionary left right ≡ Equal → ⊥) → level ≡ min levels (1 + shared_separators left right)
     → level ≡ stored_level levels left right
 differing_level levels level left right differ is =

@@ -13,6 +13,7 @@ weighted_after-follows weighting earlier [] = refl
 weighted_after-follows weighting earlier (e ∷ es) =
     ap (λ l. weights_of weighting (follows_variable earlier) e ∷ l) (weighted_after-follows weighting (e ∷ earlier) es)
 
+-- so elements may be weighted one after the other
 pub streamed : WeightsMayBeStreamed
 streamed = record { after = weighted_after-follows; whole = λ weighting es. weighted_after-follows weighting [] es }
 
@@ -20,5 +21,6 @@ streamed = record { after = weighted_after-follows; whole = λ weighting es. wei
 pub all_zero : (a b c : ℕ) → IsTrue (nat_eq a 0 && nat_eq b 0 && nat_eq c 0) ↔ ((a ≡ 0) × (b ≡ 0) × (c ≡ 0))
 all_zero a b c = grind (arith, nat_tests)
 
+-- so the test finds what is completely ignorable
 pub finds : FindsCompletelyIgnorable
 finds e = all_zero e.primary e.secondary e.tertiary

@@ -10,6 +10,9 @@ use std::alloc::{AllocError, Allocator};
 use std::marker::Model;
 use uca_weights::{Element, Weighting};
 
+/// What stands between two levels of a key.
+pub(crate) const SEPARATOR: [u8; 2] = [0, 0];
+
 /// The levels of the elements that were pushed, of which the first becomes the key.
 #[derive(Drop)]
 pub(crate) struct LevelBuffers<A: Allocator> {
@@ -119,10 +122,10 @@ fn push_weight<A: Allocator>(level: &mut Vec<u8, A>, weight: u16) -> Result<(), 
     level.extend_from_slice(&weight.to_be_bytes())
 }
 
-// Adds a level to a key, after two bytes 0.
+// Adds a level to a key, after a separator.
 fn push_level<A: Allocator>(key: &mut Vec<u8, A>, level: &Vec<u8, A>) -> Result<(), AllocError>
     ensures { OnOk result (key.new.items ≡ key.old.items ++ (0 ∷ 0 ∷ level.now.items)) }
 {
-    key.extend_from_slice(&[0, 0])?;
+    key.extend_from_slice(&SEPARATOR)?;
     key.extend_from_slice(level.as_slice())
 }

@@ -5,6 +5,7 @@ ghost use Rattle.uca_key.specs.Levels;
 ghost use Rattle.uca_key.specs.Levels.{dictionary};
 ghost use Rattle.uca_key.specs.StoredKeys.{shared_separators, stored_level};
 
+use crate::levels::SEPARATOR;
 use std::cmp::Ordering;
 use uca_weights::Weighting;
 
@@ -26,6 +27,7 @@ pub fn level_count(weighting: Weighting) -> u8
 /// single byte is a group. So every two slices have an answer. For two keys of one weighting and its
 /// [`level_count`] these are the order and the level of multilevel comparison (UTS #10, section 1.1), as
 /// [`stored_keys_compare_as_elements`](crate::laws::stored_keys_compare_as_elements) says.
+#[tactic(auto, using(crate::proofs::StoredOrder::equal_level, crate::proofs::StoredOrder::differing_level))]
 pub fn compare_keys(left: &[u8], right: &[u8], levels: u8) -> (Ordering, u8)
     ensures order { result.0 ≡ dictionary left.now right.now }
     ensures level { result.1 ≡ stored_level levels left.now right.now }
@@ -45,10 +47,11 @@ fn difference_level(mut left: &[u8], mut right: &[u8], levels: u8) -> u8
         && let [a, b, left_rest @ ..] = left
         && let [c, d, right_rest @ ..] = right
     {
-        if a != c || b != d {
+        let group = [*a, *b];
+        if group != [*c, *d] {
             return level;
         }
-        if *a == 0 && *b == 0 {
+        if group == SEPARATOR {
             level += 1;
         }
         left = left_rest;
