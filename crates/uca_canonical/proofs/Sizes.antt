@@ -155,7 +155,7 @@ length-header_text header h =
 pub header_fits : (header : HeaderContent) (buffer : BufferState) → count_of buffer ≡ 0 → IsHeader header → HasRoom buffer (length (header_text header))
 header_fits header buffer none h = omega (arith, none, length-header_text header h)
 
--- and for the rows behind it
+-- and for the rows after it
 pub rows_fit : (header : HeaderContent) (rows : List Entry) (buffer held : BufferState) (out now : SinkState) → count_of buffer ≡ 0
     → HasHanded (header_text header) buffer held out now → length (header_text header) ≤ 10000 → AreRows rows → HasRoom held (length (row_lines rows))
 rows_fit header rows buffer held out now none handed short h = omega (arith, none, handed.count, short, length-row_lines rows h)

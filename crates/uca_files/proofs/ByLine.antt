@@ -7,9 +7,11 @@ from_last : {X : Type 0} (x : X) (xs : List X) → (front : List X) × (last : X
 from_last x [] = ([], x, refl)
 from_last x (y ∷ ys) = let r = from_last y ys in (x ∷ r.0, r.1, ap (λ l. x ∷ l) r.2)
 
+-- without its last element a list is one shorter
 front_shorter : {X : Type 0} (xs front : List X) (last : X) (n : ℕ) → xs ≡ front ++ last ∷ [] → length xs ≡ suc n → length front ≡ n
 front_shorter xs front last n e h = omega (arith, ap length e, length-append front (last ∷ []))
 
+-- lines of one length say one thing
 same_of : {K S : Type 0} (Says : List (List ℕ) → S → Type 0) (Takes : S → List ℕ → S → Type 0) (Cause : S → List ℕ → K → Type 0)
     → IsExactByLine Says Takes Cause
     → (n : ℕ) (lines : List (List ℕ)) → length lines ≡ n → (s t : S) → Says lines s → Says lines t → s ≡ t

@@ -5,6 +5,7 @@ use Rattle.uca_lines.specs.Lines.{is_lf, Lacks, ended}
 use Rattle.uca_files.specs.declared.FileForm.{FileForm}
 use Rattle.uca_files.specs.Files.{EndsLine, IsFileLine, AreLines}
 
+-- a byte that is no LF is not 10
 lf_stands : (z : ℕ) → is_lf z ≡ false → z ≡ 10 → ⊥
 lf_stands z h e = let k : is_lf 10 ≡ false = subst (λ (n : ℕ). is_lf n ≡ false) e h in cc
 
@@ -21,9 +22,11 @@ line_cut (z ∷ zs) (y ∷ ys) x more ha hb hm e =
     let q : ys ≡ zs = r.0 in
     (cc, r.1)
 
+-- a line that is ended, and what follows it
 pub ended-append : (line x : List ℕ) → ended line ++ x ≡ line ++ 10 ∷ x
 ended-append line x = append_assoc line (10 ∷ []) x
 
+-- it is not empty
 pub ended-not_empty : (line x : List ℕ) → [] ≡ ended line ++ x → ⊥
 ended-not_empty [] x e = cc
 ended-not_empty (b ∷ bs) x e = cc
@@ -46,6 +49,7 @@ lines_cut form (b ∷ bs) (l ∷ ls) rest hb hl e =
     let others : ls ≡ bs ++ r.0 = r.1 in
     (r.0, cc, r.2)
 
+-- no bytes are no lines
 no_lines : (lines : List (List ℕ)) → [] ≡ flat_map ended lines → lines ≡ []
 no_lines [] e = refl
 no_lines (l ∷ ls) e = absurd (ended-not_empty l (flat_map ended ls) e)

@@ -69,6 +69,7 @@ in_rest form Says Cause exact before s number text kind lines (l ∷ ls) t says 
     subst (λ (x : List ℕ). IfSome form.too_many (λ k. length (before ++ x ∷ ls) ≤ 1000000)) (sym same) count_here in
     cause_excluded form Says Cause exact before s number fault.line fault.more kind ls t says place there fault.cause each_line count_line whole_line
 
+-- a fault in a line excludes that the bytes are lines which say something
 line_excluded : {K S : Type 0} (form : FileForm K) (Says : List (List ℕ) → S → Type 0) (Cause : S → List ℕ → K → Type 0) → IsExact Says Cause
     → (bytes : List ℕ) (number : ℕ) (kind : K) (t : S) → FaultInLine form Says Cause bytes number kind → Reads form Says bytes t → ⊥
 line_excluded form Says Cause exact bytes number kind t h k =

@@ -47,6 +47,7 @@ more_lines form front before line h fits few = record {
   count = within form.too_many _ (omega (arith, length-append before (line ∷ [])));
 }
 
+-- one more line is taken
 pub reaches_next : {K S : Type 0} (form : FileForm K) (Says : List (List ℕ) → S → Type 0) (Takes : S → List ℕ → S → Type 0)
     → ((lines : List (List ℕ)) (old : S) (line : List ℕ) (new : S) → Says lines old → Takes old line new → length line ≤ form.longest
     → length lines < 1000000 → Says (lines ++ line ∷ []) new)
@@ -65,6 +66,7 @@ reaches_next form Says Takes more (Some bytes) (Some rest) (Some left) number s 
       place = omega (arith, h.place, length-append h.before (k.line ∷ []));
     }
 
+-- at the end all lines are read
 pub reads_all : {K S : Type 0} (form : FileForm K) (Says : List (List ℕ) → S → Type 0) (known left : Option (List ℕ)) (count : ℕ) (s : S)
     → ReachesKnown form Says known left (count + 1) s → IsAtEnd left → IfSome known (λ bytes. ReadsLines form Says bytes count s)
 reads_all form Says None left count s h end = tt
@@ -77,6 +79,7 @@ reads_all form Says (Some bytes) (Some rest) count s h end =
       many = omega (arith, h.place);
     }
 
+-- a step that refuses a line refuses it in the file
 pub refuses_line : {K S : Type 0} (form : FileForm K) (Says : List (List ℕ) → S → Type 0) (Cause : S → List ℕ → K → Type 0)
     (known old left : Option (List ℕ)) (number : ℕ) (s : S) (kind : K)
     → ReachesKnown form Says known old number s → RefusesNext form Cause old left number s kind
@@ -147,10 +150,12 @@ first_line_cons b bs false e r = record {
   len = rw e (omega (arith, r.len));
 }
 
+-- each text has a first line
 first_line : (text : List ℕ) → FirstLine text
 first_line [] = record { line = []; more = []; parts = refl; lacks = tt; ends = tt; len = refl }
 first_line (b ∷ bs) = first_line_cons b bs (is_lf b) refl (first_line bs)
 
+-- a text with a long first line is not empty
 longer_stands : (text : List ℕ) (n : ℕ) → n < position_or_len is_lf text → text ≢ []
 longer_stands [] n h e = absurd (omega arith)
 longer_stands (b ∷ bs) n h e = cc
@@ -170,6 +175,7 @@ too_long form Cause (Some text) number s h =
       cause = inl (omega (arith, r.len), refl);
     }
 
+-- a text with a byte is not empty
 bytes_stand : (text : List ℕ) → 0 < length text → text ≢ []
 bytes_stand [] h e = absurd (omega arith)
 bytes_stand (b ∷ bs) h e = cc
@@ -190,6 +196,7 @@ past_limit form Cause (Some text) number s kind many limit h =
       cause = inr (inl (many, limit));
     }
 
+-- nor is one with an LF
 ended-stands : (line left : List ℕ) → line ++ 10 ∷ left ≢ []
 ended-stands [] left e = cc
 ended-stands (b ∷ bs) left e = cc
@@ -235,6 +242,7 @@ limit_kind : {K : Type 0} (limit : Option K) (other : K) → (limit ≡ None →
 limit_kind None other some = absurd (some refl)
 limit_kind (Some kind) other some = refl
 
+-- a number on both sides of the limit
 beyond : (number : ℕ) → 1000000 ≤ number → number < 1000000 → ⊥
 beyond number h k = omega arith
 

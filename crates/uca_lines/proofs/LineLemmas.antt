@@ -24,7 +24,7 @@ line_end-memchr text (Some k) h =
 pub length-before_lf : (text : List ℕ) → length (before_first is_lf text) ≡ position_or_len is_lf text
 length-before_lf text = length-take-le (position_or_len is_lf text) text (prefix_len-le-length _ text)
 
--- what of a range is left behind its first LF
+-- what of a range is left after its first LF
 pub slice_range-after_lf : (chunk : List ℕ) (start end : ℕ) (piece : List ℕ)
     → piece ≡ before_first is_lf (slice_range chunk start end) → position_or_len is_lf (slice_range chunk start end) < length (slice_range chunk start end)
     → slice_range chunk (start + length piece + 1) end ≡ after_first is_lf (slice_range chunk start end)

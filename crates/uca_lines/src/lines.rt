@@ -174,7 +174,7 @@ impl LineReader {
         }
     }
 
-    // Moves the waiting bytes up to the first LF, or all, behind the line, drops that LF, and answers
+    // Moves the waiting bytes up to the first LF, or all, to the end of the line, drops that LF, and returns
     // whether it was there.
     fn take_waiting<A: Allocator>(&mut self, line: &mut Vec<u8, A>) -> Result<bool, LineFault>
         requires { length line.old.items ≤ self.old.longest }
@@ -207,7 +207,7 @@ impl LineReader {
         Ok(true)
     }
 
-    // Reads a chunk where nothing waits, and answers whether a byte is left.
+    // Reads a chunk where nothing waits, and returns whether a byte is left.
     fn fill<R: Read>(&mut self, source: &mut Source<R>) -> Result<bool, LineFault>
         ensures bytes { Keeps (left_of self.old source.old) (left_of self.new source.new) }
         ensures pending { IfOk result (λ some. MatchBool some (0 < length self.new.pending)
