@@ -20,7 +20,7 @@ use Rattle.uca_match.specs.Reading.{others, marks_at_front, after_marks, removed
 use Rattle.uca_match.specs.Reading.{portion, read_within, collation_elements}
 use Rattle.uca_match.specs.Collations.{Collation, elements_of}
 use Rattle.uca_key.specs.Levels.{Weights, weight_at, level_list, level_lists_from, weighted, level_bytes, levels_bytes}
-use Rattle.uca_key.specs.Levels.{weighted_behind, key_bytes}
+use Rattle.uca_key.specs.Levels.{weighted_following, key_bytes}
 use Rattle.uca_key.specs.Lengths.{HasShortRows}
 use Rattle.uca_key.specs.Laws.{KeysAreShort, RowsAreShort}
 use Rattle.std.specs.List.{AllByRecursion}
@@ -42,7 +42,7 @@ length-level_bytes [] = refl
 length-level_bytes (w ∷ ws) = omega (arith, length-level_bytes ws)
 
 -- each element has weights
-pub length-weighted : (weighting : Weighting) (earlier es : List Element) → length (weighted_behind weighting earlier es) ≡ length es
+pub length-weighted : (weighting : Weighting) (earlier es : List Element) → length (weighted_following weighting earlier es) ≡ length es
 length-weighted weighting earlier [] = refl
 length-weighted weighting earlier (e ∷ es) = ap suc (length-weighted weighting (e ∷ earlier) es)
 

@@ -13,4 +13,6 @@ loop-line-preserved g c =
     let points : Bor (List ℕ) → List ℕ = λ key. key.now in
     -- only the code points count, and not where they lie
     let key : Bor (List ℕ) = record { ref_ptr = (0, 0); now = _ } in
-    begun_push points _ _ c.loop-line.rows.items c.push.new.self.items c.in_ok-row.field-0 key c.in_ok-is_new.is_new c.loop-line.invariant c.in_ok-push.ensures.items c.in_ok-row.ensures.entry c.in_ok-row.ensures.key c.in_ok-is_new.ensures.added (search rules) c.in_ok-is_new.ensures.updates.0
+    begun_push points _ _ c.loop-line.rows.items c.push.new.self.items c.in_ok-row.field-0 key c.in_ok-is_new.is_new c.loop-line.invariant
+    c.in_ok-push.ensures.items c.in_ok-row.ensures.entry c.in_ok-row.ensures.key c.in_ok-is_new.ensures.added (search rules)
+    c.in_ok-is_new.ensures.updates.0
