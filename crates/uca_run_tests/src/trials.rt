@@ -14,6 +14,6 @@ pub fn check(
     end: &str,
 ) -> Result<(), Fail> {
     let found = difference(rt.alloc(), files, run, printed, end)?;
-    assert_eq!(rt; found.as_deref(), None);
+    assert!(rt; found.is_none(), "{found:?}, not {end}: {printed}");
     Ok(())
 }

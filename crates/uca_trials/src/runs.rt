@@ -9,7 +9,7 @@ use uca_cli::{
 use uca_weights::{Sink, Source, Weighting};
 
 /// A run, and the weighting that it is asked for, if any.
-#[derive(Clone, Copy, Debug)]
+#[derive(Clone, Copy)]
 pub enum Run<'a> {
     /// It prints the keys of the lines of the input.
     Keys(Option<Weighting>),
@@ -22,7 +22,7 @@ pub enum Run<'a> {
 }
 
 /// What a run without a fault answers.
-#[derive(Clone, Copy, Debug)]
+#[derive(Clone, Copy)]
 pub enum Answer {
     /// That it is done.
     Done,
