@@ -1,15 +1,15 @@
-//! The runs of the command over any readers and any writer.
+//! The runs of the command over any readers and any writer, and over files in memory.
 
+use crate::files::{Files, joined};
 use std::alloc::{AllocError, Allocator, Global};
 use std::io::{Read, Write};
 use uca_cli::{
-    RunFault, run_check, run_check_in, run_compare, run_compare_in, run_keys, run_keys_in,
-    run_sort, run_sort_in,
+    RunFault, run_check, run_compare, run_compare_in, run_keys, run_keys_in, run_sort, run_sort_in,
 };
 use uca_weights::{Sink, Source, Weighting};
 
 /// A run, and the weighting that it is asked for, if any.
-#[derive(Clone, Copy, Debug)]
+#[derive(Clone, Copy)]
 pub enum Run<'a> {
     /// It prints the keys of the lines of the input.
     Keys(Option<Weighting>),
@@ -22,7 +22,7 @@ pub enum Run<'a> {
 }
 
 /// What a run without a fault answers.
-#[derive(Clone, Copy, Debug)]
+#[derive(Clone, Copy)]
 pub enum Answer {
     /// That it is done.
     Done,
@@ -98,11 +98,39 @@ impl<T: Read, D: Read, I: Read, W: Write> Streams<T, D, I, W> {
         match run {
             Run::Keys(asked) => run_keys_in(alloc, global, table, properties, input, out, asked)?,
             Run::Sort(asked) => run_sort_in(alloc, global, table, properties, input, out, asked)?,
-            Run::Check => return Ok(Answer::Verdict(run_check_in(alloc, table, properties, out)?)),
+            Run::Check => return Ok(Answer::Verdict(run_check(alloc, table, properties, out)?)),
             Run::Compare(left, right, asked) => {
                 run_compare_in(alloc, global, table, properties, left, right, out, asked)?;
             }
         }
         Ok(Answer::Done)
     }
+}
+
+/// What came of a run over files in memory.
+#[derive(Drop)]
+pub struct Outcome {
+    /// What is told of its end.
+    pub end: String,
+    /// What it printed.
+    pub printed: Vec<u8>,
+    /// Which of its streams say that they failed: the table, the data file, the input and the output.
+    pub failed: [bool; 4],
+}
+
+/// Runs over files in memory. None of the streams fails.
+pub fn run_files(alloc: Global, files: Files, run: Run) -> Result<Outcome, AllocError> {
+    let table = joined(alloc, files.table)?;
+    let mut streams = Streams {
+        table: Source::new(table.as_bytes()),
+        properties: Source::new(files.data.as_bytes()),
+        input: Source::new(files.input),
+        out: Sink::new(Vec::new(alloc)),
+    };
+    let end = streams.run(alloc, run);
+    Ok(Outcome {
+        end: told(alloc, &end)?,
+        failed: streams.failed(),
+        printed: streams.out.into_inner(),
+    })
 }

@@ -1,11 +1,6 @@
-//! The table and the data file of the tests, and runs over bytes in memory.
+//! The tables and the data files of the tests.
 
-use crate::rows::check_over_rows;
-use crate::runs::{Run, Streams, told};
 use std::alloc::{AllocError, Global};
-use std::process::Abort;
-use std::test::Fail;
-use uca_weights::{Sink, Source};
 
 /// Letters, accents and a variable space, in canonical text.
 pub const TABLE: &str = "@version 1\n\
@@ -45,7 +40,7 @@ pub const X_ACUTE: &str = "0078 0301 ; [.1C90.0020.0002]\n";
 /// The key of `a`, as a line.
 pub const KEY_OF_A: &str = "1C47 0000 0020 0000 0002\n";
 
-/// The parts, one behind the other.
+/// The parts, one after the other.
 pub fn joined(alloc: Global, parts: &[&str]) -> Result<String, AllocError> {
     let mut text = String::new(alloc);
     for part in parts {
@@ -122,40 +117,3 @@ pub const SHORT: Files = Files {
     data: SHORT_DATA,
     input: b"",
 };
-
-/// Checks what a run prints, and what is told of its end; and that the library's calls over a list of rows
-/// give the same.
-pub fn check(
-    rt: &(impl Abort + AllocGlobal),
-    files: Files,
-    run: Run,
-    printed: &str,
-    end: &str,
-) -> Result<(), Fail> {
-    check_run(rt, files, run, printed, end)?;
-    check_over_rows(rt, files, run, printed, end)
-}
-
-/// Checks what a run prints, and what is told of its end. None of its streams fails.
-pub fn check_run(
-    rt: &(impl Abort + AllocGlobal),
-    files: Files,
-    run: Run,
-    printed: &str,
-    end: &str,
-) -> Result<(), Fail> {
-    let table = joined(rt.alloc(), files.table)?;
-    let mut streams = Streams {
-        table: Source::new(table.as_bytes()),
-        properties: Source::new(files.data.as_bytes()),
-        input: Source::new(files.input),
-        out: Sink::new(Vec::new(rt.alloc())),
-    };
-    let result = streams.run(rt.alloc(), run);
-    let said = told(rt.alloc(), &result)?;
-    assert_eq!(rt; said.as_str(), end, "{run:?}");
-    assert_eq!(rt; streams.failed(), [false; 4]);
-    let out = streams.out.into_inner();
-    assert_eq!(rt; out.as_slice(), printed.as_bytes(), "{run:?}");
-    Ok(())
-}

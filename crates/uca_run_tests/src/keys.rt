@@ -1,11 +1,12 @@
 //! Whole runs: the keys that they print, and the faults of the files.
 
-use crate::files::{
-    A_ACUTE, A_ACUTE_GRAVE, KEY_OF_A, SHORT, SMALL, TABLE, X_ACUTE, acutes, check, joined, push_key,
-};
-use crate::runs::Run::Keys;
+use crate::trials::check;
 use std::process::Abort;
 use std::test::Fail;
+use uca_trials::Run::Keys;
+use uca_trials::{
+    A_ACUTE, A_ACUTE_GRAVE, KEY_OF_A, SHORT, SMALL, TABLE, X_ACUTE, acutes, joined, push_key,
+};
 use uca_weights::Weighting;
 use uca_weights::Weighting::{NonIgnorable, Shifted};
 

@@ -1,10 +1,10 @@
 //! Whole runs: whether a table is well-formed.
 
-use crate::files::{A_ACUTE, A_ACUTE_GRAVE, DATA, Files, SMALL, TABLE, check};
-use crate::runs::Run;
+use crate::trials::check;
 use std::alloc::{AllocError, Global};
 use std::process::Abort;
 use std::test::Fail;
+use uca_trials::{A_ACUTE, A_ACUTE_GRAVE, DATA, Files, Run, SMALL, TABLE};
 
 const WELL_FORMED: &str = "well-formed\n";
 

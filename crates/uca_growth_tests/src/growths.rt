@@ -1,28 +1,24 @@
 //! Runs in heaps of rising sizes, so that each growth is refused in turn.
 
-use crate::files;
-use crate::files::{
-    A_ACUTE, A_ACUTE_GRAVE, Files, X_ACUTE, acutes, check, check_run, joined, push_key,
-};
-use crate::runs::{Answer, Run, Streams, told};
+use crate::trials::check;
 use linked_list_allocator::LocalHeap;
-use std::alloc::{AllocError, Allocator, Global};
+use std::alloc::{AllocError, Global};
 use std::process::Abort;
 use std::test::Fail;
-use uca_cli::{InputKind, Role, RunFault};
-use uca_data::{read_data, read_data_in};
+use uca_cli::{FileFault, InputKind, Role, RunFault};
+use uca_data::read_data;
 use uca_fakes::{Calls, FakeReader, Pace};
-use uca_files::{FaultKind, TableFault};
-use uca_key::{key, key_in};
-use uca_match::{Collator, RowList, Trie};
-use uca_table::{read_table, read_table_in};
-use uca_text::normal;
-use uca_values::{Data, Table};
-use uca_weights::Weighting::{NonIgnorable, Shifted};
+use uca_match::Trie;
+use uca_table::read_table;
+use uca_trials::{
+    A_ACUTE_GRAVE, Answer, Files, Run, Streams, acutes, files, joined, push_key, told,
+};
+use uca_values::{FaultKind, TableFault};
+use uca_weights::Weighting::NonIgnorable;
 use uca_weights::{Sink, Source};
 
 /// The line of the last of the first bytes of a text, counted from 1.
-fn line_of(text: &[u8], count: usize) -> u32 {
+pub fn line_of(text: &[u8], count: usize) -> u32 {
     let mut line = 1;
     for byte in text.iter().take(count.saturating_sub(1)) {
         if *byte == b'\n' {
@@ -83,7 +79,7 @@ const ROWS: usize = 3;
 
 const BETWEEN: usize = 4;
 
-const BEHIND: usize = 5;
+const AFTER: usize = 5;
 
 /// The bytes of a table, a data file and an input.
 type Texts<'a> = [&'a [u8]; 3];
@@ -138,14 +134,14 @@ fn refused_before_texts(heap: &LocalHeap, run: Run, texts: Texts) -> Option<usiz
     let calls = [Calls::new(), Calls::new()];
     let pace = Pace::steps(1);
     let mut source = Source::new(FakeReader::new(texts[TABLE], pace, &calls[TABLE]));
-    let Ok(table) = read_table_in(heap, &mut source) else {
+    let Ok(table) = read_table(heap, &mut source) else {
         return Some(TABLE);
     };
     let mut source = Source::new(FakeReader::new(texts[DATA], pace, &calls[DATA]));
-    let Ok(_properties) = read_data_in(heap, &mut source) else {
+    let Ok(_properties) = read_data(heap, &mut source) else {
         return Some(DATA);
     };
-    if !matches!(run, Run::Check) && Trie::new(&table).is_err() {
+    if !matches!(run, Run::Check) && Trie::new(heap, &table).is_err() {
         return Some(ROWS);
     }
     None
@@ -156,17 +152,21 @@ fn place_of(fault: &RunFault) -> Option<(usize, u32)> {
     match fault {
         RunFault::File {
             role: Role::Table,
-            fault: TableFault {
-                line,
-                kind: FaultKind::Memory,
-            },
+            fault: FileFault::Lines(
+                TableFault {
+                    line,
+                    kind: FaultKind::Memory,
+                },
+            ),
         } => Some((TABLE, *line)),
         RunFault::File {
             role: Role::Data,
-            fault: TableFault {
-                line,
-                kind: FaultKind::Memory,
-            },
+            fault: FileFault::Lines(
+                TableFault {
+                    line,
+                    kind: FaultKind::Memory,
+                },
+            ),
         } => Some((DATA, *line)),
         RunFault::Input {
             line,
@@ -207,7 +207,7 @@ fn judge(
             } else if outcome.read[INPUT] < texts[INPUT].len() {
                 BETWEEN
             } else {
-                BEHIND
+                AFTER
             }
         }
     };
@@ -282,7 +282,7 @@ fn refused_places(
         assert_eq!(rt; before_texts.unwrap_or(place), place);
         assert!(rt; place < 6);
         if !refused[place] {
-            check_run(rt, files, run, printed, end)?;
+            check(rt, files, run, printed, end)?;
         }
         refused[place] = true;
     }
@@ -352,140 +352,5 @@ fn comparisons_in_little_memory(rt: HostRuntime) -> Result<(), Fail> {
     let faulty = refused_places(&rt, run, files, ("", "left: LongRun at 0"), 48)?;
     assert_eq!(rt; faulty.refused, [true, true, false, true, false, false]);
     assert!(rt; faulty.enough < met.enough);
-    Ok(())
-}
-
-#[test]
-fn tables_in_little_memory(rt: HostRuntime) -> Result<(), Fail> {
-    let mut done = false;
-    let mut refused = 0;
-    for size in 0..400usize {
-        let heap = LocalHeap::new(rt.alloc(), size * 16)?;
-        let calls = Calls::new();
-        let mut source = Source::new(FakeReader::new(
-            files::TABLE.as_bytes(),
-            Pace::steps(1),
-            &calls,
-        ));
-        match read_table_in(&heap, &mut source) {
-            Ok(table) => {
-                done = true;
-                assert_eq!(rt; table.header.version.as_str(), "1");
-                assert_eq!(rt; table.rows.len(), 7);
-            }
-            Err(fault) => {
-                assert!(rt; !done);
-                assert_eq!(rt; fault.kind, FaultKind::Memory);
-                assert_eq!(rt;
-                    fault.line,
-                    line_of(files::TABLE.as_bytes(), calls.bytes.get())
-                );
-                assert!(rt; refused <= fault.line);
-                refused = fault.line;
-            }
-        }
-        assert_eq!(rt; heap.used(), 0);
-    }
-    assert!(rt; done && refused > 2);
-    Ok(())
-}
-
-// A collator over the trie of a table finds the elements of each row by its key.
-fn check_rows<A: Allocator + Copy>(
-    rt: &(impl Abort + AllocGlobal),
-    table: &Table<A>,
-    rows: &Trie<A>,
-    properties: &Data<A>,
-) -> Result<(), Fail> {
-    let collator = Collator::new(rows, &table.header, properties);
-    for row in &table.rows {
-        let mut key = String::new(rt.alloc());
-        for point in &row.key {
-            key.push(*point)?;
-        }
-        let text = normal(rt.alloc(), &key, properties)?;
-        let mut elements = Vec::new(rt.alloc());
-        for element in collator.elements(&text) {
-            elements.push(element)?;
-        }
-        assert_eq!(rt; elements.as_slice(), row.elements.as_slice(), "{key:?}");
-    }
-    Ok(())
-}
-
-// Whether a heap that has room for a table and a data file has room for the trie of the table too. All that
-// a trie took is given back where it has not.
-fn has_room_for_trie(
-    rt: &(impl Abort + AllocGlobal),
-    heap: &LocalHeap,
-    table: &str,
-) -> Result<Option<bool>, Fail> {
-    let Ok(table) = read_table_in(heap, &mut Source::new(table.as_bytes())) else {
-        return Ok(None);
-    };
-    let Ok(properties) = read_data_in(heap, &mut Source::new(files::DATA.as_bytes())) else {
-        return Ok(None);
-    };
-    let taken = heap.used();
-    let Ok(rows) = Trie::new(&table) else {
-        assert_eq!(rt; heap.used(), taken);
-        return Ok(Some(false));
-    };
-    check_rows(rt, &table, &rows, &properties)?;
-    Ok(Some(true))
-}
-
-#[test]
-fn tries_in_little_memory(rt: HostRuntime) -> Result<(), Fail> {
-    let table = joined(rt.alloc(), &[files::TABLE, A_ACUTE_GRAVE, X_ACUTE, A_ACUTE])?;
-    let mut refused = false;
-    let mut done = false;
-    for round in 0..700usize {
-        let heap = LocalHeap::new(rt.alloc(), round.saturating_mul(16))?;
-        match has_room_for_trie(&rt, &heap, &table)? {
-            Some(true) => {
-                assert!(rt; refused);
-                done = true;
-            }
-            Some(false) => {
-                assert!(rt; !done);
-                refused = true;
-            }
-            None => assert!(rt; !refused),
-        }
-        assert_eq!(rt; heap.used(), 0);
-    }
-    assert!(rt; done);
-    Ok(())
-}
-
-#[test]
-fn keys_in_little_memory(rt: HostRuntime) -> Result<(), Fail> {
-    let table = read_table(rt.alloc(), &mut Source::new(files::TABLE.as_bytes()))?;
-    let properties = read_data(rt.alloc(), &mut Source::new(files::DATA.as_bytes()))?;
-    let rows = RowList::new(&table);
-    let collator = Collator::new(&rows, &table.header, &properties);
-    let text = normal(rt.alloc(), "a b", &properties)?;
-    let mut wanted = Vec::new(rt.alloc());
-    for group in [
-        0x1C47u16, 0x1C60, 0, 0x20, 0x20, 0, 2, 2, 0, 0xFFFF, 0x209, 0xFFFF,
-    ] {
-        wanted.extend_from_slice(&group.to_be_bytes())?;
-    }
-    let whole = key(rt.alloc(), &collator, Shifted, &text)?;
-    assert_eq!(rt; whole.as_slice(), wanted.as_slice());
-    let mut done = false;
-    for size in 0..100usize {
-        let heap = LocalHeap::new(rt.alloc(), size * 16)?;
-        match key_in(&heap, &collator, Shifted, &text) {
-            Ok(key) => {
-                done = true;
-                assert_eq!(rt; key.as_slice(), wanted.as_slice());
-            }
-            Err(_) => assert!(rt; !done),
-        }
-        assert_eq!(rt; heap.used(), 0);
-    }
-    assert!(rt; done);
     Ok(())
 }

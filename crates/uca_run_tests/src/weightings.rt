@@ -1,9 +1,9 @@
 //! The weighting by which a run goes.
 
-use crate::files::{SMALL, check};
-use crate::runs::Run;
+use crate::trials::check;
 use std::process::Abort;
 use std::test::Fail;
+use uca_trials::{Run, SMALL};
 use uca_weights::Weighting;
 use uca_weights::Weighting::{NonIgnorable, Shifted};
 

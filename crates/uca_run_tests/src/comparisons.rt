@@ -1,8 +1,9 @@
 //! Whole runs: how two texts compare.
 
-use crate::files::{A_ACUTE, SMALL, TABLE, acutes, check, joined};
-use crate::runs::Run::Compare;
+use crate::trials::check;
 use std::test::Fail;
+use uca_trials::Run::Compare;
+use uca_trials::{A_ACUTE, SMALL, TABLE, acutes, joined};
 use uca_weights::Weighting;
 use uca_weights::Weighting::{NonIgnorable, Shifted};
 

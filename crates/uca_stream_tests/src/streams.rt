@@ -1,24 +1,15 @@
-//! Runs over readers and writers that fail at a chosen byte, or take few bytes a call.
+//! Runs over readers and writers that fail at a chosen byte.
 
-use crate::files::{Files, KEY_OF_A, SHORT, SHORT_TABLE, joined};
-use crate::runs::{Run, Streams, told};
-use std::alloc::{AllocError, Global};
+use crate::paces::{
+    CHECK, COMPARE, Case, DATA, FAILED_CHECK, INPUT, KEYS, LINES, OUT, SORT, TABLE, run_at,
+    with_input,
+};
+use std::alloc::AllocError;
 use std::io::ErrorKind;
 use std::process::Abort;
 use std::test::Fail;
-use uca_cli::{RunFault, report};
-use uca_fakes::{Calls, Failure, FakeReader, FakeWriter, Pace};
-use uca_weights::Weighting::NonIgnorable;
-use uca_weights::{Sink, Source};
-
-// The places of the streams of a run among its four.
-const TABLE: usize = 0;
-
-const DATA: usize = 1;
-
-const INPUT: usize = 2;
-
-const OUT: usize = 3;
+use uca_fakes::{Failure, Pace};
+use uca_trials::{KEY_OF_A, joined};
 
 /// Each way in which a call fails. A reader that gives nothing has not failed.
 const FAILURES: [Failure; 3] = [
@@ -28,171 +19,6 @@ const FAILURES: [Failure; 3] = [
 ];
 
 const KEY_OF_A_ACUTE: &str = "1C47 0000 0020 0024 0000 0002 0002\n";
-
-/// A run over files, and what comes of it where no stream fails.
-#[derive(Clone, Copy)]
-struct Case<'a> {
-    run: Run<'a>,
-    files: Files<'a>,
-    /// What it prints.
-    printed: &'a str,
-    /// What is told of its end.
-    end: &'a str,
-}
-
-/// Three lines, the last one without LF.
-const LINES: Files = Files {
-    input: b"a\n\xC3\xA1\na",
-    ..SHORT
-};
-
-const KEYS: Case = Case {
-    run: Run::Keys(Some(NonIgnorable)),
-    files: LINES,
-    printed: "1C47 0000 0020 0000 0002\n\
-        1C47 0000 0020 0024 0000 0002 0002\n\
-        1C47 0000 0020 0000 0002\n",
-    end: "done",
-};
-
-const SORT: Case = Case {
-    run: Run::Sort(Some(NonIgnorable)),
-    files: LINES,
-    printed: "a\na\n\u{E1}\n",
-    end: "done",
-};
-
-const CHECK: Case = Case {
-    run: Run::Check,
-    files: SHORT,
-    printed: "well-formed\n",
-    end: "true",
-};
-
-/// The table has a contraction without the shorter one.
-const FAILED_CHECK: Case = Case {
-    run: Run::Check,
-    files: Files {
-        table: &[SHORT_TABLE, "0061 0300 0301 ; [.1C58.0020.0002]\n"],
-        ..SHORT
-    },
-    printed: "WF5 row 3\n",
-    end: "false",
-};
-
-const COMPARE: Case = Case {
-    run: Run::Compare("a", "b", Some(NonIgnorable)),
-    files: SHORT,
-    printed: "< 1\n",
-    end: "done",
-};
-
-// The case with these lines, of which this is printed.
-fn with_input<'a>(case: Case<'a>, lines: &'a [u8], printed: &'a str) -> Case<'a> {
-    Case {
-        files: case.files.with_input(lines),
-        printed,
-        ..case
-    }
-}
-
-/// What came of a run.
-#[derive(Drop)]
-struct Outcome {
-    /// What is told of its end.
-    end: String,
-    /// The status that the program ends with, if by a fault.
-    status: Option<u8>,
-    /// What went out.
-    printed: Vec<u8>,
-    /// Which of the streams say that they failed.
-    failed: [bool; 4],
-    /// How many calls each of the streams made.
-    calls: [u32; 4],
-}
-
-// The status of a fault.
-fn status_of(alloc: Global, fault: &RunFault) -> u8 {
-    let mut out = Sink::new(Vec::new(alloc));
-    let mut err = Sink::new(Vec::new(alloc));
-    report(alloc, fault, &mut out, &mut err)
-}
-
-// A run over readers and a writer of these paces.
-fn run_at(rt: &(impl Abort + AllocGlobal), case: Case, paces: [Pace; 4]) -> Result<Outcome, Fail> {
-    let Case { run, files, .. } = case;
-    let table = joined(rt.alloc(), files.table)?;
-    let texts = [table.as_bytes(), files.data.as_bytes(), files.input];
-    run_over(rt, run, texts, paces)
-}
-
-// The same over the bytes of a table, a data file and an input. A stream says that it failed exactly where
-// a call of its reader or writer failed: so one that fails by itself is seen, and one that answers without
-// a call. None is called again after a call that failed.
-fn run_over(
-    rt: &(impl Abort + AllocGlobal),
-    run: Run,
-    texts: [&[u8]; 3],
-    paces: [Pace; 4],
-) -> Result<Outcome, Fail> {
-    let calls = [Calls::new(), Calls::new(), Calls::new(), Calls::new()];
-    let table = FakeReader::new(texts[TABLE], paces[TABLE], &calls[TABLE]);
-    let properties = FakeReader::new(texts[DATA], paces[DATA], &calls[DATA]);
-    let input = FakeReader::new(texts[INPUT], paces[INPUT], &calls[INPUT]);
-    let mut streams = Streams {
-        table: Source::new(table),
-        properties: Source::new(properties),
-        input: Source::new(input),
-        out: Sink::new(FakeWriter::new(rt.alloc(), paces[OUT], &calls[OUT])),
-    };
-    let result = streams.run(rt.alloc(), run);
-    let failed = streams.failed();
-    for (calls, failed) in calls.iter().zip(failed) {
-        assert_eq!(rt; failed, calls.failed.get() > 0);
-        assert_eq!(rt; calls.late.get(), 0, "tried again");
-    }
-    Ok(Outcome {
-        end: told(rt.alloc(), &result)?,
-        status: match &result {
-            Ok(_) => None,
-            Err(fault) => Some(status_of(rt.alloc(), fault)),
-        },
-        printed: streams.out.into_inner().text,
-        failed,
-        calls: [
-            calls[TABLE].all.get(),
-            calls[DATA].all.get(),
-            calls[INPUT].all.get(),
-            calls[OUT].all.get(),
-        ],
-    })
-}
-
-// Whether the run has a use for the stream.
-fn is_used(run: Run, stream: usize) -> bool {
-    match run {
-        Run::Keys(_) | Run::Sort(_) => true,
-        Run::Check | Run::Compare(..) => stream != INPUT,
-    }
-}
-
-#[test]
-fn any_number_of_bytes_a_call(rt: HostRuntime) -> Result<(), Fail> {
-    // Readers that give all, and a whole output: a source that answers without its reader and a run that
-    // always answers that no memory is left do not print this.
-    for case in [KEYS, SORT, CHECK, FAILED_CHECK, COMPARE] {
-        for step in [1, 2, 7, usize::MAX] {
-            let outcome = run_at(&rt, case, [Pace::steps(step); 4])?;
-            assert_eq!(rt; outcome.end.as_str(), case.end, "{step} bytes a call");
-            assert_eq!(rt; outcome.printed.as_slice(), case.printed.as_bytes());
-            assert_eq!(rt; outcome.failed, [false; 4]);
-            for (stream, count) in outcome.calls.iter().enumerate() {
-                assert_eq!(rt; *count > 0, is_used(case.run, stream));
-            }
-        }
-    }
-    Ok(())
-}
 
 // A run where one reader fails after so many bytes: this is told, and this was printed. The streams that
 // it comes to later are not called.

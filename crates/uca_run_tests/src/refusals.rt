@@ -1,8 +1,8 @@
 //! Tables and data files that each run refuses.
 
-use crate::files::{DATA, Files, TABLE, acutes, check};
-use crate::runs::Run;
+use crate::trials::check;
 use std::test::Fail;
+use uca_trials::{DATA, Files, Run, TABLE, acutes};
 use uca_weights::Weighting::NonIgnorable;
 
 const SMALL: &[&str] = &[TABLE];
