@@ -14,8 +14,6 @@ mod keys;
 #[cfg(test)]
 mod refusals;
 #[cfg(test)]
-mod reports;
-#[cfg(test)]
 mod rows;
 #[cfg(test)]
 mod runs;
