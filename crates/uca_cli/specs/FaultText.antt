@@ -1,8 +1,7 @@
 -- The words of a fault: its line on standard error, without the LF.
 use Rattle.std.specs.Prelude.{ℕ, List, [], ◌++◌, Bool, codes, decimal, if◌then◌else◌}
-use Rattle.uca_files.specs.KindText.{kind_text}
-use Rattle.uca_text.specs.declared.limits.TextFault.{TextFault}
-use Rattle.uca_text.specs.declared.limits.TextFault.TheVariants as text_fault
+use Rattle.uca_values.specs.FaultText.{kind_text}
+use Rattle.uca_text.specs.FaultText.{text_fault_text}
 use Rattle.uca_words.specs.declared.WordFault.{WordFault}
 use Rattle.uca_words.specs.declared.WordFault.TheVariants as words
 use Rattle.uca_cli.specs.declared.faults.InputKind.{InputKind}
@@ -23,11 +22,6 @@ input_kind_text (input_kind.LongRun place) = long_run_text place
 input_kind_text input_kind.Read = codes "Read"
 input_kind_text input_kind.Limit = codes "Limit"
 input_kind_text input_kind.Memory = codes "Memory"
-
-abbrev pub text_fault_text : TextFault → List ℕ
-text_fault_text text_fault.TooLong = codes "TooLong"
-text_fault_text (text_fault.LongRun place) = long_run_text place
-text_fault_text text_fault.Memory = codes "Memory"
 
 -- a place in lines and what is wrong there, as `input line 7: Utf8`
 abbrev pub line_text : List ℕ → ℕ → List ℕ → List ℕ

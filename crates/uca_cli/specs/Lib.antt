@@ -16,3 +16,4 @@ pub mod Texts
 pub mod Statuses
 pub mod FaultText
 pub mod Reports
+pub mod Command

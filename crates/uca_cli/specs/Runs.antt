@@ -6,7 +6,7 @@ use Rattle.uca_weights.specs.Writes.{WentOut}
 use Rattle.uca_values.specs.Content.{TableContent, Properties}
 use Rattle.uca_lines.specs.Lines.{is_lf, Lacks, ended, lines_of}
 use Rattle.uca_files.specs.Faults.{is_read_kind}
-use Rattle.uca_files.specs.declared.TableFault.{TableFault}
+use Rattle.uca_values.specs.declared.faults.TableFault.{TableFault}
 use Rattle.uca_table.specs.Lines as tables
 use Rattle.uca_data.specs.Said as data_files
 use Rattle.uca_cli.specs.declared.faults.InputKind.{InputKind}

@@ -6,7 +6,7 @@ ghost use Rattle.uca_cli.specs.declared.faults.RunFault.TheVariants.{Write};
 
 use std::fmt;
 use thiserror::Error;
-use uca_files::TableFault;
+use uca_values::TableFault;
 use uca_text::TextFault;
 use uca_weights::WriteFault;
 use uca_words::WordFault;

@@ -12,10 +12,10 @@ ghost use Rattle.uca_cli.specs.Runs.{is_file, is_file_read, IsRefused, OfLines, 
 use crate::faults::{FileFault, Role, RunFault};
 use std::alloc::{Allocator, Global};
 use std::io::Read;
-use uca_data::read_data_in;
+use uca_data::read_data;
 use uca_key::laws::rows_are_short;
 use uca_match::{Lookup, Trie};
-use uca_table::read_table_in;
+use uca_table::read_table;
 use uca_values::{Data, Header, Table};
 use uca_weights::{Source, Weighting};
 
@@ -65,7 +65,7 @@ pub fn read_table_file<A: Allocator + Copy, T: Read>(
     ensures refused { IfErr result (IsRefused role source.old source.new (OfLines tables.Refuses)) }
     ensures failed { source.new.failed ≡ (source.old.failed || is_file_read role result) }
 {
-    match read_table_in(alloc, source) {
+    match read_table(alloc, source) {
         Ok(table) => Ok(table),
         Err(fault) => Err(RunFault::File {
             role,
@@ -88,7 +88,7 @@ pub fn read_data_file<A: Allocator + Copy, D: Read>(
     ensures refused { IfErr result (IsRefused Role.Data source.old source.new (OfLines data_files.Refuses)) }
     ensures failed { source.new.failed ≡ (source.old.failed || is_file_read Role.Data result) }
 {
-    match read_data_in(alloc, source) {
+    match read_data(alloc, source) {
         Ok(properties) => Ok(properties),
         Err(fault) => Err(RunFault::File {
             role: Role::Data,

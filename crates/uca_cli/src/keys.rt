@@ -96,15 +96,15 @@ impl<A: Allocator> KeyRun<A> {
             input,
             collator.data,
         ) {
-            Ok(NextLine::Ended) => {
+            Ok(NextLine::Terminated) => {
                 self.print_text(collator, number, out)?;
                 Ok(true)
             }
-            Ok(NextLine::Cut) => {
+            Ok(NextLine::Unterminated) => {
                 self.print_text(collator, number, out)?;
                 Ok(false)
             }
-            Ok(NextLine::End) => Ok(false),
+            Ok(NextLine::EndOfInput) => Ok(false),
             Err(kind) => Err(RunFault::Input { line: number, kind }),
         }
     }

@@ -2,6 +2,7 @@
 #![tactic(auto)]
 
 pub mod check;
+pub mod command;
 pub mod compare;
 pub mod faults;
 mod files;
@@ -14,6 +15,7 @@ pub mod reporting;
 pub mod sort;
 
 pub use check::run_check;
+pub use command::{OpenFault, Opens, run_command};
 pub use compare::{run_compare, run_compare_in};
 pub use faults::{FileFault, InputKind, Role, RunFault};
 pub use keys::{print_keys, run_keys, run_keys_in};

@@ -14,7 +14,7 @@ use std::alloc::Global;
 use std::fmt::Display;
 use std::io::Write;
 use std::string::ToString;
-use uca_files::FaultKind;
+use uca_values::FaultKind;
 use uca_text::TextFault;
 use uca_weights::Sink;
 use uca_words::WordFault;

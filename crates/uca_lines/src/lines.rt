@@ -25,11 +25,11 @@ const CHUNK: usize = 16_384;
 #[derive(Clone, Copy, Debug, PartialEq, Eq)]
 pub enum NextLine {
     /// A line, and the LF that ends it.
-    Ended,
+    Terminated,
     /// A last line, of one byte at least, that no LF ends.
-    Cut,
+    Unterminated,
     /// Nothing: no byte is left.
-    End,
+    EndOfInput,
 }
 
 /// Why no line was read.
@@ -117,8 +117,8 @@ impl LineReader {
         // The line, or what was read of it.
         ensures no_lf { Lacks is_lf line.new.items }
         ensures fits { length line.new.items ≤ self.old.longest }
-        ensures cut { result ≡ Ok NextLine.Cut → 0 < length line.new.items }
-        ensures end { result ≡ Ok NextLine.End → line.new.items ≡ [] }
+        ensures cut { result ≡ Ok NextLine.Unterminated → 0 < length line.new.items }
+        ensures end { result ≡ Ok NextLine.EndOfInput → line.new.items ≡ [] }
 
         // The limit on lines.
         ensures limit { IsWithinLimit self.old.number result }
@@ -133,7 +133,7 @@ impl LineReader {
     {
         line.clear();
         if !self.fill(source)? {
-            return Ok(NextLine::End);
+            return Ok(NextLine::EndOfInput);
         }
         if self.number >= LINE_LIMIT {
             return Err(LineFault::Limit);
@@ -155,7 +155,7 @@ impl LineReader {
             line.new.items self.old.longest result }
         ensures no_lf { Lacks is_lf line.new.items }
         ensures fits { length line.new.items ≤ self.old.longest }
-        ensures cut { result ≡ Ok NextLine.Cut → 0 < length line.new.items }
+        ensures cut { result ≡ Ok NextLine.Unterminated → 0 < length line.new.items }
         ensures found { is_line result ≡ is_ok result }
         ensures not_limit { result ≢ Err LineFault.Limit }
         ensures read { result ≡ Err LineFault.Read → self.new.pending ≡ [] }
@@ -166,10 +166,10 @@ impl LineReader {
     {
         loop {
             if self.take_waiting(line)? {
-                return Ok(NextLine::Ended);
+                return Ok(NextLine::Terminated);
             }
             if !self.fill(source)? {
-                return Ok(NextLine::Cut);
+                return Ok(NextLine::Unterminated);
             }
         }
     }

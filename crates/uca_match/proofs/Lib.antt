@@ -16,4 +16,3 @@ pub mod TrieWalks
 pub mod TrieRows
 pub mod TrieLookups
 pub mod TrieHeads
-pub mod TestTables

@@ -2,7 +2,8 @@
 
 ghost use Rattle.std.specs.Prelude.{◌≡◌, ◌+◌, ◌≤◌, ◌++◌, length, codes, decimal};
 ghost use Rattle.uca_cli.specs.RoleText.{role_text};
-ghost use Rattle.uca_cli.specs.FaultText.{input_kind_text, text_fault_text, long_run_text, line_text, file_fault_text, side_text, word_fault_text, fault_text};
+ghost use Rattle.uca_text.specs.FaultText.{text_fault_text};
+ghost use Rattle.uca_cli.specs.FaultText.{input_kind_text, long_run_text, line_text, file_fault_text, side_text, word_fault_text, fault_text};
 
 use crate::faults::{FileFault, InputKind, Role, RunFault};
 use arrayvec::ArrayString;

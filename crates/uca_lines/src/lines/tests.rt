@@ -19,15 +19,15 @@ fn answers(alloc: Global, text: &[u8], longest: usize, pace: Pace) -> Result<Vec
             said.extend_from_slice(&line)?;
         }
         said.extend_from_slice(match next {
-            Ok(NextLine::Ended) => b"+".as_slice(),
-            Ok(NextLine::Cut) => b"-".as_slice(),
-            Ok(NextLine::End) => b"$".as_slice(),
+            Ok(NextLine::Terminated) => b"+".as_slice(),
+            Ok(NextLine::Unterminated) => b"-".as_slice(),
+            Ok(NextLine::EndOfInput) => b"$".as_slice(),
             Err(LineFault::TooLong) => b"TooLong".as_slice(),
             Err(LineFault::Limit) => b"Limit".as_slice(),
             Err(LineFault::Read) => b"Read".as_slice(),
             Err(LineFault::Memory) => b"Memory".as_slice(),
         })?;
-        if !matches!(next, Ok(NextLine::Ended | NextLine::Cut)) {
+        if !matches!(next, Ok(NextLine::Terminated | NextLine::Unterminated)) {
             break;
         }
     }
@@ -68,7 +68,7 @@ fn a_failed_read_ends_the_line(rt: HostRuntime) -> Result<(), Fail> {
             for _ in 0..lines {
                 assert_eq!(rt;
                     reader.next_line(&mut source, &mut line),
-                    Ok(NextLine::Ended)
+                    Ok(NextLine::Terminated)
                 );
                 assert_eq!(rt; line.as_slice(), b"ab".as_slice());
             }
@@ -105,12 +105,18 @@ fn a_chunk_is_one_read(rt: HostRuntime) -> Result<(), Fail> {
     for _ in 0..300 {
         assert_eq!(rt;
             reader.next_line(&mut source, &mut line),
-            Ok(NextLine::Ended)
+            Ok(NextLine::Terminated)
         );
         assert_eq!(rt; line.len(), 127);
     }
-    assert_eq!(rt; reader.next_line(&mut source, &mut line), Ok(NextLine::End));
-    assert_eq!(rt; reader.next_line(&mut source, &mut line), Ok(NextLine::End));
+    assert_eq!(rt;
+        reader.next_line(&mut source, &mut line),
+        Ok(NextLine::EndOfInput)
+    );
+    assert_eq!(rt;
+        reader.next_line(&mut source, &mut line),
+        Ok(NextLine::EndOfInput)
+    );
     assert_eq!(rt; calls.all.get(), 5);
     Ok(())
 }
@@ -119,7 +125,7 @@ fn a_chunk_is_one_read(rt: HostRuntime) -> Result<(), Fail> {
 fn a_line_may_span_chunks(rt: HostRuntime) -> Result<(), Fail> {
     let text = vec![in rt.alloc(); b'x'; 40_000]?;
     for (longest, want) in [
-        (40_000, Ok(NextLine::Cut)),
+        (40_000, Ok(NextLine::Unterminated)),
         (39_999, Err(LineFault::TooLong)),
     ] {
         let calls = Calls::new();
@@ -134,7 +140,7 @@ fn a_line_may_span_chunks(rt: HostRuntime) -> Result<(), Fail> {
 #[test]
 fn no_line_after_the_last_that_may_be(rt: HostRuntime) -> Result<(), Fail> {
     let mut text = vec![in rt.alloc(); b'\n'; 1_000_000]?;
-    for want in [Ok(NextLine::End), Err(LineFault::Limit)] {
+    for want in [Ok(NextLine::EndOfInput), Err(LineFault::Limit)] {
         let calls = Calls::new();
         let mut source = Source::new(FakeReader::new(&text, Pace::steps(usize::MAX), &calls));
         let mut line = Vec::new(rt.alloc());
@@ -142,7 +148,7 @@ fn no_line_after_the_last_that_may_be(rt: HostRuntime) -> Result<(), Fail> {
         for _ in 0..1_000_000 {
             assert_eq!(rt;
                 reader.next_line(&mut source, &mut line),
-                Ok(NextLine::Ended)
+                Ok(NextLine::Terminated)
             );
         }
         assert_eq!(rt; reader.next_line(&mut source, &mut line), want);
@@ -170,7 +176,7 @@ fn a_refused_growth_is_told(rt: HostRuntime) -> Result<(), Fail> {
     for size in 0..32 {
         let heap = LocalHeap::new(rt.alloc(), size * 16)?;
         match first_in(&heap, &text, &want) {
-            (Ok(NextLine::Ended), true) => was_read = true,
+            (Ok(NextLine::Terminated), true) => was_read = true,
             (Err(LineFault::Memory), _) => was_refused = true,
             _ => assert!(rt; false, "another answer, with {size}"),
         }
