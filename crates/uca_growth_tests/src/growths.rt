@@ -1,4 +1,4 @@
-//! Runs in heaps of rising sizes, so that each growth is refused in turn.
+//! Runs in heaps of rising sizes, so that each allocation fails in turn.
 
 use crate::trials::check;
 use linked_list_allocator::LocalHeap;
@@ -67,8 +67,8 @@ fn keys_before(alloc: Global, line: usize) -> Result<String, AllocError> {
     Ok(text)
 }
 
-// The places of refused growths: the texts; the trie of the table's rows, which comes behind both files and
-// before the input; and what belongs to none of them, before the whole input was read and behind it.
+// The places of allocations that fail: the texts; the trie of the table's rows, which comes after both files and
+// before the input; and what belongs to none of them, before the whole input was read and after it.
 const TABLE: usize = 0;
 
 const DATA: usize = 1;
@@ -87,7 +87,7 @@ type Texts<'a> = [&'a [u8]; 3];
 /// What came of a run in a heap.
 #[derive(Drop)]
 struct Outcome {
-    /// What it answers.
+    /// What it returns.
     end: Result<Answer, RunFault>,
     /// What went out.
     printed: Vec<u8>,
@@ -127,7 +127,7 @@ fn run_in(
     })
 }
 
-// What is refused its growth before any text is read, if anything is: the table, the data file, or the trie
+// Where an allocation fails before any text is read, if one does: the table, the data file, or the trie
 // of the table's rows. It is found by the library's calls in the same heap, in the order of the runs. A
 // check of the table makes no trie.
 fn refused_before_texts(heap: &LocalHeap, run: Run, texts: Texts) -> Option<usize> {
@@ -147,7 +147,7 @@ fn refused_before_texts(heap: &LocalHeap, run: Run, texts: Texts) -> Option<usiz
     None
 }
 
-/// The text and the line at which a growth was refused.
+/// The text and the line at which an allocation failed.
 fn place_of(fault: &RunFault) -> Option<(usize, u32)> {
     match fault {
         RunFault::File {
@@ -176,7 +176,7 @@ fn place_of(fault: &RunFault) -> Option<(usize, u32)> {
     }
 }
 
-// The place at which a run was refused a growth; and this is what is refused before any text is read. That
+// The place at which an allocation of a run failed; and this is where one fails before any text is read. That
 // of a text is in the line of the last byte that was read. Nothing was printed, but the keys of the lines
 // before it.
 fn judge(
@@ -215,8 +215,8 @@ fn judge(
     Ok(place)
 }
 
-// The reader of the input is called exactly where nothing is refused before any text is read, by a run that
-// has one. What stands before the refused growth was read to its end.
+// The reader of the input is called exactly where no allocation fails before any text is read, by a run that
+// has one. What stands before the allocation that failed was read to its end.
 fn check_order(
     rt: &(impl Abort + AllocGlobal),
     run: Run,
@@ -237,15 +237,15 @@ fn check_order(
 /// What was met in heaps of rising sizes.
 #[derive(Clone, Copy)]
 struct Met {
-    /// At which places growths were refused.
+    /// At which places allocations failed.
     refused: [bool; 6],
     /// The size of the first heap that had room enough.
     enough: usize,
 }
 
-// Runs in heaps of rising sizes, until one has room enough and the run ends so: each before is refused a
-// growth. With more room that does not come earlier, and over ample memory a run does all behind a refusal
-// at each place.
+// Runs in heaps of rising sizes, until one has room enough and the run ends so: in each before it an
+// allocation fails. With more room that does not come earlier, and over ample memory a run does all after a
+// failure at each place.
 fn refused_places(
     rt: &(impl Abort + AllocGlobal),
     run: Run,
@@ -346,7 +346,7 @@ fn comparisons_in_little_memory(rt: HostRuntime) -> Result<(), Fail> {
     let run = Run::Compare(left.as_str(), "b", Some(NonIgnorable));
     let met = refused_places(&rt, run, files, ("< 1\n", "done"), 48)?;
     assert_eq!(rt; met.refused, [true, true, false, true, false, true]);
-    // A faulty text comes behind the trie and before the keys.
+    // A faulty text comes after the trie and before the keys.
     let long = acutes(rt.alloc(), 65)?;
     let run = Run::Compare(long.as_str(), "b", Some(NonIgnorable));
     let faulty = refused_places(&rt, run, files, ("", "left: LongRun at 0"), 48)?;

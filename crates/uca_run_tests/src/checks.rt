@@ -8,7 +8,7 @@ use uca_trials::{A_ACUTE, A_ACUTE_GRAVE, DATA, Files, Run, SMALL, TABLE};
 
 const WELL_FORMED: &str = "well-formed\n";
 
-// The run prints this verdict on a table, and answers by it.
+// The run prints this verdict on a table, and returns it.
 fn check_verdict(
     rt: &(impl Abort + AllocGlobal),
     table: &[&str],

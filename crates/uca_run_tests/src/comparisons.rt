@@ -61,10 +61,10 @@ fn texts_with_a_contraction(rt: HostRuntime) -> Result<(), Fail> {
 fn refused_texts(rt: HostRuntime) -> Result<(), Fail> {
     let accents = acutes(rt.alloc(), 64)?;
     let more_accents = acutes(rt.alloc(), 65)?;
-    let behind_letter = joined(rt.alloc(), &["a", more_accents.as_str()])?;
+    let after_letter = joined(rt.alloc(), &["a", more_accents.as_str()])?;
     let short = accents.as_str();
     let long = more_accents.as_str();
-    let later = behind_letter.as_str();
+    let later = after_letter.as_str();
     // Left text, right text, what is printed, and what is told.
     let cases = [
         (short, short, "= 0\n", "done"),

@@ -159,7 +159,7 @@ fn ranges_of_implicit_weights(rt: HostRuntime) -> Result<(), Fail> {
     Ok(())
 }
 
-// A line of so many bytes behind a line `a`, and what is told. The key of the first line is printed.
+// A line of so many bytes after a line `a`, and what is told. The key of the first line is printed.
 fn check_long(
     rt: &(impl Abort + AllocGlobal),
     byte: u8,
@@ -208,7 +208,7 @@ fn long_runs_of_accents(rt: HostRuntime) -> Result<(), Fail> {
         (64, key.as_str(), "done"),
         (65, "0000 0000\n", "input line 2: LongRun at 1"),
     ] {
-        // A line of `a` and so many accents, behind an empty line.
+        // A line of `a` and so many accents, after an empty line.
         let accents = acutes(rt.alloc(), count)?;
         let input = joined(rt.alloc(), &["\na", accents.as_str(), "\n"])?;
         let files = SMALL.with_input(input.as_bytes());

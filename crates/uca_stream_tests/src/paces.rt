@@ -122,7 +122,7 @@ pub fn run_at(
 }
 
 // The same over the bytes of a table, a data file and an input. A stream says that it failed exactly where
-// a call of its reader or writer failed: so one that fails by itself is seen, and one that answers without
+// a call of its reader or writer failed: so one that fails by itself is seen, and one that returns without
 // a call. None is called again after a call that failed.
 fn run_over(
     rt: &(impl Abort + AllocGlobal),

@@ -113,7 +113,7 @@ fn readers_of_other_runs_that_fail(rt: HostRuntime) -> Result<(), Fail> {
     check_read_faults(&rt, SORT, INPUT, "input", LINES.input)
 }
 
-// A run over a writer that takes so many bytes and then fails in each way: it answers so, and these bytes
+// A run over a writer that takes so many bytes and then fails in each way: this is told, and these bytes
 // of the whole output went out.
 fn check_write_fault(
     rt: &(impl Abort + AllocGlobal),

@@ -21,7 +21,7 @@ pub enum Run<'a> {
     Compare(&'a str, &'a str, Option<Weighting>),
 }
 
-/// What a run without a fault answers.
+/// What a run without a fault returns.
 #[derive(Clone, Copy)]
 pub enum Answer {
     /// That it is done.
@@ -30,7 +30,7 @@ pub enum Answer {
     Verdict(bool),
 }
 
-/// What is told of the end of a run: its answer, or the text of its fault.
+/// What is told of the end of a run: what it returns, or the text of its fault.
 pub fn told(alloc: Global, end: &Result<Answer, RunFault>) -> Result<String, AllocError> {
     match end {
         Ok(Answer::Done) => String::from_str(alloc, "done"),
