@@ -5,8 +5,6 @@ mod digits;
 mod handing;
 mod header;
 mod rows;
-#[cfg(test)]
-mod tests;
 mod write;
 
 pub use write::write_table;

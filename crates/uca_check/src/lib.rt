@@ -9,8 +9,6 @@ ghost use Rattle.uca_check.specs.FaultText.{ill_formed_text};
 mod gaps;
 mod heights;
 mod keys;
-#[cfg(test)]
-mod tests;
 mod variables;
 
 use std::alloc::Allocator;

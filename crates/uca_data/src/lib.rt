@@ -4,7 +4,5 @@
 mod begun;
 mod lines;
 mod read;
-#[cfg(test)]
-mod tests;
 
 pub use read::read_data;

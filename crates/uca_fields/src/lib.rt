@@ -6,8 +6,6 @@
 mod cuts;
 mod numbers;
 mod ranges;
-#[cfg(test)]
-mod tests;
 
 pub use cuts::{cut_at, cut_word, halves, line_text, skip_blanks, trim};
 pub use numbers::{class_number, code_point, hexadecimal_digit, weight};

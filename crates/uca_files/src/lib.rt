@@ -8,8 +8,6 @@ ghost use Rattle.uca_files.specs.declared.FileForm.{FileForm};
 
 pub mod laws;
 mod reading;
-#[cfg(test)]
-mod tests;
 
 pub use reading::read_lines;
 pub use uca_values::{FaultKind, TableFault};

@@ -243,6 +243,3 @@ fn first_line(bytes: &[u8]) -> (&[u8], bool)
         None => (bytes, false),
     }
 }
-
-#[cfg(test)]
-mod tests;

@@ -128,6 +128,3 @@ fn send<W: Write>(out: &mut Sink<W>, text: &[u8], written: u64) -> Result<u64, W
         }),
     }
 }
-
-#[cfg(test)]
-mod tests;

@@ -9,8 +9,6 @@ mod laws;
 mod lines;
 mod read;
 mod rows;
-#[cfg(test)]
-mod tests;
 
 pub use laws::{canonical_text_means_its_table, canonical_text_means_the_same, worked_lines};
 pub use read::read_table;

@@ -6,8 +6,6 @@ pub mod characters;
 pub mod faults;
 pub mod implicit;
 pub mod tables;
-#[cfg(test)]
-mod tests;
 
 pub use characters::{Data, RangeFault};
 pub use faults::{FaultKind, TableFault};

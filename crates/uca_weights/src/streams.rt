@@ -8,6 +8,3 @@ pub mod source;
 
 pub use sink::{Sink, WriteFault};
 pub use source::{ReadFault, Source};
-
-#[cfg(test)]
-mod tests;
