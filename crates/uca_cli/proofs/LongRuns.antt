@@ -35,13 +35,13 @@ front_passes classes run =
 front_stands : (classes : List ℕ) → begins_with_marks 65 classes ≡ true → IsLongRun classes 0
 front_stands classes h = record {
   within = let fit = marks_fit 65 classes h in omega (arith, fit);
-  marks = λ k below. let here = marks_stand 65 classes h k below in subst (λ n. 0 < get_or classes n 0) (omega arith) here;
+  non_starters = λ k below. let here = marks_stand 65 classes h k below in subst (λ n. 0 < get_or classes n 0) (omega arith) here;
 }
 
 run_later : (class : ℕ) (classes : List ℕ) (place : ℕ) → IsLongRun classes place → IsLongRun (class ∷ classes) (suc place)
 run_later class classes place run = record {
   within = let fit = run.within in omega (arith, fit);
-  marks = λ k below.
+  non_starters = λ k below.
       let here : 0 < get_or (class ∷ classes) (suc (place + k)) 0 = run.non_starters k below in
       let same : suc (place + k) ≡ suc place + k = omega arith in
       subst (λ n. 0 < get_or (class ∷ classes) n 0) same here;
@@ -50,7 +50,7 @@ run_later class classes place run = record {
 run_earlier : (class : ℕ) (classes : List ℕ) (place : ℕ) → IsLongRun (class ∷ classes) (suc place) → IsLongRun classes place
 run_earlier class classes place run = record {
   within = let fit = run.within in omega (arith, fit);
-  marks = λ k below.
+  non_starters = λ k below.
       let same : suc place + k ≡ suc (place + k) = omega arith in
       let here : 0 < get_or (class ∷ classes) (suc (place + k)) 0 = subst (λ n. 0 < get_or (class ∷ classes) n 0) same (run.non_starters k below) in
       here;
