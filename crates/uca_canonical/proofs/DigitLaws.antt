@@ -26,11 +26,13 @@ pub four_digits_are : (n : ℕ) → digits 4 n ≡ last_digit (n / 0x1000) ∷ l
 unfolding digits
 four_digits_are n = rw (three n, two n) refl
 
-pub five_digits_are : (n : ℕ) → digits 5 n ≡ last_digit (n / 0x1_0000) ∷ last_digit (n / 0x1000) ∷ last_digit (n / 0x100) ∷ last_digit (n / 16) ∷ last_digit n ∷ []
+pub five_digits_are : (n : ℕ) → digits 5 n ≡ last_digit (n / 0x1_0000) ∷ last_digit (n / 0x1000) ∷ last_digit (n / 0x100) ∷ last_digit (n / 16) ∷
+    last_digit n ∷ []
 unfolding digits
 five_digits_are n = rw (four n, three n, two n) refl
 
-pub six_digits_are : (n : ℕ) → digits 6 n ≡ last_digit (n / 0x10_0000) ∷ last_digit (n / 0x1_0000) ∷ last_digit (n / 0x1000) ∷ last_digit (n / 0x100) ∷ last_digit (n / 16) ∷ last_digit n ∷ []
+pub six_digits_are : (n : ℕ) → digits 6 n ≡ last_digit (n / 0x10_0000) ∷ last_digit (n / 0x1_0000) ∷ last_digit (n / 0x1000) ∷ last_digit
+    (n / 0x100) ∷ last_digit (n / 16) ∷ last_digit n ∷ []
 unfolding digits
 six_digits_are n = rw (five n, four n, three n, two n) refl
 
@@ -51,12 +53,15 @@ point_is c first six h e = point_digits c first six h e
 
 -- ---- Elements
 
-pub element_is : (e : Element) (mark : ℕ) (p s t : List ℕ) → mark ≡ mark_byte e.mark → p ≡ digits 4 e.primary → s ≡ digits 4 e.secondary → t ≡ digits 4 e.tertiary
-    → 91 ∷ mark ∷ get_or p 0 0 ∷ get_or p 1 0 ∷ get_or p 2 0 ∷ get_or p 3 0 ∷ 46 ∷ get_or s 0 0 ∷ get_or s 1 0 ∷ get_or s 2 0 ∷ get_or s 3 0 ∷ 46 ∷ get_or t 0 0 ∷ get_or t 1 0 ∷ get_or t 2 0 ∷ get_or t 3 0 ∷ 93 ∷ [] ≡ element_text e
+pub element_is : (e : Element) (mark : ℕ) (p s t : List ℕ) → mark ≡ mark_byte e.mark → p ≡ digits 4 e.primary → s ≡ digits 4 e.secondary
+    → t ≡ digits 4 e.tertiary
+    → 91 ∷ mark ∷ get_or p 0 0 ∷ get_or p 1 0 ∷ get_or p 2 0 ∷ get_or p 3 0 ∷ 46 ∷ get_or s 0 0 ∷ get_or s 1 0 ∷ get_or s 2 0 ∷ get_or s 3 0 ∷ 46 ∷
+    get_or t 0 0 ∷ get_or t 1 0 ∷ get_or t 2 0 ∷ get_or t 3 0 ∷ 93 ∷ [] ≡ element_text e
 unfolding element_text
 element_is e mark p s t m hp hs ht = rw (m, hp, hs, ht, four_digits_are e.primary, four_digits_are e.secondary, four_digits_are e.tertiary) refl
 
 -- ---- The end of a line
 
-pub lead_end_is : (n : ℕ) (lead : List ℕ) → lead ≡ digits 4 n → 59 ∷ 32 ∷ get_or lead 0 0 ∷ get_or lead 1 0 ∷ get_or lead 2 0 ∷ get_or lead 3 0 ∷ 10 ∷ [] ≡ 59 ∷ 32 ∷ digits 4 n ++ 10 ∷ []
+pub lead_end_is : (n : ℕ) (lead : List ℕ) → lead ≡ digits 4 n
+    → 59 ∷ 32 ∷ get_or lead 0 0 ∷ get_or lead 1 0 ∷ get_or lead 2 0 ∷ get_or lead 3 0 ∷ 10 ∷ [] ≡ 59 ∷ 32 ∷ digits 4 n ++ 10 ∷ []
 lead_end_is n lead h = rw (h, four_digits_are n) refl

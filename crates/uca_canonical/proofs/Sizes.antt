@@ -21,7 +21,8 @@ use Rattle.uca_canonical.specs.LineTexts.{setting_text, range_lines, header_text
 use Rattle.uca_canonical.proofs.Texts.{header_text_is}
 
 -- as many texts of n bytes at most
-length-flat_map-le : {X : Type 0} (f : X → List ℕ) (n : ℕ) (P : X → Type 0) → ((x : X) → P x → length (f x) ≤ n) → (xs : List X) → AllByRecursion P xs → length (flat_map f xs) ≤ length xs * n
+length-flat_map-le : {X : Type 0} (f : X → List ℕ) (n : ℕ) (P : X → Type 0) → ((x : X) → P x → length (f x) ≤ n) → (xs : List X) → AllByRecursion P xs
+    → length (flat_map f xs) ≤ length xs * n
 length-flat_map-le f n P each [] h = omega arith
 length-flat_map-le f n P each (x ∷ xs) h = omega (arith, length-append (f x) (flat_map f xs), each x h.0, length-flat_map-le f n P each xs h.1)
 
@@ -115,7 +116,13 @@ length-setting_line weightings.Shifted = lit≤ tt
 length-setting_text : (setting : Option Weighting) → length (setting_text setting) ≤ 24
 unfolding setting_text
 length-setting_text None = lit≤ tt
-length-setting_text (Some setting) = omega (arith, length-append (ended (setting_line setting)) [], length-ended (setting_line setting), length-setting_line setting)
+length-setting_text (Some setting) = omega (
+  arith,
+  length-append (ended (setting_line setting)) [],
+  length-ended
+      (setting_line setting),
+  length-setting_line setting,
+)
 
 second : (a b c : Bool) → (a && b && c) ≡ true → b ≡ true
 second true true c h = refl
@@ -148,6 +155,7 @@ length-header_text header h =
 pub header_fits : (header : HeaderContent) (buffer : BufferState) → count_of buffer ≡ 0 → IsHeader header → HasRoom buffer (length (header_text header))
 header_fits header buffer none h = omega (arith, none, length-header_text header h)
 
--- and for the rows behind it
-pub rows_fit : (header : HeaderContent) (rows : List Entry) (buffer held : BufferState) (out now : SinkState) → count_of buffer ≡ 0 → HasHanded (header_text header) buffer held out now → length (header_text header) ≤ 10000 → AreRows rows → HasRoom held (length (row_lines rows))
+-- and for the rows after it
+pub rows_fit : (header : HeaderContent) (rows : List Entry) (buffer held : BufferState) (out now : SinkState) → count_of buffer ≡ 0
+    → HasHanded (header_text header) buffer held out now → length (header_text header) ≤ 10000 → AreRows rows → HasRoom held (length (row_lines rows))
 rows_fit header rows buffer held out now none handed short h = omega (arith, none, handed.count, short, length-row_lines rows h)

@@ -48,7 +48,8 @@ pub setting_text_none : (o : Option Weighting) → o ≡ None → setting_text o
 unfolding setting_text
 setting_text_none o e = rw e refl
 
-pub setting_text_some : (o : Option Weighting) (setting : Weighting) (line : List ℕ) → o ≡ Some setting → line ≡ ended (setting_line setting) → setting_text o ≡ line
+pub setting_text_some : (o : Option Weighting) (setting : Weighting) (line : List ℕ) → o ≡ Some setting → line ≡ ended (setting_line setting)
+    → setting_text o ≡ line
 unfolding setting_text
 setting_text_some o setting line e h = rw e (append-nil (ended (setting_line setting)) ∙ sym h)
 
@@ -59,7 +60,8 @@ pub header_text_is : (header : HeaderContent) → header_text header ≡ flat_ma
 unfolding header_text setting_text range_lines
 header_text_is header = ap (λ l. ended (version_line header.version) ++ l) (
     flat_map-append ended (map setting_line (option_to_list header.setting)) (map range_line header.ranges)
-    ∙ ap (λ l. flat_map ended (map setting_line (option_to_list header.setting)) ++ l) (flat_map-map ended range_line header.ranges ∙ sym (append-nil (flat_map (λ r. ended (range_line r)) header.ranges)))
+    ∙ ap (λ l. flat_map ended (map setting_line (option_to_list header.setting)) ++ l)
+    (flat_map-map ended range_line header.ranges ∙ sym (append-nil (flat_map (λ r. ended (range_line r)) header.ranges)))
     )
 
 abbrev pub table_parts : TableContent → List (List ℕ)
@@ -68,4 +70,5 @@ table_parts table = header_text table.header ∷ row_lines table.rows ∷ []
 pub canonical_is : (table : TableContent) → canonical table ≡ flat_map part (table_parts table)
 unfolding canonical header_text row_lines
 canonical_is table = flat_map-append ended (header_lines table.header) (map row_line table.rows)
-    ∙ ap (λ l. flat_map ended (header_lines table.header) ++ l) (flat_map-map ended row_line table.rows ∙ sym (append-nil (flat_map (λ row. ended (row_line row)) table.rows)))
+    ∙ ap (λ l. flat_map ended (header_lines table.header) ++ l) (flat_map-map ended row_line table.rows
+    ∙ sym (append-nil (flat_map (λ row. ended (row_line row)) table.rows)))

@@ -17,7 +17,7 @@ point_width c = if nat_lt c 0x1_0000 then 4 else (if nat_lt c 0x10_0000 then 5 e
 unfoldable pub point_text : ℕ → List ℕ
 point_text c = digits (point_width c) c
 
--- the code points of a key, each with a space behind it
+-- the code points of a key, each with a space after it
 unfoldable pub key_point_text : ℕ → List ℕ
 key_point_text c = point_text c ++ 32 ∷ []
 

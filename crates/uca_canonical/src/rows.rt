@@ -59,7 +59,7 @@ fn hand_key<W: Write>(
     Ok(())
 }
 
-// A code point of a key, with a space behind it.
+// A code point of a key, with a space after it.
 fn hand_key_point<W: Write>(
     buffer: &mut OutputBuffer,
     out: &mut Sink<W>,

@@ -1,12 +1,16 @@
 -- The laws of key lines, from those of keys.
 use Rattle.std.proofs.Common.{chars, ap}
-use Rattle.uca_key.proofs.KeyOrder.{keys_compare}
-use Rattle.uca_key.proofs.Equivalence.{equivalent_texts}
-use Rattle.uca_cli.specs.Laws.{line_elements, LineKeysCompareAsElements, CanonicallyEquivalentLinesHaveOneKeyLine}
+use Rattle.uca_text.specs.Texts.{spelled}
+use Rattle.uca_match.specs.Collations.{elements_of}
+use Rattle.uca_key.specs.Laws.{KeysCompareAsElements, CanonicallyEquivalentTextsHaveEqualKeys}
+use Rattle.uca_cli.specs.Laws.{LineKeysCompareAsElements, CanonicallyEquivalentLinesHaveOneKeyLine}
 use Rattle.uca_cli.specs.Print.{print_line}
 
-pub line_keys_compare : LineKeysCompareAsElements
-line_keys_compare c left right = keys_compare c.weighting (line_elements c left) (line_elements c right)
+-- the keys of lines are those of their elements
+pub line_keys_compare : KeysCompareAsElements → LineKeysCompareAsElements
+line_keys_compare law c left right =
+    law c.weighting (elements_of c.collation (spelled c.collation.properties (chars left))) (elements_of c.collation (spelled c.collation.properties (chars right)))
 
-pub one_key_line : CanonicallyEquivalentLinesHaveOneKeyLine
-one_key_line c left right same = ap print_line (equivalent_texts c.rows c.ranges c.properties c.weighting (chars left) (chars right) same)
+-- equal keys print as equal lines
+pub one_key_line : CanonicallyEquivalentTextsHaveEqualKeys → CanonicallyEquivalentLinesHaveOneKeyLine
+one_key_line law c left right same = ap print_line (law c.collation c.weighting (chars left) (chars right) same)

@@ -30,7 +30,7 @@ marks_stand (suc n) (class ∷ classes) h (suc k) below = marks_stand n classes 
 -- a long run at the front passes the test, and what passes it is one
 front_passes : (classes : List ℕ) → IsLongRun classes 0 → begins_with_marks 65 classes ≡ true
 front_passes classes run =
-    marks_pass 65 classes (omega (arith, run.within)) (λ k below. let here = run.marks k below in subst (λ n. 0 < get_or classes n 0) (omega arith) here)
+    marks_pass 65 classes (omega (arith, run.within)) (λ k below. let here = run.non_starters k below in subst (λ n. 0 < get_or classes n 0) (omega arith) here)
 
 front_stands : (classes : List ℕ) → begins_with_marks 65 classes ≡ true → IsLongRun classes 0
 front_stands classes h = record {
@@ -42,7 +42,7 @@ run_later : (class : ℕ) (classes : List ℕ) (place : ℕ) → IsLongRun class
 run_later class classes place run = record {
   within = let fit = run.within in omega (arith, fit);
   marks = λ k below.
-      let here : 0 < get_or (class ∷ classes) (suc (place + k)) 0 = run.marks k below in
+      let here : 0 < get_or (class ∷ classes) (suc (place + k)) 0 = run.non_starters k below in
       let same : suc (place + k) ≡ suc place + k = omega arith in
       subst (λ n. 0 < get_or (class ∷ classes) n 0) same here;
 }
@@ -52,7 +52,7 @@ run_earlier class classes place run = record {
   within = let fit = run.within in omega (arith, fit);
   marks = λ k below.
       let same : suc place + k ≡ suc (place + k) = omega arith in
-      let here : 0 < get_or (class ∷ classes) (suc (place + k)) 0 = subst (λ n. 0 < get_or (class ∷ classes) n 0) same (run.marks k below) in
+      let here : 0 < get_or (class ∷ classes) (suc (place + k)) 0 = subst (λ n. 0 < get_or (class ∷ classes) n 0) same (run.non_starters k below) in
       here;
 }
 

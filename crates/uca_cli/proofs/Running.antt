@@ -1,8 +1,6 @@
--- Whole runs, from what their files mean and from what is answered under it.
-use Rattle.std.proofs.Common.{◌≡◌, ℕ, List, false, Option, Some, None, IfSome, Result, Ok, Err, unwrap_or, refl, ap, subst, sym, ◌∙◌}
-use Rattle.std.specs.Prelude.{⊤}
-use Rattle.std.specs.Option.{option_or}
-use Rattle.std.proofs.Math.Path.{fun_ext}
+-- Whole runs, from what their files mean and what is answered under it.
+use Rattle.std.proofs.Common.{◌≡◌, ℕ, List, Bool, true, false, ◌&&◌, ◌||◌, Option, Some, None, IfSome, Result, Ok, Err, refl, ap, subst, sym, ◌∙◌}
+use Rattle.std.specs.Prelude.{⊤, MatchOption}
 use Rattle.uca_weights.specs.Streams.{SourceState}
 use Rattle.uca_weights.specs.declared.Weighting.{Weighting}
 use Rattle.uca_values.specs.declared.ImplicitRange.{ImplicitRange}
@@ -10,48 +8,89 @@ use Rattle.uca_values.specs.Content.{TableContent, Properties}
 use Rattle.uca_match.specs.Rows.{Rows, rows_of}
 use Rattle.uca_table.specs.Lines as tables
 use Rattle.uca_data.specs.Said as data_files
-use Rattle.uca_files.specs.Files.{Refuses}
-use Rattle.uca_files.specs.declared.TableFault.{TableFault}
+use Rattle.uca_cli.specs.declared.faults.FileFault.{FileFault}
 use Rattle.uca_cli.specs.declared.faults.RunFault.{RunFault}
-use Rattle.uca_cli.specs.declared.faults.RunFault.TheVariants.{File, Input, Write, Text, Open, Words, Memory}
+use Rattle.uca_cli.specs.declared.faults.RunFault.TheVariants.{File, Memory}
 use Rattle.uca_cli.specs.declared.faults.Role.{Role}
-use Rattle.uca_cli.specs.Keys.{collation_by, collation, weighting_by}
-use Rattle.uca_cli.specs.Runs.{BothMean, AnswersOver, RunsOver, is_file, is_file_read}
+use Rattle.uca_cli.specs.declared.faults.Role.TheVariants as roles
+use Rattle.uca_cli.specs.Keys.{Keying, keying, weighting_by}
+use Rattle.uca_cli.specs.Runs.{MeansOne, OverFile, OfLines, OverData, RunsOver, IsRefused, fault_of, is_role, is_file, is_file_read}
 
--- a data file that is refused, behind a table
-pub data_refused : (known data_known data_left : Option (List ℕ)) (table : TableContent) (fault : TableFault) → IfSome known (λ bytes. tables.Means bytes table) → IfSome data_known (λ bytes. Refuses data_files.Says data_files.Cause data_files.IsUnfinished bytes data_left fault.line fault.kind) → IfSome known (λ table_bytes. IfSome data_known (λ data_bytes. ((content : TableContent) × tables.Means table_bytes content) × Refuses data_files.Says data_files.Cause data_files.IsUnfinished data_bytes data_left fault.line fault.kind))
-data_refused None data_known data_left table fault means refuses = tt
-data_refused (Some bytes) None data_left table fault means refuses = tt
-data_refused (Some bytes) (Some data_bytes) data_left table fault means refuses = ((table, means), refuses)
+-- ---- One file
 
--- an answer behind both files
-answers_both : {A : Type 0} (table_bytes data_bytes : List ℕ) (table_left data_left : Option (List ℕ)) (P : TableContent → Properties → Type 0) (result : Result A RunFault) → is_file result ≡ false → BothMean table_bytes data_bytes P → AnswersOver table_bytes data_bytes table_left data_left P result
-answers_both table_bytes data_bytes table_left data_left P (Ok x) h both = both
-answers_both table_bytes data_bytes table_left data_left P (Err (Input number kind)) h both = both
-answers_both table_bytes data_bytes table_left data_left P (Err (Write written)) h both = both
-answers_both table_bytes data_bytes table_left data_left P (Err (File role fault)) h both = let never : ⊥ = cc in absurd never
-answers_both table_bytes data_bytes table_left data_left P (Err Memory) h both = both
-answers_both table_bytes data_bytes table_left data_left P (Err (Text right fault)) h both = both
-answers_both table_bytes data_bytes table_left data_left P (Err (Open role)) h both = both
-answers_both table_bytes data_bytes table_left data_left P (Err (Words fault)) h both = both
+-- a role is itself
+pub same_role : (role : Role) → is_role role role ≡ true
+same_role roles.Table = refl
+same_role roles.Data = refl
+same_role roles.Rules = refl
+same_role roles.Certificate = refl
+same_role roles.Base = refl
+same_role roles.Tailored = refl
 
-both_known : {A : Type 0} (table_known data_known table_left data_left : Option (List ℕ)) (P : TableContent → Properties → Type 0) (result : Result A RunFault) (content : TableContent) (points : Properties) → is_file result ≡ false → P content points → IfSome table_known (λ bytes. tables.Means bytes content) → IfSome data_known (λ bytes. data_files.Means bytes points) → IfSome table_known (λ table_bytes. IfSome data_known (λ data_bytes. AnswersOver table_bytes data_bytes table_left data_left P result))
-both_known None data_known table_left data_left P result content points h holds t d = tt
-both_known (Some table_bytes) None table_left data_left P result content points h holds t d = tt
-both_known (Some table_bytes) (Some data_bytes) table_left data_left P result content points h holds t d =
-    answers_both table_bytes data_bytes table_left data_left P result h (record {
-      table = content;
-      properties = points;
-      means_table = t;
-      means_data = d;
-      then = holds;
-    })
+-- a fault of this role is a failed read where its cause is one
+pub read_of_role : (role : Role) (new old reads : Bool) → new ≡ (old || reads) → new ≡ (old || (is_role role role && reads))
+read_of_role role new old reads same = same ∙ ap (λ b. old || (b && reads)) (sym (same_role role))
 
+-- what is no file's fault is of no role
+no_fault : {A : Type 0} (role : Role) (result : Result A RunFault) → is_file result ≡ false → fault_of role result ≡ None
+no_fault role (Ok x) h = refl
+no_fault role (Err (File other fault)) h = let never : ⊥ = cc in absurd never
+no_fault role (Err _) h = refl
+
+-- and no failed read of a file
+pub no_file_read : {A : Type 0} (role : Role) (result : Result A RunFault) → is_file result ≡ false → is_file_read role result ≡ false
+no_file_read role (Ok x) h = refl
+no_file_read role (Err (File other fault)) h = let never : ⊥ = cc in absurd never
+no_file_read role (Err _) h = refl
+
+known_value : {V : Type 0} (known : Option (List ℕ)) (Means : List ℕ → V → Type 0) (K : V → Type 0) (value : V) → IfSome known (λ bytes. Means bytes value) → K value → IfSome known (λ bytes. MeansOne Means bytes K)
+known_value None Means K value means holds = tt
+known_value (Some bytes) Means K value means holds = record { value = value; means = means; holds = holds }
+
+-- what is answered where the file means a value
+over_value : {A V : Type 0} (role : Role) (old new : SourceState) (Means : List ℕ → V → Type 0) (Refuses : List ℕ → Option (List ℕ) → FileFault → Type 0) (K : V → Type 0) (result : Result A RunFault) (value : V)
+    → fault_of role result ≡ None → IfSome old.remaining (λ bytes. Means bytes value) → K value → OverFile role old new Means Refuses K result
+over_value role old new Means Refuses K result value none means holds =
+    subst (λ o. IfSome old.remaining (λ bytes. MatchOption o (MeansOne Means bytes K) (λ fault. Refuses bytes new.remaining fault))) (sym none)
+    (known_value old.remaining Means K value means holds)
+
+known_weaker : {V : Type 0} (known left : Option (List ℕ)) (cause : Option FileFault) (Means : List ℕ → V → Type 0) (Refuses : List ℕ → Option (List ℕ) → FileFault → Type 0) (K L : V → Type 0) → ((v : V) → K v → L v)
+    → IfSome known (λ bytes. MatchOption cause (MeansOne Means bytes K) (λ fault. Refuses bytes left fault)) → IfSome known (λ bytes. MatchOption cause (MeansOne Means bytes L) (λ fault. Refuses bytes left fault))
+known_weaker None left cause Means Refuses K L weaker over = tt
+known_weaker (Some bytes) left None Means Refuses K L weaker over = record { value = over.value; means = over.means; holds = weaker over.value over.holds }
+known_weaker (Some bytes) left (Some fault) Means Refuses K L weaker over = over
+
+-- ---- A table and a data file
+
+-- the table is refused
+pub table_refused : (A : Type 0) (table table_new properties properties_new : SourceState) (P : TableContent → Properties → Type 0) (fault : RunFault)
+    → IsRefused roles.Table table table_new (OfLines tables.Refuses) fault → RunsOver {A = A} table table_new properties properties_new P (Err fault)
+table_refused A table table_new properties properties_new P fault is =
+    subst (λ f. RunsOver {A = A} table table_new properties properties_new P (Err f)) (sym is.1) is.2
+
+-- the data file is, after a table
+pub data_refused : (A : Type 0) (table table_new properties properties_new : SourceState) (P : TableContent → Properties → Type 0) (content : TableContent) (fault : RunFault)
+    → IfSome table.remaining (λ bytes. tables.Means bytes content) → IsRefused roles.Data properties properties_new (OfLines data_files.Refuses) fault → RunsOver {A = A} table table_new properties properties_new P (Err fault)
+data_refused A table table_new properties properties_new P content fault means is =
+    subst (λ f. RunsOver {A = A} table table_new properties properties_new P (Err f)) (sym is.1)
+    (known_value table.remaining tables.Means (λ points. IfSome properties.remaining (λ bytes. OfLines data_files.Refuses bytes properties_new.remaining is.0)) content means is.2)
+
+-- a run that ended by its files says nothing of what they mean
+pub ended_by_files : {A : Type 0} (table table_new properties properties_new : SourceState) (P : TableContent → Properties → Type 0) (result : Result A RunFault)
+    → RunsOver table table_new properties properties_new (λ content points. ⊥) result → RunsOver table table_new properties properties_new P result
+ended_by_files table table_new properties properties_new P result over =
+    known_weaker table.remaining table_new.remaining (fault_of roles.Table result) tables.Means (OfLines tables.Refuses)
+    (λ content. OverData properties properties_new (λ points. ⊥) result) (λ content. OverData properties properties_new (λ points. P content points) result)
+    (λ content inner. known_weaker properties.remaining properties_new.remaining (fault_of roles.Data result) data_files.Means (OfLines data_files.Refuses) (λ points. ⊥) (λ points. P content points) (λ points never. absurd never) inner)
+    over
+
+-- what is answered under both
 pub runs_over_both : {A : Type 0} (table table_new properties properties_new : SourceState) (P : TableContent → Properties → Type 0) (result : Result A RunFault) (content : TableContent) (points : Properties) → is_file result ≡ false → IfSome table.remaining (λ bytes. tables.Means bytes content) → IfSome properties.remaining (λ bytes. data_files.Means bytes points) → P content points → RunsOver table table_new properties properties_new P result
 runs_over_both table table_new properties properties_new P result content points h means_table means_data holds =
-    both_known table.remaining properties.remaining table_new.remaining properties_new.remaining P result content points h holds means_table means_data
+    over_value roles.Table table table_new tables.Means (OfLines tables.Refuses) (λ c. OverData properties properties_new (λ p. P c p) result) result content (no_fault roles.Table result h) means_table
+    (over_value roles.Data properties properties_new data_files.Means (OfLines data_files.Refuses) (λ p. P content p) result points (no_fault roles.Data result h) means_data holds)
 
--- a growth that is refused behind both files
+-- an allocation that fails after both files
 pub no_memory : {A : Type 0} (table table_new properties properties_new : SourceState) (P : Result A RunFault → TableContent → Properties → Type 0) (fault : RunFault) (content : TableContent) (points : Properties) → fault ≡ Memory → IfSome table.remaining (λ bytes. tables.Means bytes content) → IfSome properties.remaining (λ bytes. data_files.Means bytes points) → P (Err Memory) content points → RunsOver {A = A} table table_new properties properties_new (P (Err fault)) (Err fault)
 no_memory {A} table table_new properties properties_new P fault content points same means_table means_data holds =
     subst (λ f. RunsOver {A = A} table table_new properties properties_new (P (Err f)) (Err f)) (sym same)
@@ -62,24 +101,12 @@ pub whatever_bytes : (known : Option (List ℕ)) → IfSome known (λ bytes. ⊤
 whatever_bytes None = tt
 whatever_bytes (Some bytes) = tt
 
--- what is no file's fault is no failed read of a file
-pub no_file_read : {A : Type 0} (role : Role) (result : Result A RunFault) → is_file result ≡ false → is_file_read role result ≡ false
-no_file_read role (Ok x) h = refl
-no_file_read role (Err (Input number kind)) h = refl
-no_file_read role (Err (Write written)) h = refl
-no_file_read role (Err (File other fault)) h = let never : ⊥ = cc in absurd never
-no_file_read role (Err Memory) h = refl
-no_file_read role (Err (Text right fault)) h = refl
-no_file_read role (Err (Open other)) h = refl
-no_file_read role (Err (Words fault)) h = refl
+-- ---- What keys go by
 
--- the weighting that was chosen
-pub chosen : (asked setting : Option Weighting) (other : Weighting) → unwrap_or (option_or asked setting) other ≡ unwrap_or asked (unwrap_or setting other)
-chosen None None other = refl
-chosen None (Some setting) other = refl
-chosen (Some asked) setting other = refl
+abbrev pub keying_by : Rows → List ImplicitRange → Properties → Weighting → Keying
+keying_by rows ranges properties weighting = record { collation = record { rows = rows; ranges = ranges; properties = properties }; weighting = weighting }
 
--- rows that agree at each key are the same
-pub same_collation : (asked : Option Weighting) (table : TableContent) (properties : Properties) (rows : Rows) (ranges : List ImplicitRange) (weighting : Weighting) → ((key : List ℕ) → rows key ≡ rows_of table.rows key) → ranges ≡ table.header.ranges → weighting ≡ weighting_by asked table.header.setting → collation_by rows ranges properties weighting ≡ collation asked table properties
-same_collation asked table properties rows ranges weighting same_rows same_ranges same_weighting =
-    ap (λ r. collation_by r ranges properties weighting) (fun_ext same_rows) ∙ ap (λ r. collation_by (rows_of table.rows) r properties weighting) same_ranges ∙ ap (λ w. collation_by (rows_of table.rows) table.header.ranges properties w) same_weighting
+-- a collator of a table and of a data file, and the weighting that was chosen
+pub same_keying : (asked : Option Weighting) (table : TableContent) (properties : Properties) (rows : Rows) (ranges : List ImplicitRange) (points : Properties) (weighting : Weighting) → rows ≡ rows_of table.rows → ranges ≡ table.header.ranges → points ≡ properties → weighting ≡ weighting_by asked table.header.setting → keying_by rows ranges points weighting ≡ keying asked table properties
+same_keying asked table properties rows ranges points weighting same_rows same_ranges same_points same_weighting =
+    ap (λ r. keying_by r ranges points weighting) same_rows ∙ ap (λ r. keying_by (rows_of table.rows) r points weighting) same_ranges ∙ ap (λ p. keying_by (rows_of table.rows) table.header.ranges p weighting) same_points ∙ ap (λ w. keying_by (rows_of table.rows) table.header.ranges properties w) same_weighting

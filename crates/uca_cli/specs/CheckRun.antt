@@ -1,31 +1,18 @@
 -- What a run of check answers and writes.
-use Rattle.std.specs.Prelude.{◌≡◌, ℕ, List, [], ◌∷◌, ◌++◌, Bool, true, false, Option, Result, Ok, Err, codes}
-use Rattle.std.specs.Io.KnownBytes.{Appends}
+use Rattle.std.specs.Prelude.{◌≡◌, ℕ, List, [], ◌∷◌, ◌++◌, Bool, true, false, Result, codes}
 use Rattle.uca_weights.specs.Streams.{SinkState}
-use Rattle.uca_weights.specs.Writes.{WentOut}
 use Rattle.uca_values.specs.Content.{Entry, TableContent, Properties}
 use Rattle.uca_check.specs.declared.IllFormed.{IllFormed}
 use Rattle.uca_check.specs.WellFormed.{IsWellFormed, IsFirstFailure}
 use Rattle.uca_check.specs.FaultText.{ill_formed_text}
 use Rattle.uca_cli.specs.declared.faults.RunFault.{RunFault}
-use Rattle.uca_cli.specs.declared.faults.RunFault.TheVariants.{File, Input, Write, Memory, Text, Open, Words}
+use Rattle.uca_cli.specs.Verdicts.{WritesVerdict}
 
 -- The verdict on rows, and its line: that they are well-formed, or the first condition that fails and its first row.
 abbrev pub IsVerdict : (ℕ → ℕ) → List Entry → Bool → List ℕ → Type 0
 IsVerdict class rows true line = IsWellFormed class rows × (line ≡ codes "well-formed" ++ 10 ∷ [])
 IsVerdict class rows false line = (fault : IllFormed) × IsFirstFailure class rows fault.wf fault.row × (line ≡ ill_formed_text fault ++ 10 ∷ [])
 
--- What is written of a table under properties, by a writer that held `begun` and holds `now`.
-abbrev pub WritesVerdict : TableContent → Properties → Option (List ℕ) → Option (List ℕ) → Result Bool RunFault → Type 0
-WritesVerdict table properties begun now (Ok well_formed) = (line : List ℕ) × IsVerdict properties.class table.rows well_formed line × Appends begun now line
-WritesVerdict table properties begun now (Err (Write written)) = (well_formed : Bool) × (line : List ℕ) × IsVerdict properties.class table.rows well_formed line × WentOut begun now line written
-WritesVerdict table properties begun now (Err Memory) = ⊥
-WritesVerdict table properties begun now (Err (Input number kind)) = ⊥
-WritesVerdict table properties begun now (Err (File role fault)) = ⊥
-WritesVerdict table properties begun now (Err (Text right fault)) = ⊥
-WritesVerdict table properties begun now (Err (Open role)) = ⊥
-WritesVerdict table properties begun now (Err (Words fault)) = ⊥
-
 -- what a run of check answers under a table and properties
 abbrev pub RunsCheck : SinkState → SinkState → Result Bool RunFault → TableContent → Properties → Type 0
-RunsCheck out out_new result table properties = WritesVerdict table properties out.contents out_new.contents result
+RunsCheck out out_new result table properties = WritesVerdict (IsVerdict properties.class table.rows) out.contents out_new.contents result

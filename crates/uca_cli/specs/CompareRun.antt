@@ -13,8 +13,8 @@ use Rattle.uca_text.specs.Faults.{IsCause}
 use Rattle.uca_text.specs.declared.limits.TextFault.{TextFault}
 use Rattle.uca_key.specs.Levels.{Comparison}
 use Rattle.uca_cli.specs.declared.faults.RunFault.{RunFault}
-use Rattle.uca_cli.specs.declared.faults.RunFault.TheVariants.{File, Input, Write, Memory, Text, Open, Words}
-use Rattle.uca_cli.specs.Keys.{Collation, collation}
+use Rattle.uca_cli.specs.declared.faults.RunFault.TheVariants.{Write, Memory, Text}
+use Rattle.uca_cli.specs.Keys.{Keying, keying}
 use Rattle.uca_cli.specs.Laws.{lines_compared}
 
 -- `<`, `=` or `>`
@@ -37,17 +37,14 @@ RefusesWord properties right text fault = (cause : TextFault) × (fault ≡ Text
 
 -- What is written of two texts, by a writer that held `begun` and holds `now`: how they compare level by level, or as
 -- much of it as a fault of the writer leaves; or the right text is refused, or before it the left one.
-abbrev pub WritesComparison : {A : Type 0} → Collation → List ℕ → List ℕ → Option (List ℕ) → Option (List ℕ) → Result A RunFault → Type 0
-WritesComparison c left right begun now (Ok x) = IsWithinLimits c.properties left × IsWithinLimits c.properties right × Appends begun now (comparison_line (lines_compared c left right))
-WritesComparison c left right begun now (Err (Text false fault)) = IsCause (spelled c.properties (chars left)) fault
-WritesComparison c left right begun now (Err (Text true fault)) = IsWithinLimits c.properties left × IsCause (spelled c.properties (chars right)) fault
-WritesComparison c left right begun now (Err (Write written)) = IsWithinLimits c.properties left × IsWithinLimits c.properties right × WentOut begun now (comparison_line (lines_compared c left right)) written
+abbrev pub WritesComparison : {A : Type 0} → Keying → List ℕ → List ℕ → Option (List ℕ) → Option (List ℕ) → Result A RunFault → Type 0
+WritesComparison c left right begun now (Ok x) = IsWithinLimits c.collation.properties left × IsWithinLimits c.collation.properties right × Appends begun now (comparison_line (lines_compared c left right))
+WritesComparison c left right begun now (Err (Text false fault)) = IsCause (spelled c.collation.properties (chars left)) fault
+WritesComparison c left right begun now (Err (Text true fault)) = IsWithinLimits c.collation.properties left × IsCause (spelled c.collation.properties (chars right)) fault
+WritesComparison c left right begun now (Err (Write written)) = IsWithinLimits c.collation.properties left × IsWithinLimits c.collation.properties right × WentOut begun now (comparison_line (lines_compared c left right)) written
 WritesComparison c left right begun now (Err Memory) = ⊤
-WritesComparison c left right begun now (Err (Input number kind)) = ⊥
-WritesComparison c left right begun now (Err (File role fault)) = ⊥
-WritesComparison c left right begun now (Err (Open role)) = ⊥
-WritesComparison c left right begun now (Err (Words fault)) = ⊥
+WritesComparison c left right begun now (Err _) = ⊥
 
 -- what a run of compare answers under a table and properties
 abbrev pub RunsCompare : {A : Type 0} → Option Weighting → List ℕ → List ℕ → SinkState → SinkState → Result A RunFault → TableContent → Properties → Type 0
-RunsCompare asked left right out out_new result table properties = WritesComparison (collation asked table properties) left right out.contents out_new.contents result
+RunsCompare asked left right out out_new result table properties = WritesComparison (keying asked table properties) left right out.contents out_new.contents result

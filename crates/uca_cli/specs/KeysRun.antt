@@ -7,25 +7,22 @@ use Rattle.uca_weights.specs.Writes.{WentOut}
 use Rattle.uca_values.specs.Content.{TableContent, Properties}
 use Rattle.uca_lines.specs.Lines.{lines_of}
 use Rattle.uca_cli.specs.declared.faults.RunFault.{RunFault}
-use Rattle.uca_cli.specs.declared.faults.RunFault.TheVariants.{File, Input, Write, Memory, Text, Open, Words}
-use Rattle.uca_cli.specs.Keys.{Collation, collation, key_lines, keys_output}
+use Rattle.uca_cli.specs.declared.faults.RunFault.TheVariants.{File, Input, Write, Memory}
+use Rattle.uca_cli.specs.Keys.{Keying, keying, key_lines, keys_output}
 use Rattle.uca_cli.specs.Runs.{IsClean, IsInputFault}
 
 -- What is written of an input, whose source has something left, by a writer that held `begun` and holds `now`.
-abbrev pub WritesKeys : {A : Type 0} → Collation → List ℕ → Option (List ℕ) → Option (List ℕ) → Option (List ℕ) → Result A RunFault → Type 0
-WritesKeys c bytes left begun now (Ok x) = IsClean c.properties bytes × Appends begun now (key_lines c (lines_of bytes))
-WritesKeys c bytes left begun now (Err (Input number kind)) = (before : List (List ℕ)) × IsInputFault c.properties bytes left before number kind × Appends begun now (key_lines c before)
+abbrev pub WritesKeys : {A : Type 0} → Keying → List ℕ → Option (List ℕ) → Option (List ℕ) → Option (List ℕ) → Result A RunFault → Type 0
+WritesKeys c bytes left begun now (Ok x) = IsClean c.collation.properties bytes × Appends begun now (key_lines c (lines_of bytes))
+WritesKeys c bytes left begun now (Err (Input number kind)) = (before : List (List ℕ)) × IsInputFault c.collation.properties bytes left before number kind × Appends begun now (key_lines c before)
 WritesKeys c bytes left begun now (Err (Write written)) = WentOut begun now (keys_output c (lines_of bytes)) written
 WritesKeys c bytes left begun now (Err Memory) = ⊤
-WritesKeys c bytes left begun now (Err (File role fault)) = ⊥
-WritesKeys c bytes left begun now (Err (Text right fault)) = ⊥
-WritesKeys c bytes left begun now (Err (Open role)) = ⊥
-WritesKeys c bytes left begun now (Err (Words fault)) = ⊥
+WritesKeys c bytes left begun now (Err _) = ⊥
 
 -- What a run of keys answers under a table and properties, where the bytes of its input are known: the output of the
 -- keys went out, or as much of it as a fault of the input or of the writer leaves.
 abbrev pub RunsKeys : {A : Type 0} → Option Weighting → SourceState → SourceState → SinkState → SinkState → Result A RunFault → TableContent → Properties → Type 0
-RunsKeys asked input input_new out out_new result table properties = IfSome input.remaining (λ bytes. WritesKeys (collation asked table properties) bytes input_new.remaining out.contents out_new.contents result)
+RunsKeys asked input input_new out out_new result table properties = IfSome input.remaining (λ bytes. WritesKeys (keying asked table properties) bytes input_new.remaining out.contents out_new.contents result)
 
 -- whether the run ended before any line of the input was looked at
 abbrev pub is_before_input : {A : Type 0} → Result A RunFault → Bool

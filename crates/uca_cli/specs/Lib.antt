@@ -6,6 +6,7 @@ pub mod LinesSoFar
 pub mod KeysSoFar
 pub mod SortRun
 pub mod SortSoFar
+pub mod Verdicts
 pub mod CheckRun
 pub mod CompareRun
 pub mod Laws
@@ -13,3 +14,6 @@ pub mod Print
 pub mod RoleText
 pub mod Texts
 pub mod Statuses
+pub mod FaultText
+pub mod Reports
+pub mod Command

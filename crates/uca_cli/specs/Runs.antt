@@ -1,48 +1,25 @@
--- What the runs answer of their files: which one is refused, and why.
-use Rattle.std.specs.Prelude.{◌≡◌, ◌≢◌, [], ℕ, suc, ◌≤◌, ◌&&◌, List, ◌∷◌, ◌++◌, Bool, true, false, Option, Some, IfSome, IsSomeAnd, Result, Ok, Err, length}
+-- What the runs answer of their files, their input and their output.
+use Rattle.std.specs.Prelude.{◌≡◌, ◌≢◌, [], ℕ, suc, ◌≤◌, ◌&&◌, ◌||◌, List, ◌∷◌, ◌++◌, Bool, true, false, if◌then◌else◌, Option, Some, None, IfSome, IsSomeAnd, MatchOption, Result, Ok, Err, length}
 use Rattle.std.specs.List.{flat_map}
-use Rattle.uca_weights.specs.Streams.{SourceState}
+use Rattle.uca_weights.specs.Streams.{SourceState, SinkState}
 use Rattle.uca_weights.specs.Writes.{WentOut}
 use Rattle.uca_values.specs.Content.{TableContent, Properties}
 use Rattle.uca_lines.specs.Lines.{is_lf, Lacks, ended, lines_of}
 use Rattle.uca_files.specs.Faults.{is_read_kind}
-use Rattle.uca_files.specs.Files.{Refuses}
+use Rattle.uca_values.specs.declared.faults.TableFault.{TableFault}
 use Rattle.uca_table.specs.Lines as tables
 use Rattle.uca_data.specs.Said as data_files
 use Rattle.uca_cli.specs.declared.faults.InputKind.{InputKind}
 use Rattle.uca_cli.specs.declared.faults.InputKind.TheVariants.{Utf8, TooLong, LongRun, Read, Limit, Memory as InputMemory}
+use Rattle.uca_cli.specs.declared.faults.FileFault.{FileFault}
+use Rattle.uca_cli.specs.declared.faults.FileFault.TheVariants.{Lines}
 use Rattle.uca_cli.specs.declared.faults.RunFault.{RunFault}
 use Rattle.uca_cli.specs.declared.faults.RunFault.TheVariants.{File, Input, Write}
 use Rattle.uca_cli.specs.declared.faults.Role.{Role}
 use Rattle.uca_cli.specs.declared.faults.Role.TheVariants as roles
 use Rattle.uca_cli.specs.Input.{cause_of, clean_lines, is_input_read_kind}
 
--- ---- The table and the data file
-
--- The bytes of a table file and of a data file mean a table and properties, and this holds of them.
-pub record BothMean (table_bytes data_bytes : List ℕ) (P : TableContent → Properties → Type 0) : Type 0 where
-  pub table : TableContent
-  pub properties : Properties
-  pub means_table : tables.Means table_bytes table
-  pub means_data : data_files.Means data_bytes properties
-  pub then : P table properties
-
--- What is answered over the bytes of a table file and of a data file, of which their sources have something left:
--- the table is refused; the data file is, behind a table; or the bytes mean both, and this holds of them.
-abbrev pub AnswersOver : {A : Type 0} → List ℕ → List ℕ → Option (List ℕ) → Option (List ℕ) → (TableContent → Properties → Type 0) → Result A RunFault → Type 0
-AnswersOver table_bytes data_bytes table_left data_left P (Err (File roles.Table fault)) = Refuses tables.Says tables.Cause tables.IsUnfinished table_bytes table_left fault.line fault.kind
-AnswersOver table_bytes data_bytes table_left data_left P (Err (File roles.Data fault)) = ((table : TableContent) × tables.Means table_bytes table) × Refuses data_files.Says data_files.Cause data_files.IsUnfinished data_bytes data_left fault.line fault.kind
-AnswersOver table_bytes data_bytes table_left data_left P result = BothMean table_bytes data_bytes P
-
--- The same of the sources of both before and after a run, where their bytes are known.
-abbrev pub RunsOver : {A : Type 0} → SourceState → SourceState → SourceState → SourceState → (TableContent → Properties → Type 0) → Result A RunFault → Type 0
-RunsOver table table_new properties properties_new P result = IfSome table.remaining (λ table_bytes. IfSome properties.remaining (λ data_bytes. AnswersOver table_bytes data_bytes table_new.remaining properties_new.remaining P result))
-
--- whether the fault is a file's
-abbrev pub is_file : {A : Type 0} → Result A RunFault → Bool
-is_file (Ok x) = false
-is_file (Err (File role fault)) = true
-is_file (Err _) = false
+-- ---- The files
 
 -- whether two roles are the same
 abbrev pub is_role : Role → Role → Bool
@@ -54,10 +31,59 @@ is_role roles.Base roles.Base = true
 is_role roles.Tailored roles.Tailored = true
 is_role _ _ = false
 
+-- why the file of this role was refused, where the run ended by that
+abbrev pub fault_of : {A : Type 0} → Role → Result A RunFault → Option FileFault
+fault_of role (Ok x) = None
+fault_of role (Err (File other fault)) = if is_role role other then Some fault else None
+fault_of role (Err _) = None
+
+-- the bytes mean a value, and this holds of it
+pub record MeansOne {V : Type 0} (Means : List ℕ → V → Type 0) (bytes : List ℕ) (K : V → Type 0) : Type 0 where
+  pub value : V
+  pub means : Means bytes value
+  pub holds : K value
+
+-- What is answered of a run by the file of this role, whose source had some bytes and has something left: at a fault of
+-- that role the bytes are refused so; else they mean a value, and of it K holds. It speaks as soon as the bytes of this
+-- file are known.
+abbrev pub OverFile : {A V : Type 0} → Role → SourceState → SourceState → (List ℕ → V → Type 0) → (List ℕ → Option (List ℕ) → FileFault → Type 0) → (V → Type 0) → Result A RunFault → Type 0
+OverFile role old new Means Refuses K result = IfSome old.remaining (λ bytes. MatchOption (fault_of role result) (MeansOne Means bytes K) (λ fault. Refuses bytes new.remaining fault))
+
+-- why a file that is read line by line is refused
+abbrev pub OfLines : (List ℕ → Option (List ℕ) → TableFault → Type 0) → List ℕ → Option (List ℕ) → FileFault → Type 0
+OfLines Refuses bytes left (Lines fault) = Refuses bytes left fault
+
+-- the same by a table, which may have any role
+abbrev pub OverTable : {A : Type 0} → Role → SourceState → SourceState → (TableContent → Type 0) → Result A RunFault → Type 0
+OverTable role old new K result = OverFile role old new tables.Means (OfLines tables.Refuses) K result
+
+-- and by the data file
+abbrev pub OverData : {A : Type 0} → SourceState → SourceState → (Properties → Type 0) → Result A RunFault → Type 0
+OverData old new K result = OverFile roles.Data old new data_files.Means (OfLines data_files.Refuses) K result
+
+-- by a table, and then by a data file: this holds of what they mean
+abbrev pub RunsOver : {A : Type 0} → SourceState → SourceState → SourceState → SourceState → (TableContent → Properties → Type 0) → Result A RunFault → Type 0
+RunsOver table table_new properties properties_new P result =
+    OverTable roles.Table table table_new (λ content. OverData properties properties_new (λ points. P content points) result) result
+
+-- the run ends as the file of this role is refused
+abbrev pub IsRefused : Role → SourceState → SourceState → (List ℕ → Option (List ℕ) → FileFault → Type 0) → RunFault → Type 0
+IsRefused role old new Refuses fault = (cause : FileFault) × (fault ≡ File role cause) × IfSome old.remaining (λ bytes. Refuses bytes new.remaining cause)
+
+-- whether the fault is a file's
+abbrev pub is_file : {A : Type 0} → Result A RunFault → Bool
+is_file (Ok x) = false
+is_file (Err (File role fault)) = true
+is_file (Err _) = false
+
+-- whether the fault is that reading the file failed
+abbrev pub is_read_fault : FileFault → Bool
+is_read_fault (Lines fault) = is_read_kind fault.kind
+
 -- whether reading a file of this role failed
 abbrev pub is_file_read : {A : Type 0} → Role → Result A RunFault → Bool
 is_file_read role (Ok x) = false
-is_file_read role (Err (File other fault)) = is_role role other && is_read_kind fault.kind
+is_file_read role (Err (File other fault)) = is_role role other && is_read_fault fault
 is_file_read role (Err _) = false
 
 -- ---- The input
@@ -104,19 +130,31 @@ is_input_read (Err (Input number kind)) = is_input_read_kind kind
 is_input_read (Err _) = false
 
 -- ---- The output
+--
+-- A sink has a fault of its own, which says how much went out to it. That of the output is Write; another sink of a run
+-- has another, and what is said here of the output is not touched by it.
 
--- whether writing failed
+-- whether writing the output failed
 abbrev pub is_write : {A : Type 0} → Result A RunFault → Bool
 is_write (Ok x) = false
 is_write (Err (Write written)) = true
 is_write (Err _) = false
 
--- The fault says how much of a text went out.
-abbrev pub FailsToWrite : Option (List ℕ) → Option (List ℕ) → List ℕ → RunFault → Type 0
-FailsToWrite begun now text fault = (written : ℕ) × (fault ≡ Write written) × WentOut begun now text written
-
--- whether the run ended before anything was written
+-- whether the run ended before anything was written to the output
 abbrev pub is_before_output : {A : Type 0} → Result A RunFault → Bool
 is_before_output (Ok x) = false
 is_before_output (Err (Write written)) = false
 is_before_output (Err _) = true
+
+-- The fault of a sink says how much of a text went out to it.
+abbrev pub FailsToWrite : (ℕ → RunFault) → Option (List ℕ) → Option (List ℕ) → List ℕ → RunFault → Type 0
+FailsToWrite Fault begun now text fault = (written : ℕ) × (fault ≡ Fault written) × WentOut begun now text written
+
+-- ---- Failed sources and sinks
+
+-- The sources of a table and of a data file, and the output, have failed where they had before, or where the run ended
+-- by just that.
+pub record HaveFailed {A : Type 0} (table table_new properties properties_new : SourceState) (out out_new : SinkState) (result : Result A RunFault) : Type 0 where
+  pub table_failed : table_new.failed ≡ (table.failed || is_file_read roles.Table result)
+  pub data_failed : properties_new.failed ≡ (properties.failed || is_file_read roles.Data result)
+  pub out_failed : out_new.failed ≡ (out.failed || is_write result)

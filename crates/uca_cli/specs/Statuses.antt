@@ -1,23 +1,29 @@
 -- The statuses that the program ends with.
-use Rattle.std.specs.Prelude.{◌≡◌, ◌⊎◌, ℕ}
+use Rattle.std.specs.Prelude.{◌≡◌, ◌⊎◌, ℕ, Bool, true, false, if◌then◌else◌}
 use Rattle.clap.specs.declared.error.ErrorKind.{ErrorKind}
 use Rattle.clap.specs.declared.error.ErrorKind.TheVariants.{DisplayHelp, DisplayVersion}
 use Rattle.clap.specs.Values.{kind_of}
-use Rattle.uca_files.specs.declared.FaultKind.{FaultKind}
-use Rattle.uca_files.specs.declared.FaultKind.TheVariants as kinds
+use Rattle.uca_values.specs.declared.faults.FaultKind.{FaultKind}
+use Rattle.uca_values.specs.declared.faults.FaultKind.TheVariants as kinds
 use Rattle.uca_text.specs.declared.limits.TextFault.{TextFault}
 use Rattle.uca_text.specs.declared.limits.TextFault.TheVariants as text_fault
 use Rattle.uca_cli.specs.declared.faults.InputKind.{InputKind}
 use Rattle.uca_cli.specs.declared.faults.InputKind.TheVariants as input_kind
+use Rattle.uca_cli.specs.declared.faults.FileFault.{FileFault}
+use Rattle.uca_cli.specs.declared.faults.FileFault.TheVariants.{Lines}
 use Rattle.uca_cli.specs.declared.faults.RunFault.{RunFault}
 use Rattle.uca_cli.specs.declared.faults.RunFault.TheVariants.{File, Input, Write, Memory, Text, Open, Words}
+use Rattle.uca_words.specs.declared.WordFault.{WordFault}
 use Rattle.uca_words.specs.declared.WordFault.TheVariants as words
 
--- 3 where a read failed, 4 where a growth was refused, and 1 for what the bytes are to blame for
-abbrev pub file_status : FaultKind → ℕ
-file_status kinds.Read = 3
-file_status kinds.Memory = 4
-file_status _ = 1
+-- 3 where a read failed, 4 where an allocation failed, and 1 for what the bytes are to blame for
+abbrev pub line_status : FaultKind → ℕ
+line_status kinds.Read = 3
+line_status kinds.Memory = 4
+line_status _ = 1
+
+abbrev pub file_status : FileFault → ℕ
+file_status (Lines fault) = line_status fault.kind
 
 abbrev pub input_status : InputKind → ℕ
 input_status input_kind.Read = 3
@@ -28,24 +34,31 @@ abbrev pub text_status : TextFault → ℕ
 text_status text_fault.Memory = 4
 text_status _ = 1
 
--- 0 where help or the version was asked for, and 2 where `clap` refused the words
+-- whether the text of `clap` is help or the version, which was asked for
+abbrev pub is_asked_for : ErrorKind → Bool
+is_asked_for DisplayHelp = true
+is_asked_for DisplayVersion = true
+is_asked_for _ = false
+
+-- 0 where it was asked for, and 2 where `clap` refused the words
 abbrev pub refusal_status : ErrorKind → ℕ
-refusal_status DisplayHelp = 0
-refusal_status DisplayVersion = 0
-refusal_status _ = 2
+refusal_status kind = if is_asked_for kind then 0 else 2
 
 -- and 4 where there was no memory for the text of `clap`
 abbrev pub IsRefusalStatus : ErrorKind → ℕ → Type 0
 IsRefusalStatus kind status = (status ≡ refusal_status kind) ⊎ (status ≡ 4)
 
+abbrev pub IsWordStatus : WordFault → ℕ → Type 0
+IsWordStatus words.Weighting status = status ≡ 2
+IsWordStatus words.Memory status = status ≡ 4
+IsWordStatus (words.Refused error) status = IsRefusalStatus (kind_of error) status
+
 -- the status of a fault
 abbrev pub IsStatus : RunFault → ℕ → Type 0
-IsStatus (File role fault) status = status ≡ file_status fault.kind
+IsStatus (File role fault) status = status ≡ file_status fault
 IsStatus (Input line kind) status = status ≡ input_status kind
 IsStatus (Write written) status = status ≡ 3
 IsStatus Memory status = status ≡ 4
 IsStatus (Text right fault) status = status ≡ text_status fault
 IsStatus (Open role) status = status ≡ 3
-IsStatus (Words words.Weighting) status = status ≡ 2
-IsStatus (Words words.Memory) status = status ≡ 4
-IsStatus (Words (words.Refused error)) status = IsRefusalStatus (kind_of error) status
+IsStatus (Words fault) status = IsWordStatus fault status

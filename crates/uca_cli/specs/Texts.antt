@@ -12,7 +12,7 @@ use Rattle.uca_lines.specs.declared.lines.LineFault.TheVariants as line_fault
 use Rattle.uca_cli.specs.declared.faults.InputKind.{InputKind}
 use Rattle.uca_cli.specs.declared.faults.InputKind.TheVariants.{Utf8, TooLong, LongRun, Read, Limit, Memory}
 use Rattle.uca_lines.specs.declared.lines.NextLine.{NextLine}
-use Rattle.uca_lines.specs.declared.lines.NextLine.TheVariants.{Ended, Cut, End}
+use Rattle.uca_lines.specs.declared.lines.NextLine.TheVariants.{Terminated, Unterminated, EndOfInput}
 use Rattle.uca_cli.specs.Input.{cause_of, is_input_read_kind}
 
 -- the kind of a line's fault, and of a text's
@@ -49,9 +49,9 @@ HasNextCause properties before known kind = IfSome known (λ bytes. (line : List
 -- What is answered where known bytes were left, and others are left now: the text of the next line, that no
 -- byte was left, or why the next line is not read.
 abbrev pub SaysNext : Properties → ℕ → Option (List ℕ) → Option (List ℕ) → List ℕ → Spelled → Result NextLine InputKind → Type 0
-SaysNext properties before old new line text (Ok Ended) = IsTextOf properties before line text × Consumes old new (ended line)
-SaysNext properties before old new line text (Ok Cut) = IsTextOf properties before line text × (0 < length line) × Consumes old new line × IsAtEnd new
-SaysNext properties before old new line text (Ok End) = IsAtEnd old
+SaysNext properties before old new line text (Ok Terminated) = IsTextOf properties before line text × Consumes old new (ended line)
+SaysNext properties before old new line text (Ok Unterminated) = IsTextOf properties before line text × (0 < length line) × Consumes old new line × IsAtEnd new
+SaysNext properties before old new line text (Ok EndOfInput) = IsAtEnd old
 SaysNext properties before old new line text (Err Utf8) = HasNextCause properties before old Utf8
 SaysNext properties before old new line text (Err TooLong) = HasNextCause properties before old TooLong
 SaysNext properties before old new line text (Err (LongRun place)) = HasNextCause properties before old (LongRun place)
@@ -61,9 +61,9 @@ SaysNext properties before old new line text (Err Memory) = HasBytes old
 
 -- how many lines were found: one more where a text was, and at a fault of a text too
 abbrev pub IsCounted : ℕ → ℕ → Result NextLine InputKind → Type 0
-IsCounted old new (Ok Ended) = (new ≡ old + 1) × (old < 1000000)
-IsCounted old new (Ok Cut) = (new ≡ old + 1) × (old < 1000000)
-IsCounted old new (Ok End) = new ≡ old
+IsCounted old new (Ok Terminated) = (new ≡ old + 1) × (old < 1000000)
+IsCounted old new (Ok Unterminated) = (new ≡ old + 1) × (old < 1000000)
+IsCounted old new (Ok EndOfInput) = new ≡ old
 IsCounted old new (Err kind) = (new ≡ old) ⊎ (new ≡ old + 1)
 
 -- whether the fault is the reader's

@@ -5,13 +5,13 @@ ghost use Rattle.std.specs.Io.KnownBytes.{Appends};
 ghost use Rattle.uca_weights.specs.Writes.{WentOut, Writes};
 ghost use Rattle.uca_lines.specs.OutputBuffer.{HandedOver};
 ghost use Rattle.uca_check.specs.FaultText.{ill_formed_text};
-ghost use Rattle.uca_cli.specs.Runs.{is_before_output, is_file, is_file_read, is_write, FailsToWrite, RunsOver};
+ghost use Rattle.uca_cli.specs.Runs.{is_before_output, is_file, is_write, FailsToWrite, HaveFailed, RunsOver};
 ghost use Rattle.uca_cli.specs.CheckRun.{RunsCheck};
 
-use crate::faults::{Role, RunFault};
+use crate::faults::RunFault;
 use crate::files::read_files;
 use crate::output::write_text;
-use std::alloc::{Allocator, Global};
+use std::alloc::Allocator;
 use std::io::{Read, Write};
 use uca_check::{IllFormed, check};
 use uca_lines::OutputBuffer;
@@ -25,27 +25,7 @@ use uca_weights::{Sink, Source, WriteFault};
 ///
 /// `File` where the table, or else the data file, is refused: nothing was written. `Write` where the
 /// writer failed: the first `written` bytes of the verdict went out.
-pub fn run_check<T: Read, D: Read, W: Write>(
-    alloc: Global,
-    table: &mut Source<T>,
-    properties: &mut Source<D>,
-    out: &mut Sink<W>,
-) -> Result<bool, RunFault>
-    // Where the bytes of its files are known.
-    ensures runs { RunsOver table.old table.new properties.old properties.new
-        (RunsCheck out.old out.new result) result }
-
-    // Whatever the readers and the writer are.
-    ensures nothing_written { is_before_output result ≡ true → out.new ≡ out.old }
-    ensures table_failed { table.new.failed ≡ (table.old.failed || is_file_read Role.Table result) }
-    ensures data_failed { properties.new.failed ≡ (properties.old.failed || is_file_read Role.Data result) }
-    ensures out_failed { out.new.failed ≡ (out.old.failed || is_write result) }
-{
-    run_check_in(alloc, table, properties, out)
-}
-
-/// The same in memory of any allocator.
-pub fn run_check_in<A: Allocator + Copy, T: Read, D: Read, W: Write>(
+pub fn run_check<A: Allocator + Copy, T: Read, D: Read, W: Write>(
     alloc: A,
     table: &mut Source<T>,
     properties: &mut Source<D>,
@@ -57,9 +37,7 @@ pub fn run_check_in<A: Allocator + Copy, T: Read, D: Read, W: Write>(
 
     // Whatever the readers and the writer are.
     ensures nothing_written { is_before_output result ≡ true → out.new ≡ out.old }
-    ensures table_failed { table.new.failed ≡ (table.old.failed || is_file_read Role.Table result) }
-    ensures data_failed { properties.new.failed ≡ (properties.old.failed || is_file_read Role.Data result) }
-    ensures out_failed { out.new.failed ≡ (out.old.failed || is_write result) }
+    ensures failed { HaveFailed table.old table.new properties.old properties.new out.old out.new result }
 {
     let files = read_files(alloc, table, properties)?;
     match check(&files.table, &files.properties) {
@@ -77,17 +55,12 @@ pub fn run_check_in<A: Allocator + Copy, T: Read, D: Read, W: Write>(
 // Writes the verdict on a table that is not well-formed, as a line.
 fn write_ill_formed<W: Write>(fault: IllFormed, out: &mut Sink<W>) -> Result<(), RunFault>
     ensures written { OnOk result (Appends out.old.contents out.new.contents (ill_formed_text fault ++ 10 ∷ [])) }
-    ensures failed_in { IfErr result (FailsToWrite out.old.contents out.new.contents (ill_formed_text fault ++ 10 ∷ [])) }
+    ensures failed_in { IfErr result (FailsToWrite RunFault.Write out.old.contents out.new.contents (ill_formed_text fault ++ 10 ∷ [])) }
     ensures of_output { is_before_output result ≡ false }
     ensures no_file { is_file result ≡ false }
     ensures failed { out.new.failed ≡ (out.old.failed || is_write result) }
 {
-    match hand_ill_formed(fault, out) {
-        Ok(()) => Ok(()),
-        Err(fault) => Err(RunFault::Write {
-            written: fault.written,
-        }),
-    }
+    Ok(hand_ill_formed(fault, out)?)
 }
 
 fn hand_ill_formed<W: Write>(fault: IllFormed, out: &mut Sink<W>) -> Result<(), WriteFault>

@@ -2,20 +2,21 @@
 
 ghost use Rattle.std.specs.Prelude.{◌≡◌, ◌≤◌, ◌||◌, true, chars, IfOk, IfErr};
 ghost use Rattle.uca_values.specs.Content.{properties_of};
-ghost use Rattle.uca_text.specs.Texts.{letters_of, spelled};
+ghost use Rattle.uca_text.specs.Texts.{spelled};
 ghost use Rattle.uca_text.specs.Limits.{IsAccepted};
-ghost use Rattle.uca_match.specs.Reading.{collation_elements};
-ghost use Rattle.uca_key.specs.Levels.{compared};
-ghost use Rattle.uca_cli.specs.Runs.{is_before_output, is_file_read, is_write, RunsOver};
+ghost use Rattle.uca_cli.specs.Keys.{keying_of};
+ghost use Rattle.uca_cli.specs.Laws.{texts_compared};
+ghost use Rattle.uca_cli.specs.Runs.{is_before_output, is_write, HaveFailed, RunsOver};
 ghost use Rattle.uca_cli.specs.CompareRun.{sign_of, comparison_line, RefusesWord, RunsCompare};
 
-use crate::faults::{Role, RunFault};
+use crate::faults::RunFault;
 use crate::files::{chosen_weighting, read_files, rows_of_table};
 use crate::output::write_text;
 use std::alloc::{AllocError, Allocator, Global};
 use std::cmp::Ordering;
 use std::io::{Read, Write};
-use uca_key::{compare_keys, key_in, level_count};
+use uca_key::laws::stored_keys_compare_as_elements;
+use uca_key::{compare_keys, key, level_count};
 use uca_match::{Collator, Lookup};
 use uca_text::{Normal, normal};
 use uca_values::Data;
@@ -46,9 +47,7 @@ pub fn run_compare<T: Read, D: Read, W: Write>(
 
     // Whatever the readers and the writer are.
     ensures nothing_written { is_before_output result ≡ true → out.new ≡ out.old }
-    ensures table_failed { table.new.failed ≡ (table.old.failed || is_file_read Role.Table result) }
-    ensures data_failed { properties.new.failed ≡ (properties.old.failed || is_file_read Role.Data result) }
-    ensures out_failed { out.new.failed ≡ (out.old.failed || is_write result) }
+    ensures failed { HaveFailed table.old table.new properties.old properties.new out.old out.new result }
 {
     run_compare_in(alloc, alloc, table, properties, left, right, out, weighting)
 }
@@ -71,12 +70,10 @@ pub fn run_compare_in<A: Allocator + Copy, T: Read, D: Read, W: Write>(
 
     // Whatever the readers and the writer are.
     ensures nothing_written { is_before_output result ≡ true → out.new ≡ out.old }
-    ensures table_failed { table.new.failed ≡ (table.old.failed || is_file_read Role.Table result) }
-    ensures data_failed { properties.new.failed ≡ (properties.old.failed || is_file_read Role.Data result) }
-    ensures out_failed { out.new.failed ≡ (out.old.failed || is_write result) }
+    ensures failed { HaveFailed table.old table.new properties.old properties.new out.old out.new result }
 {
     let files = read_files(alloc, table, properties)?;
-    let rows = rows_of_table(&files.table)?;
+    let rows = rows_of_table(alloc, &files.table)?;
     let left = text_of(global, left, false, &files.properties)?;
     let right = text_of(global, right, true, &files.properties)?;
     let header = &files.table.header;
@@ -113,16 +110,13 @@ fn compare_texts<L: Lookup, T: Allocator, A: Allocator + Copy>(
     left: &Normal,
     right: &Normal,
 ) -> Result<(Ordering, u8), AllocError>
-    ensures compared { let answer = compared weighting
-        (collation_elements (L.content collator.now.lookup.now) collator.now.header.now.ranges
-        (properties_of collator.now.data.now) (letters_of left.now))
-        (collation_elements (L.content collator.now.lookup.now) collator.now.header.now.ranges
-        (properties_of collator.now.data.now) (letters_of right.now)) in
+    ensures compared { let answer = texts_compared (keying_of L.content collator.now weighting) left.now right.now in
         IfOk result (λ found. (found.0 ≡ answer.order) × (found.1 ≡ answer.level)) }
     ensures few { IfOk result (λ found. found.1 ≤ 4) }
 {
-    let left = key_in(alloc, collator, weighting, left)?;
-    let right = key_in(alloc, collator, weighting, right)?;
+    stored_keys_compare_as_elements();
+    let left = key(alloc, collator, weighting, left)?;
+    let right = key(alloc, collator, weighting, right)?;
     Ok(compare_keys(&left, &right, level_count(weighting)))
 }
 

@@ -2,11 +2,13 @@
 
 ghost use Rattle.std.specs.Prelude.{◌≡◌, Some};
 ghost use Rattle.uca_cli.specs.RoleText.{role_text};
+ghost use Rattle.uca_cli.specs.declared.faults.RunFault.TheVariants.{Write};
 
 use std::fmt;
 use thiserror::Error;
-use uca_files::TableFault;
+use uca_values::TableFault;
 use uca_text::TextFault;
+use uca_weights::WriteFault;
 use uca_words::WordFault;
 
 /// What a file is for.
@@ -22,7 +24,7 @@ pub enum Role {
     Certificate,
     /// The weight table before a tailoring.
     Base,
-    /// The weight table behind a tailoring.
+    /// The weight table after a tailoring.
     Tailored,
 }
 
@@ -75,16 +77,26 @@ pub enum InputKind {
     Memory,
 }
 
+/// Where a file is refused, and why. Its text follows the word for the role of the file.
+#[derive(Clone, Copy, Debug, PartialEq, Eq, Error)]
+pub enum FileFault {
+    /// In a line of a table or of a data file: `line 7: Range`. Files of another kind have another way to
+    /// name a place, and a variant each: tailoring rules count bytes, as `byte 7: KIND`, and a certificate
+    /// may be refused as a whole, as `Map KIND`.
+    #[error("{0}")]
+    Lines(TableFault),
+}
+
 /// Why a run ends without its whole output. Its text is the fault line on standard error.
 #[derive(Debug, Drop, Error)]
 pub enum RunFault {
-    /// A table or data file is refused, or cannot be read.
+    /// A file is refused, or cannot be read.
     #[error("{role} {fault}")]
     File {
         /// What the file is for.
         role: Role,
         /// Where it is refused, and why.
-        fault: TableFault,
+        fault: FileFault,
     },
     /// A line of the input is refused, or cannot be read.
     #[error("input line {line}: {kind}")]
@@ -117,4 +129,14 @@ pub enum RunFault {
     /// The command line is refused.
     #[error("{0}")]
     Words(WordFault),
+}
+
+impl From<WriteFault> for RunFault {
+    ghost from_gives = { λ fault e. e ≡ Write fault.written };
+
+    fn from(fault: WriteFault) -> RunFault {
+        RunFault::Write {
+            written: fault.written,
+        }
+    }
 }

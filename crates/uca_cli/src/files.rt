@@ -1,19 +1,21 @@
 //! The table and the data file that a run goes by.
 
-ghost use Rattle.std.specs.Prelude.{◌≡◌, ◌||◌, ℕ, List, is_err, IfOk, IfErr, IfSome, OnErr};
+ghost use Rattle.std.specs.Prelude.{◌≡◌, ◌||◌, is_err, IfOk, IfErr, IfSome, OnErr};
 ghost use Rattle.uca_values.specs.Content.{properties_of};
 ghost use Rattle.uca_table.specs.Lines as tables;
 ghost use Rattle.uca_data.specs.Said as data_files;
 ghost use Rattle.uca_match.specs.Rows.{rows_of};
+ghost use Rattle.uca_key.specs.Lengths.{HasShortRows};
 ghost use Rattle.uca_cli.specs.Keys.{weighting_by};
-ghost use Rattle.uca_cli.specs.Runs.{is_file, is_file_read, RunsOver};
+ghost use Rattle.uca_cli.specs.Runs.{is_file, is_file_read, IsRefused, OfLines, RunsOver};
 
-use crate::faults::{Role, RunFault};
+use crate::faults::{FileFault, Role, RunFault};
 use std::alloc::{Allocator, Global};
 use std::io::Read;
-use uca_data::read_data_in;
+use uca_data::read_data;
+use uca_key::laws::rows_are_short;
 use uca_match::{Lookup, Trie};
-use uca_table::read_table_in;
+use uca_table::read_table;
 use uca_values::{Data, Header, Table};
 use uca_weights::{Source, Weighting};
 
@@ -44,23 +46,53 @@ pub fn read_files<A: Allocator + Copy, T: Read, D: Read>(
     ensures table_failed { table.new.failed ≡ (table.old.failed || is_file_read Role.Table result) }
     ensures data_failed { properties.new.failed ≡ (properties.old.failed || is_file_read Role.Data result) }
 {
-    let weights = match read_table_in(alloc, table) {
-        Ok(weights) => weights,
-        Err(fault) => {
-            return Err(RunFault::File {
-                role: Role::Table,
-                fault,
-            });
-        }
-    };
-    match read_data_in(alloc, properties) {
-        Ok(code_points) => Ok(Files {
-            table: weights,
-            properties: code_points,
+    let table = read_table_file(alloc, Role::Table, table)?;
+    let properties = read_data_file(alloc, properties)?;
+    Ok(Files { table, properties })
+}
+
+/// Reads a table that has this role, to its end or its first fault.
+///
+/// # Errors
+///
+/// `File` with this role, where the table is refused.
+pub fn read_table_file<A: Allocator + Copy, T: Read>(
+    alloc: A,
+    role: Role,
+    source: &mut Source<T>,
+) -> Result<Table<A>, RunFault>
+    ensures means { IfOk result (λ table. IfSome source.old.remaining (λ bytes. tables.Means bytes table)) }
+    ensures refused { IfErr result (IsRefused role source.old source.new (OfLines tables.Refuses)) }
+    ensures failed { source.new.failed ≡ (source.old.failed || is_file_read role result) }
+{
+    match read_table(alloc, source) {
+        Ok(table) => Ok(table),
+        Err(fault) => Err(RunFault::File {
+            role,
+            fault: FileFault::Lines(fault),
         }),
+    }
+}
+
+/// Reads the data file, to its end or its first fault.
+///
+/// # Errors
+///
+/// `File` with the role `Data`, where it is refused.
+pub fn read_data_file<A: Allocator + Copy, D: Read>(
+    alloc: A,
+    source: &mut Source<D>,
+) -> Result<Data<A>, RunFault>
+    ensures means { IfOk result (λ read. IfSome source.old.remaining (λ bytes.
+        data_files.Means bytes (properties_of read))) }
+    ensures refused { IfErr result (IsRefused Role.Data source.old source.new (OfLines data_files.Refuses)) }
+    ensures failed { source.new.failed ≡ (source.old.failed || is_file_read Role.Data result) }
+{
+    match read_data(alloc, source) {
+        Ok(properties) => Ok(properties),
         Err(fault) => Err(RunFault::File {
             role: Role::Data,
-            fault,
+            fault: FileFault::Lines(fault),
         }),
     }
 }
@@ -69,13 +101,16 @@ pub fn read_files<A: Allocator + Copy, T: Read, D: Read>(
 ///
 /// # Errors
 ///
-/// `Memory` where a growth was refused.
-pub fn rows_of_table<A: Allocator + Copy>(table: &Table<A>) -> Result<Trie<A>, RunFault>
-    ensures rows { IfOk result (λ rows. (key : List ℕ) →
-        ⟦<Trie<A> as Lookup>⟧.content rows key ≡ rows_of table.now.rows key) }
+/// `Memory` where an allocation fails.
+pub fn rows_of_table<A: Allocator + Copy>(alloc: A, table: &Table<A>) -> Result<Trie<A>, RunFault>
+    ensures rows { IfOk result (λ rows. ⟦<Trie<A> as Lookup>⟧.content rows ≡ rows_of table.now.rows) }
+    ensures short { IfOk result (λ rows. HasShortRows (⟦<Trie<A> as Lookup>⟧.content rows)) }
     ensures refused { IfErr result (λ fault. fault ≡ RunFault.Memory) }
 {
-    match Trie::new(table) {
+    // The rows keep the limits of a table, so they are short.
+    let _ = &table.rows;
+    rows_are_short();
+    match Trie::new(alloc, table) {
         Ok(rows) => Ok(rows),
         Err(_) => Err(RunFault::Memory),
     }

@@ -80,22 +80,22 @@ pub fn next_text<I: Read, A: Allocator, D: Allocator>(
     requires { reader.old.longest ≡ LONGEST_INPUT_LINE }
     ensures says { SaysNext (properties_of properties.now) reader.old.number
         (left_of reader.old input.old) (left_of reader.new input.new) line.new.items text.new result }
-    ensures accepted { IfOk result (λ next. next ≢ NextLine.End → IsAccepted text.new) }
+    ensures accepted { IfOk result (λ next. next ≢ NextLine.EndOfInput → IsAccepted text.new) }
     ensures read { result ≡ Err InputKind.Read → reader.new.pending ≡ [] }
     ensures number { IsCounted reader.old.number reader.new.number result }
     ensures longest { reader.new.longest ≡ reader.old.longest }
     ensures failed { input.new.failed ≡ (input.old.failed || is_read result) }
 {
     match reader.next_line(input, line) {
-        Ok(NextLine::Ended) => {
+        Ok(NextLine::Terminated) => {
             take_text(text, line, properties)?;
-            Ok(NextLine::Ended)
+            Ok(NextLine::Terminated)
         }
-        Ok(NextLine::Cut) => {
+        Ok(NextLine::Unterminated) => {
             take_text(text, line, properties)?;
-            Ok(NextLine::Cut)
+            Ok(NextLine::Unterminated)
         }
-        Ok(NextLine::End) => Ok(NextLine::End),
+        Ok(NextLine::EndOfInput) => Ok(NextLine::EndOfInput),
         Err(fault) => Err(kind_of_line(fault)),
     }
 }

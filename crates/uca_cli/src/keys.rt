@@ -3,20 +3,16 @@
 ghost use Rattle.std.specs.Prelude.{◌≡◌, ℕ, ◌+◌, ◌-◌, ◌*◌, ◌^◌, ◌<◌, ◌≤◌, ◌||◌, true, false, List, Option, IfOk, IfSome, OnOk, length};
 ghost use Rattle.uca_weights.specs.Writes.{WentOut};
 ghost use Rattle.std.specs.Bool.{OnTrue};
-ghost use Rattle.uca_values.specs.Content.{properties_of};
-ghost use Rattle.uca_text.specs.Texts.{letters_of};
-ghost use Rattle.uca_text.specs.Limits.{IsAccepted};
 ghost use Rattle.uca_lines.specs.OutputBuffer.{HandedOver};
-ghost use Rattle.uca_match.specs.Reading.{collation_elements};
-ghost use Rattle.uca_key.specs.Levels.{key_bytes};
+ghost use Rattle.uca_match.specs.Collations.{collation_of};
 ghost use Rattle.uca_key.specs.Lengths.{HasShortRows};
 ghost use Rattle.uca_cli.specs.Print.{print_line};
-ghost use Rattle.uca_cli.specs.Keys.{collation_by};
-ghost use Rattle.uca_cli.specs.Runs.{is_input_read, is_write, is_file_read, RunsOver};
+ghost use Rattle.uca_cli.specs.Keys.{key_of_text, keying_of};
+ghost use Rattle.uca_cli.specs.Runs.{is_input_read, is_write, HaveFailed, RunsOver};
 ghost use Rattle.uca_cli.specs.KeysRun.{is_before_input, WritesKeys, RunsKeys};
 ghost use Rattle.uca_cli.specs.KeysSoFar.{HasPrinted, PrintsNext, PrintsText, PrintsRest};
 
-use crate::faults::{InputKind, Role, RunFault};
+use crate::faults::{InputKind, RunFault};
 use crate::files::{chosen_weighting, read_files, rows_of_table};
 use crate::input::{LONGEST_INPUT_LINE, next_text};
 use crate::print::print_key;
@@ -46,15 +42,12 @@ impl<A: Allocator> KeyRun<A> {
         number: u32,
         out: &mut Sink<W>,
     ) -> Result<(), RunFault>
-        requires short_rows { HasShortRows (L.content collator.now.lookup.now) }
-        requires accepted { IsAccepted self.old.text }
+        requires short_rows { HasShortRows (collation_of L.content collator.now).rows }
         requires few { 0 < number }
         requires many { number ≤ LINE_LIMIT }
         requires small { self.old.output.written + length self.old.output.held ≤ (number - 1) * 2 ^ 42 }
         ensures prints { (begun : Option (List ℕ)) (before : List ℕ) →
-            let key = key_bytes self.old.key.weighting (collation_elements
-            (L.content collator.now.lookup.now) collator.now.header.now.ranges
-            (properties_of collator.now.data.now) (letters_of self.old.text)) in
+            let key = key_of_text (keying_of L.content collator.now self.old.key.weighting) self.old.text in
             HandedOver begun out.old.contents before self.old.output →
             PrintsText begun before (print_line key) number self.old.output out.old self.new.output out.new result }
         ensures small { OnOk result (self.new.output.written + length self.new.output.held ≤ number * 2 ^ 42) }
@@ -69,12 +62,7 @@ impl<A: Allocator> KeyRun<A> {
                 kind: InputKind::Memory,
             });
         }
-        match print_key(&mut self.output, out, self.key.bytes()) {
-            Ok(()) => Ok(()),
-            Err(fault) => Err(RunFault::Write {
-                written: fault.written,
-            }),
-        }
+        Ok(print_key(&mut self.output, out, self.key.bytes())?)
     }
 
     // Hands over the key of the next line, and answers whether more lines may follow.
@@ -85,11 +73,10 @@ impl<A: Allocator> KeyRun<A> {
         out: &mut Sink<W>,
     ) -> Result<bool, RunFault>
         requires longest { self.old.reader.longest ≡ LONGEST_INPUT_LINE }
-        requires short_rows { HasShortRows (L.content collator.now.lookup.now) }
+        requires short_rows { HasShortRows (collation_of L.content collator.now).rows }
         requires small { self.old.output.written + length self.old.output.held ≤ self.old.reader.number * 2 ^ 42 }
         ensures prints { (start begun : Option (List ℕ)) (before : List (List ℕ)) →
-            let c = collation_by (L.content collator.now.lookup.now) collator.now.header.now.ranges
-            (properties_of collator.now.data.now) self.old.key.weighting in
+            let c = keying_of L.content collator.now self.old.key.weighting in
             HasPrinted c start begun before self.old.reader input.old self.old.output out.old →
             PrintsNext c start begun before self.new.reader input.new self.new.output out.new result }
         ensures small { IfOk result (λ more. OnTrue more (self.new.output.written
@@ -109,15 +96,15 @@ impl<A: Allocator> KeyRun<A> {
             input,
             collator.data,
         ) {
-            Ok(NextLine::Ended) => {
+            Ok(NextLine::Terminated) => {
                 self.print_text(collator, number, out)?;
                 Ok(true)
             }
-            Ok(NextLine::Cut) => {
+            Ok(NextLine::Unterminated) => {
                 self.print_text(collator, number, out)?;
                 Ok(false)
             }
-            Ok(NextLine::End) => Ok(false),
+            Ok(NextLine::EndOfInput) => Ok(false),
             Err(kind) => Err(RunFault::Input { line: number, kind }),
         }
     }
@@ -130,11 +117,10 @@ impl<A: Allocator> KeyRun<A> {
         out: &mut Sink<W>,
     ) -> Result<(), RunFault>
         requires longest { self.old.reader.longest ≡ LONGEST_INPUT_LINE }
-        requires short_rows { HasShortRows (L.content collator.now.lookup.now) }
+        requires short_rows { HasShortRows (collation_of L.content collator.now).rows }
         requires small { self.old.output.written + length self.old.output.held ≤ self.old.reader.number * 2 ^ 42 }
         ensures prints { (start begun : Option (List ℕ)) (before : List (List ℕ)) →
-            let c = collation_by (L.content collator.now.lookup.now) collator.now.header.now.ranges
-            (properties_of collator.now.data.now) self.old.key.weighting in
+            let c = keying_of L.content collator.now self.old.key.weighting in
             HasPrinted c start begun before self.old.reader input.old self.old.output out.old →
             PrintsRest c start begun input.new self.new.output out.new result }
         ensures input_failed { input.new.failed ≡ (input.old.failed || is_input_read result) }
@@ -173,10 +159,9 @@ pub fn print_keys<L: Lookup, T: Allocator, A: Allocator + Copy, I: Read, W: Writ
     input: &mut Source<I>,
     out: &mut Sink<W>,
 ) -> Result<(), RunFault>
-    requires { HasShortRows (L.content collator.now.lookup.now) }
+    requires { HasShortRows (collation_of L.content collator.now).rows }
     ensures writes { IfSome input.old.remaining (λ bytes.
-        let c = collation_by (L.content collator.now.lookup.now) collator.now.header.now.ranges
-        (properties_of collator.now.data.now) weighting in
+        let c = keying_of L.content collator.now weighting in
         WritesKeys c bytes input.new.remaining out.old.contents out.new.contents result) }
     ensures of_lines { is_before_input result ≡ false }
     ensures input_failed { is_write result ≡ false →
@@ -194,12 +179,8 @@ pub fn print_keys<L: Lookup, T: Allocator, A: Allocator + Copy, I: Read, W: Writ
     if is_write_fault(&end) {
         return end;
     }
-    match run.output.flush(out) {
-        Ok(()) => end,
-        Err(fault) => Err(RunFault::Write {
-            written: fault.written,
-        }),
-    }
+    run.output.flush(out)?;
+    end
 }
 
 /// Prints the sort key of each line of `input`, under the table and the data file that are read first:
@@ -226,11 +207,9 @@ pub fn run_keys<T: Read, D: Read, I: Read, W: Write>(
 
     // Whatever the readers and the writer are.
     ensures nothing_written { is_before_input result ≡ true → (out.new ≡ out.old) × (input.new ≡ input.old) }
-    ensures table_failed { table.new.failed ≡ (table.old.failed || is_file_read Role.Table result) }
-    ensures data_failed { properties.new.failed ≡ (properties.old.failed || is_file_read Role.Data result) }
     ensures input_failed { is_write result ≡ false →
         input.new.failed ≡ (input.old.failed || is_input_read result) }
-    ensures out_failed { out.new.failed ≡ (out.old.failed || is_write result) }
+    ensures failed { HaveFailed table.old table.new properties.old properties.new out.old out.new result }
 {
     run_keys_in(alloc, alloc, table, properties, input, out, weighting)
 }
@@ -252,14 +231,12 @@ pub fn run_keys_in<A: Allocator + Copy, T: Read, D: Read, I: Read, W: Write>(
 
     // Whatever the readers and the writer are.
     ensures nothing_written { is_before_input result ≡ true → (out.new ≡ out.old) × (input.new ≡ input.old) }
-    ensures table_failed { table.new.failed ≡ (table.old.failed || is_file_read Role.Table result) }
-    ensures data_failed { properties.new.failed ≡ (properties.old.failed || is_file_read Role.Data result) }
     ensures input_failed { is_write result ≡ false →
         input.new.failed ≡ (input.old.failed || is_input_read result) }
-    ensures out_failed { out.new.failed ≡ (out.old.failed || is_write result) }
+    ensures failed { HaveFailed table.old table.new properties.old properties.new out.old out.new result }
 {
     let files = read_files(alloc, table, properties)?;
-    let rows = rows_of_table(&files.table)?;
+    let rows = rows_of_table(alloc, &files.table)?;
     let header = &files.table.header;
     let collator = Collator::new(&rows, header, &files.properties);
     let weighting = chosen_weighting(weighting, header);

@@ -1,18 +1,25 @@
-//! What holds of lines and their keys in all runs. The functions do nothing: their contracts are the laws.
+//! What holds of lines and their keys in all runs. The functions only call the laws of keys that theirs follow
+//! from: their contracts are the laws.
 
 ghost use Rattle.uca_cli.specs.Laws.{LineKeysCompareAsElements, CanonicallyEquivalentLinesHaveOneKeyLine, KeyOrderIsOne};
+
+use uca_key::laws::{canonically_equivalent_texts_have_equal_keys, keys_compare_as_elements};
 
 /// Between two lines of an input the byte order of their keys is the multilevel order of their collation
 /// elements (UTS #10, sections 1.1 and 7.4), whatever the table, the data file and the weighting; the keys
 /// are equal exactly where no level differs.
 pub fn line_keys_compare_as_elements()
     ensures { LineKeysCompareAsElements }
-{}
+{
+    keys_compare_as_elements();
+}
 
 /// Lines whose texts are canonically equivalent (UAX #15) have the same key line.
 pub fn canonically_equivalent_lines_have_one_key_line()
     ensures { CanonicallyEquivalentLinesHaveOneKeyLine }
-{}
+{
+    canonically_equivalent_texts_have_equal_keys();
+}
 
 /// The lines of an input have one key order, the rearrangement in which keys never fall and lines of equal
 /// keys keep their order, whatever the table, the data file and the weighting. So the text that a run of sort

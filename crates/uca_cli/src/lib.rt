@@ -2,6 +2,7 @@
 #![tactic(auto)]
 
 pub mod check;
+pub mod command;
 pub mod compare;
 pub mod faults;
 mod files;
@@ -13,9 +14,10 @@ pub mod print;
 pub mod reporting;
 pub mod sort;
 
-pub use check::{run_check, run_check_in};
+pub use check::run_check;
+pub use command::{OpenFault, Opens, run_command};
 pub use compare::{run_compare, run_compare_in};
-pub use faults::{InputKind, Role, RunFault};
+pub use faults::{FileFault, InputKind, Role, RunFault};
 pub use keys::{print_keys, run_keys, run_keys_in};
 pub use laws::{
     canonically_equivalent_lines_have_one_key_line, key_order_is_one, line_keys_compare_as_elements,

@@ -15,15 +15,10 @@ use uca_weights::Sink;
 /// `Write` where the writer failed: the first `written` bytes of the text went out.
 pub fn write_text<W: Write>(text: &[u8], out: &mut Sink<W>) -> Result<(), RunFault>
     ensures written { OnOk result (Appends out.old.contents out.new.contents text.now) }
-    ensures failed_in { IfErr result (FailsToWrite out.old.contents out.new.contents text.now) }
+    ensures failed_in { IfErr result (FailsToWrite RunFault.Write out.old.contents out.new.contents text.now) }
     ensures of_output { is_before_output result ≡ false }
     ensures no_file { is_file result ≡ false }
     ensures failed { out.new.failed ≡ (out.old.failed || is_write result) }
 {
-    match out.write_all(text) {
-        Ok(()) => Ok(()),
-        Err(fault) => Err(RunFault::Write {
-            written: fault.written,
-        }),
-    }
+    Ok(out.write_all(text)?)
 }

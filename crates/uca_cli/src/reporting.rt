@@ -1,17 +1,20 @@
 //! What a fault writes on standard error, and the status that the program ends with.
 
-ghost use Rattle.std.specs.Prelude.{◌≡◌, ◌≤◌};
-ghost use Rattle.clap.specs.Values.{kind_of};
-ghost use Rattle.uca_cli.specs.Statuses.{file_status, input_status, text_status, refusal_status, IsRefusalStatus, IsStatus};
+ghost use Rattle.std.specs.Prelude.{◌≡◌, ◌++◌, ◌∷◌, []};
+ghost use Rattle.uca_cli.specs.FaultText.{fault_text};
+ghost use Rattle.uca_cli.specs.Reports.{GoesOut, ReportsRefusal, ReportsWords, Reports};
+ghost use Rattle.uca_cli.specs.Statuses.{line_status, file_status, input_status, text_status, is_asked_for, IsWordStatus, IsStatus};
 
-use crate::faults::{InputKind, RunFault};
+mod line;
+
+use crate::faults::{FileFault, InputKind, RunFault};
 use clap::error::ErrorKind;
+use line::line_of;
 use std::alloc::Global;
-use std::fmt;
-use std::fmt::Write as FormatWrite;
+use std::fmt::Display;
 use std::io::Write;
 use std::string::ToString;
-use uca_files::FaultKind;
+use uca_values::FaultKind;
 use uca_text::TextFault;
 use uca_weights::Sink;
 use uca_words::WordFault;
@@ -24,19 +27,24 @@ pub const REFUSED: u8 = 1;
 pub const WRONG_WORDS: u8 = 2;
 /// A file does not open, or a read or a write failed.
 pub const STREAM_FAILED: u8 = 3;
-/// A growth was refused.
+/// An allocation failed.
 pub const NO_MEMORY: u8 = 4;
 
-/// How many bytes a fault line has at most, its LF counted.
-const LONGEST_LINE: usize = 128;
-
-fn status_of_file(kind: FaultKind) -> u8
-    ensures { result ≡ file_status kind }
+fn status_of_line(kind: FaultKind) -> u8
+    ensures { result ≡ line_status kind }
 {
     match kind {
         FaultKind::Read => STREAM_FAILED,
         FaultKind::Memory => NO_MEMORY,
         _ => REFUSED,
+    }
+}
+
+fn status_of_file(fault: FileFault) -> u8
+    ensures { result ≡ file_status fault }
+{
+    match fault {
+        FileFault::Lines(fault) => status_of_line(fault.kind),
     }
 }
 
@@ -59,69 +67,74 @@ fn status_of_text(fault: TextFault) -> u8
     }
 }
 
-fn status_of_refusal(kind: ErrorKind) -> u8
-    ensures { result ≡ refusal_status kind }
+// Whether the text of `clap` is help or the version, which was asked for.
+fn is_asked_for(kind: ErrorKind) -> bool
+    ensures { result ≡ is_asked_for kind }
 {
-    match kind {
-        ErrorKind::DisplayHelp | ErrorKind::DisplayVersion => DONE,
-        _ => WRONG_WORDS,
-    }
+    matches!(kind, ErrorKind::DisplayHelp | ErrorKind::DisplayVersion)
 }
 
-// A fault line in the making. It takes no memory: what goes past the end is left out.
-#[derive(Drop)]
-struct FaultLine {
-    bytes: [u8; LONGEST_LINE],
-    len: usize,
-    ghost within: { len ≤ 128 },
-}
-
-impl fmt::Write for FaultLine {
-    fn write_str(&mut self, text: &str) -> fmt::Result {
-        for byte in text.as_bytes() {
-            if self.len == LONGEST_LINE {
-                return Err(fmt::Error);
-            }
-            self.bytes[self.len] = *byte;
-            self.len += 1;
-        }
-        Ok(())
-    }
-}
-
-// Writes the line of a fault. A fault of the writer changes nothing: there is nowhere to tell it.
-fn write_line<E: Write>(fault: &RunFault, err: &mut Sink<E>) {
-    let mut line = FaultLine {
-        bytes: [0; LONGEST_LINE],
-        len: 0,
-    };
-    let _ = writeln!(line, "{fault}");
-    let _ = err.write_all(&line.bytes[..line.len]);
-}
-
-// Writes the text of `clap`: help that was asked for to `out`, and a refusal to `err`.
-fn write_refusal<W: Write, E: Write>(
-    alloc: Global,
-    error: &clap::Error,
-    out: &mut Sink<W>,
-    err: &mut Sink<E>,
-) -> u8
-    ensures { IsRefusalStatus (kind_of error.now) result }
+// Writes a text. A fault of the writer changes nothing: there is nowhere to tell it.
+fn show<W: Write>(text: &[u8], sink: &mut Sink<W>)
+    ensures { GoesOut sink.old sink.new text.now }
 {
-    let Ok(text) = error.to_string(alloc) else {
-        write_line(&RunFault::Memory, err);
-        return NO_MEMORY;
-    };
-    let status = status_of_refusal(error.kind());
-    if status == DONE {
-        let _ = out.write_all(text.as_bytes());
-    } else {
-        let _ = err.write_all(text.as_bytes());
-    }
+    let _ = sink.write_all(text);
+}
+
+// Writes the line of a fault, in one call, and returns its status.
+fn write_line<E: Write>(fault: &RunFault, status: u8, err: &mut Sink<E>) -> u8
+    ensures line { GoesOut err.old err.new (fault_text fault.now ++ 10 ∷ []) }
+    ensures status { result ≡ status }
+{
+    let mut line = line_of(fault);
+    line.push('\n');
+    show(line.as_str().as_bytes(), err);
     status
 }
 
-/// Writes the line of a fault to `err`, or the text of `clap` where it refused the words, and answers
+// Writes what an error of `clap` of this kind shows: help that was asked for to `out`, and a refusal to
+// `err`. Where there is no memory for it, the line `memory` goes to `err`.
+fn write_refusal<D: Display, W: Write, E: Write>(
+    alloc: Global,
+    kind: ErrorKind,
+    shown: &D,
+    out: &mut Sink<W>,
+    err: &mut Sink<E>,
+) -> u8
+    ensures { ReportsRefusal kind (D.output shown.now) result out.old out.new err.old err.new }
+{
+    let Ok(text) = shown.to_string(alloc) else {
+        return write_line(&RunFault::Memory, NO_MEMORY, err);
+    };
+    if is_asked_for(kind) {
+        show(text.as_bytes(), out);
+        return DONE;
+    }
+    show(text.as_bytes(), err);
+    WRONG_WORDS
+}
+
+fn report_words<W: Write, E: Write>(
+    alloc: Global,
+    fault: &WordFault,
+    out: &mut Sink<W>,
+    err: &mut Sink<E>,
+) -> u8
+    ensures status { IsWordStatus fault.now result }
+    ensures text { ReportsWords fault.now result out.old out.new err.old err.new }
+{
+    match fault {
+        WordFault::Refused(error) => write_refusal(alloc, error.kind(), error, out, err),
+        WordFault::Weighting => write_line(
+            &RunFault::Words(WordFault::Weighting),
+            WRONG_WORDS,
+            err,
+        ),
+        WordFault::Memory => write_line(&RunFault::Words(WordFault::Memory), NO_MEMORY, err),
+    }
+}
+
+/// Writes the line of a fault to `err`, or the text of `clap` where it refused the words, and returns
 /// the status that the program ends with. Help that was asked for goes to `out`, with the status 0.
 /// A write that fails does not change the status. Only the text of `clap` takes memory.
 pub fn report<W: Write, E: Write>(
@@ -130,17 +143,16 @@ pub fn report<W: Write, E: Write>(
     out: &mut Sink<W>,
     err: &mut Sink<E>,
 ) -> u8
-    ensures { IsStatus fault.now result }
+    ensures status { IsStatus fault.now result }
+    ensures text { Reports fault.now result out.old out.new err.old err.new }
 {
-    let status = match fault {
-        RunFault::Words(WordFault::Refused(error)) => return write_refusal(alloc, error, out, err),
-        RunFault::Words(WordFault::Weighting) => WRONG_WORDS,
-        RunFault::Words(WordFault::Memory) | RunFault::Memory => NO_MEMORY,
-        RunFault::File { fault, .. } => status_of_file(fault.kind),
-        RunFault::Input { kind, .. } => status_of_input(*kind),
-        RunFault::Text { fault, .. } => status_of_text(*fault),
-        RunFault::Write { .. } | RunFault::Open(_) => STREAM_FAILED,
-    };
-    write_line(fault, err);
-    status
+    match fault {
+        RunFault::File { fault: file, .. } => write_line(fault, status_of_file(*file), err),
+        RunFault::Input { kind, .. } => write_line(fault, status_of_input(*kind), err),
+        RunFault::Write { .. } => write_line(fault, STREAM_FAILED, err),
+        RunFault::Memory => write_line(fault, NO_MEMORY, err),
+        RunFault::Text { fault: text, .. } => write_line(fault, status_of_text(*text), err),
+        RunFault::Open(_) => write_line(fault, STREAM_FAILED, err),
+        RunFault::Words(words) => report_words(alloc, words, out, err),
+    }
 }

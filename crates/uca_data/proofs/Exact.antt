@@ -91,7 +91,8 @@ order_barred old text Nothing new (inr h) form adds = h.1 form
 order_barred old text Start new (inr h) form adds = h.2 form
 order_barred old text (OfRange r) new (inr h) form adds = started_twice old adds.0 h.0
 
-range_barred : (old : Said) (text : List ℕ) (item : Item) (new : Said) (kind : FaultKind) (words : List (List ℕ)) → IsRangeDue old text → AreWords text words → RangeCause old (read_words words) kind → IsText text item → Adds old item new → ⊥
+range_barred : (old : Said) (text : List ℕ) (item : Item) (new : Said) (kind : FaultKind) (words : List (List ℕ)) → IsRangeDue old text
+    → AreWords text words → RangeCause old (read_words words) kind → IsText text item → Adds old item new → ⊥
 range_barred old text Nothing new kind words due are cause form adds = due.some form
 range_barred old text Start new kind words due are cause form adds = due.other form
 range_barred old text (OfRange r) new kind words due are cause form adds =
@@ -105,7 +106,8 @@ barred old line kind new (inr h) takes = range_barred old (text_of line) takes.i
 
 -- ---- The last line is taken after the others
 
-zip_last : (before : List (List ℕ)) (line : List ℕ) (items : List Item) → AllZip IsLine (before ++ line ∷ []) items → (front : List Item) × (item : Item) × (items ≡ front ++ item ∷ []) × AllZip IsLine before front × IsLine line item
+zip_last : (before : List (List ℕ)) (line : List ℕ) (items : List Item) → AllZip IsLine (before ++ line ∷ []) items
+    → (front : List Item) × (item : Item) × (items ≡ front ++ item ∷ []) × AllZip IsLine before front × IsLine line item
 zip_last [] line [] h = absurd h
 zip_last [] line (i ∷ []) h = ([], i, refl, tt, h.0)
 zip_last [] line (i ∷ j ∷ items) h = absurd h.1
@@ -158,7 +160,8 @@ record IsOut {X : Type 0} (first last : X → ℕ) (x : X) (others : List X) : T
   apart : AllByRecursion (Apart first last x) others
   rest : AreApart first last others
 
-apart_out : {X : Type 0} (first last : X → ℕ) (front : List X) (x : X) (back : List X) → AreApart first last (front ++ x ∷ back) → IsOut first last x (front ++ back)
+apart_out : {X : Type 0} (first last : X → ℕ) (front : List X) (x : X) (back : List X) → AreApart first last (front ++ x ∷ back)
+    → IsOut first last x (front ++ back)
 apart_out first last [] x back h = record { rising = h.0; apart = h.1; rest = h.2 }
 apart_out first last (y ∷ front) x back h =
     let out = apart_out first last front x back h.2 in
@@ -188,7 +191,8 @@ may_end content (Class r) may =
     }
 may_end content (Core r) may =
     let P : List CodePointRange → Type 0 = AreApart (λ s. s.first) (λ s. s.last) in
-    let out = apart_out (λ (s : CodePointRange). s.first) (λ s. s.last) content.core r content.other (subst P (append_assoc content.core (r ∷ []) content.other) may.han) in
+    let out = apart_out (λ (s : CodePointRange). s.first) (λ s. s.last) content.core r content.other
+    (subst P (append_assoc content.core (r ∷ []) content.other) may.han) in
     let more = length_more content.core r in
     record {
       rest = record { classes = may.classes; han = out.rest; few_classes = may.few_classes; few_core = omega (arith, may.few_core); few_other = may.few_other };
@@ -198,7 +202,8 @@ may_end content (Core r) may =
     }
 may_end content (Other r) may =
     let P : List CodePointRange → Type 0 = AreApart (λ s. s.first) (λ s. s.last) in
-    let out = last_out (λ (s : CodePointRange). s.first) (λ s. s.last) (content.core ++ content.other) r (subst P (sym (append_assoc content.core content.other (r ∷ []))) may.han) in
+    let out = last_out (λ (s : CodePointRange). s.first) (λ s. s.last) (content.core ++ content.other) r
+    (subst P (sym (append_assoc content.core content.other (r ∷ []))) may.han) in
     let more = length_more content.other r in
     record {
       rest = record { classes = may.classes; han = out.rest; few_classes = may.few_classes; few_core = may.few_core; few_other = omega (arith, may.few_other) };
@@ -213,11 +218,13 @@ side : (a b first last point : ℕ) → (b < first) ⊎ (last < a) → a ≤ poi
 side a b first last point (inl h) low high = between_false first last point (inl (omega arith))
 side a b first last point (inr h) low high = between_false first last point (inr (omega arith))
 
-no_class : (xs : List ClassRange) (r : ClassRange) → AllByRecursion (Apart (λ s. s.first) (λ s. s.last) r) xs → (point : ℕ) → r.first ≤ point → point ≤ r.last → class_in xs point ≡ 0
+no_class : (xs : List ClassRange) (r : ClassRange) → AllByRecursion (Apart (λ s. s.first) (λ s. s.last) r) xs → (point : ℕ) → r.first ≤ point
+    → point ≤ r.last → class_in xs point ≡ 0
 no_class [] r apart point low high = refl
 no_class (s ∷ xs) r apart point low high = rw (side r.first r.last s.first s.last point apart.0 low high) (no_class xs r apart.1 point low high)
 
-none_within : (xs : List CodePointRange) (r : CodePointRange) → AllByRecursion (Apart (λ s. s.first) (λ s. s.last) r) xs → (point : ℕ) → r.first ≤ point → point ≤ r.last → is_within xs point ≡ false
+none_within : (xs : List CodePointRange) (r : CodePointRange) → AllByRecursion (Apart (λ s. s.first) (λ s. s.last) r) xs → (point : ℕ)
+    → r.first ≤ point → point ≤ r.last → is_within xs point ≡ false
 none_within [] r apart point low high = refl
 none_within (s ∷ xs) r apart point low high = rw (side r.first r.last s.first s.last point apart.0 low high) (none_within xs r apart.1 point low high)
 
@@ -226,7 +233,8 @@ either_true a b (inl e) = rw e refl
 either_true true b (inr e) = refl
 either_true false b (inr e) = e
 
-no_han_between : (content : DataContent) (r : CodePointRange) → AllByRecursion (Apart (λ s. s.first) (λ s. s.last) r) (content.core ++ content.other) → HasHanBetween (properties_of content) r.first r.last → ⊥
+no_han_between : (content : DataContent) (r : CodePointRange) → AllByRecursion (Apart (λ s. s.first) (λ s. s.last) r) (content.core ++ content.other)
+    → HasHanBetween (properties_of content) r.first r.last → ⊥
 no_han_between content r apart has =
     let none = none_within (content.core ++ content.other) r apart has.0 has.1 has.2 in
     let some = within_append content.core content.other has.0 ∙ either_true _ _ has.3 in
@@ -247,15 +255,26 @@ free_from_apart content (Other r) rising apart (inr has) = no_han_between conten
 abbrev Before : List (List ℕ) → List ℕ → Said → Type 0
 Before before line new = (old : Said) × Says before old × Takes old line new
 
-before_nothing : (before : List (List ℕ)) (line : List ℕ) (new : Said) (front : List Item) → AllZip IsLine before front → IsLine line Nothing → AreInOrder new.started (front ++ Nothing ∷ []) → MayStand (ranges_of (front ++ Nothing ∷ [])) → new ≡ summary new.started (ranges_of (front ++ Nothing ∷ [])) → Before before line new
+before_nothing : (before : List (List ℕ)) (line : List ℕ) (new : Said) (front : List Item) → AllZip IsLine before front → IsLine line Nothing
+    → AreInOrder new.started (front ++ Nothing ∷ []) → MayStand (ranges_of (front ++ Nothing ∷ []))
+    → new ≡ summary new.started (ranges_of (front ++ Nothing ∷ [])) → Before before line new
 before_nothing before line new front forms form order ranges sum =
     let same = ranges_nothing front in (
       new,
-      record { items = front; forms = forms; order = nothing_order front new.started order; ranges = subst MayStand same ranges; sum = sum ∙ ap (summary new.started) same },
+      record {
+        items = front;
+        forms = forms;
+        order = nothing_order front new.started order;
+        ranges = subst MayStand same ranges;
+        sum =
+            sum ∙ ap (summary new.started) same;
+      },
       record { item = Nothing; form = form; adds = refl },
     )
 
-before_start : (before : List (List ℕ)) (line : List ℕ) (new : Said) (front : List Item) → AllZip IsLine before front → IsLine line Start → AreInOrder new.started (front ++ Start ∷ []) → MayStand (ranges_of (front ++ Start ∷ [])) → new ≡ summary new.started (ranges_of (front ++ Start ∷ [])) → Before before line new
+before_start : (before : List (List ℕ)) (line : List ℕ) (new : Said) (front : List Item) → AllZip IsLine before front → IsLine line Start
+    → AreInOrder new.started (front ++ Start ∷ []) → MayStand (ranges_of (front ++ Start ∷ []))
+    → new ≡ summary new.started (ranges_of (front ++ Start ∷ [])) → Before before line new
 before_start before line new front forms form order ranges sum =
     let same = ranges_start front in
     let was = start_order front new.started order in
@@ -265,7 +284,9 @@ before_start before line new front forms form order ranges sum =
       record { item = Start; form = form; adds = (refl, sum ∙ ap (summary new.started) same ∙ ap (λ b. summary b (ranges_of front)) was.0) },
     )
 
-before_range : (before : List (List ℕ)) (line : List ℕ) (new : Said) (front : List Item) (r : RangeLine) → AllZip IsLine before front → IsLine line (OfRange r) → AreInOrder new.started (front ++ OfRange r ∷ []) → MayStand (ranges_of (front ++ OfRange r ∷ [])) → new ≡ summary new.started (ranges_of (front ++ OfRange r ∷ [])) → Before before line new
+before_range : (before : List (List ℕ)) (line : List ℕ) (new : Said) (front : List Item) (r : RangeLine) → AllZip IsLine before front
+    → IsLine line (OfRange r) → AreInOrder new.started (front ++ OfRange r ∷ []) → MayStand (ranges_of (front ++ OfRange r ∷ []))
+    → new ≡ summary new.started (ranges_of (front ++ OfRange r ∷ [])) → Before before line new
 before_range before line new front r forms form order ranges sum =
     let content = ranges_of front in
     let more = ranges_more front r in
@@ -289,7 +310,9 @@ before_range before line new front r forms form order ranges sum =
       },
     )
 
-before_item : (before : List (List ℕ)) (line : List ℕ) (new : Said) (front : List Item) (item : Item) → AllZip IsLine before front → IsLine line item → AreInOrder new.started (front ++ item ∷ []) → MayStand (ranges_of (front ++ item ∷ [])) → new ≡ summary new.started (ranges_of (front ++ item ∷ [])) → Before before line new
+before_item : (before : List (List ℕ)) (line : List ℕ) (new : Said) (front : List Item) (item : Item) → AllZip IsLine before front → IsLine line item
+    → AreInOrder new.started (front ++ item ∷ []) → MayStand (ranges_of (front ++ item ∷ []))
+    → new ≡ summary new.started (ranges_of (front ++ item ∷ [])) → Before before line new
 before_item before line new front Nothing forms form order ranges sum = before_nothing before line new front forms form order ranges sum
 before_item before line new front Start forms form order ranges sum = before_start before line new front forms form order ranges sum
 before_item before line new front (OfRange r) forms form order ranges sum = before_range before line new front r forms form order ranges sum
@@ -307,7 +330,8 @@ says_last before line new says =
 says_none : (s : Said) → Says [] s → s ≡ summary false (record { classes = []; core = []; other = [] })
 says_none s says = go says.items says.forms says.order says.sum
   where
-    go : (items : List Item) → AllZip IsLine [] items → AreInOrder s.started items → s ≡ summary s.started (ranges_of items) → s ≡ summary false (record { classes = []; core = []; other = [] })
+    go : (items : List Item) → AllZip IsLine [] items → AreInOrder s.started items → s ≡ summary s.started (ranges_of items)
+        → s ≡ summary false (record { classes = []; core = []; other = [] })
     go [] forms order sum = sum ∙ ap (λ b. summary b (record { classes = []; core = []; other = [] })) order
     go (item ∷ items) forms order sum = absurd forms
 

@@ -16,7 +16,8 @@ use Rattle.uca_data.proofs.Words.{words_exist}
 pub not_header : (text : List ℕ) (b : Bool) → b ≡ bytes_eq text header → b ≡ false → text ≢ header
 not_header text b e f same = let t = (bytes_eq-Decides text header).1 same in let no : true ≡ false = sym t ∙ sym e ∙ f in cc
 
-pub words_cause : (said : Said) (line text : List ℕ) → text ≡ text_of line → IsRangeDue said text → (read : Result RangeLine FaultKind) → ((words : List (List ℕ)) → AreWords text words → read ≡ read_words words) → (kind : FaultKind) → RangeCause said read kind → Cause said line kind
+pub words_cause : (said : Said) (line text : List ℕ) → text ≡ text_of line → IsRangeDue said text → (read : Result RangeLine FaultKind)
+    → ((words : List (List ℕ)) → AreWords text words → read ≡ read_words words) → (kind : FaultKind) → RangeCause said read kind → Cause said line kind
 words_cause said line text is due read value kind cause =
     let words = words_exist text in
     let P : List ℕ → Type 0 = λ t. AreWords t words.0 in
@@ -24,7 +25,8 @@ words_cause said line text is due read value kind cause =
     let D : List ℕ → Type 0 = IsRangeDue said in
     inr (subst D is due, (words.0, subst P is words.1, subst Q (value words.0 words.1) cause))
 
-words_take : (old new : Said) (line text : List ℕ) → text ≡ text_of line → IsRangeDue old text → (r : RangeLine) → ((words : List (List ℕ)) → AreWords text words → Ok r ≡ read_words words) → IsAdded old r new → Takes old line new
+words_take : (old new : Said) (line text : List ℕ) → text ≡ text_of line → IsRangeDue old text → (r : RangeLine)
+    → ((words : List (List ℕ)) → AreWords text words → Ok r ≡ read_words words) → IsAdded old r new → Takes old line new
 words_take old new line text is due r value added =
     let words = words_exist text in
     let P : List ℕ → Type 0 = λ t. AreWords t words.0 in
@@ -32,12 +34,17 @@ words_take old new line text is due r value added =
 
 -- ---- By the answer of the addition
 
-pub added_takes : (old new : DataContent) (started : Bool) (line text : List ℕ) → text ≡ text_of line → IsRangeDue (summary started old) text → (r : RangeLine) → ((words : List (List ℕ)) → AreWords text words → Ok r ≡ read_words words) → (result : Result (Unit {0}) FaultKind) → OnOk result (IsAdded (summary true old) r (summary true new)) → OnOk result (Takes (summary started old) line (summary started new))
+pub added_takes : (old new : DataContent) (started : Bool) (line text : List ℕ) → text ≡ text_of line → IsRangeDue (summary started old) text
+    → (r : RangeLine) → ((words : List (List ℕ)) → AreWords text words → Ok r ≡ read_words words) → (result : Result (Unit {0}) FaultKind)
+    → OnOk result (IsAdded (summary true old) r (summary true new)) → OnOk result (Takes (summary started old) line (summary started new))
 added_takes old new started line text is due r value result added =
     let P : Bool → Type 0 = λ b. IsAdded (summary b old) r (summary b new) in
     on_ok_weaker result (λ a. words_take (summary started old) (summary started new) line text is due r value (subst P (sym due.started) a)) added
 
-pub refused_cause : (old new : DataContent) (started : Bool) (line text : List ℕ) → text ≡ text_of line → IsRangeDue (summary started old) text → (r : RangeLine) → ((words : List (List ℕ)) → AreWords text words → Ok r ≡ read_words words) → (result : Result (Unit {0}) FaultKind) → IfErr result (λ kind. (new ≡ old) × ((kind ≡ kinds.Memory) ⊎ RangeCause (summary true old) (Ok r) kind)) → IfErr result (λ kind. (kind ≡ kinds.Memory) ⊎ Cause (summary started old) line kind)
+pub refused_cause : (old new : DataContent) (started : Bool) (line text : List ℕ) → text ≡ text_of line → IsRangeDue (summary started old) text
+    → (r : RangeLine) → ((words : List (List ℕ)) → AreWords text words → Ok r ≡ read_words words) → (result : Result (Unit {0}) FaultKind)
+    → IfErr result (λ kind. (new ≡ old) × ((kind ≡ kinds.Memory) ⊎ RangeCause (summary true old) (Ok r) kind))
+    → IfErr result (λ kind. (kind ≡ kinds.Memory) ⊎ Cause (summary started old) line kind)
 refused_cause old new started line text is due r value result refused =
     MatchResult-weaker result refused (λ _ h. h) (λ kind h. elim h.1 [
       | inl memory ↦ inl memory

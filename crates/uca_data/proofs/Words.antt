@@ -26,7 +26,8 @@ no_words text blank is nothing [] h = refl
 no_words text blank is nothing (w ∷ words) h =
     absurd (exact_words.some w h.0 (let P : List ℕ → Type 0 = λ t. BeginsWord t w h.0 in subst P (sym is ∙ nothing) h.1))
 
-pub first_word : (text front word rest : List ℕ) → front ≡ skip_blanks text → front ≢ [] → word ≡ word_of front → rest ≡ after_word front → (words : List (List ℕ)) → AreWords text words → (tail : List (List ℕ)) × (words ≡ word ∷ tail) × AreWords rest tail
+pub first_word : (text front word rest : List ℕ) → front ≡ skip_blanks text → front ≢ [] → word ≡ word_of front → rest ≡ after_word front
+    → (words : List (List ℕ)) → AreWords text words → (tail : List (List ℕ)) × (words ≡ word ∷ tail) × AreWords rest tail
 first_word text front word rest is some cut after [] h = absurd (some (is ∙ h))
 first_word text front word rest is some cut after (w ∷ words) h =
     let word_is : w ≡ word = sym h.1.word ∙ ap word_of (sym is) ∙ sym cut in
@@ -39,7 +40,8 @@ from_first_short p text = let parts = ap length (parts_of_cut p text) in omega (
 after_word_short : (text : List ℕ) → 1 ≤ length (word_of text) → suc (length (after_word text)) ≤ length text
 after_word_short text some = let parts = ap length (parts_of_cut is_blank text) in omega (arith, parts, length-append (word_of text) (after_word text))
 
-more_words : (text : List ℕ) (n : ℕ) → length text ≤ suc n → ((t : List ℕ) → length t ≤ n → (words : List (List ℕ)) × AreWords t words) → (front : List ℕ) → skip_blanks text ≡ front → (words : List (List ℕ)) × AreWords text words
+more_words : (text : List ℕ) (n : ℕ) → length text ≤ suc n → ((t : List ℕ) → length t ≤ n → (words : List (List ℕ)) × AreWords t words)
+    → (front : List ℕ) → skip_blanks text ≡ front → (words : List (List ℕ)) × AreWords text words
 more_words text n small rest [] e = ([], e)
 more_words text n small rest (b ∷ bs) e =
     let some = word_some text b bs e in

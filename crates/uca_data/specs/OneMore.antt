@@ -56,7 +56,8 @@ class_is word n h =
     subst P is (le_true _ _ before.1, le_true _ _ last.1))
     (λ e. let none : None ≡ Some n = rw e at h in cc)
 
-han_well : (K : CodePointRange → RangeLine) → ((r : CodePointRange) → IsNumbered (K r)) → (r : Result (ℕ × ℕ) RangeFault) → ReadsWell (han_read K (range_read r))
+han_well : (K : CodePointRange → RangeLine) → ((r : CodePointRange) → IsNumbered (K r)) → (r : Result (ℕ × ℕ) RangeFault)
+    → ReadsWell (han_read K (range_read r))
 han_well K named (Ok r) = named _
 han_well K named (Err ends.NoDots) = tt
 han_well K named (Err ends.CodePoint) = tt
@@ -91,10 +92,6 @@ no_read said line (inr h) = no_read_words said (read_words h.1.0) (reads_well h.
 
 -- ---- Lists with one more element
 
-all_more : {X : Type 0} (P : X → Type 0) (xs : List X) (x : X) → AllByRecursion P xs → P x → AllByRecursion P (xs ++ x ∷ [])
-all_more P [] x h p = (p, tt)
-all_more P (y ∷ xs) x h p = (h.0, all_more P xs x h.1 p)
-
 pub zip_more : {X Y : Type 0} (R : X → Y → Type 0) (xs : List X) (ys : List Y) (x : X) (y : Y) → AllZip R xs ys → R x y → AllZip R (xs ++ x ∷ []) (ys ++ y ∷ [])
 zip_more R [] [] x y h r = (r, tt)
 zip_more R [] (b ∷ ys) x y h r = absurd h
@@ -108,12 +105,14 @@ pub apart_swap : {X : Type 0} (first last : X → ℕ) (r s : X) → Apart first
 apart_swap first last r s (inl h) = inr h
 apart_swap first last r s (inr h) = inl h
 
-apart_put : {X : Type 0} (first last : X → ℕ) (front : List X) (x : X) (back : List X) → first x ≤ last x → AllByRecursion (Apart first last x) (front ++ back) → AreApart first last (front ++ back) → AreApart first last (front ++ x ∷ back)
+apart_put : {X : Type 0} (first last : X → ℕ) (front : List X) (x : X) (back : List X) → first x ≤ last x
+    → AllByRecursion (Apart first last x) (front ++ back) → AreApart first last (front ++ back) → AreApart first last (front ++ x ∷ back)
 apart_put first last [] x back sound all h = (sound, all, h)
 apart_put first last (y ∷ front) x back sound all h =
     (h.0, all_put (Apart first last y) front x back (apart_swap first last x y all.0) h.1, apart_put first last front x back sound all.1 h.2)
 
-apart_more : {X : Type 0} (first last : X → ℕ) (xs : List X) (x : X) → first x ≤ last x → AllByRecursion (Apart first last x) xs → AreApart first last xs → AreApart first last (xs ++ x ∷ [])
+apart_more : {X : Type 0} (first last : X → ℕ) (xs : List X) (x : X) → first x ≤ last x → AllByRecursion (Apart first last x) xs
+    → AreApart first last xs → AreApart first last (xs ++ x ∷ [])
 apart_more {X = X} first last xs x sound all h =
     let P : List X → Type 0 = AllByRecursion (Apart first last x) in
     let Q : List X → Type 0 = AreApart first last in
@@ -147,17 +146,21 @@ or_step : (a x y all : Bool) → all ≡ (x || y) → (a || all) ≡ ((a || x) |
 or_step true x y all e = refl
 or_step false x y all e = e
 
-class_step : (here there : Bool) (m n front all : ℕ) → (here ≡ true → there ≡ true → ⊥) → all ≡ cond there n front → cond here m all ≡ cond there n (cond here m front)
+class_step : (here there : Bool) (m n front all : ℕ) → (here ≡ true → there ≡ true → ⊥) → all ≡ cond there n front
+    → cond here m all ≡ cond there n (cond here m front)
 class_step true true m n front all apart e = absurd (apart refl refl)
 class_step true false m n front all apart e = refl
 class_step false there m n front all apart e = e
 
-pub not_both : (r s : ClassRange) (point : ℕ) → (r.last < s.first) ⊎ (s.last < r.first) → (r.first ≤ point) × (point ≤ r.last) → (s.first ≤ point) × (point ≤ s.last) → ⊥
+pub not_both : (r s : ClassRange) (point : ℕ) → (r.last < s.first) ⊎ (s.last < r.first) → (r.first ≤ point) × (point ≤ r.last)
+    → (s.first ≤ point) × (point ≤ s.last) → ⊥
 not_both r s point (inl h) in_r in_s = omega arith
 not_both r s point (inr h) in_r in_s = omega arith
 
 -- a range whose code points have no class is apart from those that have one
-apart_from_classes : (xs : List ClassRange) (r : ClassRange) → r.first ≤ r.last → AreApart (λ s. s.first) (λ s. s.last) xs → AllByRecursion (λ s. IsClass s.class) xs → ((point : ℕ) → r.first ≤ point → point ≤ r.last → class_in xs point ≡ 0) → AllByRecursion (Apart (λ s. s.first) (λ s. s.last) r) xs
+apart_from_classes : (xs : List ClassRange) (r : ClassRange) → r.first ≤ r.last → AreApart (λ s. s.first) (λ s. s.last) xs
+    → AllByRecursion (λ s. IsClass s.class) xs → ((point : ℕ) → r.first ≤ point → point ≤ r.last → class_in xs point ≡ 0)
+    → AllByRecursion (Apart (λ s. s.first) (λ s. s.last) r) xs
 apart_from_classes [] r sound apart named none = tt
 apart_from_classes (s ∷ xs) r sound apart named none = (
   elim (overlap_cases r.first r.last s.first s.last sound apart.0) [
@@ -171,7 +174,8 @@ apart_from_classes (s ∷ xs) r sound apart named none = (
 )
 
 -- a code point without Han properties is in no range
-apart_from_han : (xs : List CodePointRange) (r : CodePointRange) → r.first ≤ r.last → AreApart (λ s. s.first) (λ s. s.last) xs → ((point : ℕ) → r.first ≤ point → point ≤ r.last → is_within xs point ≡ true → ⊥) → AllByRecursion (Apart (λ s. s.first) (λ s. s.last) r) xs
+apart_from_han : (xs : List CodePointRange) (r : CodePointRange) → r.first ≤ r.last → AreApart (λ s. s.first) (λ s. s.last) xs
+    → ((point : ℕ) → r.first ≤ point → point ≤ r.last → is_within xs point ≡ true → ⊥) → AllByRecursion (Apart (λ s. s.first) (λ s. s.last) r) xs
 apart_from_han [] r sound apart none = tt
 apart_from_han (s ∷ xs) r sound apart none = (
   elim (overlap_cases r.first r.last s.first s.last sound apart.0) [
@@ -191,13 +195,15 @@ or_cases false b e = inr e
 
 -- ---- One more range
 
-class_more : (xs : List ClassRange) (r : ClassRange) → AllByRecursion (Apart (λ s. s.first) (λ s. s.last) r) xs → (point : ℕ) → class_in (xs ++ r ∷ []) point ≡ cond (is_between r.first r.last point) r.class (class_in xs point)
+class_more : (xs : List ClassRange) (r : ClassRange) → AllByRecursion (Apart (λ s. s.first) (λ s. s.last) r) xs → (point : ℕ)
+    → class_in (xs ++ r ∷ []) point ≡ cond (is_between r.first r.last point) r.class (class_in xs point)
 class_more [] r apart point = refl
 class_more (s ∷ xs) r apart point =
     class_step (is_between s.first s.last point) (is_between r.first r.last point) s.class r.class (class_in xs point) (class_in (xs ++ r ∷ []) point)
     (λ e f. not_both r s point apart.0 (between_true r.first r.last point f) (between_true s.first s.last point e)) (class_more xs r apart.1 point)
 
-within_more : (xs : List CodePointRange) (r : CodePointRange) (point : ℕ) → is_within (xs ++ r ∷ []) point ≡ (is_between r.first r.last point || is_within xs point)
+within_more : (xs : List CodePointRange) (r : CodePointRange) (point : ℕ)
+    → is_within (xs ++ r ∷ []) point ≡ (is_between r.first r.last point || is_within xs point)
 within_more xs r point = within_put xs r [] point ∙ ap (λ rs. is_between r.first r.last point || is_within rs point) (append-nil xs)
 
 -- one more range at the end of its list
@@ -319,12 +325,14 @@ rising_from_free said (Class r) free = le_unless _ _ (λ empty. free (inl empty)
 rising_from_free said (Core r) free = le_unless _ _ (λ empty. free (inl empty))
 rising_from_free said (Other r) free = le_unless _ _ (λ empty. free (inl empty))
 
-no_han : (content : DataContent) (r : CodePointRange) → (HasHanBetween (properties_of content) r.first r.last → ⊥) → (point : ℕ) → r.first ≤ point → point ≤ r.last → is_within (content.core ++ content.other) point ≡ true → ⊥
+no_han : (content : DataContent) (r : CodePointRange) → (HasHanBetween (properties_of content) r.first r.last → ⊥) → (point : ℕ) → r.first ≤ point
+    → point ≤ r.last → is_within (content.core ++ content.other) point ≡ true → ⊥
 no_han content r free point low high within =
     free (point, low, high, or_cases _ _ (sym (within_append content.core content.other point) ∙ within))
 
 -- a range that is not barred is apart from the others
-apart_from_free : (content : DataContent) (r : RangeLine) → MayStand content → AllByRecursion (λ s. IsClass s.class) content.classes → (IsBarred (summary true content) r → ⊥) → AllApart content r
+apart_from_free : (content : DataContent) (r : RangeLine) → MayStand content → AllByRecursion (λ s. IsClass s.class) content.classes
+    → (IsBarred (summary true content) r → ⊥) → AllApart content r
 apart_from_free content (Class r) may named free =
     apart_from_classes content.classes r (rising_from_free (summary true content) (Class r) free) may.classes named
     (λ point low high. zero_unless _ (λ some. free (inr (point, low, high, some))))
@@ -335,7 +343,8 @@ apart_from_free content (Other r) may named free =
     apart_from_han (content.core ++ content.other) r (rising_from_free (summary true content) (Other r) free) may.han
     (no_han content r (λ has. free (inr has)))
 
-may_stand_more : (content : DataContent) (r : RangeLine) → MayStand content → IsRising r → AllApart content r → count_before (summary true content) r < 4096 → MayStand (put_last r content)
+may_stand_more : (content : DataContent) (r : RangeLine) → MayStand content → IsRising r → AllApart content r
+    → count_before (summary true content) r < 4096 → MayStand (put_last r content)
 may_stand_more content (Class r) may rising apart room = record {
   classes = apart_more (λ (s : ClassRange). s.first) (λ s. s.last) content.classes r rising apart may.classes;
   han = may.han;
@@ -365,7 +374,8 @@ may_stand_more content (Other r) may rising apart room = record {
 }
 
 -- a range with which the header stands
-range_says : (lines : List (List ℕ)) (old : Said) (line : List ℕ) (new : Said) (r : RangeLine) → Says lines old → IsLine line (OfRange r) → old.started ≡ true → IsAdded old r new → Says (lines ++ line ∷ []) new
+range_says : (lines : List (List ℕ)) (old : Said) (line : List ℕ) (new : Said) (r : RangeLine) → Says lines old → IsLine line (OfRange r)
+    → old.started ≡ true → IsAdded old r new → Says (lines ++ line ∷ []) new
 range_says lines old line new r before form started added =
     let content = ranges_of before.items in
     let old_is : old ≡ summary true content = before.sum ∙ ap (λ b. summary b content) started in
@@ -398,7 +408,8 @@ nothing_says lines old line before form =
       sum = before.sum ∙ ap (summary old.started) (sym same);
     }
 
-start_says : (lines : List (List ℕ)) (old : Said) (line : List ℕ) → Says lines old → IsLine line Start → old.started ≡ false → Says (lines ++ line ∷ []) (record old { started = true })
+start_says : (lines : List (List ℕ)) (old : Said) (line : List ℕ) → Says lines old → IsLine line Start → old.started ≡ false
+    → Says (lines ++ line ∷ []) (record old { started = true })
 start_says lines old line before form unstarted =
     let same = ranges_start before.items in
     let P : Bool → Type 0 = λ b. AreInOrder b before.items in
@@ -410,7 +421,8 @@ start_says lines old line before form unstarted =
       sum = ap (λ (s : Said). record s { started = true }) before.sum ∙ ap (summary true) (sym same);
     }
 
-says_by : (lines : List (List ℕ)) (old : Said) (line : List ℕ) (new : Said) → Says lines old → (item : Item) → IsLine line item → Adds old item new → Says (lines ++ line ∷ []) new
+says_by : (lines : List (List ℕ)) (old : Said) (line : List ℕ) (new : Said) → Says lines old → (item : Item) → IsLine line item → Adds old item new
+    → Says (lines ++ line ∷ []) new
 says_by lines old line new before Nothing form adds =
     let P : Said → Type 0 = Says (lines ++ line ∷ []) in subst P (sym adds) (nothing_says lines old line before form)
 says_by lines old line new before Start form adds =

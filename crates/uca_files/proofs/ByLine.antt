@@ -1,17 +1,19 @@
 -- Lines that say one thing, from what holds of each line.
-use Rattle.std.proofs.Common.{◌≡◌, ℕ, zero, suc, List, [], ◌∷◌, ◌++◌, length, refl, sym, ◌∙◌, ap, subst, append_assoc, arith, length-append}
+use Rattle.std.proofs.Common.{◌≡◌, ℕ, zero, suc, List, [], ◌∷◌, ◌++◌, length, refl, sym, ◌∙◌, ap, subst, append_assoc, arith, length-append, append-nil}
 use Rattle.uca_files.specs.Laws.{IsExact, IsExactByLine}
-use Rattle.uca_files.proofs.Cuts.{append_nothing}
 
 -- a list that is not empty has a last element
 from_last : {X : Type 0} (x : X) (xs : List X) → (front : List X) × (last : X) × (x ∷ xs ≡ front ++ last ∷ [])
 from_last x [] = ([], x, refl)
 from_last x (y ∷ ys) = let r = from_last y ys in (x ∷ r.0, r.1, ap (λ l. x ∷ l) r.2)
 
+-- without its last element a list is one shorter
 front_shorter : {X : Type 0} (xs front : List X) (last : X) (n : ℕ) → xs ≡ front ++ last ∷ [] → length xs ≡ suc n → length front ≡ n
 front_shorter xs front last n e h = omega (arith, ap length e, length-append front (last ∷ []))
 
-same_of : {K S : Type 0} (Says : List (List ℕ) → S → Type 0) (Takes : S → List ℕ → S → Type 0) (Cause : S → List ℕ → K → Type 0) → IsExactByLine Says Takes Cause
+-- lines of one length say one thing
+same_of : {K S : Type 0} (Says : List (List ℕ) → S → Type 0) (Takes : S → List ℕ → S → Type 0) (Cause : S → List ℕ → K → Type 0)
+    → IsExactByLine Says Takes Cause
     → (n : ℕ) (lines : List (List ℕ)) → length lines ≡ n → (s t : S) → Says lines s → Says lines t → s ≡ t
 same_of Says Takes Cause exact zero [] h s t p q = exact.start s t p q
 same_of Says Takes Cause exact zero (l ∷ ls) h s t p q = absurd (omega arith)
@@ -26,7 +28,7 @@ same_of {K} {S} Says Takes Cause exact (suc n) (l ∷ ls) h s t p q =
 -- the beginning of acceptable lines is acceptable
 begins : {K S : Type 0} (Says : List (List ℕ) → S → Type 0) (Takes : S → List ℕ → S → Type 0) (Cause : S → List ℕ → K → Type 0) → IsExactByLine Says Takes Cause
     → (n : ℕ) (before more : List (List ℕ)) → length more ≡ n → (t : S) → Says (before ++ more) t → (s : S) × Says before s
-begins Says Takes Cause exact zero before [] h t p = (t, subst (λ (xs : List (List ℕ)). Says xs t) (append_nothing before) p)
+begins Says Takes Cause exact zero before [] h t p = (t, subst (λ (xs : List (List ℕ)). Says xs t) (append-nil before) p)
 begins Says Takes Cause exact zero before (l ∷ ls) h t p = absurd (omega arith)
 begins Says Takes Cause exact (suc n) before [] h t p = absurd (omega arith)
 begins Says Takes Cause exact (suc n) before (l ∷ ls) h t p =
@@ -36,7 +38,8 @@ begins Says Takes Cause exact (suc n) before (l ∷ ls) h t p =
     begins Says Takes Cause exact n before r.0 (front_shorter (l ∷ ls) r.0 r.1 n r.2 h) last.0 last.1
 
 -- lines are exact where each line is
-pub exact_by_line : {K S : Type 0} (Says : List (List ℕ) → S → Type 0) (Takes : S → List ℕ → S → Type 0) (Cause : S → List ℕ → K → Type 0) → IsExactByLine Says Takes Cause → IsExact Says Cause
+pub exact_by_line : {K S : Type 0} (Says : List (List ℕ) → S → Type 0) (Takes : S → List ℕ → S → Type 0) (Cause : S → List ℕ → K → Type 0)
+    → IsExactByLine Says Takes Cause → IsExact Says Cause
 exact_by_line {K} {S} Says Takes Cause exact = record {
   same = λ lines s t p q. same_of Says Takes Cause exact (length lines) lines refl s t p q;
   excluded = λ before s line kind more t says cause whole.

@@ -1,10 +1,11 @@
 -- Bytes are cut into lines in one way.
-use Rattle.std.proofs.Common.{◌≡◌, ℕ, false, List, [], ◌∷◌, ◌++◌, refl, sym, ◌∙◌, ap, subst, append_assoc}
+use Rattle.std.proofs.Common.{◌≡◌, ℕ, false, List, [], ◌∷◌, ◌++◌, refl, sym, ◌∙◌, ap, subst, append_assoc, append-nil}
 use Rattle.std.specs.List.{flat_map, AllByRecursion}
 use Rattle.uca_lines.specs.Lines.{is_lf, Lacks, ended}
 use Rattle.uca_files.specs.declared.FileForm.{FileForm}
 use Rattle.uca_files.specs.Files.{EndsLine, IsFileLine, AreLines}
 
+-- a byte that is no LF is not 10
 lf_stands : (z : ℕ) → is_lf z ≡ false → z ≡ 10 → ⊥
 lf_stands z h e = let k : is_lf 10 ≡ false = subst (λ (n : ℕ). is_lf n ≡ false) e h in cc
 
@@ -21,15 +22,19 @@ line_cut (z ∷ zs) (y ∷ ys) x more ha hb hm e =
     let q : ys ≡ zs = r.0 in
     (cc, r.1)
 
+-- a line that is ended, and what follows it
 pub ended-append : (line x : List ℕ) → ended line ++ x ≡ line ++ 10 ∷ x
 ended-append line x = append_assoc line (10 ∷ []) x
 
+-- it is not empty
 pub ended-not_empty : (line x : List ℕ) → [] ≡ ended line ++ x → ⊥
 ended-not_empty [] x e = cc
 ended-not_empty (b ∷ bs) x e = cc
 
 -- lines that begin with other lines go on as the text does
-pub lines_cut : {K : Type 0} (form : FileForm K) (before lines : List (List ℕ)) (rest : List ℕ) → AllByRecursion (IsFileLine form) before → AllByRecursion (IsFileLine form) lines → flat_map ended lines ≡ flat_map ended before ++ rest → (more : List (List ℕ)) × (lines ≡ before ++ more) × (rest ≡ flat_map ended more)
+pub lines_cut : {K : Type 0} (form : FileForm K) (before lines : List (List ℕ)) (rest : List ℕ) → AllByRecursion (IsFileLine form) before
+    → AllByRecursion (IsFileLine form) lines → flat_map ended lines ≡ flat_map ended before ++ rest
+    → (more : List (List ℕ)) × (lines ≡ before ++ more) × (rest ≡ flat_map ended more)
 lines_cut form [] lines rest hb hl e = (lines, refl, sym e)
 lines_cut form (b ∷ bs) [] rest hb hl e = absurd (ended-not_empty b (flat_map ended bs ++ rest) (e ∙ append_assoc (ended b) (flat_map ended bs) rest))
 lines_cut form (b ∷ bs) (l ∷ ls) rest hb hl e =
@@ -44,19 +49,17 @@ lines_cut form (b ∷ bs) (l ∷ ls) rest hb hl e =
     let others : ls ≡ bs ++ r.0 = r.1 in
     (r.0, cc, r.2)
 
+-- no bytes are no lines
 no_lines : (lines : List (List ℕ)) → [] ≡ flat_map ended lines → lines ≡ []
 no_lines [] e = refl
 no_lines (l ∷ ls) e = absurd (ended-not_empty l (flat_map ended ls) e)
 
-pub append_nothing : {X : Type 0} (xs : List X) → xs ++ [] ≡ xs
-append_nothing [] = refl
-append_nothing (x ∷ xs) = ap (λ ys. x ∷ ys) (append_nothing xs)
-
 -- bytes are cut into lines in one way
-pub lines_same : {K : Type 0} (form : FileForm K) (bytes : List ℕ) (these those : List (List ℕ)) → AreLines form bytes these → AreLines form bytes those → these ≡ those
+pub lines_same : {K : Type 0} (form : FileForm K) (bytes : List ℕ) (these those : List (List ℕ)) → AreLines form bytes these
+    → AreLines form bytes those → these ≡ those
 lines_same form bytes these those h k =
-    let e : flat_map ended those ≡ flat_map ended these ++ [] = sym k.parts ∙ h.parts ∙ sym (append_nothing (flat_map ended these)) in
+    let e : flat_map ended those ≡ flat_map ended these ++ [] = sym k.parts ∙ h.parts ∙ sym (append-nil (flat_map ended these)) in
     let r = lines_cut form these those [] h.each k.each e in
     let none : r.0 ≡ [] = no_lines r.0 r.2 in
     let whole : those ≡ these ++ r.0 = r.1 in
-    sym (whole ∙ ap (λ ls. these ++ ls) none ∙ append_nothing these)
+    sym (whole ∙ ap (λ ls. these ++ ls) none ∙ append-nil these)

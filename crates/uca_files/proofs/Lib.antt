@@ -1,3 +1,4 @@
+pub mod ListLemmas
 pub mod Cuts
 pub mod FileLaws
 pub mod ByLine

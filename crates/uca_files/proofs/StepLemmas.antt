@@ -1,6 +1,6 @@
 -- What a step of the reader of a file does to the place that it has reached.
-use Rattle.std.proofs.Common.{◌≡◌, ◌≢◌, ◌⊎◌, inl, inr, ℕ, ◌+◌, ◌<◌, ◌≤◌, Bool, true, false, ◌||◌, List, [], ◌∷◌, ◌++◌, length, Option, None, Some, Err, IfSome, IsSomeAnd, refl, sym, ◌∙◌, ap, subst, append_assoc, arith, length-append}
-use Rattle.std.specs.List.{flat_map, AllByRecursion, position_or_len}
+use Rattle.std.proofs.Common.{◌≡◌, ◌≢◌, ◌⊎◌, inl, inr, ℕ, ◌+◌, ◌<◌, ◌≤◌, Bool, true, false, ◌||◌, List, [], ◌∷◌, ◌++◌, length, Option, None, Some, Err, IfSome, IsSomeAnd, refl, sym, ◌∙◌, ap, subst, append_assoc, arith, length-append, append-nil}
+use Rattle.std.specs.List.{flat_map, position_or_len}
 use Rattle.std.specs.Option.{unwrap_or}
 use Rattle.std.specs.Io.KnownBytes.{Consumes, IsAtEnd, prepend_known}
 use Rattle.std.proofs.lemmas.Bool.{eqb-true}
@@ -12,8 +12,8 @@ use Rattle.uca_lines.specs.declared.lines.LineFault.{LineFault}
 use Rattle.uca_lines.specs.declared.lines.LineFault.TheVariants.{TooLong, Limit, Read, Memory}
 use Rattle.uca_files.specs.Kinds.{kind_of_fault}
 use Rattle.uca_files.specs.Files.{EndsLine, IsFileLine, AreLines, ReadsLines, Reaches, BeginsFault, LosesPart, RefusesLine}
+use Rattle.uca_files.proofs.ListLemmas.{each_more}
 use Rattle.uca_files.specs.Steps.{TakesNext, RefusesNext}
-use Rattle.uca_files.proofs.Cuts.{append_nothing}
 
 -- of known bytes the lines before line `number` are acceptable in order and say s, and this is left
 abbrev pub ReachesKnown : {K S : Type 0} → FileForm K → (List (List ℕ) → S → Type 0) → Option (List ℕ) → Option (List ℕ) → ℕ → S → Type 0
@@ -25,7 +25,8 @@ within None count few = tt
 within (Some kind) count few = few
 
 -- at the start nothing is reached
-pub reaches_start : {K S : Type 0} (form : FileForm K) (Says : List (List ℕ) → S → Type 0) (known : Option (List ℕ)) (pending : List ℕ) (s : S) → pending ≡ [] → Says [] s → ReachesKnown form Says known (prepend_known pending known) 1 s
+pub reaches_start : {K S : Type 0} (form : FileForm K) (Says : List (List ℕ) → S → Type 0) (known : Option (List ℕ)) (pending : List ℕ) (s : S)
+    → pending ≡ [] → Says [] s → ReachesKnown form Says known (prepend_known pending known) 1 s
 reaches_start form Says None pending s empty says = tt
 reaches_start form Says (Some bytes) pending s empty says = record {
   front = [];
@@ -36,20 +37,20 @@ reaches_start form Says (Some bytes) pending s empty says = record {
   place = omega arith;
 }
 
-each-append : {K : Type 0} (form : FileForm K) (before : List (List ℕ)) (line : List ℕ) → AllByRecursion (IsFileLine form) before → IsFileLine form line → AllByRecursion (IsFileLine form) (before ++ line ∷ [])
-each-append form [] line h k = (k, tt)
-each-append form (b ∷ bs) line h k = (h.0, each-append form bs line h.1 k)
-
 -- one more line
-more_lines : {K : Type 0} (form : FileForm K) (front : List ℕ) (before : List (List ℕ)) (line : List ℕ) → AreLines form front before → IsFileLine form line → length before < 1000000 → AreLines form (front ++ ended line) (before ++ line ∷ [])
+more_lines : {K : Type 0} (form : FileForm K) (front : List ℕ) (before : List (List ℕ)) (line : List ℕ) → AreLines form front before
+    → IsFileLine form line → length before < 1000000 → AreLines form (front ++ ended line) (before ++ line ∷ [])
 more_lines form front before line h fits few = record {
-  parts = ap (λ (xs : List ℕ). xs ++ ended line) h.parts ∙ ap (λ (xs : List ℕ). flat_map ended before ++ xs) (sym (append_nothing (ended line))) ∙ sym (flat_map-append ended before (line ∷ []));
-  each = each-append form before line h.each fits;
+  parts = ap (λ (xs : List ℕ). xs ++ ended line) h.parts ∙ ap (λ (xs : List ℕ). flat_map ended before ++ xs) (sym (append-nil (ended line)))
+      ∙ sym (flat_map-append ended before (line ∷ []));
+  each = each_more (IsFileLine form) before line h.each fits;
   count = within form.too_many _ (omega (arith, length-append before (line ∷ [])));
 }
 
+-- one more line is taken
 pub reaches_next : {K S : Type 0} (form : FileForm K) (Says : List (List ℕ) → S → Type 0) (Takes : S → List ℕ → S → Type 0)
-    → ((lines : List (List ℕ)) (old : S) (line : List ℕ) (new : S) → Says lines old → Takes old line new → length line ≤ form.longest → length lines < 1000000 → Says (lines ++ line ∷ []) new)
+    → ((lines : List (List ℕ)) (old : S) (line : List ℕ) (new : S) → Says lines old → Takes old line new → length line ≤ form.longest
+    → length lines < 1000000 → Says (lines ++ line ∷ []) new)
     → (known old new : Option (List ℕ)) (number : ℕ) (s t : S) → number ≤ 1000000
     → ReachesKnown form Says known old number s → TakesNext form Takes old new s t → ReachesKnown form Says known new (number + 1) t
 reaches_next form Says Takes more None old new number s t few h k = tt
@@ -65,19 +66,24 @@ reaches_next form Says Takes more (Some bytes) (Some rest) (Some left) number s 
       place = omega (arith, h.place, length-append h.before (k.line ∷ []));
     }
 
-pub reads_all : {K S : Type 0} (form : FileForm K) (Says : List (List ℕ) → S → Type 0) (known left : Option (List ℕ)) (count : ℕ) (s : S) → ReachesKnown form Says known left (count + 1) s → IsAtEnd left → IfSome known (λ bytes. ReadsLines form Says bytes count s)
+-- at the end all lines are read
+pub reads_all : {K S : Type 0} (form : FileForm K) (Says : List (List ℕ) → S → Type 0) (known left : Option (List ℕ)) (count : ℕ) (s : S)
+    → ReachesKnown form Says known left (count + 1) s → IsAtEnd left → IfSome known (λ bytes. ReadsLines form Says bytes count s)
 reads_all form Says None left count s h end = tt
 reads_all form Says (Some bytes) None count s h end = absurd h
 reads_all form Says (Some bytes) (Some rest) count s h end =
-    let whole : bytes ≡ h.front = h.parts ∙ ap (λ (xs : List ℕ). h.front ++ xs) end ∙ append_nothing h.front in record {
+    let whole : bytes ≡ h.front = h.parts ∙ ap (λ (xs : List ℕ). h.front ++ xs) end ∙ append-nil h.front in record {
       lines = h.before;
       divides = subst (λ (xs : List ℕ). AreLines form xs h.before) (sym whole) h.divides;
       says = h.says;
       many = omega (arith, h.place);
     }
 
-pub refuses_line : {K S : Type 0} (form : FileForm K) (Says : List (List ℕ) → S → Type 0) (Cause : S → List ℕ → K → Type 0) (known old left : Option (List ℕ)) (number : ℕ) (s : S) (kind : K)
-    → ReachesKnown form Says known old number s → RefusesNext form Cause old left number s kind → IfSome known (λ bytes. RefusesLine form Says Cause bytes left number kind)
+-- a step that refuses a line refuses it in the file
+pub refuses_line : {K S : Type 0} (form : FileForm K) (Says : List (List ℕ) → S → Type 0) (Cause : S → List ℕ → K → Type 0)
+    (known old left : Option (List ℕ)) (number : ℕ) (s : S) (kind : K)
+    → ReachesKnown form Says known old number s → RefusesNext form Cause old left number s kind
+    → IfSome known (λ bytes. RefusesLine form Says Cause bytes left number kind)
 refuses_line form Says Cause None old left number s kind h k = tt
 refuses_line form Says Cause (Some bytes) None left number s kind h k = absurd h
 refuses_line form Says Cause (Some bytes) (Some rest) None number s kind h k =
@@ -104,7 +110,8 @@ at_end (Some xs) None line gone empty end = absurd gone
 at_end (Some xs) (Some ys) line gone empty end = gone ∙ ap (λ (l : List ℕ). l ++ ys) empty ∙ end
 
 -- a step at which the source fails loses a part of a line
-pub read_fails : {K : Type 0} (form : FileForm K) (old remaining : Option (List ℕ)) (pending part : List ℕ) → Consumes old (prepend_known pending remaining) part → pending ≡ [] → Lacks is_lf part → length part ≤ form.longest
+pub read_fails : {K : Type 0} (form : FileForm K) (old remaining : Option (List ℕ)) (pending part : List ℕ)
+    → Consumes old (prepend_known pending remaining) part → pending ≡ [] → Lacks is_lf part → length part ≤ form.longest
     → IfSome old (λ text. IsSomeAnd remaining (LosesPart form text))
 read_fails form None remaining pending part gone empty lacks short = tt
 read_fails form (Some text) None pending part gone empty lacks short = absurd gone
@@ -143,16 +150,19 @@ first_line_cons b bs false e r = record {
   len = rw e (omega (arith, r.len));
 }
 
+-- each text has a first line
 first_line : (text : List ℕ) → FirstLine text
 first_line [] = record { line = []; more = []; parts = refl; lacks = tt; ends = tt; len = refl }
 first_line (b ∷ bs) = first_line_cons b bs (is_lf b) refl (first_line bs)
 
+-- a text with a long first line is not empty
 longer_stands : (text : List ℕ) (n : ℕ) → n < position_or_len is_lf text → text ≢ []
 longer_stands [] n h e = absurd (omega arith)
 longer_stands (b ∷ bs) n h e = cc
 
 -- a line that is too long
-pub too_long : {K S : Type 0} (form : FileForm K) (Cause : S → List ℕ → K → Type 0) (known : Option (List ℕ)) (number : ℕ) (s : S) → IfSome known (λ text. form.longest < position_or_len is_lf text) → IfSome known (λ text. BeginsFault form Cause s number text form.too_long)
+pub too_long : {K S : Type 0} (form : FileForm K) (Cause : S → List ℕ → K → Type 0) (known : Option (List ℕ)) (number : ℕ) (s : S)
+    → IfSome known (λ text. form.longest < position_or_len is_lf text) → IfSome known (λ text. BeginsFault form Cause s number text form.too_long)
 too_long form Cause None number s h = tt
 too_long form Cause (Some text) number s h =
     let r = first_line text in record {
@@ -165,12 +175,14 @@ too_long form Cause (Some text) number s h =
       cause = inl (omega (arith, r.len), refl);
     }
 
+-- a text with a byte is not empty
 bytes_stand : (text : List ℕ) → 0 < length text → text ≢ []
 bytes_stand [] h e = absurd (omega arith)
 bytes_stand (b ∷ bs) h e = cc
 
 -- a line past the last one that may stand
-pub past_limit : {K S : Type 0} (form : FileForm K) (Cause : S → List ℕ → K → Type 0) (known : Option (List ℕ)) (number : ℕ) (s : S) (kind : K) → 1000000 < number → form.too_many ≡ Some kind
+pub past_limit : {K S : Type 0} (form : FileForm K) (Cause : S → List ℕ → K → Type 0) (known : Option (List ℕ)) (number : ℕ) (s : S) (kind : K)
+    → 1000000 < number → form.too_many ≡ Some kind
     → IfSome known (λ text. 0 < length text) → IfSome known (λ text. BeginsFault form Cause s number text kind)
 past_limit form Cause None number s kind many limit h = tt
 past_limit form Cause (Some text) number s kind many limit h =
@@ -184,12 +196,14 @@ past_limit form Cause (Some text) number s kind many limit h =
       cause = inr (inl (many, limit));
     }
 
+-- nor is one with an LF
 ended-stands : (line left : List ℕ) → line ++ 10 ∷ left ≢ []
 ended-stands [] left e = cc
 ended-stands (b ∷ bs) left e = cc
 
 -- a line that has an LF and isn't taken
-pub line_refused : {K S : Type 0} (form : FileForm K) (Cause : S → List ℕ → K → Type 0) (old new : Option (List ℕ)) (number : ℕ) (s : S) (line : List ℕ) (kind : K)
+pub line_refused : {K S : Type 0} (form : FileForm K) (Cause : S → List ℕ → K → Type 0) (old new : Option (List ℕ)) (number : ℕ) (s : S)
+    (line : List ℕ) (kind : K)
     → Consumes old new (ended line) → Lacks is_lf line → Cause s line kind → IfSome old (λ text. BeginsFault form Cause s number text kind)
 line_refused form Cause None new number s line kind gone lacks cause = tt
 line_refused form Cause (Some text) None number s line kind gone lacks cause = absurd gone
@@ -205,13 +219,15 @@ line_refused form Cause (Some text) (Some left) number s line kind gone lacks ca
     }
 
 -- a last line without LF, which has a cause of its own, or is refused as a line
-pub last_refused : {K S : Type 0} (form : FileForm K) (Cause : S → List ℕ → K → Type 0) (old new : Option (List ℕ)) (number : ℕ) (s : S) (line : List ℕ) (kind : K)
-    → Consumes old new line → IsAtEnd new → Lacks is_lf line → 0 < length line → (kind ≡ form.no_lf) ⊎ Cause s line kind → IfSome old (λ text. BeginsFault form Cause s number text kind)
+pub last_refused : {K S : Type 0} (form : FileForm K) (Cause : S → List ℕ → K → Type 0) (old new : Option (List ℕ)) (number : ℕ) (s : S)
+    (line : List ℕ) (kind : K)
+    → Consumes old new line → IsAtEnd new → Lacks is_lf line → 0 < length line → (kind ≡ form.no_lf) ⊎ Cause s line kind
+    → IfSome old (λ text. BeginsFault form Cause s number text kind)
 last_refused form Cause None new number s line kind gone end lacks stands cause = tt
 last_refused form Cause (Some text) None number s line kind gone end lacks stands cause = absurd gone
 last_refused form Cause (Some text) (Some left) number s line kind gone end lacks stands cause =
     let parts : text ≡ line ++ [] = gone ∙ ap (λ (xs : List ℕ). line ++ xs) end in
-    let whole : text ≡ line = parts ∙ append_nothing line in record {
+    let whole : text ≡ line = parts ∙ append-nil line in record {
       line = line;
       more = [];
       parts = parts;
@@ -226,29 +242,37 @@ limit_kind : {K : Type 0} (limit : Option K) (other : K) → (limit ≡ None →
 limit_kind None other some = absurd (some refl)
 limit_kind (Some kind) other some = refl
 
+-- a number on both sides of the limit
 beyond : (number : ℕ) → 1000000 ≤ number → number < 1000000 → ⊥
 beyond number h k = omega arith
 
 -- no line was read
-pub step_fault : {K S : Type 0} (form : FileForm K) (Cause : S → List ℕ → K → Type 0) (old remaining : Option (List ℕ)) (pending line : List ℕ) (longest number : ℕ) (s : S) (fault : LineFault)
-    → longest ≡ form.longest → (form.too_many ≡ None → number < 1000000) → SaysOfBytes old (prepend_known pending remaining) line longest (Err fault) → Lacks is_lf line → length line ≤ longest → IsWithinLimit number (Err fault)
+pub step_fault : {K S : Type 0} (form : FileForm K) (Cause : S → List ℕ → K → Type 0) (old remaining : Option (List ℕ)) (pending line : List ℕ)
+    (longest number : ℕ) (s : S) (fault : LineFault)
+    → longest ≡ form.longest → (form.too_many ≡ None → number < 1000000) → SaysOfBytes old (prepend_known pending remaining) line longest (Err fault)
+    → Lacks is_lf line → length line ≤ longest → IsWithinLimit number (Err fault)
     → (fault ≡ Read → pending ≡ []) → RefusesNext form Cause old remaining (number + 1) s (kind_of_fault form fault)
 step_fault form Cause old remaining pending line longest number s TooLong long few bytes lacks short within empty =
     inr (inr (too_long form Cause old (number + 1) s (subst (BeginsLonger old) long bytes.1)))
 step_fault form Cause old remaining pending line longest number s Limit long few bytes lacks short within empty =
-    inr (inr (past_limit form Cause old (number + 1) s _ (omega (arith, within)) (limit_kind form.too_many form.too_long (λ none. beyond number within (few none))) bytes.1))
-step_fault form Cause old remaining pending line longest number s Read long few bytes lacks short within empty = inl (refl, read_fails form old remaining pending line bytes (empty refl) lacks (omega arith))
+    inr (inr (past_limit form Cause old (number + 1) s _ (omega (arith, within))
+    (limit_kind form.too_many form.too_long (λ none. beyond number within (few none))) bytes.1))
+step_fault form Cause old remaining pending line longest number s Read long few bytes lacks short within empty =
+    inl (refl, read_fails form old remaining pending line bytes (empty refl) lacks (omega arith))
 step_fault form Cause old remaining pending line longest number s Memory long few bytes lacks short within empty = inr (inl refl)
 
 -- a line was read that is not taken, for want of memory or by a cause
-pub line_not_taken : {K S : Type 0} (form : FileForm K) (Cause : S → List ℕ → K → Type 0) (old new left : Option (List ℕ)) (number : ℕ) (s : S) (line : List ℕ) (kind : K)
+pub line_not_taken : {K S : Type 0} (form : FileForm K) (Cause : S → List ℕ → K → Type 0) (old new left : Option (List ℕ)) (number : ℕ) (s : S)
+    (line : List ℕ) (kind : K)
     → Consumes old new (ended line) → Lacks is_lf line → (kind ≡ form.no_memory) ⊎ Cause s line kind → RefusesNext form Cause old left number s kind
 line_not_taken form Cause old new left number s line kind gone lacks h =
     elim h [ inl memory ↦ inr (inl memory) | inr cause ↦ inr (inr (line_refused form Cause old new number s line kind gone lacks cause)) ]
 
 -- a last line without LF was read that is not taken
-pub last_not_taken : {K S : Type 0} (form : FileForm K) (Cause : S → List ℕ → K → Type 0) (old new left : Option (List ℕ)) (number : ℕ) (s : S) (line : List ℕ) (kind : K)
-    → Consumes old new line × IsAtEnd new → Lacks is_lf line → 0 < length line → (kind ≡ form.no_memory) ⊎ Cause s line kind → RefusesNext form Cause old left number s kind
+pub last_not_taken : {K S : Type 0} (form : FileForm K) (Cause : S → List ℕ → K → Type 0) (old new left : Option (List ℕ)) (number : ℕ) (s : S)
+    (line : List ℕ) (kind : K)
+    → Consumes old new line × IsAtEnd new → Lacks is_lf line → 0 < length line → (kind ≡ form.no_memory) ⊎ Cause s line kind
+    → RefusesNext form Cause old left number s kind
 last_not_taken form Cause old new left number s line kind gone lacks stands h =
     elim h [ inl memory ↦ inr (inl memory) | inr cause ↦ inr (inr (last_refused form Cause old new number s line kind gone.0 gone.1 lacks stands (inr cause))) ]
 

@@ -69,14 +69,16 @@ pub record LosesPart {K : Type 0} (form : FileForm K) (text left : List ℕ) : T
   pub short : length part ≤ form.longest
 
 -- the lines before line `number` are acceptable in order, and a cause of the kind stands in it
-pub record FaultInLine {K S : Type 0} (form : FileForm K) (Says : List (List ℕ) → S → Type 0) (Cause : S → List ℕ → K → Type 0) (bytes : List ℕ) (number : ℕ) (kind : K) : Type 0 where
+pub record FaultInLine {K S : Type 0} (form : FileForm K) (Says : List (List ℕ) → S → Type 0) (Cause : S → List ℕ → K → Type 0) (bytes : List ℕ)
+    (number : ℕ) (kind : K) : Type 0 where
   pub said : S
   pub rest : List ℕ
   pub reaches : Reaches form Says bytes number said rest
   pub begins : BeginsFault form Cause said number rest kind
 
 -- the lines are acceptable in order, but the file may not end with them; the place is past the last one
-pub record FaultAtEnd {K S : Type 0} (form : FileForm K) (Says : List (List ℕ) → S → Type 0) (IsUnfinished : S → Type 0) (bytes : List ℕ) (number : ℕ) (kind : K) : Type 0 where
+pub record FaultAtEnd {K S : Type 0} (form : FileForm K) (Says : List (List ℕ) → S → Type 0) (IsUnfinished : S → Type 0) (bytes : List ℕ) (number : ℕ)
+    (kind : K) : Type 0 where
   pub said : S
   pub reaches : Reaches form Says bytes number said []
   pub unfinished : IsUnfinished said
@@ -107,5 +109,7 @@ RefusesLine form Says Cause bytes left number kind = ((kind ≡ form.failed_read
     ⊎ FaultInLine form Says Cause bytes number kind
 
 -- why a file of known bytes was refused: one of its lines was, or it may not end where it does
-abbrev pub Refuses : {K S : Type 0} → FileForm K → (List (List ℕ) → S → Type 0) → (S → List ℕ → K → Type 0) → (S → Type 0) → List ℕ → Option (List ℕ) → ℕ → K → Type 0
-Refuses form Says Cause IsUnfinished bytes left number kind = RefusesLine form Says Cause bytes left number kind ⊎ FaultAtEnd form Says IsUnfinished bytes number kind
+abbrev pub Refuses : {K S : Type 0} → FileForm K → (List (List ℕ) → S → Type 0) → (S → List ℕ → K → Type 0) → (S → Type 0) → List ℕ → Option (List ℕ)
+    → ℕ → K → Type 0
+Refuses form Says Cause IsUnfinished bytes left number kind =
+    RefusesLine form Says Cause bytes left number kind ⊎ FaultAtEnd form Says IsUnfinished bytes number kind

@@ -6,7 +6,8 @@ use Rattle.uca_files.specs.Files.{Reads, HasFault}
 -- Lines say at most one thing, and a line in which a cause stands is part of no acceptable lines.
 pub record IsExact {K S : Type 0} (Says : List (List ℕ) → S → Type 0) (Cause : S → List ℕ → K → Type 0) : Type 0 where
   pub same : (lines : List (List ℕ)) (s t : S) → Says lines s → Says lines t → s ≡ t
-  pub excluded : (before : List (List ℕ)) (s : S) (line : List ℕ) (kind : K) (more : List (List ℕ)) (t : S) → Says before s → Cause s line kind → Says (before ++ line ∷ more) t → ⊥
+  pub excluded : (before : List (List ℕ)) (s : S) (line : List ℕ) (kind : K) (more : List (List ℕ)) (t : S) → Says before s → Cause s line kind
+      → Says (before ++ line ∷ more) t → ⊥
 
 -- The same, line by line: the last of some lines is taken after the others, which says one thing; a line
 -- in which a cause stands is not taken.
@@ -22,4 +23,5 @@ OneMeaning {K} {S} form Says = (bytes : List ℕ) (s t : S) → Reads form Says 
 
 -- bytes in which a fault stands mean nothing with which a file may end
 abbrev pub NoMeaning : {K S : Type 0} → FileForm K → (List (List ℕ) → S → Type 0) → (S → List ℕ → K → Type 0) → (S → Type 0) → Type 0
-NoMeaning {K} {S} form Says Cause IsUnfinished = (bytes : List ℕ) (number : ℕ) (kind : K) (s : S) → HasFault form Says Cause IsUnfinished bytes number kind → Reads form Says bytes s → (IsUnfinished s → ⊥) → ⊥
+NoMeaning {K} {S} form Says Cause IsUnfinished = (bytes : List ℕ) (number : ℕ) (kind : K) (s : S)
+    → HasFault form Says Cause IsUnfinished bytes number kind → Reads form Says bytes s → (IsUnfinished s → ⊥) → ⊥

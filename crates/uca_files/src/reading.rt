@@ -79,15 +79,15 @@ fn take_line<T: TakesLines, R: Read, A: Allocator>(
     ensures failed { source.new.failed ≡ (source.old.failed || is_read_step T.is_read result) }
 {
     match lines.next_line(source, line) {
-        Ok(NextLine::Ended) => {
+        Ok(NextLine::Terminated) => {
             taker.take(line)?;
             Ok(true)
         }
-        Ok(NextLine::Cut) => {
+        Ok(NextLine::Unterminated) => {
             taker.take(line)?;
             Err(T::form().no_lf)
         }
-        Ok(NextLine::End) => Ok(false),
+        Ok(NextLine::EndOfInput) => Ok(false),
         Err(fault) => Err(kind_of(T::form(), fault)),
     }
 }

@@ -11,7 +11,7 @@ use Rattle.std.specs.Iterator.Runs.{WholeRun}
 use Rattle.std.proofs.iter.runs.Made.{run, to_end}
 use Rattle.uca_weights.specs.declared.Element.{Element}
 use Rattle.uca_weights.specs.declared.Weighting.{Weighting}
-use Rattle.uca_key.specs.Levels.{weight_at, level_list, weighted, weight_bytes, level_bytes, weighted_behind}
+use Rattle.uca_key.specs.Levels.{weight_at, level_list, weighted, weight_bytes, level_bytes, weighted_following}
 use Rattle.uca_key.specs.Levels.{weights_of, follows_variable, key_bytes}
 use Rattle.uca_key.specs.StreamedWeights.{at_four_levels, is_after_variable}
 use Rattle.uca_key.specs.LevelBuffers.{LevelState, HoldsLevels, bytes_of_level}
@@ -23,12 +23,12 @@ added w = if nat_eq w 0 then [] else weight_bytes w
 -- ---- One more element
 
 -- the weights of one more element come last
-pub weighted_behind-push : (weighting : Weighting) (earlier es : List Element) (e : Element)
-    → weighted_behind weighting earlier (es ++ e ∷ [])
-    ≡ weighted_behind weighting earlier es ++ weights_of weighting (follows_variable (reverse_aux es earlier)) e ∷ []
-weighted_behind-push weighting earlier [] e = refl
-weighted_behind-push weighting earlier (d ∷ es) e =
-    ap (λ l. weights_of weighting (follows_variable earlier) d ∷ l) (weighted_behind-push weighting (d ∷ earlier) es e)
+pub weighted_following-push : (weighting : Weighting) (earlier es : List Element) (e : Element)
+    → weighted_following weighting earlier (es ++ e ∷ [])
+    ≡ weighted_following weighting earlier es ++ weights_of weighting (follows_variable (reverse_aux es earlier)) e ∷ []
+weighted_following-push weighting earlier [] e = refl
+weighted_following-push weighting earlier (d ∷ es) e =
+    ap (λ l. weights_of weighting (follows_variable earlier) d ∷ l) (weighted_following-push weighting (d ∷ earlier) es e)
 
 -- the bytes of a list of one weight, or of none
 pub added_is : (w : ℕ) (b : Bool) → level_bytes (cond (not b) (w ∷ []) []) ≡ cond b [] (weight_bytes w)
@@ -43,7 +43,7 @@ level_more level weighting es e =
     let before = weighted weighting es in
     let ws = weights_of weighting (follows_variable (reverse es)) e in
     let p : ℕ → Bool = λ w. not (nat_eq w 0) in
-    ap (λ l. level_bytes (level_list level l)) (weighted_behind-push weighting [] es e)
+    ap (λ l. level_bytes (level_list level l)) (weighted_following-push weighting [] es e)
     ∙ ap (λ l. level_bytes (filter p l)) (map-append (weight_at level) before (ws ∷ []))
     ∙ ap level_bytes (filter-append p (map (weight_at level) before) (weight_at level ws ∷ []))
     ∙ flat_map-append weight_bytes (level_list level before) (filter p (weight_at level ws ∷ []))

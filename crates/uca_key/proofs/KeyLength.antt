@@ -16,11 +16,11 @@ use Rattle.std.specs.Iterator.{Yields, YieldsFirst}
 use Rattle.std.specs.Iterator.Runs.{Run, WholeRun}
 use Rattle.std.proofs.iter.runs.Made.{took}
 use Rattle.uca_match.specs.Rows.{Rows, rows_of, same_key}
-use Rattle.uca_match.specs.Reading.{others, marks_at_front, after_marks, removed, longest_key, Portion, portion_at}
+use Rattle.uca_match.specs.Reading.{others, non_starters_at_front, after_non_starters, removed, longest_key, Portion, portion_at}
 use Rattle.uca_match.specs.Reading.{portion, read_within, collation_elements}
 use Rattle.uca_match.specs.Collations.{Collation, elements_of}
 use Rattle.uca_key.specs.Levels.{Weights, weight_at, level_list, level_lists_from, weighted, level_bytes, levels_bytes}
-use Rattle.uca_key.specs.Levels.{weighted_behind, key_bytes}
+use Rattle.uca_key.specs.Levels.{weighted_following, key_bytes}
 use Rattle.uca_key.specs.Lengths.{HasShortRows}
 use Rattle.uca_key.specs.Laws.{KeysAreShort, RowsAreShort}
 use Rattle.std.specs.List.{AllByRecursion}
@@ -42,7 +42,7 @@ length-level_bytes [] = refl
 length-level_bytes (w ∷ ws) = omega (arith, length-level_bytes ws)
 
 -- each element has weights
-pub length-weighted : (weighting : Weighting) (earlier es : List Element) → length (weighted_behind weighting earlier es) ≡ length es
+pub length-weighted : (weighting : Weighting) (earlier es : List Element) → length (weighted_following weighting earlier es) ≡ length es
 length-weighted weighting earlier [] = refl
 length-weighted weighting earlier (e ∷ es) = ap suc (length-weighted weighting (e ∷ earlier) es)
 
@@ -101,13 +101,13 @@ length-others (b ∷ set) [] = omega arith
 length-others (true ∷ set) (c ∷ t) = omega (arith, length-others set t)
 length-others (false ∷ set) (c ∷ t) = omega (arith, length-others set t)
 
--- the marks and what follows them are the whole
-pub length-marks : (t : Text) → length (marks_at_front t) + length (after_marks t) ≡ length t
-length-marks [] = refl
-length-marks (c ∷ t) = step (is_starter c) (length-marks t)
+-- the non-starters and what follows them are the whole
+pub length-non_starters : (t : Text) → length (non_starters_at_front t) + length (after_non_starters t) ≡ length t
+length-non_starters [] = refl
+length-non_starters (c ∷ t) = step (is_starter c) (length-non_starters t)
   where
-    step : (b : Bool) → length (marks_at_front t) + length (after_marks t) ≡ length t
-        → length (cond b [] (c ∷ marks_at_front t)) + length (cond b (c ∷ t) (after_marks t)) ≡ suc (length t)
+    step : (b : Bool) → length (non_starters_at_front t) + length (after_non_starters t) ≡ length t
+        → length (cond b [] (c ∷ non_starters_at_front t)) + length (cond b (c ∷ t) (after_non_starters t)) ≡ suc (length t)
     step true h = omega arith
     step false h = omega (arith, h)
 
@@ -140,11 +140,17 @@ pub short_portion : (implicit : ℕ → List Element) (rows : Rows) (c : Letter)
 short_portion implicit rows c t zero few short = record { few = few c.code; rest = omega arith }
 short_portion implicit rows c t (suc n) few short =
     let rest = drop n t in
-    let marks = marks_at_front rest in
-    let set = removed rows (take (suc n) (c ∷ t)) [] marks in
+    let non_starters = non_starters_at_front rest in
+    let set = removed rows (take (suc n) (c ∷ t)) [] non_starters in
     record {
       few = few_in_row rows _ _ short refl;
-      rest = omega (arith, length-append (others set marks) (after_marks rest), length-others set marks, length-marks rest, length-drop n t);
+      rest = omega (
+        arith,
+        length-append (others set non_starters) (after_non_starters rest),
+        length-others set non_starters,
+        length-non_starters rest,
+        length-drop n t,
+      );
     }
 
 -- so a text has at most 32 elements for each letter

@@ -30,7 +30,7 @@ other_bytes xs ys other = at (bytes_eq xs ys) refl
     at true is = absurd (other ((bytes_eq-Decides xs ys).0 is))
     at false is = refl
 
--- the groups that both begin with, behind a group of each
+-- the groups that both begin with, after a group of each
 pub shared_same : (a b : List ℕ) (left right : List (List ℕ)) → bytes_eq a b ≡ true → shared_groups (a ∷ left) (b ∷ right) ≡ a ∷ shared_groups left right
 shared_same a b left right same = rw same
 
@@ -42,7 +42,7 @@ shared_other a b left right other = rw other
 abbrev pub is_separator : List ℕ → Bool
 is_separator = bytes_eq (0 ∷ 0 ∷ [])
 
--- how many separators both have before the first group that differs, behind an equal group of each
+-- how many separators both have before the first group that differs, after an equal group of each
 pub separators_same : (a b : ℕ) (left right : List ℕ)
     → shared_separators (a ∷ b ∷ left) (a ∷ b ∷ right) ≡ cond (is_separator (a ∷ b ∷ [])) 1 0 + shared_separators left right
 separators_same a b left right =
@@ -103,7 +103,7 @@ separators_zeros (v ∷ vs) (w ∷ ws) = separators_step v w vs ws (nat_eq v w) 
 
 -- ---- Weights 0 stand between levels alone
 
--- behind one more weight, which is not 0
+-- after one more weight, which is not 0
 past_weight : (v w : ℕ) (rest : ℕ) (same : Bool) → nat_eq v w ≡ same → v ≢ 0 → (v ≡ w → rest ≡ 0) → cond same (cond (nat_eq v 0) 1 0 + rest) 0 ≡ 0
 past_weight v w rest true is apart none =
     let no : nat_eq v 0 ≡ false = ne_eqb v 0 apart in
@@ -117,7 +117,7 @@ zeros_none [] ws a = refl
 zeros_none (v ∷ vs) [] a = refl
 zeros_none (v ∷ vs) (w ∷ ws) a = past_weight v w (zeros_before vs ws) (nat_eq v w) refl a.0 (λ e. zeros_none vs ws a.1)
 
--- two that differ, with 0 and more behind each
+-- two that differ, with 0 and more after each
 pub zeros_other : (vs ws xs ys : List ℕ) → AreNonZero vs → AreNonZero ws → (vs ≡ ws → ⊥) → zeros_before (vs ++ 0 ∷ xs) (ws ++ 0 ∷ ys) ≡ 0
 zeros_other [] [] xs ys a b other = absurd (other refl)
 zeros_other [] (w ∷ ws) xs ys a b other =
@@ -147,14 +147,14 @@ unequal vs ws other same = other (same_from_dictionary vs ws same)
 -- what a level says of its own lists and of the levels after it
 pub level_step : (o : Ordering) (n zeros rest : ℕ) (later : Comparison) → ((o ≡ Equal → ⊥) → zeros ≡ 0) → (o ≡ Equal → zeros ≡ suc rest)
     → ((later.order ≡ Equal → ⊥) → later.level ≡ suc n + rest) → ((decided o n later).order ≡ Equal → ⊥) → (decided o n later).level ≡ n + zeros
-level_step Less n zeros rest later apart same behind differ = let e : zeros ≡ 0 = apart differ in omega arith
-level_step Equal n zeros rest later apart same behind differ =
+level_step Less n zeros rest later apart same beyond differ = let e : zeros ≡ 0 = apart differ in omega arith
+level_step Equal n zeros rest later apart same beyond differ =
     let e : zeros ≡ suc rest = same refl in
-    let f : later.level ≡ suc n + rest = behind differ in
+    let f : later.level ≡ suc n + rest = beyond differ in
     omega arith
-level_step Greater n zeros rest later apart same behind differ = let e : zeros ≡ 0 = apart differ in omega arith
+level_step Greater n zeros rest later apart same beyond differ = let e : zeros ≡ 0 = apart differ in omega arith
 
--- how many weights 0 there are behind a level, and then one level more
+-- how many weights 0 there are after a level, and then one level more
 abbrev pub zeros_joined : List (List ℕ) → List (List ℕ) → ℕ
 zeros_joined left right = zeros_before (joined left) (joined right)
 
@@ -165,13 +165,13 @@ zeros_apart a b c d left right first second differ =
     zeros_other a b (joined (c ∷ left)) (joined (d ∷ right)) first second (λ same. differ (ap (dictionary a) (sym same) ∙ dictionary_itself a))
 
 -- and one more where they are the same
-zeros_behind : (a b : List ℕ) (c d : List ℕ) (left right : List (List ℕ)) → AreNonZero a → dictionary a b ≡ Equal
+zeros_after : (a b : List ℕ) (c d : List ℕ) (left right : List (List ℕ)) → AreNonZero a → dictionary a b ≡ Equal
     → zeros_joined (a ∷ c ∷ left) (b ∷ d ∷ right) ≡ suc (zeros_joined (c ∷ left) (d ∷ right))
-zeros_behind a b c d left right first same =
+zeros_after a b c d left right first same =
     ap (λ l. zeros_before (joined (a ∷ c ∷ left)) (l ++ 0 ∷ joined (d ∷ right))) (sym (same_from_dictionary a b same))
     ∙ zeros_same a (joined (c ∷ left)) (joined (d ∷ right)) first
 
--- where some level decides, it is the one behind as many separators
+-- where some level decides, it is the one after as many separators
 pub level_zeros : (n : ℕ) (left right : List (List ℕ)) → AreLevels left right → ((compare_from n left right).order ≡ Equal → ⊥)
     → (compare_from n left right).level ≡ n + zeros_joined left right
 level_zeros n [] [] h differ = absurd (differ refl)
@@ -185,7 +185,7 @@ level_zeros n (a ∷ c ∷ left) (b ∷ []) h differ = absurd h.2
 level_zeros n (a ∷ c ∷ left) (b ∷ d ∷ right) h differ =
     level_step (dictionary a b) n (zeros_joined (a ∷ c ∷ left) (b ∷ d ∷ right)) (zeros_joined (c ∷ left) (d ∷ right))
     (compare_from (suc n) (c ∷ left) (d ∷ right))
-    (zeros_apart a b c d left right h.0 h.1) (zeros_behind a b c d left right h.0)
+    (zeros_apart a b c d left right h.0 h.1) (zeros_after a b c d left right h.0)
     (level_zeros (suc n) (c ∷ left) (d ∷ right) h.2) differ
 
 -- and there are fewer separators than levels
@@ -203,7 +203,7 @@ fewer_zeros a [] (b ∷ d ∷ right) h = absurd h.2
 fewer_zeros a (c ∷ left) (b ∷ []) h = absurd h.2
 fewer_zeros a (c ∷ left) (b ∷ d ∷ right) h =
     fewer_step (dictionary a b) (zeros_joined (a ∷ c ∷ left) (b ∷ d ∷ right)) (zeros_joined (c ∷ left) (d ∷ right)) (length (c ∷ left))
-    (zeros_apart a b c d left right h.0 h.1) (zeros_behind a b c d left right h.0) (fewer_zeros c left (d ∷ right) h.2)
+    (zeros_apart a b c d left right h.0 h.1) (zeros_after a b c d left right h.0) (fewer_zeros c left (d ∷ right) h.2)
 
 -- ---- Stored keys
 

@@ -4,7 +4,7 @@ use Rattle.std.proofs.Common.{bytes_eq}
 use Rattle.uca_key.specs.StoredKeys.{shared_separators}
 use Rattle.uca_key.proofs.StoredOrder.{is_separator, other_bytes}
 
--- `level` counts what is behind, from 1 on, up to `levels`
+-- `level` counts what came before, from 1 on, up to `levels`
 pub record IsLeftOf (levels level : ℕ) (left right left_rest right_rest : List ℕ) : Type 0 where
   pub level_is : min levels (level + shared_separators left_rest right_rest) ≡ min levels (1 + shared_separators left right)
   pub few : level ≤ levels

@@ -3,12 +3,13 @@ use Rattle.std.proofs.Common.{◌≡◌, ◌↔◌, ℕ, List, [], ◌∷◌, na
 use Rattle.std.proofs.lemmas.Bool.Decides.{nat_tests}
 use Rattle.uca_weights.specs.declared.Element.{Element}
 use Rattle.uca_weights.specs.declared.Weighting.{Weighting}
-use Rattle.uca_key.specs.Levels.{weights_of, weighted_behind, follows_variable}
-use Rattle.uca_key.specs.StreamedWeights.{weighted_after, WeightsMayBeStreamed, FindsCompletelyIgnorable}
+use Rattle.uca_key.specs.Levels.{weights_of, weighted_following, follows_variable}
+use Rattle.uca_key.specs.StreamedWeights.{weighted_after, WeightsMayBeStreamed}
+use Rattle.uca_key.specs.Laws.{FindsCompletelyIgnorable}
 
 -- the flag says all that the earlier elements do
 pub weighted_after-follows : (weighting : Weighting) (earlier es : List Element)
-    → weighted_after weighting (follows_variable earlier) es ≡ weighted_behind weighting earlier es
+    → weighted_after weighting (follows_variable earlier) es ≡ weighted_following weighting earlier es
 weighted_after-follows weighting earlier [] = refl
 weighted_after-follows weighting earlier (e ∷ es) =
     ap (λ l. weights_of weighting (follows_variable earlier) e ∷ l) (weighted_after-follows weighting (e ∷ earlier) es)

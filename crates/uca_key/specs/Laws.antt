@@ -1,13 +1,14 @@
--- What holds of the keys of all texts.
-use Rattle.std.specs.Prelude.{◌≡◌, ◌↔◌, ℕ, ◌<◌, ◌^◌, List, length}
+-- What holds of the keys of all texts, and of all elements.
+use Rattle.std.specs.Prelude.{◌≡◌, ◌↔◌, ℕ, ◌<◌, ◌^◌, List, length, IsTrue}
 use Rattle.uca_weights.specs.declared.Element.{Element}
 use Rattle.uca_weights.specs.declared.Weighting.{Weighting}
+use Rattle.uca_weights.specs.Kinds.{IsCompletelyIgnorable}
 use Rattle.uca_values.specs.Content.{Entry, AreRows}
 use Rattle.uca_text.specs.Texts.{Spelled, AreCanonicallyEquivalent, spelled}
 use Rattle.uca_text.specs.Limits.{IsAccepted}
 use Rattle.uca_match.specs.Rows.{Rows, rows_of}
 use Rattle.uca_match.specs.Collations.{Collation, elements_of}
-use Rattle.uca_key.specs.Levels.{level_count, dictionary, compared, key_bytes}
+use Rattle.uca_key.specs.Levels.{is_completely_ignorable, level_count, dictionary, compared, key_bytes}
 use Rattle.uca_key.specs.StoredKeys.{stored_level}
 use Rattle.uca_key.specs.Lengths.{HasShortRows}
 
@@ -53,3 +54,7 @@ KeysAreShort = (c : Collation) (weighting : Weighting) (text : Spelled) →
 abbrev pub RowsAreShort : Type 0
 RowsAreShort = (entries : List Entry) (rows : Rows) →
     AreRows entries → ((key : List ℕ) → rows key ≡ rows_of entries key) → HasShortRows rows
+
+-- The test of the weighting finds the completely ignorable elements of UTS #10, section 3.
+abbrev pub FindsCompletelyIgnorable : Type 0
+FindsCompletelyIgnorable = (e : Element) → IsTrue (is_completely_ignorable e) ↔ IsCompletelyIgnorable e

@@ -43,12 +43,12 @@ weights_of NonIgnorable after_variable e = e.primary ∷ e.secondary ∷ e.terti
 weights_of Shifted after_variable e = shifted_weights after_variable e
 
 -- each element's weights, after the earlier ones
-abbrev pub weighted_behind : Weighting → List Element → List Element → List Weights
-weighted_behind weighting earlier [] = []
-weighted_behind weighting earlier (e ∷ es) = weights_of weighting (follows_variable earlier) e ∷ weighted_behind weighting (e ∷ earlier) es
+abbrev pub weighted_following : Weighting → List Element → List Element → List Weights
+weighted_following weighting earlier [] = []
+weighted_following weighting earlier (e ∷ es) = weights_of weighting (follows_variable earlier) e ∷ weighted_following weighting (e ∷ earlier) es
 
 abbrev pub weighted : Weighting → List Element → List Weights
-weighted weighting es = weighted_behind weighting [] es
+weighted weighting es = weighted_following weighting [] es
 
 abbrev pub level_count : Weighting → ℕ
 level_count NonIgnorable = 3

@@ -1,10 +1,9 @@
 -- The weights of elements that are read one after the other: a flag says whether the nearest earlier element with a
 -- non-zero primary is variable, in place of the list of the earlier elements.
-use Rattle.std.specs.Prelude.{◌≡◌, ◌↔◌, ℕ, List, [], ◌∷◌, Bool, false, IsTrue, if◌then◌else◌}
+use Rattle.std.specs.Prelude.{◌≡◌, ℕ, List, [], ◌∷◌, Bool, false, if◌then◌else◌}
 use Rattle.uca_weights.specs.declared.Element.{Element}
 use Rattle.uca_weights.specs.declared.Weighting.{Weighting}
-use Rattle.uca_weights.specs.Kinds.{IsCompletelyIgnorable}
-use Rattle.uca_key.specs.Levels.{Weights, is_ignorable, is_completely_ignorable, follows_variable, weights_of, weight_at, weighted, weighted_behind}
+use Rattle.uca_key.specs.Levels.{Weights, is_ignorable, follows_variable, weights_of, weight_at, weighted, weighted_following}
 
 -- the weights at the levels 1 to 4, 0 at a level that there is not
 abbrev pub at_four_levels : Weights → List ℕ
@@ -23,9 +22,5 @@ weighted_after weighting after_variable (e ∷ es) =
 -- With the flag elements have the weights that they have with the earlier elements.
 pub record WeightsMayBeStreamed : Type 0 where
   pub after : (weighting : Weighting) (earlier es : List Element) →
-      weighted_after weighting (follows_variable earlier) es ≡ weighted_behind weighting earlier es
+      weighted_after weighting (follows_variable earlier) es ≡ weighted_following weighting earlier es
   pub whole : (weighting : Weighting) (es : List Element) → weighted_after weighting false es ≡ weighted weighting es
-
--- The test of the weighting finds the completely ignorable elements of UTS #10, section 3.
-abbrev pub FindsCompletelyIgnorable : Type 0
-FindsCompletelyIgnorable = (e : Element) → IsTrue (is_completely_ignorable e) ↔ IsCompletelyIgnorable e

@@ -11,7 +11,7 @@ abbrev pub HasKey : List Entry → Weighting → List ℕ → List ℕ → Type 
 HasKey rows weighting points groups = key_bytes weighting (elements_under rows points) ≡ level_bytes groups
 
 pub record WorkedKeys : Type 0 where
-  -- one level behind the other
+  -- one level after the other
   pub letter : HasKey small_rows NonIgnorable (0x61 ∷ []) (0x1C47 ∷ 0 ∷ 0x20 ∷ 0 ∷ 2 ∷ [])
   pub accent : HasKey small_rows NonIgnorable (0x61 ∷ 0x301 ∷ []) (0x1C47 ∷ 0 ∷ 0x20 ∷ 0x24 ∷ 0 ∷ 2 ∷ 2 ∷ [])
   -- the empty text has the separators alone
@@ -23,7 +23,7 @@ pub record WorkedKeys : Type 0 where
   pub in_range : HasKey small_rows NonIgnorable (0x17000 ∷ []) (0xFB00 ∷ 0x8000 ∷ 0 ∷ 0x20 ∷ 0 ∷ 2 ∷ [])
   pub last_code_point : HasKey small_rows NonIgnorable (0x10FFFF ∷ []) (0xFBE1 ∷ 0xFFFF ∷ 0 ∷ 0x20 ∷ 0 ∷ 2 ∷ [])
   pub core_han_shifted : HasKey small_rows Shifted (0x4E00 ∷ []) (0xFB40 ∷ 0xCE00 ∷ 0 ∷ 0x20 ∷ 0 ∷ 2 ∷ 0 ∷ 0xFFFF ∷ 0xFFFF ∷ [])
-  -- a variable element counts at the fourth level alone, and takes the accents behind it along
+  -- a variable element counts at the fourth level alone, and takes the accents after it along
   pub space : HasKey small_rows Shifted (0x61 ∷ 0x20 ∷ 0x62 ∷ []) (0x1C47 ∷ 0x1C60 ∷ 0 ∷ 0x20 ∷ 0x20 ∷ 0 ∷ 2 ∷ 2 ∷ 0 ∷ 0xFFFF ∷ 0x209 ∷ 0xFFFF ∷ [])
   pub space_accent : HasKey small_rows Shifted (0x20 ∷ 0x301 ∷ []) (0 ∷ 0 ∷ 0 ∷ 0x209 ∷ [])
   -- contractions: a mark is skipped, is blocked, and is removed before another one

@@ -1,7 +1,7 @@
 //! What holds of the keys of all texts. The functions do nothing: their contracts are the laws.
 
-ghost use Rattle.uca_key.specs.Laws.{KeysCompareAsElements, CanonicallyEquivalentTextsHaveEqualKeys, KeysAreShort, RowsAreShort, StoredKeysCompareAsElements, StoredKeysCompareAsTexts};
-ghost use Rattle.uca_key.specs.StreamedWeights.{WeightsMayBeStreamed, FindsCompletelyIgnorable};
+ghost use Rattle.uca_key.specs.Laws.{KeysCompareAsElements, CanonicallyEquivalentTextsHaveEqualKeys, KeysAreShort, RowsAreShort, FindsCompletelyIgnorable, StoredKeysCompareAsElements, StoredKeysCompareAsTexts};
+ghost use Rattle.uca_key.specs.StreamedWeights.{WeightsMayBeStreamed};
 ghost use Rattle.uca_key.specs.WorkedKeys.{WorkedKeys};
 ghost use Rattle.uca_key.specs.WorkedComparisons.{WorkedComparisons};
 

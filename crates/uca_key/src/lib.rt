@@ -7,8 +7,6 @@ pub mod keys;
 pub mod laws;
 mod levels;
 pub mod stored;
-#[cfg(test)]
-mod tests;
 pub mod weighting;
 
 pub use buffers::KeyBuffer;

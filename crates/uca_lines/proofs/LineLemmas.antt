@@ -15,7 +15,8 @@ use Rattle.uca_lines.specs.declared.lines.LineFault.TheVariants.{TooLong, Limit,
 -- the place that a search for LF gives, or that there is none
 pub line_end-memchr : (text : List ℕ) (r : Option ℕ) → IsFirstByte (is_byte 10) text r
     → MatchOption r (position_or_len is_lf text ≡ length text) (λ at. (position_or_len is_lf text ≡ at) × (at < length text))
-line_end-memchr text None h = position_or_len_is is_lf text (length text) 0 (le_refl (length text)) (λ k lt. false_from_ne_true _ (h k (omega arith) lt)) (λ lt. absurd (omega arith))
+line_end-memchr text None h = position_or_len_is is_lf text (length text) 0 (le_refl (length text))
+    (λ k lt. false_from_ne_true _ (h k (omega arith) lt)) (λ lt. absurd (omega arith))
 line_end-memchr text (Some k) h =
     let within = h.0.high in
     (position_or_len_is is_lf text k 0 (omega arith) (λ j lt. false_from_ne_true _ (h.0.before j (omega arith) lt)) (λ _. h.1), within)
@@ -23,7 +24,7 @@ line_end-memchr text (Some k) h =
 pub length-before_lf : (text : List ℕ) → length (before_first is_lf text) ≡ position_or_len is_lf text
 length-before_lf text = length-take-le (position_or_len is_lf text) text (prefix_len-le-length _ text)
 
--- what of a range is left behind its first LF
+-- what of a range is left after its first LF
 pub slice_range-after_lf : (chunk : List ℕ) (start end : ℕ) (piece : List ℕ)
     → piece ≡ before_first is_lf (slice_range chunk start end) → position_or_len is_lf (slice_range chunk start end) < length (slice_range chunk start end)
     → slice_range chunk (start + length piece + 1) end ≡ after_first is_lf (slice_range chunk start end)
@@ -107,15 +108,18 @@ BeginsLonger-part (Some xs) (Some r) line waiting n h lacks long =
 
 -- what waited of the line is no more than the line
 pub Lacks_more : (line waiting new : List ℕ) → Lacks is_lf line → new ≡ line ++ before_first is_lf waiting → Lacks is_lf new
-Lacks_more line waiting new lacks e = subst (Lacks is_lf) (sym e) (Lacks-append is_lf line (before_first is_lf waiting) lacks (Lacks-before_first is_lf waiting))
+Lacks_more line waiting new lacks e = subst (Lacks is_lf) (sym e) (Lacks-append is_lf line (before_first is_lf waiting) lacks
+    (Lacks-before_first is_lf waiting))
 
 -- it was ended
 pub Consumes-ended : (known rest : Option (List ℕ)) (line waiting new later : List ℕ) → Consumes known (prepend_known waiting rest) line
     → position_or_len is_lf waiting < length waiting → new ≡ line ++ before_first is_lf waiting → later ≡ after_first is_lf waiting
     → Consumes known (prepend_known later rest) (ended new)
 Consumes-ended known rest line waiting new later h there is_new is_later =
-    let cut : waiting ≡ ended (before_first is_lf waiting) ++ later = cut_at_lf waiting there ∙ ap (λ l. ended (before_first is_lf waiting) ++ l) (sym is_later) in
-    let whole : line ++ ended (before_first is_lf waiting) ≡ ended new = sym (append_assoc line (before_first is_lf waiting) (10 ∷ [])) ∙ ap ended (sym is_new) in
+    let cut : waiting ≡ ended (before_first is_lf waiting) ++ later =
+    cut_at_lf waiting there ∙ ap (λ l. ended (before_first is_lf waiting) ++ l) (sym is_later) in
+    let whole : line ++ ended (before_first is_lf waiting) ≡ ended new =
+    sym (append_assoc line (before_first is_lf waiting) (10 ∷ [])) ∙ ap ended (sym is_new) in
     subst (Consumes known (prepend_known later rest)) whole (Consumes-front known rest line waiting (ended (before_first is_lf waiting)) later h cut)
 
 -- it was not
@@ -128,7 +132,8 @@ Consumes-part known rest line waiting new later h none is_new is_later =
     subst (Consumes known (prepend_known later rest)) whole (Consumes-front known rest line waiting waiting later h cut)
 
 -- bytes that wait are left
-HasBytes-waiting : (known rest : Option (List ℕ)) (line waiting : List ℕ) → Consumes known (prepend_known waiting rest) line → 0 < length waiting → HasBytes known
+HasBytes-waiting : (known rest : Option (List ℕ)) (line waiting : List ℕ) → Consumes known (prepend_known waiting rest) line → 0 < length waiting
+    → HasBytes known
 HasBytes-waiting None rest line waiting h some = tt
 HasBytes-waiting (Some xs) None line waiting h some = absurd h
 HasBytes-waiting (Some xs) (Some ys) line waiting h some =
@@ -144,4 +149,5 @@ SaysOfBytes-fault known rest line waiting new later capacity n longest TooLong h
     (rw (is_new, is_later) h, BeginsLonger-part known rest line waiting longest h lacks (omega arith))
 SaysOfBytes-fault known rest line waiting new later capacity n longest Limit h some lacks is_new is_later is_longest cause = absurd cause
 SaysOfBytes-fault known rest line waiting new later capacity n longest Read h some lacks is_new is_later is_longest cause = absurd cause
-SaysOfBytes-fault known rest line waiting new later capacity n longest Memory h some lacks is_new is_later is_longest cause = (rw (is_new, is_later) h, HasBytes-waiting known rest line waiting h some)
+SaysOfBytes-fault known rest line waiting new later capacity n longest Memory h some lacks is_new is_later is_longest cause =
+    (rw (is_new, is_later) h, HasBytes-waiting known rest line waiting h some)

@@ -5,7 +5,7 @@ use Rattle.std.specs.Io.KnownBytes.{Consumes, IsAtEnd}
 use Rattle.uca_lines.specs.Lines.{is_lf, ended}
 use Rattle.uca_lines.specs.declared.lines.TheConstants.{LINE_LIMIT}
 use Rattle.uca_lines.specs.declared.lines.NextLine.{NextLine}
-use Rattle.uca_lines.specs.declared.lines.NextLine.TheVariants.{Ended, Cut, End}
+use Rattle.uca_lines.specs.declared.lines.NextLine.TheVariants.{Terminated, Unterminated, EndOfInput}
 use Rattle.uca_lines.specs.declared.lines.LineFault.{LineFault}
 use Rattle.uca_lines.specs.declared.lines.LineFault.TheVariants.{TooLong, Limit, Read, Memory}
 
@@ -20,9 +20,9 @@ HasBytes known = IfSome known (λ xs. 0 < length xs)
 -- Known bytes were left, and lost the line and its LF, the last line, or the part of a line that was read before a
 -- fault. `line` is that line or part.
 abbrev pub SaysOfBytes : Option (List ℕ) → Option (List ℕ) → List ℕ → ℕ → Result NextLine LineFault → Type 0
-SaysOfBytes old new line longest (Ok Ended) = Consumes old new (ended line)
-SaysOfBytes old new line longest (Ok Cut) = Consumes old new line × IsAtEnd new
-SaysOfBytes old new line longest (Ok End) = Consumes old new line × IsAtEnd new
+SaysOfBytes old new line longest (Ok Terminated) = Consumes old new (ended line)
+SaysOfBytes old new line longest (Ok Unterminated) = Consumes old new line × IsAtEnd new
+SaysOfBytes old new line longest (Ok EndOfInput) = Consumes old new line × IsAtEnd new
 SaysOfBytes old new line longest (Err TooLong) = Consumes old new line × BeginsLonger old longest
 SaysOfBytes old new line longest (Err Limit) = Consumes old new line × HasBytes old
 SaysOfBytes old new line longest (Err Read) = Consumes old new line
@@ -30,9 +30,9 @@ SaysOfBytes old new line longest (Err Memory) = Consumes old new line × HasByte
 
 -- with so many lines before, this may be answered: the limit comes before all else but the end and a failed read
 abbrev pub IsWithinLimit : ℕ → Result NextLine LineFault → Type 0
-IsWithinLimit number (Ok Ended) = number < LINE_LIMIT
-IsWithinLimit number (Ok Cut) = number < LINE_LIMIT
-IsWithinLimit number (Ok End) = ⊤
+IsWithinLimit number (Ok Terminated) = number < LINE_LIMIT
+IsWithinLimit number (Ok Unterminated) = number < LINE_LIMIT
+IsWithinLimit number (Ok EndOfInput) = ⊤
 IsWithinLimit number (Err TooLong) = number < LINE_LIMIT
 IsWithinLimit number (Err Limit) = LINE_LIMIT ≤ number
 IsWithinLimit number (Err Read) = ⊤
@@ -40,9 +40,9 @@ IsWithinLimit number (Err Memory) = number < LINE_LIMIT
 
 -- whether a line was found
 abbrev pub is_line : Result NextLine LineFault → Bool
-is_line (Ok Ended) = true
-is_line (Ok Cut) = true
-is_line (Ok End) = false
+is_line (Ok Terminated) = true
+is_line (Ok Unterminated) = true
+is_line (Ok EndOfInput) = false
 is_line (Err fault) = false
 
 -- whether the fault is the reader's

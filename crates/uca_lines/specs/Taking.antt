@@ -1,4 +1,4 @@
--- Why the bytes that wait are not moved behind a line.
+-- Why the bytes that wait are not moved to a line. For private contracts alone.
 use Rattle.std.specs.Prelude.{ℕ, ◌<◌, ◌≤◌}
 use Rattle.uca_lines.specs.declared.lines.LineFault.{LineFault}
 use Rattle.uca_lines.specs.declared.lines.LineFault.TheVariants.{TooLong, Limit, Read, Memory}

@@ -25,11 +25,11 @@ const CHUNK: usize = 16_384;
 #[derive(Clone, Copy, Debug, PartialEq, Eq)]
 pub enum NextLine {
     /// A line, and the LF that ends it.
-    Ended,
+    Terminated,
     /// A last line, of one byte at least, that no LF ends.
-    Cut,
+    Unterminated,
     /// Nothing: no byte is left.
-    End,
+    EndOfInput,
 }
 
 /// Why no line was read.
@@ -117,8 +117,8 @@ impl LineReader {
         // The line, or what was read of it.
         ensures no_lf { Lacks is_lf line.new.items }
         ensures fits { length line.new.items ≤ self.old.longest }
-        ensures cut { result ≡ Ok NextLine.Cut → 0 < length line.new.items }
-        ensures end { result ≡ Ok NextLine.End → line.new.items ≡ [] }
+        ensures cut { result ≡ Ok NextLine.Unterminated → 0 < length line.new.items }
+        ensures end { result ≡ Ok NextLine.EndOfInput → line.new.items ≡ [] }
 
         // The limit on lines.
         ensures limit { IsWithinLimit self.old.number result }
@@ -133,7 +133,7 @@ impl LineReader {
     {
         line.clear();
         if !self.fill(source)? {
-            return Ok(NextLine::End);
+            return Ok(NextLine::EndOfInput);
         }
         if self.number >= LINE_LIMIT {
             return Err(LineFault::Limit);
@@ -155,7 +155,7 @@ impl LineReader {
             line.new.items self.old.longest result }
         ensures no_lf { Lacks is_lf line.new.items }
         ensures fits { length line.new.items ≤ self.old.longest }
-        ensures cut { result ≡ Ok NextLine.Cut → 0 < length line.new.items }
+        ensures cut { result ≡ Ok NextLine.Unterminated → 0 < length line.new.items }
         ensures found { is_line result ≡ is_ok result }
         ensures not_limit { result ≢ Err LineFault.Limit }
         ensures read { result ≡ Err LineFault.Read → self.new.pending ≡ [] }
@@ -166,15 +166,15 @@ impl LineReader {
     {
         loop {
             if self.take_waiting(line)? {
-                return Ok(NextLine::Ended);
+                return Ok(NextLine::Terminated);
             }
             if !self.fill(source)? {
-                return Ok(NextLine::Cut);
+                return Ok(NextLine::Unterminated);
             }
         }
     }
 
-    // Moves the waiting bytes up to the first LF, or all, behind the line, drops that LF, and answers
+    // Moves the waiting bytes up to the first LF, or all, to the end of the line, drops that LF, and returns
     // whether it was there.
     fn take_waiting<A: Allocator>(&mut self, line: &mut Vec<u8, A>) -> Result<bool, LineFault>
         requires { length line.old.items ≤ self.old.longest }
@@ -207,7 +207,7 @@ impl LineReader {
         Ok(true)
     }
 
-    // Reads a chunk where nothing waits, and answers whether a byte is left.
+    // Reads a chunk where nothing waits, and returns whether a byte is left.
     fn fill<R: Read>(&mut self, source: &mut Source<R>) -> Result<bool, LineFault>
         ensures bytes { Keeps (left_of self.old source.old) (left_of self.new source.new) }
         ensures pending { IfOk result (λ some. MatchBool some (0 < length self.new.pending)

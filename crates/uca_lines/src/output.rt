@@ -46,7 +46,7 @@ impl OutputBuffer {
         }
     }
 
-    /// Hands over a text, which waits, or goes out behind all that waits. A fault says how many bytes
+    /// Hands over a text, which waits, or goes out after all that waits. A fault says how many bytes
     /// went out of all that was handed over.
     pub fn write<W: Write>(&mut self, out: &mut Sink<W>, text: &[u8]) -> Result<(), WriteFault>
         requires { self.old.written + length self.old.held + length text.now < 2 ^ 64 }
@@ -109,7 +109,7 @@ impl OutputBuffer {
     }
 }
 
-// Writes a text behind all that was handed over, and answers how many bytes went out of it all.
+// Writes a text after all that was handed over, and returns how many bytes went out of it all.
 fn send<W: Write>(out: &mut Sink<W>, text: &[u8], written: u64) -> Result<u64, WriteFault>
     requires { written + length text.now < 2 ^ 64 }
     ensures text { (start : Option (List ℕ)) (before : List ℕ) →

@@ -1,14 +1,10 @@
-pub mod Extending
-pub mod Removed
-pub mod Matching
-pub mod ReadingLaws
-pub mod Left
+pub mod RemovedLemmas
+pub mod MatchLemmas
+pub mod ReadingLemmas
+pub mod PlaceLemmas
 pub mod RowPlaces
-pub mod Gone
-pub mod Extended
-pub mod Going
-pub mod Ending
-pub mod Walking
+pub mod ExtensionSteps
+pub mod ExtensionEnd
 pub mod Portions
 pub mod Occurring
 pub mod RelatedReading
@@ -20,4 +16,3 @@ pub mod TrieWalks
 pub mod TrieRows
 pub mod TrieLookups
 pub mod TrieHeads
-pub mod TestTables

@@ -35,7 +35,8 @@ module _ (old new : ℕ → List Element) (rows others : Rows) (t : Text) where
         new_are = ap₂ (λ a b. a ++ b) first.new_are second.new_are ∙ sym (flat_map-append (part_elements new others) first.parts second.parts);
       }
 
-  one_part : (part : Part) (es fs : List Element) → IsPartOf rows t part → es ≡ part_elements old rows part → fs ≡ part_elements new others part → AreOfParts es fs
+  one_part : (part : Part) (es fs : List Element) → IsPartOf rows t part → es ≡ part_elements old rows part → fs ≡ part_elements new others part →
+      AreOfParts es fs
   one_part part es fs is_part old_is new_is =
       record {
         parts = part ∷ [];
@@ -44,7 +45,8 @@ module _ (old new : ℕ → List Element) (rows others : Rows) (t : Text) where
         new_are = new_is ∙ sym (append-nil (part_elements new others part));
       }
 
-  row_parts : (key : List ℕ) → OccursInOrder key (code_points t) → (row other : Option (List Element)) → rows key ≡ row → others key ≡ other → is_some row ≡ is_some other → AreRelatedRows AreOfParts row other
+  row_parts : (key : List ℕ) → OccursInOrder key (code_points t) → (row other : Option (List Element)) → rows key ≡ row → others key ≡ other →
+      is_some row ≡ is_some other → AreRelatedRows AreOfParts row other
   row_parts key occurs None None first second same = tt
   row_parts key occurs None (Some other) first second same = absurd (let no : false ≡ true = same in cc)
   row_parts key occurs (Some row) None first second same = absurd (let no : true ≡ false = same in cc)
@@ -54,7 +56,11 @@ module _ (old new : ℕ → List Element) (rows others : Rows) (t : Text) where
   -- the two readings are of the same parts
   pub same_parts : HaveSameKeys rows others t → HasSameParts old new rows others t
   same_parts same =
-      let at_points : AllByRecursion (λ c. AreOfParts (old c) (new c)) (code_points t) = recursion_from_All (λ c. AreOfParts (old c) (new c)) (code_points t) (λ k d l. one_part (Implicit (get_or (code_points t) k d)) (old (get_or (code_points t) k d)) (new (get_or (code_points t) k d)) (All-contains_itself (code_points t) k d l) refl refl) in
-      let at_keys : (key : List ℕ) → OccursInOrder key (code_points t) → AreRelatedRows AreOfParts (rows key) (others key) = λ key occurs. row_parts key occurs (rows key) (others key) refl refl (same key occurs) in
+      let at_points : AllByRecursion (λ c. AreOfParts (old c) (new c)) (code_points t) =
+      recursion_from_All (λ c. AreOfParts (old c) (new c)) (code_points t)
+      (λ k d l. one_part (Implicit (get_or (code_points t) k d)) (old (get_or (code_points t) k d)) (new (get_or (code_points t) k d))
+      (All-contains_itself (code_points t) k d l) refl refl) in
+      let at_keys : (key : List ℕ) → OccursInOrder key (code_points t) →
+      AreRelatedRows AreOfParts (rows key) (others key) = λ key occurs. row_parts key occurs (rows key) (others key) refl refl (same key occurs) in
       let are = read_related AreOfParts no_parts parts_append old new rows others t (record { at_keys = at_keys; at_points = at_points }) in
       record { parts = are.parts; are_parts = are.are_parts; old_reading = are.old_are; new_reading = are.new_are }

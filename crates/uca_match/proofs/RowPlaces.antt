@@ -1,5 +1,6 @@
 -- The rows of a list by their places.
-use Rattle.std.proofs.Common.{◌≡◌, ℕ, zero, suc, ◌+◌, ◌<◌, ◌≤◌, List, [], ◌∷◌, ◌++◌, length, take, drop, get_or, min, Bool, true, false, ◌&&◌, cond, ◌↔◌, IsTrue, Some, None, nat_eq, is_some, sym, ap, subst, refl, ◌∙◌, arith, add-one, take_at, take-append-drop}
+use Rattle.std.proofs.Common.{◌≡◌, ℕ, zero, suc, ◌+◌, ◌<◌, ◌≤◌, List, [], ◌∷◌, ◌++◌, length, take, drop, get_or, min, Bool, true, false, ◌&&◌, cond}
+use Rattle.std.proofs.Common.{◌↔◌, IsTrue, Some, None, nat_eq, is_some, sym, ap, subst, refl, ◌∙◌, arith, add-one, take_at, take-append-drop}
 use Rattle.std.proofs.lemmas.Bool.{cond-true, cond-false}
 use Rattle.std.proofs.lemmas.List.{take_more, take_min, same_from_push}
 use Rattle.std.proofs.lemmas.Slice.Eq.{bytes_eq-Decides}
@@ -43,7 +44,8 @@ take_nil (suc n) = refl
 pub node_past : (rows : List Entry) (node : RowNode) → length rows ≤ node.row → [] ≡ node_text rows node
 node_past rows node h = sym (ap (take node.len) (key_at_past rows node.row h) ∙ take_nil node.len)
 
-pub node_row : (rows : List Entry) (node : RowNode) (r : Entry) (key : List ℕ) (n len : ℕ) → node.row < length rows → r ≡ get_or rows node.row r → key ≡ r.key → n ≡ length key → len ≡ min node.len n → take len key ≡ node_text rows node
+pub node_row : (rows : List Entry) (node : RowNode) (r : Entry) (key : List ℕ) (n len : ℕ) → node.row < length rows → r ≡ get_or rows node.row r →
+    key ≡ r.key → n ≡ length key → len ≡ min node.len n → take len key ≡ node_text rows node
 node_row rows node r key n len within there same all e =
     ap (λ m. take m key) (e ∙ ap (min node.len) all)
     ∙ take_min node.len key
@@ -51,14 +53,16 @@ node_row rows node r key n len within there same all e =
 
 -- ---- A key that begins with some code points
 
-pub begins_is : (key start : List ℕ) (c x : ℕ) (test : Bool) → length start < length key → x ≡ get_or key (length start) x → x ≡ c → test ≡ bytes_eq (take (length start) key) start → IsTrue test ↔ (take (length start + 1) key ≡ start ++ c ∷ [])
+pub begins_is : (key start : List ℕ) (c x : ℕ) (test : Bool) → length start < length key → x ≡ get_or key (length start) x → x ≡ c →
+    test ≡ bytes_eq (take (length start) key) start → IsTrue test ↔ (take (length start + 1) key ≡ start ++ c ∷ [])
 begins_is key start c x test longer there same e =
     let more = take_more key (length start) x longer ∙ ap (λ y. take (length start) key ++ y ∷ []) (sym there ∙ same) in (
       (λ h. more ∙ ap (λ xs. xs ++ c ∷ []) ((bytes_eq-Decides (take (length start) key) start).0 (sym e ∙ h))),
       (λ h. e ∙ (bytes_eq-Decides (take (length start) key) start).1 (same_from_push (take (length start) key) start c c (sym more ∙ h)).0),
     )
 
-pub begins_later : (rows : List Entry) (i : ℕ) (r : Entry) (key start : List ℕ) (c : ℕ) (test : Bool) → i < length rows → r ≡ get_or rows i r → key ≡ r.key → IsTrue test ↔ (take (length start + 1) key ≡ start ++ c ∷ []) → IsTrue test ↔ (take (length start + 1) (key_at rows i) ≡ start ++ c ∷ [])
+pub begins_later : (rows : List Entry) (i : ℕ) (r : Entry) (key start : List ℕ) (c : ℕ) (test : Bool) → i < length rows → r ≡ get_or rows i r →
+    key ≡ r.key → IsTrue test ↔ (take (length start + 1) key ≡ start ++ c ∷ []) → IsTrue test ↔ (take (length start + 1) (key_at rows i) ≡ start ++ c ∷ [])
 begins_later rows i r key start c test within there same e =
     subst (λ k. IsTrue test ↔ (take (length start + 1) k ≡ start ++ c ∷ [])) (same ∙ sym (key_at_row rows i r within there)) e
 
@@ -67,29 +71,37 @@ key_of_row : (rows : List Entry) (i : ℕ) → i < length rows → IsKey (rows_o
 key_of_row [] i h = absurd (omega arith)
 key_of_row (r ∷ rows) zero h = ap is_some (cond-true (same_key r.key r.key) (Some r.elements) (rows_of rows r.key) (test_from_same r.key r.key refl))
 key_of_row (r ∷ rows) (suc i) h =
-    elim (same_key r.key (key_at rows i)) as (λ b. IsTrue (is_some (cond b (Some r.elements) (rows_of rows (key_at rows i))))) [ true ↦ refl | false ↦ key_of_row rows i (omega arith) ]
+    elim (same_key r.key (key_at rows i)) as (λ b. IsTrue (is_some (cond b (Some r.elements) (rows_of rows (key_at rows i)))))
+    [ true ↦ refl | false ↦ key_of_row rows i (omega arith) ]
 
-pub begins_some : (rows : List Entry) (i : ℕ) (begin : List ℕ) → i < length rows → take (length begin) (key_at rows i) ≡ begin → BeginsSomeKey (rows_of rows) begin
+pub begins_some : (rows : List Entry) (i : ℕ) (begin : List ℕ) → i < length rows → take (length begin) (key_at rows i) ≡ begin →
+    BeginsSomeKey (rows_of rows) begin
 begins_some rows i begin within h =
-    let whole : key_at rows i ≡ begin ++ drop (length begin) (key_at rows i) = sym (take-append-drop (length begin) (key_at rows i)) ∙ ap (λ front. front ++ drop (length begin) (key_at rows i)) h in
+    let whole : key_at rows i ≡ begin ++ drop (length begin) (key_at rows i) = sym (take-append-drop (length begin) (key_at rows i))
+    ∙ ap (λ front. front ++ drop (length begin) (key_at rows i)) h in
     (drop (length begin) (key_at rows i), subst (λ key. IsKey (rows_of rows) key) whole (key_of_row rows i within))
 
-pub begins_none : (rows : List Entry) (begin : List ℕ) → ((k : ℕ) → k < length rows → take (length begin) (key_at rows k) ≡ begin → ⊥) → BeginsNoKey (rows_of rows) begin
+pub begins_none : (rows : List Entry) (begin : List ℕ) → ((k : ℕ) → k < length rows → take (length begin) (key_at rows k) ≡ begin → ⊥) →
+    BeginsNoKey (rows_of rows) begin
 begins_none [] begin none found = absurd (cc)
 begins_none (r ∷ rows) begin none found =
-    elim (same_key r.key (begin ++ found.0)) as (λ b. same_key r.key (begin ++ found.0) ≡ b → IsTrue (is_some (cond b (Some r.elements) (rows_of rows (begin ++ found.0)))) → ⊥) [
-      | true ↦ λ e h. none 0 (omega arith) (ap (take (length begin)) (same_from_test r.key (begin ++ found.0) e) ∙ take_at begin found.0 (length begin) refl)
+    elim (same_key r.key (begin ++ found.0)) as
+    (λ b. same_key r.key (begin ++ found.0) ≡ b → IsTrue (is_some (cond b (Some r.elements) (rows_of rows (begin ++ found.0)))) → ⊥) [
+      | true ↦ λ e h. none 0 (omega arith) (ap (take (length begin)) (same_from_test r.key (begin ++ found.0) e)
+          ∙ take_at begin found.0 (length begin) refl)
       | false ↦ λ e h. begins_none rows begin (λ k within begins. none (suc k) (omega arith) begins) (found.0, h)
     ] refl found.1
 
 -- ---- The elements of a key
 
-pub row_here : (rows : List Entry) (i : ℕ) (r : Entry) (key : List ℕ) (test : Bool) → i < length rows → r ≡ get_or rows i r → test ≡ bytes_eq r.key key → test ≡ true → rows_of (drop i rows) key ≡ Some r.elements
+pub row_here : (rows : List Entry) (i : ℕ) (r : Entry) (key : List ℕ) (test : Bool) → i < length rows → r ≡ get_or rows i r →
+    test ≡ bytes_eq r.key key → test ≡ true → rows_of (drop i rows) key ≡ Some r.elements
 row_here rows i r key test within there e h =
     ap (λ left. rows_of left key) (drop-cons rows i r within ∙ ap (λ s. s ∷ drop (suc i) rows) (sym there))
     ∙ cond-true (same_key r.key key) (Some r.elements) (rows_of (drop (suc i) rows) key) (same_key_is r.key key ∙ sym e ∙ h)
 
-pub row_later : (rows : List Entry) (i : ℕ) (r : Entry) (key : List ℕ) (test : Bool) → i < length rows → r ≡ get_or rows i r → test ≡ bytes_eq r.key key → test ≡ false → rows_of (drop i rows) key ≡ rows_of (drop (i + 1) rows) key
+pub row_later : (rows : List Entry) (i : ℕ) (r : Entry) (key : List ℕ) (test : Bool) → i < length rows → r ≡ get_or rows i r →
+    test ≡ bytes_eq r.key key → test ≡ false → rows_of (drop i rows) key ≡ rows_of (drop (i + 1) rows) key
 row_later rows i r key test within there e h =
     ap (λ left. rows_of left key) (drop-cons rows i r within ∙ ap (λ s. s ∷ drop (suc i) rows) (sym there))
     ∙ cond-false (same_key r.key key) (Some r.elements) (rows_of (drop (suc i) rows) key) (same_key_is r.key key ∙ sym e ∙ h)

@@ -1,5 +1,6 @@
 -- Edges in rising order: the edge of a code point, and a new edge put between the others.
-use Rattle.std.proofs.Common.{◌≡◌, ℕ, zero, suc, ◌<◌, ◌≤◌, inl, inr, true, false, ltb, eqb, cond, List, [], ◌∷◌, length, get_or, Option, Some, None, refl, ap, subst, sym, ◌∙◌, arith}
+use Rattle.std.proofs.Common.{◌≡◌, ℕ, zero, suc, ◌<◌, ◌≤◌, inl, inr, true, false, ltb, eqb, cond, List, [], ◌∷◌, length, get_or, Option, Some, None}
+use Rattle.std.proofs.Common.{refl, ap, subst, sym, ◌∙◌, arith}
 use Rattle.std.proofs.lemmas.Bool.{ltb-true, ltb-false, eq-eqb, ne_eqb, cases_Bool, cases_lt, cases_order, cond-true, cond-false}
 use Rattle.std.proofs.lemmas.List.Recursion.{found_at, found_nowhere}
 use Rattle.std.specs.List.{AllByRecursion, insert}
@@ -16,7 +17,8 @@ all_from_places : (P : Edge → Type 0) (edges : List Edge) → ((k : ℕ) (d : 
 all_from_places P [] h = tt
 all_from_places P (e ∷ edges) h = (h 0 e (omega arith), all_from_places P edges (λ k d l. h (suc k) d (omega arith)))
 
-rising_at : (edges : List Edge) → AreRisingEdges edges → (i j : ℕ) (d : Edge) → i < j → j < length edges → (get_or edges i d).point < (get_or edges j d).point
+rising_at : (edges : List Edge) → AreRisingEdges edges → (i j : ℕ) (d : Edge) → i < j → j < length edges →
+    (get_or edges i d).point < (get_or edges j d).point
 rising_at [] h i j d l m = absurd (omega arith)
 rising_at (e ∷ edges) h i zero d l m = absurd (omega arith)
 rising_at (e ∷ edges) h zero (suc j) d l m = all_at (λ f. e.point < f.point) edges h.0 j d (omega arith)
@@ -36,16 +38,19 @@ never_falling edges h i j d l m =
 abbrev pub IsPlace : List Edge → ℕ → ℕ → Type 0
 IsPlace edges point at = IsPartitionPoint (λ e. e.point < point) (λ e. point ≤ e.point) edges at
 
-pub place_from_tests : (edges : List Edge) (point at : ℕ) → IsPartitionPoint (λ e. ltb e.point point ≡ true) (λ e. ltb e.point point ≡ false) edges at → IsPlace edges point at
+pub place_from_tests : (edges : List Edge) (point at : ℕ) →
+    IsPartitionPoint (λ e. ltb e.point point ≡ true) (λ e. ltb e.point point ≡ false) edges at → IsPlace edges point at
 place_from_tests edges point at h = (λ k d a b. ltb-true _ _ (h.0 k d a b), λ k d a b. ltb-false _ _ (h.1 k d a b))
 
-pub edge_found : (edges : List Edge) (point at : ℕ) → IsPlace edges point at → (d : Edge) → at < length edges → (get_or edges at d).point ≡ point → target_of edges point ≡ Some (get_or edges at d).target
+pub edge_found : (edges : List Edge) (point at : ℕ) → IsPlace edges point at → (d : Edge) → at < length edges → (get_or edges at d).point ≡ point →
+    target_of edges point ≡ Some (get_or edges at d).target
 edge_found edges point at place d l same =
     found_at (λ es. target_of es point) (λ e. eqb e.point point) (λ e. Some e.target) None refl (λ _ _. refl) edges at d l
     (λ k below. ne_eqb _ _ (λ e. absurd (omega (arith, place.0 k d (omega arith) below))))
     (eq-eqb _ _ same)
 
-pub new_place : (edges : List Edge) → AreRisingEdges edges → (point at : ℕ) → at ≤ length edges → IsPlace edges point at → (d : Edge) → (at < length edges → (get_or edges at d).point ≡ point → ⊥) → IsNewPlace edges point at
+pub new_place : (edges : List Edge) → AreRisingEdges edges → (point at : ℕ) → at ≤ length edges → IsPlace edges point at → (d : Edge) →
+    (at < length edges → (get_or edges at d).point ≡ point → ⊥) → IsNewPlace edges point at
 new_place edges rising point at bound place d other = record { bound = bound; place = (place.0, above) }
   where
     here : (e : Edge) → at < length edges → point < (get_or edges at e).point
@@ -79,9 +84,11 @@ target_of_new edges zero e none = cond-true (eqb e.point e.point) (Some e.target
 target_of_new [] (suc at) e none = cond-true (eqb e.point e.point) (Some e.target) None (eq-eqb _ _ refl)
 target_of_new (f ∷ edges) (suc at) e none =
     elim (cases_Bool (eqb f.point e.point)) [
-      | inl same ↦ let some : target_of (f ∷ edges) e.point ≡ Some f.target = cond-true (eqb f.point e.point) (Some f.target) (target_of edges e.point) same in cc
+      | inl same ↦ let some : target_of (f ∷ edges) e.point ≡ Some f.target =
+          cond-true (eqb f.point e.point) (Some f.target) (target_of edges e.point) same in cc
       | inr other ↦
-          let rest : target_of (f ∷ edges) e.point ≡ target_of edges e.point = cond-false (eqb f.point e.point) (Some f.target) (target_of edges e.point) other in
+          let rest : target_of (f ∷ edges) e.point ≡ target_of edges e.point =
+          cond-false (eqb f.point e.point) (Some f.target) (target_of edges e.point) other in
           cond-false (eqb f.point e.point) (Some f.target) (target_of (insert edges at e) e.point) other ∙ target_of_new edges at e (sym rest ∙ none)
     ]
 

@@ -1,5 +1,6 @@
 -- Which lists of code points begin a key of a trie, and where its first steps lead.
-use Rattle.std.proofs.Common.{◌≡◌, ◌≢◌, ℕ, zero, suc, ◌+◌, ◌<◌, ◌≤◌, List, [], ◌∷◌, ◌++◌, length, Option, Some, None, ◌⊎◌, inl, inr, ⊎_elim, true, nat_eq, is_some, option_and_then, slice_index_or, IsTrue, sym, ap, subst, refl, ◌∙◌, arith}
+use Rattle.std.proofs.Common.{◌≡◌, ◌≢◌, ℕ, zero, suc, ◌+◌, ◌<◌, ◌≤◌, List, [], ◌∷◌, ◌++◌, length, Option, Some, None, ◌⊎◌, inl, inr, ⊎_elim, true}
+use Rattle.std.proofs.Common.{nat_eq, is_some, option_and_then, slice_index_or, IsTrue, sym, ap, subst, refl, ◌∙◌, arith}
 use Rattle.std.proofs.lemmas.Bool.{cond-true, eq-eqb, false≢true}
 use Rattle.std.proofs.lemmas.List.{length_push, get_or_read}
 use Rattle.uca_weights.specs.declared.Element.{Element}
@@ -16,7 +17,11 @@ LeadsToRow nodes n = (more : List ℕ) × IsTrue (is_some (option_and_then (λ m
 
 first_target : (edges : List Edge) → edges ≢ [] → (c : ℕ) × (m : ℕ) × (target_of edges c ≡ Some m)
 first_target [] some = absurd (some refl)
-first_target (e ∷ edges) some = (e.point, e.target, cond-true (nat_eq e.point e.point) (Some e.target) (target_of edges e.point) (eq-eqb e.point e.point refl))
+first_target (e ∷ edges) some = (
+  e.point,
+  e.target,
+  cond-true (nat_eq e.point e.point) (Some e.target) (target_of edges e.point) (eq-eqb e.point e.point refl),
+)
 
 row_or_none : (row : Option (List Element)) → (row ≡ None) ⊎ (is_some row ≡ true)
 row_or_none None = inl refl
@@ -29,13 +34,18 @@ leads_to_row nodes tree (suc steps) n above within all =
     (λ none.
     let first = first_target (node_at nodes n).edges (tree.no_dead_end n above within none) in
     let edge = tree.shape.edges n first.0 first.1 within first.2 in
-    let rest = leads_to_row nodes tree steps first.1 (omega (arith, edge.later)) (subst (λ l. first.1 < l) tree.shape.same edge.within) (omega (arith, edge.later)) in
-    (first.0 ∷ rest.0, subst (λ o. IsTrue (is_some (option_and_then (λ m. (node_at nodes m).row) (option_and_then (λ m. walk nodes m rest.0) o)))) (sym first.2) rest.1))
+    let rest = leads_to_row nodes tree steps first.1 (omega (arith, edge.later)) (subst (λ l. first.1 < l) tree.shape.same edge.within)
+    (omega (arith, edge.later)) in (
+      first.0 ∷ rest.0,
+      subst (λ o. IsTrue (is_some (option_and_then (λ m. (node_at nodes m).row) (option_and_then (λ m. walk nodes m rest.0) o))))
+          (sym first.2) rest.1,
+    ))
     (λ some. ([], some))
     (row_or_none (node_at nodes n).row)
 
 -- no code points but none lead to the root
-never_root : (nodes : List NodeContent) (texts : List (List ℕ)) → AreNodes nodes texts → (key : List ℕ) (c m : ℕ) → walk nodes 0 (key ++ c ∷ []) ≡ Some m → 0 < m
+never_root : (nodes : List NodeContent) (texts : List (List ℕ)) → AreNodes nodes texts → (key : List ℕ) (c m : ℕ) →
+    walk nodes 0 (key ++ c ∷ []) ≡ Some m → 0 < m
 never_root nodes texts shape key c zero leads =
     let empty : [] ≡ key ++ c ∷ [] = sym shape.root ∙ (walk_root nodes texts shape 0 (key ++ c ∷ []) leads).1 in
     absurd (omega (arith, ap length empty, length_push key c))
@@ -43,11 +53,13 @@ never_root nodes texts shape key c (suc m) leads = omega arith
 
 -- ---- Which lists begin a key
 
-begins_some_key : (nodes : List NodeContent) → IsTree nodes → (key : List ℕ) (c m : ℕ) → walk nodes 0 (key ++ c ∷ []) ≡ Some m → BeginsSomeKey (held nodes) (key ++ c ∷ [])
+begins_some_key : (nodes : List NodeContent) → IsTree nodes → (key : List ℕ) (c m : ℕ) → walk nodes 0 (key ++ c ∷ []) ≡ Some m →
+    BeginsSomeKey (held nodes) (key ++ c ∷ [])
 begins_some_key nodes tree key c m leads =
     let within = (walk_root nodes tree.texts tree.shape m (key ++ c ∷ []) leads).0 in
     let to_row = leads_to_row nodes tree (length nodes) m (never_root nodes tree.texts tree.shape key c m leads) within (omega arith) in
-    let same : walk nodes 0 ((key ++ c ∷ []) ++ to_row.0) ≡ walk nodes m to_row.0 = walk-append nodes 0 (key ++ c ∷ []) to_row.0 ∙ ap (option_and_then (λ k. walk nodes k to_row.0)) leads in
+    let same : walk nodes 0 ((key ++ c ∷ []) ++ to_row.0) ≡ walk nodes m to_row.0 = walk-append nodes 0 (key ++ c ∷ []) to_row.0
+    ∙ ap (option_and_then (λ k. walk nodes k to_row.0)) leads in
     (to_row.0, subst (λ o. IsTrue (is_some (option_and_then (λ k. (node_at nodes k).row) o))) (sym same) to_row.1)
 
 begins_no_key : (nodes : List NodeContent) (begin : List ℕ) → walk nodes 0 begin ≡ None → BeginsNoKey (held nodes) begin
@@ -57,12 +69,15 @@ begins_no_key nodes begin nowhere found =
 
 -- ---- One step
 
-pub leads_on : (nodes : List NodeContent) → IsTree nodes → (n c m : ℕ) → target_of (node_at nodes n).edges c ≡ Some m → (key : List ℕ) → walk nodes 0 key ≡ Some n → BeginsSomeKey (held nodes) (key ++ c ∷ []) × walk nodes 0 (key ++ c ∷ []) ≡ Some m
+pub leads_on : (nodes : List NodeContent) → IsTree nodes → (n c m : ℕ) → target_of (node_at nodes n).edges c ≡ Some m → (key : List ℕ) →
+    walk nodes 0 key ≡ Some n → BeginsSomeKey (held nodes) (key ++ c ∷ []) × walk nodes 0 (key ++ c ∷ []) ≡ Some m
 leads_on nodes tree n c m there key leads =
-    let next : walk nodes 0 (key ++ c ∷ []) ≡ Some m = walk_push nodes 0 key c ∙ ap (option_and_then (λ k. target_of (node_at nodes k).edges c)) leads ∙ there in
+    let next : walk nodes 0 (key ++ c ∷ []) ≡ Some m = walk_push nodes 0 key c ∙ ap (option_and_then (λ k. target_of (node_at nodes k).edges c)) leads
+    ∙ there in
     (begins_some_key nodes tree key c m next, next)
 
-pub leads_nowhere : (nodes : List NodeContent) (n c : ℕ) → target_of (node_at nodes n).edges c ≡ None → (key : List ℕ) → walk nodes 0 key ≡ Some n → BeginsNoKey (held nodes) (key ++ c ∷ [])
+pub leads_nowhere : (nodes : List NodeContent) (n c : ℕ) → target_of (node_at nodes n).edges c ≡ None → (key : List ℕ) → walk nodes 0 key ≡ Some n →
+    BeginsNoKey (held nodes) (key ++ c ∷ [])
 leads_nowhere nodes n c nowhere key leads =
     begins_no_key nodes (key ++ c ∷ []) (walk_push nodes 0 key c ∙ ap (option_and_then (λ k. target_of (node_at nodes k).edges c)) leads ∙ nowhere)
 
@@ -72,24 +87,29 @@ is_node nodes tree n led = (walk_root nodes tree.texts tree.shape n led.0 led.1)
 
 -- ---- The first step
 
-pub head_some : (edges : List Edge) (heads : List ℕ) (c n : ℕ) → AreHeads edges heads → c < length heads → n ≡ slice_index_or heads c 0 → (n ≡ 0 → ⊥) → target_of edges c ≡ Some n
+pub head_some : (edges : List Edge) (heads : List ℕ) (c n : ℕ) → AreHeads edges heads → c < length heads → n ≡ slice_index_or heads c 0 →
+    (n ≡ 0 → ⊥) → target_of edges c ≡ Some n
 head_some edges heads c zero are below there some = absurd (some refl)
 head_some edges heads c (suc n) are below there some = are c below ∙ ap head_target (sym there)
 
-pub head_none : (edges : List Edge) (heads : List ℕ) (c n : ℕ) → AreHeads edges heads → c < length heads → n ≡ slice_index_or heads c 0 → n ≡ 0 → target_of edges c ≡ None
+pub head_none : (edges : List Edge) (heads : List ℕ) (c n : ℕ) → AreHeads edges heads → c < length heads → n ≡ slice_index_or heads c 0 → n ≡ 0 →
+    target_of edges c ≡ None
 head_none edges heads c n are below there none = are c below ∙ ap head_target (sym there ∙ none)
 
 -- ---- What the code reads
 
 -- a node that was read is the node of its number
-pub branch_read : (items nodes : List NodeContent) (n : ℕ) (b : NodeContent) → items ≡ nodes → n < length nodes → b ≡ slice_index_or items n b → b ≡ node_at nodes n
+pub branch_read : (items nodes : List NodeContent) (n : ℕ) (b : NodeContent) → items ≡ nodes → n < length nodes → b ≡ slice_index_or items n b →
+    b ≡ node_at nodes n
 branch_read items nodes n b same within there =
     get_or_read nodes n b within (there ∙ ap (λ t. slice_index_or t n b) same) (record { edges = []; row = None })
 
-pub head_read : (edges : List Edge) (heads : List ℕ) (c n : ℕ) → AreHeads edges heads → c < length heads → n ≡ slice_index_or heads c n → n ≡ slice_index_or heads c 0
+pub head_read : (edges : List Edge) (heads : List ℕ) (c n : ℕ) → AreHeads edges heads → c < length heads → n ≡ slice_index_or heads c n →
+    n ≡ slice_index_or heads c 0
 head_read edges heads c n are below there = get_or_read heads c n below there 0
 
 -- the elements of a key are those of the node to which it leads
-pub held_there : (nodes : List NodeContent) (n : ℕ) (key : List ℕ) (row : Option (List Element)) → walk nodes 0 key ≡ Some n → (node_at nodes n).row ≡ row → held nodes key ≡ row
+pub held_there : (nodes : List NodeContent) (n : ℕ) (key : List ℕ) (row : Option (List Element)) → walk nodes 0 key ≡ Some n →
+    (node_at nodes n).row ≡ row → held nodes key ≡ row
 held_there nodes n key row leads there =
     ap (option_and_then (λ k. (node_at nodes k).row)) leads ∙ there

@@ -1,5 +1,6 @@
 -- What rows do to a trie: the elements of one key after another.
-use Rattle.std.proofs.Common.{◌≡◌, ℕ, zero, suc, ◌+◌, ◌<◌, List, [], ◌∷◌, ◌++◌, length, set, get_or, take, drop, true, cond, Option, Some, None, option_and_then, Contains, ⊎_elim, sym, ap, subst, refl, ◌∙◌, arith}
+use Rattle.std.proofs.Common.{◌≡◌, ℕ, zero, suc, ◌+◌, ◌<◌, List, [], ◌∷◌, ◌++◌, length, set, get_or, take, drop, true, cond, Option, Some, None}
+use Rattle.std.proofs.Common.{option_and_then, Contains, ⊎_elim, sym, ap, subst, refl, ◌∙◌, arith}
 use Rattle.std.specs.List.Sorted.{IsPermutation}
 use Rattle.std.proofs.lemmas.Bool.{cond_both, cond-true, false≢true, cases_eq}
 use Rattle.std.proofs.lemmas.List.{length-set, get_or-set_same, get_or-set_other, take_more, take-append-drop}
@@ -58,7 +59,8 @@ IsTree-empty_node = record {
 -- ---- Elements for a node
 
 -- the edges stay
-edges_stay : (nodes : List NodeContent) (n : ℕ) (b : NodeContent) → b.edges ≡ (node_at nodes n).edges → (k : ℕ) → (node_at (set nodes n b) k).edges ≡ (node_at nodes k).edges
+edges_stay : (nodes : List NodeContent) (n : ℕ) (b : NodeContent) → b.edges ≡ (node_at nodes n).edges → (k : ℕ) →
+    (node_at (set nodes n b) k).edges ≡ (node_at nodes k).edges
 edges_stay [] n b same k = refl
 edges_stay (a ∷ nodes) zero b same zero = same
 edges_stay (a ∷ nodes) zero b same (suc k) = refl
@@ -66,13 +68,15 @@ edges_stay (a ∷ nodes) (suc n) b same zero = refl
 edges_stay (a ∷ nodes) (suc n) b same (suc k) = edges_stay nodes n b same k
 
 -- and lead where they led
-walks_stay : (nodes : List NodeContent) (n : ℕ) (b : NodeContent) → b.edges ≡ (node_at nodes n).edges → (k : ℕ) (key : List ℕ) → walk (set nodes n b) k key ≡ walk nodes k key
+walks_stay : (nodes : List NodeContent) (n : ℕ) (b : NodeContent) → b.edges ≡ (node_at nodes n).edges → (k : ℕ) (key : List ℕ) →
+    walk (set nodes n b) k key ≡ walk nodes k key
 walks_stay nodes n b same k [] = refl
 walks_stay nodes n b same k (c ∷ key) =
     ap (λ edges. option_and_then (λ m. walk (set nodes n b) m key) (target_of edges c)) (edges_stay nodes n b same k)
     ∙ and_then_same (λ m. walk (set nodes n b) m key) (λ m. walk nodes m key) (λ m. walks_stay nodes n b same m key) (target_of (node_at nodes k).edges c)
 
-nodes_stay : (nodes : List NodeContent) (texts : List (List ℕ)) → AreNodes nodes texts → (n : ℕ) (b : NodeContent) → b.edges ≡ (node_at nodes n).edges → AreNodes (set nodes n b) texts
+nodes_stay : (nodes : List NodeContent) (texts : List (List ℕ)) → AreNodes nodes texts → (n : ℕ) (b : NodeContent) →
+    b.edges ≡ (node_at nodes n).edges → AreNodes (set nodes n b) texts
 nodes_stay nodes texts shape n b same =
     let long = length-set nodes n b in
     record {
@@ -80,17 +84,20 @@ nodes_stay nodes texts shape n b same =
       same = shape.same ∙ sym long;
       root = shape.root;
       rising = λ k within. subst AreRisingEdges (sym (edges_stay nodes n b same k)) (shape.rising k (subst (λ l. k < l) long within));
-      edges = λ k c m within leads. shape.edges k c m (subst (λ l. k < l) long within) (ap (λ edges. target_of edges c) (sym (edges_stay nodes n b same k)) ∙ leads);
+      edges = λ k c m within leads. shape.edges k c m (subst (λ l. k < l) long within)
+          (ap (λ edges. target_of edges c) (sym (edges_stay nodes n b same k)) ∙ leads);
     }
 
 -- a key has the elements of its node
-held_there : (nodes : List NodeContent) (n : ℕ) (b : NodeContent) (key : List ℕ) → b.edges ≡ (node_at nodes n).edges → n < length nodes → walk nodes 0 key ≡ Some n → held (set nodes n b) key ≡ b.row
+held_there : (nodes : List NodeContent) (n : ℕ) (b : NodeContent) (key : List ℕ) → b.edges ≡ (node_at nodes n).edges → n < length nodes →
+    walk nodes 0 key ≡ Some n → held (set nodes n b) key ≡ b.row
 held_there nodes n b key same within leads =
     ap (λ o. option_and_then (λ m. (node_at (set nodes n b) m).row) o) (walks_stay nodes n b same 0 key ∙ leads)
     ∙ ap (λ (a : NodeContent). a.row) (get_or-set_same nodes n b empty_node within)
 
 -- and another key those of before
-held_elsewhere : (nodes : List NodeContent) (n : ℕ) (b : NodeContent) (key : List ℕ) → b.edges ≡ (node_at nodes n).edges → (walk nodes 0 key ≡ Some n → ⊥) → held (set nodes n b) key ≡ held nodes key
+held_elsewhere : (nodes : List NodeContent) (n : ℕ) (b : NodeContent) (key : List ℕ) → b.edges ≡ (node_at nodes n).edges →
+    (walk nodes 0 key ≡ Some n → ⊥) → held (set nodes n b) key ≡ held nodes key
 held_elsewhere nodes n b key same elsewhere =
     ap (λ o. option_and_then (λ m. (node_at (set nodes n b) m).row) o) (walks_stay nodes n b same 0 key) ∙ go (walk nodes 0 key) elsewhere
   where
@@ -98,7 +105,9 @@ held_elsewhere nodes n b key same elsewhere =
     go None other = refl
     go (Some m) other = ap (λ (a : NodeContent). a.row) (get_or-set_other nodes n m b empty_node (λ is. other (ap Some is)))
 
-held_after : (nodes : List NodeContent) (texts : List (List ℕ)) → AreNodes nodes texts → (n : ℕ) (b : NodeContent) (row : Entry) → b.edges ≡ (node_at nodes n).edges → b.row ≡ Some row.elements → walk nodes 0 row.key ≡ Some n → (key : List ℕ) → held (set nodes n b) key ≡ with_row (held nodes) row key
+held_after : (nodes : List NodeContent) (texts : List (List ℕ)) → AreNodes nodes texts → (n : ℕ) (b : NodeContent) (row : Entry) →
+    b.edges ≡ (node_at nodes n).edges → b.row ≡ Some row.elements → walk nodes 0 row.key ≡ Some n → (key : List ℕ) →
+    held (set nodes n b) key ≡ with_row (held nodes) row key
 held_after nodes texts shape n b row same elements leads key =
     cond_both (same_key row.key key) (Some row.elements) (held nodes key) (λ o. held (set nodes n b) key ≡ o)
     (λ is.
@@ -109,7 +118,9 @@ held_after nodes texts shape n b row same elements leads key =
     false≢true (sym other ∙ subst (λ k. same_key row.key k ≡ true) is (same_key-itself row.key))))
 
 -- the elements of a row, for the node to which its key leads
-pub row_put : (start nodes : List NodeContent) (n : ℕ) (b : NodeContent) (row : Entry) → IsAlong start nodes row.key n → b.edges ≡ (node_at nodes n).edges → b.row ≡ Some row.elements → IsTree (set nodes n b) × ((key : List ℕ) → held (set nodes n b) key ≡ with_row (held start) row key)
+pub row_put : (start nodes : List NodeContent) (n : ℕ) (b : NodeContent) (row : Entry) → IsAlong start nodes row.key n →
+    b.edges ≡ (node_at nodes n).edges → b.row ≡ Some row.elements →
+    IsTree (set nodes n b) × ((key : List ℕ) → held (set nodes n b) key ≡ with_row (held start) row key)
 row_put start nodes n b row along same elements =
     let within = (walk_root nodes along.texts along.shape n row.key along.leads).0 in
     let no_dead_end : (k : ℕ) → 0 < k → k < length (set nodes n b) → IsNoDeadEnd (node_at (set nodes n b) k) = λ k later inside.
@@ -117,10 +128,12 @@ row_put start nodes n b row along same elements =
     (λ is.
     let here : node_at (set nodes n b) k ≡ b = ap (node_at (set nodes n b)) is ∙ get_or-set_same nodes n b empty_node within in
     subst IsNoDeadEnd (sym here) (λ none. let wrong : Some row.elements ≡ None = sym elements ∙ none in cc))
-    (λ other. subst IsNoDeadEnd (sym (get_or-set_other nodes n k b empty_node other)) (along.no_dead_end k later (subst (λ l. k < l) (length-set nodes n b) inside) other))
+    (λ other. subst IsNoDeadEnd (sym (get_or-set_other nodes n k b empty_node other))
+    (along.no_dead_end k later (subst (λ l. k < l) (length-set nodes n b) inside) other))
     (cases_eq k n) in (
       record { texts = along.texts; shape = nodes_stay nodes along.texts along.shape n b same; no_dead_end = no_dead_end },
-      λ key. held_after nodes along.texts along.shape n b row same elements along.leads key ∙ ap (λ o. cond (same_key row.key key) (Some row.elements) o) (along.same key),
+      λ key. held_after nodes along.texts along.shape n b row same elements along.leads key
+          ∙ ap (λ o. cond (same_key row.key key) (Some row.elements) o) (along.same key),
     )
 
 -- ---- One row after another
@@ -145,11 +158,15 @@ one_row rows distinct r s first second same =
     same_Some r.elements s.elements (sym (found_of_row rows distinct r first) ∙ ap (rows_of rows) same ∙ found_of_row rows distinct s second)
 
 -- one more row
-IsBuilt-push : (rows list : List Entry) → AreDistinct rows → (row : Entry) → ((r : Entry) → Contains (list ++ row ∷ []) r → Contains rows r) → (nodes next : List NodeContent) → IsBuilt list nodes → IsTree next → ((key : List ℕ) → held next key ≡ with_row (held nodes) row key) → IsBuilt (list ++ row ∷ []) next
+IsBuilt-push : (rows list : List Entry) → AreDistinct rows → (row : Entry) → ((r : Entry) → Contains (list ++ row ∷ []) r → Contains rows r) →
+    (nodes next : List NodeContent) → IsBuilt list nodes → IsTree next → ((key : List ℕ) → held next key ≡ with_row (held nodes) row key) →
+    IsBuilt (list ++ row ∷ []) next
 IsBuilt-push rows list distinct row from nodes next built tree put =
     let last = Contains-push list row in
-    let sound : (key : List ℕ) (elements : List Element) → held next key ≡ Some elements → Contains (list ++ row ∷ []) (record { key = key; elements = elements }) = λ key elements found.
-    cond_both (same_key row.key key) (Some row.elements) (held nodes key) (λ o. o ≡ Some elements → Contains (list ++ row ∷ []) (record { key = key; elements = elements }))
+    let sound : (key : List ℕ) (elements : List Element) → held next key ≡ Some elements →
+    Contains (list ++ row ∷ []) (record { key = key; elements = elements }) = λ key elements found.
+    cond_both (same_key row.key key) (Some row.elements) (held nodes key)
+    (λ o. o ≡ Some elements → Contains (list ++ row ∷ []) (record { key = key; elements = elements }))
     (λ is some.
     let same_elements = same_Some row.elements elements some in
     let same_row : row ≡ record { key = key; elements = elements } = λ i. record { key = same_key-true row.key key is i; elements = same_elements i } in
@@ -163,22 +180,29 @@ IsBuilt-push rows list distinct row from nodes next built tree put =
     cond_both (same_key row.key r.key) (Some row.elements) (held nodes r.key) (λ o. o ≡ Some r.elements)
     (λ is. ap Some (one_row rows distinct row r (from row last) (from r h) (same_key-true row.key r.key is)))
     (λ other. built.complete r before))
-    (λ here. cond-true (same_key row.key r.key) (Some row.elements) (held nodes r.key) (subst (λ (s : Entry). same_key row.key s.key ≡ true) here (same_key-itself row.key)) ∙ ap (λ (s : Entry). Some s.elements) here)
+    (λ here. cond-true (same_key row.key r.key) (Some row.elements) (held nodes r.key)
+    (subst (λ (s : Entry). same_key row.key s.key ≡ true) here (same_key-itself row.key)) ∙ ap (λ (s : Entry). Some s.elements) here)
     (Contains-push_cases list row r h) in
     record { tree = tree; sound = sound; complete = complete }
 
 -- the next row of a list
-pub IsBuilt-more : (rows list : List Entry) → AreDistinct rows → IsPermutation rows list → (i : ℕ) (row : Entry) → i < length list → row ≡ get_or list i row → (nodes next : List NodeContent) → IsBuilt (take i list) nodes → IsTree next → ((key : List ℕ) → held next key ≡ with_row (held nodes) row key) → IsBuilt (take (i + 1) list) next
+pub IsBuilt-more : (rows list : List Entry) → AreDistinct rows → IsPermutation rows list → (i : ℕ) (row : Entry) → i < length list →
+    row ≡ get_or list i row → (nodes next : List NodeContent) → IsBuilt (take i list) nodes → IsTree next →
+    ((key : List ℕ) → held next key ≡ with_row (held nodes) row key) → IsBuilt (take (i + 1) list) next
 IsBuilt-more rows list distinct moved i row within is nodes next built tree put =
     let more : take (i + 1) list ≡ take i list ++ row ∷ [] = take_more list i row within ∙ ap (λ r. take i list ++ r ∷ []) (sym is) in
     let from : (r : Entry) → Contains (take i list ++ row ∷ []) r → Contains rows r = λ r h.
     let begins : Contains (take (i + 1) list) r = subst (λ front. Contains front r) (sym more) h in
-    row_from rows list moved r (subst (λ all. Contains all r) (take-append-drop (i + 1) list) (Contains-append_left (take (i + 1) list) (drop (i + 1) list) r begins)) in
+    row_from rows list moved r (subst (λ all. Contains all r) (take-append-drop (i + 1) list)
+    (Contains-append_left (take (i + 1) list) (drop (i + 1) list) r begins)) in
     subst (λ front. IsBuilt front next) (sym more) (IsBuilt-push rows (take i list) distinct row from nodes next built tree put)
 
 -- all rows, in any order
-pub IsBuilt-all : (rows list : List Entry) → AreDistinct rows → IsPermutation rows list → (nodes : List NodeContent) → IsBuilt list nodes → (key : List ℕ) → held nodes key ≡ rows_of rows key
+pub IsBuilt-all : (rows list : List Entry) → AreDistinct rows → IsPermutation rows list → (nodes : List NodeContent) → IsBuilt list nodes →
+    (key : List ℕ) → held nodes key ≡ rows_of rows key
 IsBuilt-all rows list distinct moved nodes built key =
     same_options (held nodes key) (rows_of rows key)
-    (λ elements found. found_of_row rows distinct (record { key = key; elements = elements }) (row_from rows list moved (record { key = key; elements = elements }) (built.sound key elements found)))
-    (λ elements found. built.complete (record { key = key; elements = elements }) (Contains-permutation rows list (record { key = key; elements = elements }) moved (row_of_found rows key elements found)))
+    (λ elements found. found_of_row rows distinct (record { key = key; elements = elements })
+    (row_from rows list moved (record { key = key; elements = elements }) (built.sound key elements found)))
+    (λ elements found. built.complete (record { key = key; elements = elements })
+    (Contains-permutation rows list (record { key = key; elements = elements }) moved (row_of_found rows key elements found)))

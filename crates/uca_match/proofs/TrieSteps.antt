@@ -1,11 +1,13 @@
 -- One more code point on the way to a key: the nodes with a new one, to which an edge leads.
-use Rattle.std.proofs.Common.{◌≡◌, ◌≢◌, ◌⊎◌, ℕ, suc, ◌<◌, inl, inr, List, [], ◌∷◌, ◌++◌, length, get_or, set, Option, Some, None, option_and_then, refl, ap, subst, sym, ◌∙◌, arith, length-append, length-set}
+use Rattle.std.proofs.Common.{◌≡◌, ◌≢◌, ◌⊎◌, ℕ, suc, ◌<◌, inl, inr, List, [], ◌∷◌, ◌++◌, length, get_or, set, Option, Some, None, option_and_then}
+use Rattle.std.proofs.Common.{refl, ap, subst, sym, ◌∙◌, arith, length-append, length-set}
 use Rattle.std.proofs.lemmas.Bool.{cases_eq, cases_order}
 use Rattle.std.proofs.lemmas.List.{get_or_append_left, get_or-set_same, get_or-set_other, get_or_push, get_or_default, length_push}
 use Rattle.std.proofs.lemmas.Option.{none-some, same_Some}
 use Rattle.std.specs.List.{insert}
 use Rattle.uca_weights.specs.declared.Element.{Element}
-use Rattle.uca_match.specs.Tries.{NodeContent, empty_node, node_at, target_of, walk, held, LeadsOn, AreNodes, AreRisingEdges, IsNoDeadEnd, IsNewPlace, IsAlong}
+use Rattle.uca_match.specs.Tries.{NodeContent, empty_node, node_at, target_of, walk, held, LeadsOn, AreNodes, AreRisingEdges, IsNoDeadEnd, IsNewPlace}
+use Rattle.uca_match.specs.Tries.{IsAlong}
 use Rattle.uca_match.specs.declared.trie.Edge.{Edge}
 use Rattle.uca_match.proofs.TrieWalks.{walk_push, walk_root}
 use Rattle.uca_match.proofs.TrieEdges.{none_at_new_place, target_of_new, target_of_others, rising_with_new}
@@ -17,10 +19,12 @@ no_end_of_edge : (b : NodeContent) (c m : ℕ) → target_of b.edges c ≡ Some 
 no_end_of_edge b c m leads none empty =
     let nothing : target_of b.edges c ≡ None = ap (λ (edges : List Edge). target_of edges c) empty in cc
 
-walk_on : (nodes : List NodeContent) (n m k : ℕ) (front : List ℕ) (c : ℕ) → walk nodes n front ≡ Some m → target_of (node_at nodes m).edges c ≡ Some k → walk nodes n (front ++ c ∷ []) ≡ Some k
+walk_on : (nodes : List NodeContent) (n m k : ℕ) (front : List ℕ) (c : ℕ) → walk nodes n front ≡ Some m →
+    target_of (node_at nodes m).edges c ≡ Some k → walk nodes n (front ++ c ∷ []) ≡ Some k
 walk_on nodes n m k front c first last = walk_push nodes n front c ∙ ap (option_and_then (λ i. target_of (node_at nodes i).edges c)) first ∙ last
 
-pub along_edge : (start nodes : List NodeContent) (front : List ℕ) (number c target : ℕ) → IsAlong start nodes front number → target_of (node_at nodes number).edges c ≡ Some target → IsAlong start nodes (front ++ c ∷ []) target
+pub along_edge : (start nodes : List NodeContent) (front : List ℕ) (number c target : ℕ) → IsAlong start nodes front number →
+    target_of (node_at nodes number).edges c ≡ Some target → IsAlong start nodes (front ++ c ∷ []) target
 along_edge start nodes front number c target along leads =
     record {
       texts = along.texts;
@@ -36,7 +40,8 @@ along_edge start nodes front number c target along leads =
 -- ---- A new step
 
 -- two functions at what is there: they agree, or one comes to nothing and the other to k
-onward : (f g : ℕ → Option ℕ) (o : Option ℕ) (k : ℕ) → ((i : ℕ) → o ≡ Some i → (f i ≡ g i) ⊎ ((g i ≡ None) × (f i ≡ Some k))) → (option_and_then f o ≡ option_and_then g o) ⊎ ((option_and_then g o ≡ None) × (option_and_then f o ≡ Some k))
+onward : (f g : ℕ → Option ℕ) (o : Option ℕ) (k : ℕ) → ((i : ℕ) → o ≡ Some i → (f i ≡ g i) ⊎ ((g i ≡ None) × (f i ≡ Some k))) →
+    (option_and_then f o ≡ option_and_then g o) ⊎ ((option_and_then g o ≡ None) × (option_and_then f o ≡ Some k))
 onward f g None k h = inl refl
 onward f g (Some i) k h = h i refl
 
@@ -73,10 +78,12 @@ module _ (old : List NodeContent) (number point : ℕ) (edges : List Edge) (adds
   at_number = get_or-set_same (old ++ empty_node ∷ []) number _ empty_node (omega (arith, adds.within, length-append old (empty_node ∷ [])))
 
   at_others : (n : ℕ) → n < length old → n ≢ number → node_at nodes n ≡ node_at old n
-  at_others n within other = get_or-set_other (old ++ empty_node ∷ []) number n _ empty_node other ∙ get_or_append_left old (empty_node ∷ []) empty_node n within
+  at_others n within other = get_or-set_other (old ++ empty_node ∷ []) number n _ empty_node other
+      ∙ get_or_append_left old (empty_node ∷ []) empty_node n within
 
   at_new : node_at nodes (length old) ≡ empty_node
-  at_new = get_or-set_other (old ++ empty_node ∷ []) number (length old) _ empty_node (λ e. absurd (omega (arith, e, adds.within))) ∙ get_or_push old empty_node empty_node (length old) refl
+  at_new = get_or-set_other (old ++ empty_node ∷ []) number (length old) _ empty_node (λ e. absurd (omega (arith, e, adds.within)))
+      ∙ get_or_push old empty_node empty_node (length old) refl
 
   same_rows : (n : ℕ) → n < length old → (node_at nodes n).row ≡ (node_at old n).row
   same_rows n within = elim (cases_eq n number) [
@@ -86,11 +93,18 @@ module _ (old : List NodeContent) (number point : ℕ) (edges : List Edge) (adds
 
   -- an edge of an old node is an old one, or the new one
   abbrev EdgeCase : ℕ → ℕ → Type 0
-  EdgeCase n c = (target_of (node_at nodes n).edges c ≡ target_of (node_at old n).edges c) ⊎ ((n ≡ number) × (c ≡ point) × (target_of (node_at old n).edges c ≡ None) × (target_of (node_at nodes n).edges c ≡ Some (length old)))
+  EdgeCase n c = (target_of (node_at nodes n).edges c ≡ target_of (node_at old n).edges c) ⊎
+      ((n ≡ number) × (c ≡ point) × (target_of (node_at old n).edges c ≡ None) × (target_of (node_at nodes n).edges c ≡ Some (length old)))
 
   number_cases : (c : ℕ) → EdgeCase number c
   number_cases c = elim (cases_eq point c) [
-    | inl same ↦ inr (refl, sym same, ap (target_of (node_at old number).edges) (sym same) ∙ adds.none, ap (λ (b : NodeContent). target_of b.edges c) at_number ∙ ap (target_of edges) (sym same) ∙ adds.new)
+    | inl same ↦ inr (
+      refl,
+      sym same,
+      ap (target_of (node_at old number).edges) (sym same)
+          ∙ adds.none,
+      ap (λ (b : NodeContent). target_of b.edges c) at_number ∙ ap (target_of edges) (sym same) ∙ adds.new,
+    )
     | inr apart ↦ inl (ap (λ (b : NodeContent). target_of b.edges c) at_number ∙ adds.others c apart)
   ]
 
@@ -117,11 +131,13 @@ module _ (old : List NodeContent) (number point : ℕ) (edges : List Edge) (adds
 
   module _ (texts : List (List ℕ)) (shape : AreNodes old texts) where
     -- the code points lead where they led, or to the new node and nowhere before
-    walk_cases : (m : ℕ) (key : List ℕ) → m < length old → (walk nodes m key ≡ walk old m key) ⊎ ((walk old m key ≡ None) × (walk nodes m key ≡ Some (length old)))
+    walk_cases : (m : ℕ) (key : List ℕ) → m < length old →
+        (walk nodes m key ≡ walk old m key) ⊎ ((walk old m key ≡ None) × (walk nodes m key ≡ Some (length old)))
     walk_cases m [] within = inl refl
     walk_cases m (c ∷ key) within = elim (edge_cases m c within) [
       | inl same ↦
-          let P : Option ℕ → Type 0 = λ o. (option_and_then (λ i. walk nodes i key) o ≡ walk old m (c ∷ key)) ⊎ ((walk old m (c ∷ key) ≡ None) × (option_and_then (λ i. walk nodes i key) o ≡ Some (length old))) in
+          let P : Option ℕ → Type 0 = λ o. (option_and_then (λ i. walk nodes i key) o ≡ walk old m (c ∷ key)) ⊎
+          ((walk old m (c ∷ key) ≡ None) × (option_and_then (λ i. walk nodes i key) o ≡ Some (length old))) in
           subst P (sym same)
           (onward (λ i. walk nodes i key) (λ i. walk old i key) (target_of (node_at old m).edges c) (length old)
           (λ i leads. walk_cases i key (subst (λ l. i < l) shape.same (shape.edges m c i within leads).within)))
@@ -147,7 +163,8 @@ module _ (old : List NodeContent) (number point : ℕ) (edges : List Edge) (adds
           same_then (λ n. (node_at nodes n).row) (λ n. (node_at old n).row) (walk old 0 key)
           (λ n leads. same_rows n (walk_root old texts shape n key leads).0)
       | inr step ↦
-          ap (option_and_then (λ n. (node_at nodes n).row)) step.1 ∙ ap (λ (b : NodeContent). b.row) at_new ∙ sym (ap (option_and_then (λ n. (node_at old n).row)) step.0)
+          ap (option_and_then (λ n. (node_at nodes n).row)) step.1 ∙ ap (λ (b : NodeContent). b.row) at_new
+          ∙ sym (ap (option_and_then (λ n. (node_at old n).row)) step.0)
     ]
 
     -- ---- What holds of the nodes
@@ -168,7 +185,8 @@ module _ (old : List NodeContent) (number point : ℕ) (edges : List Edge) (adds
         record {
           later = adds.within;
           within = omega (arith, shape.same, length_push texts (get_or texts number [] ++ point ∷ []));
-          text = get_or_push texts (get_or texts number [] ++ point ∷ []) [] (length old) shape.same ∙ ap (λ t. t ++ point ∷ []) (sym (text_within number (omega (arith, adds.within, shape.same))));
+          text = get_or_push texts (get_or texts number [] ++ point ∷ []) [] (length old) shape.same
+              ∙ ap (λ t. t ++ point ∷ []) (sym (text_within number (omega (arith, adds.within, shape.same))));
         }
 
     still_rising : (n : ℕ) → n < length old → AreRisingEdges (node_at nodes n).edges
@@ -199,14 +217,17 @@ module _ (old : List NodeContent) (number point : ℕ) (edges : List Edge) (adds
           ];
           edges = λ n c m within leads. elim (node_cases n within) [
             | inl old_node ↦ still_edges n c m old_node leads
-            | inr new_node ↦ absurd (none-some m (ap (λ (b : NodeContent). target_of b.edges c) (sym at_new) ∙ ap (λ i. target_of (node_at nodes i).edges c) new_node ∙ leads))
+            | inr new_node ↦ absurd (none-some m (ap (λ (b : NodeContent). target_of b.edges c) (sym at_new)
+                ∙ ap (λ i. target_of (node_at nodes i).edges c) new_node ∙ leads))
           ];
         }
 
-  no_new_end : ((n : ℕ) → 0 < n → n < length old → n ≢ number → IsNoDeadEnd (node_at old n)) → (n : ℕ) → 0 < n → n < length nodes → n ≢ length old → IsNoDeadEnd (node_at nodes n)
+  no_new_end : ((n : ℕ) → 0 < n → n < length old → n ≢ number → IsNoDeadEnd (node_at old n)) → (n : ℕ) → 0 < n → n < length nodes → n ≢ length old →
+      IsNoDeadEnd (node_at nodes n)
   no_new_end before n above within other = elim (node_cases n within) [
     | inl old_node ↦ elim (cases_eq n number) [
-      | inl same ↦ subst (λ i. IsNoDeadEnd (node_at nodes i)) (sym same) (no_end_of_edge (node_at nodes number) point (length old) (ap (λ (b : NodeContent). target_of b.edges point) at_number ∙ adds.new))
+      | inl same ↦ subst (λ i. IsNoDeadEnd (node_at nodes i)) (sym same)
+          (no_end_of_edge (node_at nodes number) point (length old) (ap (λ (b : NodeContent). target_of b.edges point) at_number ∙ adds.new))
       | inr apart ↦ subst IsNoDeadEnd (sym (at_others n old_node apart)) (before n above old_node apart)
     ]
     | inr new_node ↦ absurd (other (sym new_node))
@@ -229,17 +250,24 @@ module _ (old : List NodeContent) (number point : ℕ) (edges : List Edge) (adds
 pub number_within : {start nodes : List NodeContent} {front : List ℕ} {number : ℕ} → IsAlong start nodes front number → number < length nodes
 number_within {nodes = nodes} {front = front} {number = number} along = (walk_root nodes along.texts along.shape number front along.leads).0
 
-pub edges_rise : {start nodes : List NodeContent} {front : List ℕ} {number : ℕ} → IsAlong start nodes front number → AreRisingEdges (node_at nodes number).edges
+pub edges_rise : {start nodes : List NodeContent} {front : List ℕ} {number : ℕ} → IsAlong start nodes front number →
+    AreRisingEdges (node_at nodes number).edges
 edges_rise {number = number} along = along.shape.rising number (number_within along)
 
-pub edges_read : (nodes : List NodeContent) (number : ℕ) (b : NodeContent) (inside edges : List Edge) → number < length nodes → b ≡ get_or nodes number b → inside ≡ b.edges → edges ≡ inside → edges ≡ (node_at nodes number).edges
-edges_read nodes number b inside edges within read view same = same ∙ view ∙ ap (λ (n : NodeContent). n.edges) (read ∙ get_or_default nodes number b empty_node within)
+pub edges_read : (nodes : List NodeContent) (number : ℕ) (b : NodeContent) (inside edges : List Edge) → number < length nodes →
+    b ≡ get_or nodes number b → inside ≡ b.edges → edges ≡ inside → edges ≡ (node_at nodes number).edges
+edges_read nodes number b inside edges within read view same = same ∙ view
+    ∙ ap (λ (n : NodeContent). n.edges) (read ∙ get_or_default nodes number b empty_node within)
 
-pub pushed_read : (nodes pushed : List NodeContent) (number : ℕ) (b new : NodeContent) → number < length nodes → pushed ≡ nodes ++ new ∷ [] → b ≡ get_or pushed number b → b ≡ node_at nodes number
+pub pushed_read : (nodes pushed : List NodeContent) (number : ℕ) (b new : NodeContent) → number < length nodes → pushed ≡ nodes ++ new ∷ [] →
+    b ≡ get_or pushed number b → b ≡ node_at nodes number
 pushed_read nodes pushed number b new within push read =
-    read ∙ ap (λ (list : List NodeContent). get_or list number b) push ∙ get_or_append_left nodes (new ∷ []) b number within ∙ get_or_default nodes number b empty_node within
+    read ∙ ap (λ (list : List NodeContent). get_or list number b) push ∙ get_or_append_left nodes (new ∷ []) b number within
+    ∙ get_or_default nodes number b empty_node within
 
-insert_adds : (old : List NodeContent) (number point at : ℕ) → number < length old → AreRisingEdges (node_at old number).edges → IsNewPlace (node_at old number).edges point at → AddsEdge old number point (insert (node_at old number).edges at (record { point = point; target = length old }))
+insert_adds : (old : List NodeContent) (number point at : ℕ) → number < length old → AreRisingEdges (node_at old number).edges →
+    IsNewPlace (node_at old number).edges point at →
+    AddsEdge old number point (insert (node_at old number).edges at (record { point = point; target = length old }))
 insert_adds old number point at within rising new =
     let e : Edge = record { point = point; target = length old } in
     let none = none_at_new_place (node_at old number).edges point at new in
@@ -251,7 +279,11 @@ insert_adds old number point at within rising new =
       rising = rising_with_new (node_at old number).edges rising at e new;
     }
 
-pub along_insert : (start old pushed : List NodeContent) (front : List ℕ) (number point at target : ℕ) (read inside after : List Edge) (row : Option (List Element)) (new : NodeContent) → IsAlong start old front number → IsNewPlace read point at → read ≡ (node_at old number).edges → record { edges = inside; row = row } ≡ node_at old number → pushed ≡ old ++ new ∷ [] → new ≡ empty_node → target ≡ length old → after ≡ insert inside at (record { point = point; target = target }) → IsAlong start (set pushed number (record { edges = after; row = row })) (front ++ point ∷ []) target
+pub along_insert : (start old pushed : List NodeContent) (front : List ℕ) (number point at target : ℕ) (read inside after : List Edge)
+    (row : Option (List Element)) (new : NodeContent) → IsAlong start old front number → IsNewPlace read point at →
+    read ≡ (node_at old number).edges → record { edges = inside; row = row } ≡ node_at old number → pushed ≡ old ++ new ∷ [] → new ≡ empty_node →
+    target ≡ length old → after ≡ insert inside at (record { point = point; target = target }) →
+    IsAlong start (set pushed number (record { edges = after; row = row })) (front ++ point ∷ []) target
 along_insert start old pushed front number point at target read inside after row new along place same_read same_node push is_leaf is_target put =
     let here : NodeContent = node_at old number in
     let edges : List Edge = insert here.edges at (record { point = point; target = length old }) in

@@ -1,26 +1,27 @@
--- How far the marks behind a key have been gone through.
+-- How far the non-starters after a key have been gone through.
 -- Only clauses inside this crate cite this file.
 use Rattle.std.specs.Prelude.{◌≡◌, ℕ, ◌-◌, ◌<◌, ◌≤◌, List, [], ◌++◌, false, Some, length, take, drop, nat_lt, slice_index}
 use Rattle.std.specs.List.{list_all}
 use Rattle.uca_text.specs.Texts.{Text, Spelled, code_points, letters_of}
 use Rattle.uca_match.specs.Rows.{Rows}
-use Rattle.uca_match.specs.Reading.{removed, members, others, marks_at_front, after_marks}
+use Rattle.uca_match.specs.Reading.{removed, members, others, non_starters_at_front, after_non_starters}
 use Rattle.uca_match.specs.Places.{is_gone, left_from, left_at, left_of}
 use Rattle.uca_match.specs.declared.places.Place.{Place}
 use Rattle.uca_match.specs.declared.matches.Extension.{Extension}
 
--- what a key becomes, and what is left then, where some marks have been skipped and the text goes on so
+-- what a key becomes, and what is left then, where some non-starters have been skipped and the text goes on so
 abbrev pub extended_key : Rows → Text → Text → Text → Text
-extended_key rows key skipped t = key ++ members (removed rows key skipped (marks_at_front t)) (marks_at_front t)
+extended_key rows key skipped t = key ++ members (removed rows key skipped (non_starters_at_front t)) (non_starters_at_front t)
 
 abbrev pub extended_rest : Rows → Text → Text → Text → Text
-extended_rest rows key skipped t = (skipped ++ others (removed rows key skipped (marks_at_front t)) (marks_at_front t)) ++ after_marks t
+extended_rest rows key skipped t = (skipped ++ others (removed rows key skipped (non_starters_at_front t)) (non_starters_at_front t))
+    ++ after_non_starters t
 
 -- the letters that are left between two places
 abbrev pub left_between : Spelled → Place → ℕ → ℕ → Text
 left_between s place from to = left_from (is_gone place) from (take (to - from) (drop from (letters_of s)))
 
--- the marks from a place up to i have been gone through, and some of them may be gone since
+-- the non-starters from a place up to i have been gone through, and some of them may be gone since
 pub record IsBehind (s : Spelled) (place : Place) (i : ℕ) (next : Place) : Type 0 where
   pub begun : place.at ≤ i
   pub within : i ≤ length s.points
@@ -29,8 +30,9 @@ pub record IsBehind (s : Spelled) (place : Place) (i : ℕ) (next : Place) : Typ
   pub non_starters : (k : ℕ) → place.run ≤ k → k < i → slice_index s.classes k ≡ 0 → ⊥
   pub kept_beyond : (k : ℕ) → place.end ≤ k → i ≤ k → is_gone next k ≡ false
 
--- the key and the skipped marks so far become what the key before all marks becomes
-pub record IsGoing {N : Type 0} (stands_for : N → List ℕ → Type 0) (rows : Rows) (s : Spelled) (place : Place) (front : Text) (i : ℕ) (so_far : Extension N) : Type 0 where
+-- the key and the skipped non-starters so far become what the key before all non-starters becomes
+pub record IsGoing {N : Type 0} (stands_for : N → List ℕ → Type 0) (rows : Rows) (s : Spelled) (place : Place) (front : Text) (i : ℕ)
+    (so_far : Extension N) : Type 0 where
   pub key : Text
   pub skipped : Text
   pub node : stands_for so_far.node (code_points key)

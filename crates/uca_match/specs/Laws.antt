@@ -11,19 +11,22 @@ use Rattle.uca_match.specs.Parts.{Part, part_elements, IsPartOf}
 
 -- `read` is a reading, and the only one
 abbrev pub OneReading : Type 0
-OneReading = (implicit : ℕ → List Element) (rows : Rows) → IsReading implicit rows (read implicit rows) × ((E : Text → List Element) → IsReading implicit rows E → (t : Text) → E t ≡ read implicit rows t)
+OneReading = (implicit : ℕ → List Element) (rows : Rows) →
+    IsReading implicit rows (read implicit rows) × ((E : Text → List Element) → IsReading implicit rows E → (t : Text) → E t ≡ read implicit rows t)
 
 -- the finite map of some rows: its keys are theirs, and where no key comes twice, each key has the elements of its row
 pub record AreRowsByKey (rows : List Entry) : Type 0 where
   pub keys : (key : List ℕ) → IsKey (rows_of rows) key ↔ Contains (keys_of rows) key
-  pub elements : AreDistinct rows → (key : List ℕ) (elements : List Element) → (rows_of rows key ≡ Some elements) ↔ Contains rows (record { key = key; elements = elements })
+  pub elements : AreDistinct rows → (key : List ℕ) (elements : List Element) →
+      (rows_of rows key ≡ Some elements) ↔ Contains rows (record { key = key; elements = elements })
 
 abbrev pub RowsByKey : Type 0
 RowsByKey = (rows : List Entry) → AreRowsByKey rows
 
 -- a text that is a key reads as its row
 abbrev pub KeysReadAsRows : Type 0
-KeysReadAsRows = (implicit : ℕ → List Element) (rows : Rows) (t : Text) (row : List Element) → t ≢ [] → rows (code_points t) ≡ Some row → read implicit rows t ≡ row
+KeysReadAsRows = (implicit : ℕ → List Element) (rows : Rows) (t : Text) (row : List Element) → t ≢ [] → rows (code_points t) ≡ Some row →
+    read implicit rows t ≡ row
 
 -- ---- Readings under two maps of rows
 
@@ -41,7 +44,9 @@ IsKeptByAppend related = (es fs gs hs : List Element) → related es fs → rela
 -- where the rows at each key that occurs in order in a text are related, and so are the implicit weights of its code points,
 -- its two readings are related
 abbrev pub RelatedRowsReadAlike : (List Element → List Element → Type 0) → Type 0
-RelatedRowsReadAlike related = (old new : ℕ → List Element) (rows others : Rows) (t : Text) → ((key : List ℕ) → OccursInOrder key (code_points t) → AreRelatedRows related (rows key) (others key)) → AllByRecursion (λ c. related (old c) (new c)) (code_points t) → related (read old rows t) (read new others t)
+RelatedRowsReadAlike related = (old new : ℕ → List Element) (rows others : Rows) (t : Text) →
+    ((key : List ℕ) → OccursInOrder key (code_points t) → AreRelatedRows related (rows key) (others key)) →
+    AllByRecursion (λ c. related (old c) (new c)) (code_points t) → related (read old rows t) (read new others t)
 
 -- two readings have the same parts
 pub record HasSameParts (old new : ℕ → List Element) (rows others : Rows) (t : Text) : Type 0 where
@@ -52,4 +57,5 @@ pub record HasSameParts (old new : ℕ → List Element) (rows others : Rows) (t
 
 -- where two maps have the same keys among those that occur in order in a text, its two readings have the same parts
 abbrev pub SameKeysReadByParts : Type 0
-SameKeysReadByParts = (old new : ℕ → List Element) (rows others : Rows) (t : Text) → ((key : List ℕ) → OccursInOrder key (code_points t) → is_key rows key ≡ is_key others key) → HasSameParts old new rows others t
+SameKeysReadByParts = (old new : ℕ → List Element) (rows others : Rows) (t : Text) →
+    ((key : List ℕ) → OccursInOrder key (code_points t) → is_key rows key ≡ is_key others key) → HasSameParts old new rows others t

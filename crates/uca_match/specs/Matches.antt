@@ -21,8 +21,9 @@ pub record IsFound {N : Type 0} (stands_for : N → List ℕ → Type 0) (rows :
 abbrev pub len_left : Spelled → Place → ℕ → ℕ
 len_left s place first = length (left_at s place first)
 
--- the longest key of at most n letters at the front of what is left from `first` on, and the place behind it
-pub record IsLongestKey {N : Type 0} (stands_for : N → List ℕ → Type 0) (rows : Rows) (s : Spelled) (place : Place) (first n : ℕ) (key : Longest N) : Type 0 where
+-- the longest key of at most n letters at the front of what is left from `first` on, and the place after it
+pub record IsLongestKey {N : Type 0} (stands_for : N → List ℕ → Type 0) (rows : Rows) (s : Spelled) (place : Place) (first n : ℕ) (key : Longest N) :
+    Type 0 where
   pub count : ℕ
   pub longest : longest_key rows (left_at s place first) n ≡ suc count
   pub found : IsFound stands_for rows (code_points (take (suc count) (left_at s place first))) key.found
@@ -39,7 +40,7 @@ abbrev pub given_elements : (ℕ → List Element) → Given → List Element
 given_elements implicit (Row row) = row.now
 given_elements implicit (Unlisted c) = implicit c
 
--- what a key gives, behind which the text goes on at a place
+-- what a key gives, after which the text goes on at a place
 pub record IsExtended (rows : Rows) (s : Spelled) (front : Text) (place : Place) (portion : Portion) : Type 0 where
   pub elements : (implicit : ℕ → List Element) → given_elements implicit portion.given ≡ (row_portion rows front (left_of s place)).elements
   pub left : left_of s portion.next ≡ (row_portion rows front (left_of s place)).rest
@@ -48,6 +49,7 @@ pub record IsExtended (rows : Rows) (s : Spelled) (front : Text) (place : Place)
 
 -- what is left from a place on reads as what is given, and then as what is left from the next place on
 pub record IsPortion (rows : Rows) (s : Spelled) (place : Place) (portion : Portion) : Type 0 where
-  pub elements : (implicit : ℕ → List Element) → read implicit rows (left_of s place) ≡ given_elements implicit portion.given ++ read implicit rows (left_of s portion.next)
+  pub elements : (implicit : ℕ → List Element) →
+      read implicit rows (left_of s place) ≡ given_elements implicit portion.given ++ read implicit rows (left_of s portion.next)
   pub is_place : IsPlace s portion.next
   pub onward : place.at < portion.next.at

@@ -1,4 +1,4 @@
--- Places in a text, and what is left of it from there on where some of its marks have been removed.
+-- Places in a text, and what is left of it from there on where some of its non-starters have been removed.
 -- Only clauses inside this crate cite this file.
 use Rattle.std.specs.Prelude.{◌≡◌, ℕ, suc, ◌-◌, ◌<◌, ◌≤◌, [], ◌∷◌, Bool, true, ◌&&◌, nat_le, nat_eq, if◌then◌else◌, drop, length, slice_index}
 use Rattle.std.specs.Int.{bit_at}
@@ -23,7 +23,7 @@ abbrev pub left_of : Spelled → Place → Text
 left_of s place = left_at s place place.at
 
 -- A place stands in a text: non-starters stand from `run` up to `end`, what is gone is among them, and `at` is there or
--- right behind them.
+-- right after them.
 pub record IsPlace (s : Spelled) (place : Place) : Type 0 where
   pub begun : place.run ≤ place.at
   pub reached : place.at ≤ place.end

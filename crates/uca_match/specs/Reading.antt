@@ -1,5 +1,6 @@
 -- The collation elements of a text (UTS #10, step S2), first by equations, then by a function that computes them.
-use Rattle.std.specs.Prelude.{◌≡◌, ◌≢◌, ℕ, zero, suc, ◌<◌, List, [], ◌∷◌, ◌++◌, Bool, true, false, ◌&&◌, ◌↔◌, length, take, drop, Some, IsTrue, IsFalse, nat_lt, ⊤, if◌then◌else◌, unwrap_or}
+use Rattle.std.specs.Prelude.{◌≡◌, ◌≢◌, ℕ, zero, suc, ◌<◌, List, [], ◌∷◌, ◌++◌, Bool, true, false, ◌&&◌, ◌↔◌, length, take, drop, Some, IsTrue}
+use Rattle.std.specs.Prelude.{IsFalse, nat_lt, ⊤, if◌then◌else◌, unwrap_or}
 use Rattle.std.specs.List.{AllByRecursion, list_all}
 use Rattle.uca_weights.specs.declared.Element.{Element}
 use Rattle.uca_text.specs.Texts.{Letter, Text, code_points, is_starter}
@@ -25,9 +26,9 @@ abbrev pub IsAtStarter : Text → Type 0
 IsAtStarter [] = ⊤
 IsAtStarter (c ∷ t) = IsTrue (is_starter c)
 
--- the marks are the non-starters up to the next starter, and behind them the text goes on with the rest
-pub record AreMarksBefore (marks rest : Text) : Type 0 where
-  pub non_starters : AllByRecursion (λ c. IsFalse (is_starter c)) marks
+-- these are the non-starters up to the next starter, and after them the text goes on with the rest
+pub record AreNonStartersBefore (non_starters rest : Text) : Type 0 where
+  pub are_non_starters : AllByRecursion (λ c. IsFalse (is_starter c)) non_starters
   pub ends : IsAtStarter rest
 
 -- the letters at the places of a set, and those at the others
@@ -47,20 +48,24 @@ others (b ∷ set) [] = []
 abbrev pub IsFree : Text → Letter → Type 0
 IsFree skipped c = AllByRecursion (λ d. d.class < c.class) skipped
 
--- The discontiguous match (S2.1.1 to S2.1.3), as the set of places of the marks that are removed. At every place, its
+-- The discontiguous match (S2.1.1 to S2.1.3), as the set of places of the non-starters that are removed. At every place, its
 -- letter is removed exactly if the letters before it that are not removed do not block it, and the start followed by
 -- the removed letters before it and then by it is a key. A removed letter stands between no longer, and blocks nothing.
-pub record AreRemoved (rows : Rows) (start : Text) (marks : Text) (set : List Bool) : Type 0 where
-  pub places : length set ≡ length marks
-  pub each : (before after : Text) (c : Letter) (here : List Bool) (b : Bool) (later : List Bool) → marks ≡ before ++ c ∷ after → set ≡ here ++ b ∷ later → length here ≡ length before → IsTrue b ↔ (IsFree (others here before) c × IsKey rows (code_points (start ++ (members here before ++ c ∷ []))))
+pub record AreRemoved (rows : Rows) (start : Text) (non_starters : Text) (set : List Bool) : Type 0 where
+  pub places : length set ≡ length non_starters
+  pub each : (before after : Text) (c : Letter) (here : List Bool) (b : Bool) (later : List Bool) → non_starters ≡ before ++ c ∷ after →
+      set ≡ here ++ b ∷ later → length here ≡ length before →
+      IsTrue b ↔ (IsFree (others here before) c × IsKey rows (code_points (start ++ (members here before ++ c ∷ []))))
 
 -- What the elements of all texts are: E is the one function with these three equations. A text that no key begins gives
 -- the implicit weights of its first code point, which is not extended. One that a key begins gives the row of the
--- extended key; then the skipped marks are read, in their order, with all that follows them.
+-- extended key; then the skipped non-starters are read, in their order, with all that follows them.
 pub record IsReading (implicit : ℕ → List Element) (rows : Rows) (E : Text → List Element) : Type 0 where
   pub empty : E [] ≡ []
   pub unlisted : (c : Letter) (t : Text) → NoRowBegins rows (c ∷ t) → E (c ∷ t) ≡ implicit c.code ++ E t
-  pub listed : (front marks rest : Text) (set : List Bool) (row : List Element) → IsRowMatch rows front (marks ++ rest) → AreMarksBefore marks rest → AreRemoved rows front marks set → rows (code_points (front ++ members set marks)) ≡ Some row → E (front ++ (marks ++ rest)) ≡ row ++ E (others set marks ++ rest)
+  pub listed : (front non_starters rest : Text) (set : List Bool) (row : List Element) → IsRowMatch rows front (non_starters ++ rest) →
+      AreNonStartersBefore non_starters rest → AreRemoved rows front non_starters set →
+      rows (code_points (front ++ members set non_starters)) ≡ Some row → E (front ++ (non_starters ++ rest)) ≡ row ++ E (others set non_starters ++ rest)
 
 -- ---- By a function
 
@@ -70,36 +75,36 @@ longest_key rows t zero = 0
 longest_key rows t (suc n) = if is_key rows (code_points (take (suc n) t)) then suc n else longest_key rows t n
 
 -- the non-starters at the front, and what follows them
-abbrev pub marks_at_front : Text → Text
-marks_at_front [] = []
-marks_at_front (c ∷ t) = if is_starter c then [] else c ∷ marks_at_front t
+abbrev pub non_starters_at_front : Text → Text
+non_starters_at_front [] = []
+non_starters_at_front (c ∷ t) = if is_starter c then [] else c ∷ non_starters_at_front t
 
-abbrev pub after_marks : Text → Text
-after_marks [] = []
-after_marks (c ∷ t) = if is_starter c then c ∷ t else after_marks t
+abbrev pub after_non_starters : Text → Text
+after_non_starters [] = []
+after_non_starters (c ∷ t) = if is_starter c then c ∷ t else after_non_starters t
 
--- whether a mark is removed behind a key and the letters skipped so far: none of them blocks it, and with it the key is a key
+-- whether a non-starter is removed after a key and the letters skipped so far: none of them blocks it, and with it the key is a key
 abbrev pub is_taken : Rows → Text → Text → Letter → Bool
 is_taken rows key skipped c = list_all (λ d. nat_lt d.class c.class) skipped && is_key rows (code_points (key ++ c ∷ []))
 
--- which of the marks are removed behind the key and the letters skipped so far
+-- which of the non-starters are removed after the key and the letters skipped so far
 abbrev pub removed : Rows → Text → Text → Text → List Bool
 removed rows key skipped [] = []
-removed rows key skipped (c ∷ marks) =
+removed rows key skipped (c ∷ non_starters) =
     let taken = is_taken rows key skipped c in
-    taken ∷ removed rows (if taken then key ++ c ∷ [] else key) (if taken then skipped else skipped ++ c ∷ []) marks
+    taken ∷ removed rows (if taken then key ++ c ∷ [] else key) (if taken then skipped else skipped ++ c ∷ []) non_starters
 
 -- the elements that the front of a text gives, and what is read after them
 pub record Portion : Type 0 where
   pub elements : List Element
   pub rest : Text
 
--- what a key at the front gives, behind which the rest follows
+-- what a key at the front gives, after which the rest follows
 abbrev pub row_portion : Rows → Text → Text → Portion
 row_portion rows front rest =
-    let marks = marks_at_front rest in
-    let set = removed rows front [] marks in
-    record { elements = unwrap_or (rows (code_points (front ++ members set marks))) []; rest = others set marks ++ after_marks rest }
+    let non_starters = non_starters_at_front rest in
+    let set = removed rows front [] non_starters in
+    record { elements = unwrap_or (rows (code_points (front ++ members set non_starters))) []; rest = others set non_starters ++ after_non_starters rest }
 
 abbrev pub portion_at : (ℕ → List Element) → Rows → Letter → Text → ℕ → Portion
 portion_at implicit rows c t zero = record { elements = implicit c.code; rest = t }

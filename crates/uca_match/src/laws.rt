@@ -12,8 +12,8 @@ use std::marker::Brand;
 /// The first definition is a system of three equations, after step S2 of UTS #10: the empty text
 /// has no elements; a text that no key begins has the implicit weights of its first code point and
 /// then the elements of what follows; a text that a key begins has the row of the longest such key
-/// (S2.1), extended by the marks that are removed behind it (S2.1.1 to S2.1.3), and then the
-/// elements of the skipped marks and what follows them. The second is a function that computes
+/// (S2.1), extended by the non-starters that are removed after it (S2.1.1 to S2.1.3), and then the
+/// elements of the skipped non-starters and what follows them. The second is a function that computes
 /// them. The law says that the function satisfies the equations, and that every function which
 /// satisfies them is this one, at all rows and all implicit weights.
 pub fn one_reading()
@@ -31,7 +31,11 @@ pub fn keys_read_as_rows()
     ensures { KeysReadAsRows }
 {}
 
-/// A relation between lists of elements that is kept where lists are put one after the other.
+/// A relation between lists of elements that holds of two empty lists, and is kept where lists are put one
+/// after the other.
+///
+/// A relation that depends on the values of a program has no type to stand for it: there
+/// [`same_keys_read_by_parts`] serves, from which the same follows for every relation.
 pub trait RelatesElements {
     // which lists are related
     ghost related: { List Element → List Element → Type 0 };
@@ -69,7 +73,7 @@ pub fn same_keys_read_by_parts()
 {}
 
 /// The definitions give the elements that were worked out by hand for some texts: letters, accents,
-/// code points with implicit weights, contractions, and marks that are skipped, blocked or removed.
+/// code points with implicit weights, contractions, and non-starters that are skipped, blocked or removed.
 pub fn worked_readings()
     ensures { WorkedReadings }
 {}

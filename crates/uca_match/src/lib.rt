@@ -9,8 +9,6 @@ mod lookup;
 mod matches;
 mod places;
 mod row_list;
-#[cfg(test)]
-mod tests;
 mod trie;
 
 pub use collator::Collator;

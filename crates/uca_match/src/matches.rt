@@ -20,12 +20,12 @@ pub struct Found<'a, N> {
     pub row: &'a [Element],
 }
 
-/// A key at the front of what is left of a text, and the place behind it.
+/// A key at the front of what is left of a text, and the place after it.
 #[derive(Clone, Copy)]
 pub struct Longest<'a, N> {
     /// The key.
     pub found: Found<'a, N>,
-    /// The place behind the letters that are the key.
+    /// The place after the letters that are the key.
     pub behind: usize,
 }
 
@@ -91,20 +91,20 @@ fn longest_match<'a, L: Lookup>(
     best
 }
 
-/// The marks behind a key, as far as they have been gone through.
+/// The non-starters after a key, as far as they have been gone through.
 #[derive(Clone, Copy)]
 pub struct Extension<'a, N> {
     /// The node that stands for what the key has become.
     pub node: N,
     /// The elements of what the key has become.
     pub row: &'a [Element],
-    /// The place behind the key, from which the marks that the key took have been removed.
+    /// The place after the key, from which the non-starters that the key took have been removed.
     pub next: Place,
-    /// The highest class of the marks that were skipped, or 0.
+    /// The highest class of the non-starters that were skipped, or 0.
     pub highest: u8,
 }
 
-/// Goes on by the mark at `i`: it is removed if it is not blocked and makes the key a longer one.
+/// Goes on by the non-starter at `i`: it is removed if it is not blocked and makes the key a longer one.
 fn extended<'a, L: Lookup>(
     lookup: &'a L,
     text: &Normal,
@@ -113,10 +113,10 @@ fn extended<'a, L: Lookup>(
 ) -> Extension<'a, L::Node>
     requires found { (key : List ℕ) × L.stands_for lookup.now so_far.node key }
     requires within { i < length text.now.points }
-    requires mark { slice_index text.now.classes i ≢ 0 }
+    requires non_starter { slice_index text.now.classes i ≢ 0 }
     requires behind { so_far.next.run ≤ i }
     requires near { i - so_far.next.run < 64 }
-    ensures marks { (place : Place) → IsBehind text.now place i so_far.entry.next → IsBehind text.now place (i + 1) result.next }
+    ensures non_starters { (place : Place) → IsBehind text.now place i so_far.entry.next → IsBehind text.now place (i + 1) result.next }
     ensures matched { (place : Place) (front : Text) → IsBehind text.now place i so_far.entry.next →
         IsGoing (L.stands_for lookup.now) (L.content lookup.now) text.now place front i so_far.entry →
         IsGoing (L.stands_for lookup.now) (L.content lookup.now) text.now place front (i + 1) result }
@@ -147,8 +147,8 @@ fn extended<'a, L: Lookup>(
     }
 }
 
-/// What a key at the front of a text gives, behind which the text goes on at `place`: the key takes
-/// the marks that follow and are not blocked, where that makes a longer key (UTS #10, S2.1.1 to S2.1.3).
+/// What a key at the front of a text gives, after which the text goes on at `place`: the key takes
+/// the non-starters that follow and are not blocked, where that makes a longer key (UTS #10, S2.1.1 to S2.1.3).
 fn extend<'a, L: Lookup>(
     lookup: &'a L,
     text: &Normal,

@@ -1,4 +1,4 @@
-//! Places in a text some of whose marks have been removed.
+//! Places in a text some of whose non-starters have been removed.
 ghost use Rattle.std.specs.Prelude.{◌≡◌, ◌≢◌, ℕ, ◌-◌, ◌<◌, ◌≤◌, true, false, length};
 ghost use Rattle.uca_match.specs.Places.{is_gone, left_at, left_of, IsPlace};
 
@@ -13,7 +13,7 @@ pub struct Place {
     pub at: usize,
     /// Where the run begins, at `at` or before it.
     pub run: usize,
-    /// The place behind the run, as far as it has been gone through, at `at` or behind it.
+    /// The place after the run, as far as it has been gone through, at `at` or after it.
     pub end: usize,
     /// Which letters of the run have been removed: bit i stands for the letter at `run + i`. No run is
     /// longer than 64.
@@ -59,7 +59,7 @@ impl Place {
         }
     }
 
-    /// The place to read on from at `at`, which is behind it.
+    /// The place to read on from at `at`, which is after it.
     pub fn moved(self, text: &Normal, at: usize) -> Place
         requires place { IsPlace text.now self }
         requires behind { self.at ≤ at }

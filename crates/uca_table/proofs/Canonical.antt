@@ -31,11 +31,13 @@ zip_append R (x ∷ xs) ys [] vs h k = absurd h
 zip_append R (x ∷ xs) ys (u ∷ us) vs h k = (h.0, zip_append R xs ys us vs h.1 k)
 
 -- a line for each of some things, of which P holds
-each_line : {X : Type 0} (P : X → Type 0) (line : X → List ℕ) → ((x : X) → P x → IsFileLine TABLE_FORM (line x)) → (xs : List X) → AllByRecursion P xs → AllByRecursion (IsFileLine TABLE_FORM) (map line xs)
+each_line : {X : Type 0} (P : X → Type 0) (line : X → List ℕ) → ((x : X) → P x → IsFileLine TABLE_FORM (line x)) → (xs : List X) → AllByRecursion P xs
+    → AllByRecursion (IsFileLine TABLE_FORM) (map line xs)
 each_line P line is [] h = tt
 each_line P line is (x ∷ xs) h = (is x h.0, each_line P line is xs h.1)
 
-each_says : {X : Type 0} (P : X → Type 0) (line : X → List ℕ) (item : X → Item) → ((x : X) → P x → IsLine (line x) (item x)) → (xs : List X) → AllByRecursion P xs → AllZip IsLine (map line xs) (map item xs)
+each_says : {X : Type 0} (P : X → Type 0) (line : X → List ℕ) (item : X → Item) → ((x : X) → P x → IsLine (line x) (item x)) → (xs : List X)
+    → AllByRecursion P xs → AllZip IsLine (map line xs) (map item xs)
 each_says P line item says [] h = tt
 each_says P line item says (x ∷ xs) h = (says x h.0, each_says P line item says xs h.1)
 
@@ -110,7 +112,8 @@ lines_are_few table h =
 -- ---- Their items
 
 abbrev pub items_of : TableContent → List Item
-items_of table = OfVersion table.header.version ∷ ((map OfSetting (option_to_list table.header.setting) ++ map OfRange table.header.ranges) ++ map OfRow table.rows)
+items_of table = OfVersion table.header.version ∷ ((map OfSetting (option_to_list table.header.setting) ++ map OfRange table.header.ranges)
+    ++ map OfRow table.rows)
 
 items_in_order : (table : TableContent) → said (items_of table) ≡ in_order (all_of table)
 items_in_order table =
@@ -119,7 +122,8 @@ items_in_order table =
     let rows = map OfRow table.rows in
     ap (λ items. OfVersion table.header.version ∷ items) (
     said-append (settings ++ ranges) rows
-    ∙ rw (said-append settings ranges, said_settings (option_to_list table.header.setting), said_ranges table.header.ranges, said_rows table.rows) (append_assoc settings ranges rows)
+    ∙ rw (said-append settings ranges, said_settings (option_to_list table.header.setting), said_ranges table.header.ranges, said_rows table.rows)
+    (append_assoc settings ranges rows)
     )
 
 forms_are : (table : TableContent) → IsTable table → AllZip IsLine (canonical_lines table) (items_of table)
@@ -127,7 +131,8 @@ forms_are table h =
     let header = table.header in
     let settings = option_to_list header.setting in (
       version_says header.version h.header.named,
-      zip_append IsLine (map setting_line settings ++ map range_line header.ranges) (map row_line table.rows) (map OfSetting settings ++ map OfRange header.ranges) (map OfRow table.rows)
+      zip_append IsLine (map setting_line settings ++ map range_line header.ranges) (map row_line table.rows)
+          (map OfSetting settings ++ map OfRange header.ranges) (map OfRow table.rows)
           (
           zip_append IsLine (map setting_line settings) (map range_line header.ranges) (map OfSetting settings) (map OfRange header.ranges)
           (each_says (λ _. Unit {0}) setting_line OfSetting (λ s u. setting_says s) settings (any settings))

@@ -70,7 +70,8 @@ keeps_end [] (y ∷ ys) some h = keeps_plain (y ∷ ys) h
 keeps_end (x ∷ xs) (y ∷ ys) some h = rw (not_all_blank (x ∷ xs) y ys h.0) (ap (λ zs. x ∷ zs) (keeps_end xs (y ∷ ys) some h))
 
 -- a line with neither comment nor blanks at its ends is its own text
-pub text_again : (line front back : List ℕ) → line ≡ front ++ back → Lacks is_hash line → skip_blanks line ≡ line → 1 ≤ length back → Lacks is_blank back → text_of line ≡ line
+pub text_again : (line front back : List ℕ) → line ≡ front ++ back → Lacks is_hash line → skip_blanks line ≡ line → 1 ≤ length back
+    → Lacks is_blank back → text_of line ≡ line
 text_again line front back whole plain begins some ends =
     ap trim (up_to_all is_hash line plain)
     ∙ (ap no_end_blanks (begins ∙ whole) ∙ (keeps_end front back some ends ∙ sym whole))
@@ -145,4 +146,5 @@ unfolding point_text
 code_point_again c h =
     let w = wide c h in
     let long = length-digits (point_width c) c in
-    is_point (digits (point_width c) c) c (omega (arith, long, w.low)) (omega (arith, long, w.high)) (number_is is_hex_digit 16 (digits (point_width c) c) c (hex_of-digits (point_width c) c w.fits)) h
+    is_point (digits (point_width c) c) c (omega (arith, long, w.low)) (omega (arith, long, w.high))
+    (number_is is_hex_digit 16 (digits (point_width c) c) c (hex_of-digits (point_width c) c w.fits)) h

@@ -31,7 +31,8 @@ use Rattle.uca_table.proofs.CanonicalBytes.{lacks_append, list_lacks, up_to_lack
 lacks_point : (p : ℕ → Bool) → ((b : ℕ) → is_hex_digit b ≡ true → p b ≡ false) → (c : ℕ) → IsScalar c → Lacks p (point_text c)
 lacks_point p each c h = lacks_digits p each (point_text c) (point_all c h)
 
-lacks_key : (p : ℕ → Bool) → ((b : ℕ) → is_hex_digit b ≡ true → p b ≡ false) → p 32 ≡ false → (key : List ℕ) → AllByRecursion IsScalar key → Lacks p (key_text key)
+lacks_key : (p : ℕ → Bool) → ((b : ℕ) → is_hex_digit b ≡ true → p b ≡ false) → p 32 ≡ false → (key : List ℕ) → AllByRecursion IsScalar key
+    → Lacks p (key_text key)
 unfolding key_text key_point_text
 lacks_key p each space [] h = tt
 lacks_key p each space (c ∷ key) h =
@@ -63,7 +64,8 @@ unfolding key_text key_point_text
 key_leads [] h = refl
 key_leads (c ∷ key) h = (
   32 ∷ key_text key,
-  subst (λ (t : List ℕ). BeginsCodePoint (skip_blanks t) c (32 ∷ key_text key)) (sym (append_assoc (point_text c) (32 ∷ []) (key_text key))) (point_begins c (key_text key) h.0),
+  subst (λ (t : List ℕ). BeginsCodePoint (skip_blanks t) c (32 ∷ key_text key)) (sym (append_assoc (point_text c) (32 ∷ []) (key_text key)))
+      (point_begins c (key_text key) h.0),
   leads_from_skip BeginsCodePoint (32 ∷ key_text key) key [] (leads_skip BeginsCodePoint (key_text key) key [] (key_leads key h.1)),
 )
 
@@ -90,13 +92,18 @@ lacks_element p s e h = (
   s.opening,
   (
     spares_mark p s e.mark,
-    lacks_weight p s e.primary _ h.primary (s.dot, lacks_weight p s e.secondary _ h.secondary (s.dot, lacks_weight p s e.tertiary _ h.tertiary (s.closing, tt))),
+    lacks_weight p s e.primary _ h.primary (
+      s.dot,
+      lacks_weight p s e.secondary _ h.secondary
+          (s.dot, lacks_weight p s e.tertiary _ h.tertiary (s.closing, tt)),
+    ),
   ),
 )
 
 lacks_elements : (p : ℕ → Bool) → SparesElements p → (elements : List Element) → AllByRecursion Fits elements → Lacks p (flat_map element_text elements)
 lacks_elements p s [] h = tt
-lacks_elements p s (e ∷ elements) h = lacks_append p (element_text e) (flat_map element_text elements) (lacks_element p s e h.0) (lacks_elements p s elements h.1)
+lacks_elements p s (e ∷ elements) h = lacks_append p (element_text e) (flat_map element_text elements) (lacks_element p s e h.0)
+    (lacks_elements p s elements h.1)
 
 elements_some : (elements : List Element) → 1 ≤ length elements → 1 ≤ length (flat_map element_text elements)
 unfolding element_text
@@ -139,7 +146,8 @@ row_again row h =
         few = h.few_points;
       });
       elements = record {
-        texts = leads_from_skip BeginsElement (32 ∷ flat_map element_text row.elements) row.elements [] (leads_skip BeginsElement (flat_map element_text row.elements) row.elements [] (elements_lead row.elements h.fits));
+        texts = leads_from_skip BeginsElement (32 ∷ flat_map element_text row.elements) row.elements []
+            (leads_skip BeginsElement (flat_map element_text row.elements) row.elements [] (elements_lead row.elements h.fits));
         some = h.some_elements;
         few = h.few_elements;
       };
@@ -179,12 +187,14 @@ unfolding range_line
 range_front r = simp append_assoc
 
 lacks_ends : (p : ℕ → Bool) → ((b : ℕ) → is_hex_digit b ≡ true → p b ≡ false) → p 46 ≡ false → (r : ImplicitRange) → IsImplicitRange r → Lacks p (ends_text r)
-lacks_ends p each dot r h = lacks_append p (point_text r.first) (46 ∷ 46 ∷ point_text r.last) (lacks_point p each r.first h.first_point) (dot, (dot, lacks_point p each r.last h.last_point))
+lacks_ends p each dot r h = lacks_append p (point_text r.first) (46 ∷ 46 ∷ point_text r.last) (lacks_point p each r.first h.first_point)
+    (dot, (dot, lacks_point p each r.last h.last_point))
 
 lacks_lead : (p : ℕ → Bool) → ((b : ℕ) → is_hex_digit b ≡ true → p b ≡ false) → (r : ImplicitRange) → IsImplicitRange r → Lacks p (digits 4 r.lead)
 lacks_lead p each r h = lacks_digits p each (digits 4 r.lead) (digits_all 4 r.lead (lead_fits r h))
 
-lacks_range : (p : ℕ → Bool) → SparesElements p → p 32 ≡ false → p 59 ≡ false → Lacks p (at_ranges ++ 32 ∷ []) → (r : ImplicitRange) → IsImplicitRange r → Lacks p (range_line r)
+lacks_range : (p : ℕ → Bool) → SparesElements p → p 32 ≡ false → p 59 ≡ false → Lacks p (at_ranges ++ 32 ∷ []) → (r : ImplicitRange)
+    → IsImplicitRange r → Lacks p (range_line r)
 lacks_range p s space semicolon word r h =
     subst (Lacks p) (sym (range_front r)) (
     lacks_append p (at_ranges ++ 32 ∷ []) (ends_text r ++ lead_text r) word
@@ -224,7 +234,8 @@ range_text_is : (r : ImplicitRange) → IsImplicitRange r → text_of (range_lin
 range_text_is r h =
     let front = (at_ranges ++ 32 ∷ []) ++ (ends_text r ++ 59 ∷ 32 ∷ []) in
     text_again (range_line r) front (digits 4 r.lead)
-    (range_front r ∙ (ap (λ l. (at_ranges ++ 32 ∷ []) ++ l) (sym (append_assoc (ends_text r) (59 ∷ 32 ∷ []) (digits 4 r.lead))) ∙ sym (append_assoc (at_ranges ++ 32 ∷ []) (ends_text r ++ 59 ∷ 32 ∷ []) (digits 4 r.lead))))
+    (range_front r ∙ (ap (λ l. (at_ranges ++ 32 ∷ []) ++ l) (sym (append_assoc (ends_text r) (59 ∷ 32 ∷ []) (digits 4 r.lead)))
+    ∙ sym (append_assoc (at_ranges ++ 32 ∷ []) (ends_text r ++ 59 ∷ 32 ∷ []) (digits 4 r.lead))))
     (lacks_range is_hash no_hash refl refl (list_lacks is_hash (at_ranges ++ 32 ∷ []) refl) r h)
     (ap skip_blanks (range_front r) ∙ sym (range_front r))
     (omega (arith, length-digits 4 r.lead))
@@ -279,8 +290,10 @@ record IsName (name : List ℕ) : Type 0 where
 is_name : (name : List ℕ) → is_version_name name ≡ true → IsName name
 is_name name h = let k = both _ _ h in record { some = leb-true 1 (length name) (both _ _ k.0).0; bytes = k.1 }
 
-lacks_version : (p : ℕ → Bool) → ((b : ℕ) → is_name_byte b ≡ true → p b ≡ false) → Lacks p (at_version ++ 32 ∷ []) → (name : List ℕ) → IsName name → Lacks p (version_line name)
-lacks_version p each word name h = subst (Lacks p) (sym (version_front name)) (lacks_append p (at_version ++ 32 ∷ []) name word (lacks_name p each name h.bytes))
+lacks_version : (p : ℕ → Bool) → ((b : ℕ) → is_name_byte b ≡ true → p b ≡ false) → Lacks p (at_version ++ 32 ∷ []) → (name : List ℕ) → IsName name
+    → Lacks p (version_line name)
+lacks_version p each word name h = subst (Lacks p) (sym (version_front name))
+    (lacks_append p (at_version ++ 32 ∷ []) name word (lacks_name p each name h.bytes))
 
 version_again : (name : List ℕ) → is_version_name name ≡ true → IsVersion (version_line name) name
 version_again name h =

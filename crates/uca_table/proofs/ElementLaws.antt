@@ -1,5 +1,6 @@
 -- What is read as an element is spelled as that element, and what is spelled so is read.
 use Rattle.std.proofs.Common.{◌≡◌, ℕ, ◌<◌, ◌≤◌, Bool, true, false, ◌==◌, List, [], ◌∷◌, ◌++◌, length, take, drop, Option, Some, None, refl, ap, sym, subst, ◌∙◌, arith, append_assoc, length-append}
+use Rattle.std.proofs.lemmas.Option.{same_Some}
 use Rattle.std.specs.Option.{option_map}
 use Rattle.std.proofs.lemmas.List.{take-append-drop}
 use Rattle.std.proofs.Math.Seq.{take-append_seam, drop-append_seam}
@@ -31,13 +32,10 @@ after_byte_takes byte (b ∷ bs) rest h = cases (b == byte) refl
     cases true e = let same = eqb-true b byte e in let k = rw e at h in cc
     cases false e = let k = rw e at h in cc
 
-some_is : {A : Type 0} (x y : A) → Some x ≡ Some y → x ≡ y
-some_is x y h = cc
-
 -- what is equal in some pairs
 some_pair : {A B : Type 0} (x y : A) (a b : B) → ◌≡◌ {A = Option (A × B)} (Some (x, a)) (Some (y, b)) → (x ≡ y) × (a ≡ b)
 some_pair {A = A} {B = B} x y a b h =
-    let k : ◌≡◌ {A = A × B} (x, a) (y, b) = some_is {A = A × B} (x, a) (y, b) h in
+    let k : ◌≡◌ {A = A × B} (x, a) (y, b) = same_Some {A = A × B} (x, a) (y, b) h in
     (ap (λ (r : A × B). r.0) k, ap (λ (r : A × B). r.1) k)
 
 mark_takes : (text : List ℕ) (m : Bool) (rest : List ℕ) → mark_at text ≡ Some (m, rest) → text ≡ mark_byte m ∷ rest
@@ -88,7 +86,8 @@ mark_at-byte true rest = refl
 mark_at-byte false rest = refl
 
 -- the text of an element and what follows it, part by part
-spelled_parts : (e : Element) (more : List ℕ) → element_text e ++ more ≡ 91 ∷ mark_byte e.mark ∷ (digits 4 e.primary ++ (46 ∷ (digits 4 e.secondary ++ (46 ∷ (digits 4 e.tertiary ++ (93 ∷ more))))))
+spelled_parts : (e : Element) (more : List ℕ) → element_text e
+    ++ more ≡ 91 ∷ mark_byte e.mark ∷ (digits 4 e.primary ++ (46 ∷ (digits 4 e.secondary ++ (46 ∷ (digits 4 e.tertiary ++ (93 ∷ more))))))
 unfolding element_text
 spelled_parts e more = simp append_assoc
 
@@ -158,9 +157,11 @@ after_element text e more h =
 
 -- ---- Why some elements are refused
 
-pub weight_cause : (text : List ℕ) (front : List Element) (rest : List ℕ) → Leads BeginsElement text front rest → opens rest ≡ true → None ≡ element_at rest → ElementsCause text kinds.Weight
+pub weight_cause : (text : List ℕ) (front : List Element) (rest : List ℕ) → Leads BeginsElement text front rest → opens rest ≡ true
+    → None ≡ element_at rest → ElementsCause text kinds.Weight
 weight_cause text front rest h o n = (front, rest, h, o, none_begins rest n)
 
-pub limit_cause : (text : List ℕ) (front : List Element) (rest : List ℕ) (e : Element) (more : List ℕ) → Leads BeginsElement text front rest → 32 ≤ length front → BeginsElement rest e more → ElementsCause text kinds.Limit
+pub limit_cause : (text : List ℕ) (front : List Element) (rest : List ℕ) (e : Element) (more : List ℕ) → Leads BeginsElement text front rest
+    → 32 ≤ length front → BeginsElement rest e more → ElementsCause text kinds.Limit
 limit_cause text front rest e more h l b =
     (front ++ e ∷ [], skip_blanks more, leads_push BeginsElement text front rest e more h b, omega (arith, length-append front (e ∷ [])))

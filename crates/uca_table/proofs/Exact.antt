@@ -1,5 +1,6 @@
 -- The lines of a table file say one thing, and a line in which a cause stands is not taken.
 use Rattle.std.proofs.Common.{◌≡◌, ℕ, ◌⊎◌, List, [], ◌∷◌, ◌++◌, length, Option, Some, None, refl, ap, sym, subst, ◌∙◌, inl, inr, arith, length-append, append-nil}
+use Rattle.std.proofs.lemmas.Option.{same_Some}
 use Rattle.std.specs.Prelude.{IsSome, is_some, true}
 use Rattle.std.specs.List.{AllZip}
 use Rattle.std.specs.Option.{option_to_list}
@@ -23,16 +24,22 @@ use Rattle.uca_table.proofs.FormLaws.{is_version, is_setting, is_range, is_row, 
 -- ---- What one more item says of what was begun
 
 ranges_with : (s t : Begun) (item : Item) → in_order t ≡ in_order s ++ item ∷ [] → t.ranges ≡ s.ranges ++ ranges_in (item ∷ [])
-ranges_with s t item h = sym (ranges_in-in_order t) ∙ (ap ranges_in h ∙ (ranges_in-append (in_order s) (item ∷ []) ∙ ap (λ rs. rs ++ ranges_in (item ∷ [])) (ranges_in-in_order s)))
+ranges_with s t item h = sym (ranges_in-in_order t) ∙ (ap ranges_in h
+    ∙ (ranges_in-append (in_order s) (item ∷ []) ∙ ap (λ rs. rs ++ ranges_in (item ∷ [])) (ranges_in-in_order s)))
 
 rows_with : (s t : Begun) (item : Item) → in_order t ≡ in_order s ++ item ∷ [] → t.rows ≡ s.rows ++ rows_in (item ∷ [])
-rows_with s t item h = sym (rows_in-in_order t) ∙ (ap rows_in h ∙ (rows_in-append (in_order s) (item ∷ []) ∙ ap (λ rs. rs ++ rows_in (item ∷ [])) (rows_in-in_order s)))
+rows_with s t item h = sym (rows_in-in_order t) ∙ (ap rows_in h ∙ (rows_in-append (in_order s) (item ∷ [])
+    ∙ ap (λ rs. rs ++ rows_in (item ∷ [])) (rows_in-in_order s)))
 
-versions_with : (s t : Begun) (item : Item) → in_order t ≡ in_order s ++ item ∷ [] → option_to_list t.version ≡ option_to_list s.version ++ versions_in (item ∷ [])
-versions_with s t item h = sym (versions_in-in_order t) ∙ (ap versions_in h ∙ (versions_in-append (in_order s) (item ∷ []) ∙ ap (λ vs. vs ++ versions_in (item ∷ [])) (versions_in-in_order s)))
+versions_with : (s t : Begun) (item : Item) → in_order t ≡ in_order s ++ item ∷ []
+    → option_to_list t.version ≡ option_to_list s.version ++ versions_in (item ∷ [])
+versions_with s t item h = sym (versions_in-in_order t) ∙ (ap versions_in h
+    ∙ (versions_in-append (in_order s) (item ∷ []) ∙ ap (λ vs. vs ++ versions_in (item ∷ [])) (versions_in-in_order s)))
 
-settings_with : (s t : Begun) (item : Item) → in_order t ≡ in_order s ++ item ∷ [] → option_to_list t.setting ≡ option_to_list s.setting ++ settings_in (item ∷ [])
-settings_with s t item h = sym (settings_in-in_order t) ∙ (ap settings_in h ∙ (settings_in-append (in_order s) (item ∷ []) ∙ ap (λ vs. vs ++ settings_in (item ∷ [])) (settings_in-in_order s)))
+settings_with : (s t : Begun) (item : Item) → in_order t ≡ in_order s ++ item ∷ []
+    → option_to_list t.setting ≡ option_to_list s.setting ++ settings_in (item ∷ [])
+settings_with s t item h = sym (settings_in-in_order t) ∙ (ap settings_in h
+    ∙ (settings_in-append (in_order s) (item ∷ []) ∙ ap (λ vs. vs ++ settings_in (item ∷ [])) (settings_in-in_order s)))
 
 -- something is said only after the version
 versioned : (t : Begun) (xs : List Item) (item : Item) → IsBegun t → in_order t ≡ xs ++ item ∷ [] → IsSome t.version
@@ -48,7 +55,8 @@ no_rows_left s t item h other = cases (by_last t.rows)
   where
     cases : (t.rows ≡ []) ⊎ ((front : List Entry) × (last : Entry) × (t.rows ≡ front ++ last ∷ [])) → t.rows ≡ []
     cases (inl e) = e
-    cases (inr e) = absurd (other e.1 (sym (last_same _ _ _ _ (sym (in_order-row t.version t.setting t.ranges e.0 e.1) ∙ (sym (ap (λ rs. in_order (with_parts t.version t.setting t.ranges rs)) e.2) ∙ h))).1))
+    cases (inr e) = absurd (other e.1 (sym (last_same _ _ _ _ (sym (in_order-row t.version t.setting t.ranges e.0 e.1)
+        ∙ (sym (ap (λ rs. in_order (with_parts t.version t.setting t.ranges rs)) e.2) ∙ h))).1))
 
 -- another item than a range is not last where there are ranges and no rows
 no_ranges_left : (s t : Begun) (item : Item) → in_order t ≡ in_order s ++ item ∷ [] → t.rows ≡ [] → ((r : ImplicitRange) → item ≡ OfRange r → ⊥) → t.ranges ≡ []
@@ -56,11 +64,14 @@ no_ranges_left s t item h none other = cases (by_last t.ranges)
   where
     cases : (t.ranges ≡ []) ⊎ ((front : List ImplicitRange) × (last : ImplicitRange) × (t.ranges ≡ front ++ last ∷ [])) → t.ranges ≡ []
     cases (inl e) = e
-    cases (inr e) = absurd (other e.1 (sym (last_same _ _ _ _ (sym (in_order-range t.version t.setting e.0 e.1) ∙ (sym (ap (λ rs. in_order (with_parts t.version t.setting t.ranges rs)) none ∙ ap (λ rs. in_order (with_parts t.version t.setting rs [])) e.2) ∙ h))).1))
+    cases (inr e) = absurd (other e.1 (sym (last_same _ _ _ _ (sym (in_order-range t.version t.setting e.0 e.1)
+        ∙ (sym (ap (λ rs. in_order (with_parts t.version t.setting t.ranges rs)) none
+        ∙ ap (λ rs. in_order (with_parts t.version t.setting rs [])) e.2) ∙ h))).1))
 
 same_version : (s t : Begun) (item : Item) → IsBegun t → in_order t ≡ in_order s ++ item ∷ [] → versions_in (item ∷ []) ≡ [] → IsSome s.version
 same_version s t item h e other =
-    let same = option_same t.version s.version (versions_with s t item e ∙ (ap (λ vs. option_to_list s.version ++ vs) other ∙ append-nil (option_to_list s.version))) in
+    let same = option_same t.version s.version (versions_with s t item e
+    ∙ (ap (λ vs. option_to_list s.version ++ vs) other ∙ append-nil (option_to_list s.version))) in
     subst IsSome same (versioned t (in_order s) item h e)
 
 due_version : (s t : Begun) (name : List ℕ) → in_order t ≡ in_order s ++ OfVersion name ∷ [] → s.version ≡ None
@@ -101,7 +112,8 @@ form_of text i j e h = subst (IsItem text) e h
 order_of : (s t : Begun) (i j : Item) → i ≡ j → said (j ∷ []) ≡ j ∷ [] → in_order t ≡ in_order s ++ said (i ∷ []) → in_order t ≡ in_order s ++ j ∷ []
 order_of s t i j e one h = h ∙ ap (λ xs. in_order s ++ xs) (ap (λ x. said (x ∷ [])) e ∙ one)
 
-purpose_barred : (s t : Begun) (text : List ℕ) (purpose : Purpose) (kind : FaultKind) → TakesText s text t → Has text purpose → PurposeCause s text purpose kind → ⊥
+purpose_barred : (s t : Begun) (text : List ℕ) (purpose : Purpose) (kind : FaultKind) → TakesText s text t → Has text purpose
+    → PurposeCause s text purpose kind → ⊥
 purpose_barred s t text ForVersion kind h w c =
     let i = is_version text h.item w h.form in c.1 i.0 (form_of text h.item (OfVersion i.0) i.1 h.form)
 purpose_barred s t text ForSetting kind h w c =
@@ -111,7 +123,8 @@ purpose_barred s t text ForRange kind h w (inl c) =
 purpose_barred s t text ForRange kind h w (inr c) =
     let i = is_range text h.item w h.form in
     let same = range_same (after_word text) c.0 i.0 c.1 (form_of text h.item (OfRange i.0) i.1 h.form).range in
-    follow_barred s t i.0 kind h.begun (order_of s t h.item (OfRange i.0) i.1 refl h.order) (subst (λ (r : ImplicitRange). FollowCause s.ranges r kind) same c.2)
+    follow_barred s t i.0 kind h.begun (order_of s t h.item (OfRange i.0) i.1 refl h.order)
+    (subst (λ (r : ImplicitRange). FollowCause s.ranges r kind) same c.2)
 purpose_barred s t text ForRow kind h w (inl c) =
     let i = is_row text h.item w h.form in row_text_barred text i.0 kind (form_of text h.item (OfRow i.0) i.1 h.form) c
 purpose_barred s t text ForRow kind h w (inr c) =
@@ -122,9 +135,11 @@ purpose_barred s t text ForRow kind h w (inr c) =
 -- a line that is taken was due
 taken_is_due : (s t : Begun) (text : List ℕ) (purpose : Purpose) → TakesText s text t → Has text purpose → IsDue s purpose
 taken_is_due s t text ForVersion h w = let i = is_version text h.item w h.form in due_version s t i.0 (order_of s t h.item (OfVersion i.0) i.1 refl h.order)
-taken_is_due s t text ForSetting h w = let i = is_setting text h.item w h.form in due_setting s t i.0 h.begun (order_of s t h.item (OfSetting i.0) i.1 refl h.order)
+taken_is_due s t text ForSetting h w = let i = is_setting text h.item w h.form in
+    due_setting s t i.0 h.begun (order_of s t h.item (OfSetting i.0) i.1 refl h.order)
 taken_is_due s t text ForRange h w = let i = is_range text h.item w h.form in due_range s t i.0 h.begun (order_of s t h.item (OfRange i.0) i.1 refl h.order)
-taken_is_due s t text ForRow h w = let i = is_row text h.item w h.form in same_version s t (OfRow i.0) h.begun (order_of s t h.item (OfRow i.0) i.1 refl h.order) refl
+taken_is_due s t text ForRow h w = let i = is_row text h.item w h.form in
+    same_version s t (OfRow i.0) h.begun (order_of s t h.item (OfRow i.0) i.1 refl h.order) refl
 
 -- an item that says something has a purpose
 has_purpose : (text : List ℕ) (item : Item) → IsItem text item → begins_at text ≡ true → ((purpose : Purpose) → Has text purpose → ⊥) → ⊥
@@ -141,7 +156,8 @@ text_barred s t text kind (inr (inr c)) h = purpose_barred s t text c.0 kind h c
 
 -- ---- The last line
 
-forms_last : (lines : List (List ℕ)) (line : List ℕ) (items : List Item) → AllZip IsLine (lines ++ line ∷ []) items → (front : List Item) × (item : Item) × (items ≡ front ++ item ∷ []) × AllZip IsLine lines front × IsLine line item
+forms_last : (lines : List (List ℕ)) (line : List ℕ) (items : List Item) → AllZip IsLine (lines ++ line ∷ []) items
+    → (front : List Item) × (item : Item) × (items ≡ front ++ item ∷ []) × AllZip IsLine lines front × IsLine line item
 forms_last [] line [] h = absurd h
 forms_last [] line (i ∷ []) h = ([], i, refl, tt, h.0)
 forms_last [] line (i ∷ j ∷ items) h = absurd h.1
@@ -187,7 +203,13 @@ taken_last before line t h = by_item (said_one item)
     by_item : (said (item ∷ []) ≡ []) ⊎ (said (item ∷ []) ≡ item ∷ []) → TakenLast before line t
     by_item (inl none) = record {
       s = t;
-      says = record { items = parts.0; forms = parts.3; order = sym (whole ∙ (ap (λ xs. said parts.0 ++ xs) none ∙ append-nil (said parts.0))); begun = h.begun };
+      says = record {
+        items = parts.0;
+        forms = parts.3;
+        order =
+            sym (whole ∙ (ap (λ xs. said parts.0 ++ xs) none ∙ append-nil (said parts.0)));
+        begun = h.begun;
+      };
       takes = record { item = item; form = parts.4; order = sym (append-nil (in_order t)) ∙ sym (ap (λ xs. in_order t ++ xs) none); begun = h.begun };
     }
     by_item (inr one) = by_end one (drop_last t h.begun)
@@ -219,7 +241,7 @@ exact = exact_by_line Says Takes Cause by_line
 -- what is begun is one table at most, and a whole table is no unfinished one
 same_all : (t u : TableContent) → all_of t ≡ all_of u → t ≡ u
 same_all t u h =
-    let version = some_is t.header.version u.header.version (ap (λ (b : Begun). b.version) h) in
+    let version = same_Some t.header.version u.header.version (ap (λ (b : Begun). b.version) h) in
     ap (λ v. make v t.header.setting t.header.ranges t.rows) version
     ∙ (ap (λ s. make u.header.version s t.header.ranges t.rows) (ap (λ (b : Begun). b.setting) h)
     ∙ (ap (λ r. make u.header.version u.header.setting r t.rows) (ap (λ (b : Begun). b.ranges) h)
@@ -227,9 +249,6 @@ same_all t u h =
   where
     make : List ℕ → Option Weighting → List ImplicitRange → List Entry → TableContent
     make v s r w = record { header = record { version = v; setting = s; ranges = r }; rows = w }
-
-    some_is : (x y : List ℕ) → Some x ≡ Some y → x ≡ y
-    some_is x y e = cc
 
 pub gives_one : (b : Begun) (t u : TableContent) → Gives b t → Gives b u → t ≡ u
 gives_one b t u h g = same_all t u (sym h ∙ g)

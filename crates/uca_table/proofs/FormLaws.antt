@@ -1,5 +1,6 @@
 -- A text says one thing, and one in which a cause stands says nothing that may follow.
 use Rattle.std.proofs.Common.{◌≡◌, ◌≢◌, ℕ, ◌≤◌, ◌&&◌, ◌||◌, ◌==◌, leb, Result, Bool, true, false, List, [], ◌∷◌, length, Some, None, Ok, refl, ap, sym, subst, ◌∙◌, inl, inr, arith}
+use Rattle.std.proofs.lemmas.Option.{same_Some}
 use Rattle.std.proofs.lemmas.Bool.{false≢true}
 use borrow.Author.Tests.{eqb-true, eq-eqb}
 use lib.Utf8.{scalar}
@@ -44,7 +45,8 @@ entry_same r s k e = ap (λ x. make x r.elements) k ∙ ap (λ x. make s.key x) 
 pub row_same : (text : List ℕ) (r s : Entry) → IsRow text r → IsRow text s → r ≡ s
 row_same text r s h g =
     entry_same r s (key_same _ r.key s.key h.key g.key)
-    (elements_same g.rest r.elements s.elements (subst (λ (t : List ℕ). AreElements t r.elements) (rest_same text h.rest g.rest h.cut g.cut) h.elements) g.elements)
+    (elements_same g.rest r.elements s.elements (subst (λ (t : List ℕ). AreElements t r.elements) (rest_same text h.rest g.rest h.cut g.cut)
+    h.elements) g.elements)
 
 setting_same : (v w : Weighting) → setting_word v ≡ setting_word w → v ≡ w
 setting_same weightings.NonIgnorable weightings.NonIgnorable h = refl
@@ -55,13 +57,11 @@ setting_same weightings.Shifted weightings.Shifted h = refl
 ok_is : {A E : Type 0} (x y : A) → ◌≡◌ {A = Result A E} (Ok x) (Ok y) → x ≡ y
 ok_is x y h = cc
 
-some_is : {A : Type 0} (x y : A) → Some x ≡ Some y → x ≡ y
-some_is x y h = cc
-
 pub range_same : (text : List ℕ) (r s : ImplicitRange) → IsRangeText text r → IsRangeText text s → r ≡ s
 range_same text r s h g =
-    let ends : ◌≡◌ {A = ℕ × ℕ} (r.first, r.last) (s.first, s.last) = ok_is {A = ℕ × ℕ} {E = RangeFault} (r.first, r.last) (s.first, s.last) (sym h.ends ∙ g.ends) in
-    let lead = some_is r.lead s.lead (sym h.lead ∙ (ap (λ t. weight_of (trim t)) (rest_same text h.rest g.rest h.cut g.cut) ∙ g.lead)) in
+    let ends : ◌≡◌ {A = ℕ × ℕ} (r.first, r.last) (s.first, s.last) =
+    ok_is {A = ℕ × ℕ} {E = RangeFault} (r.first, r.last) (s.first, s.last) (sym h.ends ∙ g.ends) in
+    let lead = same_Some r.lead s.lead (sym h.lead ∙ (ap (λ t. weight_of (trim t)) (rest_same text h.rest g.rest h.cut g.cut) ∙ g.lead)) in
     ap (λ (e : ℕ × ℕ). make e r.lead) ends ∙ ap (λ l. make (s.first, s.last) l) lead
   where
     make : ℕ × ℕ → ℕ → ImplicitRange
@@ -95,7 +95,8 @@ row_begins (b ∷ bs) row h = ((λ e. cc), cases (b == 64) refl)
   where
     cases : (v : Bool) → (b == 64) ≡ v → begins_at (b ∷ bs) ≡ false
     cases false e = e
-    cases true e = absurd (no_key_at bs row.key h.key.some (subst (λ (x : ℕ). Leads BeginsCodePoint (up_to is_semicolon (x ∷ bs)) row.key []) (eqb-true b 64 e) h.key.points))
+    cases true e = absurd (no_key_at bs row.key h.key.some (subst (λ (x : ℕ). Leads BeginsCodePoint (up_to is_semicolon (x ∷ bs)) row.key [])
+        (eqb-true b 64 e) h.key.points))
 
 pub not_both : (b : Bool) → b ≡ true → b ≡ false → ⊥
 not_both b t f = false≢true (sym f ∙ t)
@@ -187,7 +188,8 @@ opens_element text e more h = ap opens h.parts ∙ marked e.mark
 some_of_none : {X : Type 0} (xs : List X) → 1 ≤ length xs → xs ≡ [] → ⊥
 some_of_none xs h e = omega (arith, ap length e)
 
-no_values : {X : Type 0} (B : List ℕ → X → List ℕ → Type 0) → IsExact B → (text : List ℕ) (xs : List X) → Leads B text xs [] → 1 ≤ length xs → skip_blanks text ≡ [] → ⊥
+no_values : {X : Type 0} (B : List ℕ → X → List ℕ → Type 0) → IsExact B → (text : List ℕ) (xs : List X) → Leads B text xs [] → 1 ≤ length xs
+    → skip_blanks text ≡ [] → ⊥
 no_values B exact text [] h s e = omega arith
 no_values B exact text (x ∷ xs) h s e = exact.some x h.0 (subst (λ (t : List ℕ). B t x h.0) e h.1)
 

@@ -9,7 +9,8 @@ use Rattle.uca_fields.proofs.CutLaws.{length-after_word}
 use Rattle.uca_fields.proofs.LeadLaws.{leads_push}
 use Rattle.uca_table.specs.Rows.{KeyCause}
 
-pub code_point_begins : (text word : List ℕ) (c : ℕ) (more : List ℕ) → Some c ≡ code_point_of word → word ≡ word_of text → more ≡ after_word text → BeginsCodePoint text c more
+pub code_point_begins : (text word : List ℕ) (c : ℕ) (more : List ℕ) → Some c ≡ code_point_of word → word ≡ word_of text → more ≡ after_word text
+    → BeginsCodePoint text c more
 code_point_begins text word c more h w m = record { word = ap code_point_of (sym w) ∙ sym h; rest = sym m }
 
 front_true : (a b c d : Bool) → (a && b && c && d) ≡ true → a ≡ true
@@ -27,6 +28,7 @@ word_is_some word c h = cases (is_code_point word) refl
 pub after_code_point : (text : List ℕ) (c : ℕ) (more : List ℕ) → BeginsCodePoint text c more → length more < length text
 after_code_point text c more h = omega (arith, word_is_some (word_of text) c h.word, length-after_word text, ap length h.rest)
 
-pub key_limit_cause : (text front rest : List ℕ) (c : ℕ) (more : List ℕ) → Leads BeginsCodePoint text front rest → 16 ≤ length front → BeginsCodePoint rest c more → KeyCause text kinds.Limit
+pub key_limit_cause : (text front rest : List ℕ) (c : ℕ) (more : List ℕ) → Leads BeginsCodePoint text front rest → 16 ≤ length front
+    → BeginsCodePoint rest c more → KeyCause text kinds.Limit
 key_limit_cause text front rest c more h l b =
     (front ++ c ∷ [], skip_blanks more, leads_push BeginsCodePoint text front rest c more h b, omega (arith, length-append front (c ∷ [])))

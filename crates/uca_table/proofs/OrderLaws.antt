@@ -38,15 +38,19 @@ keys_of-last rows row = map-append (λ (r : Entry). r.key) rows (row ∷ [])
 
 distinct_front : (rows : List Entry) (row : Entry) → AreDistinct (rows ++ row ∷ []) → AreDistinct rows
 distinct_front [] row h = tt
-distinct_front (r ∷ rows) row h =
-    ((λ k. h.0 (subst (λ (ks : List (List ℕ)). Contains ks r.key) (sym (keys_of-last rows row)) (Contains-append_left (keys_of rows) (row.key ∷ []) r.key k))), distinct_front rows row h.1)
+distinct_front (r ∷ rows) row h = (
+  (λ k. h.0 (subst (λ (ks : List (List ℕ)). Contains ks r.key) (sym (keys_of-last rows row))
+      (Contains-append_left (keys_of rows) (row.key ∷ []) r.key k))),
+  distinct_front rows row h.1,
+)
 
 pub distinct_last : (rows : List Entry) (row : Entry) → AreDistinct (rows ++ row ∷ []) → Contains (keys_of rows) row.key → ⊥
 distinct_last [] row h k = omega (arith, k.1)
 distinct_last (r ∷ rows) row h k = first (distinct_last rows row h.1) k.0 k.1 k.2
   where
     first : (Contains (keys_of rows) row.key → ⊥) → (i : ℕ) → i < length (keys_of (r ∷ rows)) → get_or (keys_of (r ∷ rows)) i row.key ≡ row.key → ⊥
-    first later zero l e = h.0 (subst (λ (ks : List (List ℕ)). Contains ks r.key) (sym (keys_of-last rows row)) (subst (λ (q : List ℕ). Contains (keys_of rows ++ row.key ∷ []) q) (sym e) (Contains-push (keys_of rows) row.key)))
+    first later zero l e = h.0 (subst (λ (ks : List (List ℕ)). Contains ks r.key) (sym (keys_of-last rows row))
+        (subst (λ (q : List ℕ). Contains (keys_of rows ++ row.key ∷ []) q) (sym e) (Contains-push (keys_of rows) row.key)))
     first later (suc i) l e = later (i, omega arith, e)
 
 rows_front : (rows : List Entry) (row : Entry) → AreRows (rows ++ row ∷ []) → AreRows rows
@@ -291,13 +295,16 @@ in_order_same b c h =
 
 -- ---- The last item
 
-pub in_order-row : (version : Option (List ℕ)) (setting : Option Weighting) (ranges : List ImplicitRange) (rows : List Entry) (row : Entry) → in_order (with_parts version setting ranges (rows ++ row ∷ [])) ≡ in_order (with_parts version setting ranges rows) ++ OfRow row ∷ []
+pub in_order-row : (version : Option (List ℕ)) (setting : Option Weighting) (ranges : List ImplicitRange) (rows : List Entry) (row : Entry)
+    → in_order (with_parts version setting ranges (rows ++ row ∷ [])) ≡ in_order (with_parts version setting ranges rows) ++ OfRow row ∷ []
 in_order-row version setting ranges rows row = rw (map-append OfRow rows (row ∷ [])) (simp append_assoc)
 
-pub in_order-range : (version : Option (List ℕ)) (setting : Option Weighting) (ranges : List ImplicitRange) (r : ImplicitRange) → in_order (with_parts version setting (ranges ++ r ∷ []) []) ≡ in_order (with_parts version setting ranges []) ++ OfRange r ∷ []
+pub in_order-range : (version : Option (List ℕ)) (setting : Option Weighting) (ranges : List ImplicitRange) (r : ImplicitRange)
+    → in_order (with_parts version setting (ranges ++ r ∷ []) []) ≡ in_order (with_parts version setting ranges []) ++ OfRange r ∷ []
 in_order-range version setting ranges r = rw (map-append OfRange ranges (r ∷ [])) (simp (append_assoc, append-nil))
 
-in_order-setting : (version : Option (List ℕ)) (setting : Weighting) → in_order (with_parts version (Some setting) [] []) ≡ in_order (with_parts version None [] []) ++ OfSetting setting ∷ []
+in_order-setting : (version : Option (List ℕ)) (setting : Weighting)
+    → in_order (with_parts version (Some setting) [] []) ≡ in_order (with_parts version None [] []) ++ OfSetting setting ∷ []
 in_order-setting version setting = simp append-nil
 
 -- some items are those of what was begun, and one more
@@ -383,7 +390,8 @@ drop_last t h = by_rows (by_last t.rows)
     by_setting w r None e = by_version w r e t.version refl
     by_setting w r (Some setting) e = inr (ends_setting t setting w r e)
 
-    by_ranges : t.rows ≡ [] → (t.ranges ≡ []) ⊎ ((front : List ImplicitRange) × (last : ImplicitRange) × (t.ranges ≡ front ++ last ∷ [])) → (in_order t ≡ []) ⊎ EndsIn t
+    by_ranges : t.rows ≡ [] → (t.ranges ≡ []) ⊎ ((front : List ImplicitRange) × (last : ImplicitRange) × (t.ranges ≡ front ++ last ∷ []))
+        → (in_order t ≡ []) ⊎ EndsIn t
     by_ranges w (inl e) = by_setting w e t.setting refl
     by_ranges w (inr e) = inr (ends_range t e.0 e.1 h w e.2)
 

@@ -10,15 +10,18 @@ use Rattle.uca_table.specs.Elements.{AreElements, ElementsCause}
 use Rattle.uca_table.specs.Rows.{IsKey, IsRow, RowTextCause}
 
 -- where something stands at the cut, it is the `;`
-pub after_semicolon : (text back : List ℕ) (b : ℕ) (rest : List ℕ) → back ≡ from_first is_semicolon text → back ≡ b ∷ rest → from_first is_semicolon text ≡ 59 ∷ rest
+pub after_semicolon : (text back : List ℕ) (b : ℕ) (rest : List ℕ) → back ≡ from_first is_semicolon text → back ≡ b ∷ rest
+    → from_first is_semicolon text ≡ 59 ∷ rest
 after_semicolon text back b rest h k =
     let found = sym h ∙ k in
     found ∙ ap (λ x. x ∷ rest) (eqb-true b 59 (from_first_passes is_semicolon text b rest found))
 
-pub row_is : (text front back : List ℕ) (b : ℕ) (rest : List ℕ) (row : Entry) → front ≡ up_to is_semicolon text → back ≡ from_first is_semicolon text → back ≡ b ∷ rest → IsKey front row.key → AreElements rest row.elements → IsRow text row
+pub row_is : (text front back : List ℕ) (b : ℕ) (rest : List ℕ) (row : Entry) → front ≡ up_to is_semicolon text → back ≡ from_first is_semicolon text
+    → back ≡ b ∷ rest → IsKey front row.key → AreElements rest row.elements → IsRow text row
 row_is text front back b rest row f h k key elements =
     record { rest = rest; cut = after_semicolon text back b rest h k; key = subst (λ (t : List ℕ). IsKey t row.key) f key; elements = elements }
 
-pub elements_fault : (text back : List ℕ) (b : ℕ) (rest : List ℕ) (kind : FaultKind) → back ≡ from_first is_semicolon text → back ≡ b ∷ rest → (kind ≡ kinds.Memory) ⊎ ElementsCause rest kind → (kind ≡ kinds.Memory) ⊎ RowTextCause text kind
+pub elements_fault : (text back : List ℕ) (b : ℕ) (rest : List ℕ) (kind : FaultKind) → back ≡ from_first is_semicolon text → back ≡ b ∷ rest
+    → (kind ≡ kinds.Memory) ⊎ ElementsCause rest kind → (kind ≡ kinds.Memory) ⊎ RowTextCause text kind
 elements_fault text back b rest kind h k (inl m) = inl m
 elements_fault text back b rest kind h k (inr e) = inr (inr (inr (rest, after_semicolon text back b rest h k, e)))

@@ -46,7 +46,9 @@ is_scalar : (word : List ℕ) (c : ℕ) → code_point_of word ≡ Some c → Is
 is_scalar word c h = cases (is_code_point word) refl
   where
     cases : (v : Bool) → is_code_point word ≡ v → IsScalar c
-    cases true e = (let k = rw e at h in let v : digits_value 16 word ≡ c = cc in let P : ℕ → Type 0 = λ n. IsScalar n in subst P v (last_true (leb 4 (length word)) (leb (length word) 6) (list_all is_hex_digit word) (scalar (digits_value 16 word)) e))
+    cases true e = (let k = rw e at h in let v : digits_value 16 word ≡ c = cc in let P : ℕ
+        → Type 0 = λ n. IsScalar n in subst P v (last_true (leb 4 (length word)) (leb (length word) 6) (list_all is_hex_digit word)
+        (scalar (digits_value 16 word)) e))
     cases false e = let k = rw e at h in cc
 
 are_scalars : (text key rest : List ℕ) → Leads BeginsCodePoint text key rest → AllByRecursion IsScalar key
@@ -74,7 +76,9 @@ row_is_entry text row h = record {
 pub takes_nothing : (old inside : Begun) (text : List ℕ) → inside ≡ old → IsBegun inside → text ≡ [] → TakesText old text old
 takes_nothing old inside text same h e = record { item = Nothing; form = e; order = sym (append-nil (in_order old)); begun = subst IsBegun same h }
 
-pub takes_version : (old inside : Begun) (text name : List ℕ) (version : Option (List ℕ)) → inside ≡ old → IsBegun inside → inside.version ≡ None → word_of text ≡ at_version → name ≡ argument_of text → is_version_name name ≡ true → version ≡ Some name → TakesText old text (record inside { version = version })
+pub takes_version : (old inside : Begun) (text name : List ℕ) (version : Option (List ℕ)) → inside ≡ old → IsBegun inside → inside.version ≡ None
+    → word_of text ≡ at_version → name ≡ argument_of text → is_version_name name ≡ true → version ≡ Some name
+    → TakesText old text (record inside { version = version })
 takes_version old inside text name version same h e word argument named v =
     let none = h.versioned e in
     let P : Begun → Type 0 = λ b. TakesText b text (record inside { version = version }) in
@@ -88,7 +92,8 @@ takes_version old inside text name version same h e word argument named v =
     some_is_none : {B : Type 0} (x : List ℕ) → Some x ≡ None → B
     some_is_none x q = cc
 
-pub takes_setting : (old inside : Begun) (text word : List ℕ) (setting : Weighting) → inside ≡ old → IsBegun inside → IsDue old ForSetting → word_of text ≡ at_variable → word ≡ argument_of text → word ≡ setting_word setting → TakesText old text (record inside { setting = Some setting })
+pub takes_setting : (old inside : Begun) (text word : List ℕ) (setting : Weighting) → inside ≡ old → IsBegun inside → IsDue old ForSetting
+    → word_of text ≡ at_variable → word ≡ argument_of text → word ≡ setting_word setting → TakesText old text (record inside { setting = Some setting })
 takes_setting old inside text word setting same h due first argument is =
     let P : Begun → Type 0 = λ b. IsDue b ForSetting → TakesText b text (record inside { setting = Some setting }) in
     subst P same (λ d. record {
@@ -98,7 +103,9 @@ takes_setting old inside text word setting same h due first argument is =
       begun = record { versioned = λ n. absurd (some_not_none inside.version d.0 n); ranges = h.ranges; few_ranges = h.few_ranges; rows = h.rows };
     }) due
 
-pub takes_range : (old inside : Begun) (text rest : List ℕ) (r : ImplicitRange) (all : List ImplicitRange) → inside ≡ old → IsBegun inside → IsDue old ForRange → word_of text ≡ at_ranges → rest ≡ after_word text → IsRangeText rest r → MayFollow inside.ranges r → length inside.ranges < 256 → all ≡ inside.ranges ++ r ∷ [] → TakesText old text (record inside { ranges = all })
+pub takes_range : (old inside : Begun) (text rest : List ℕ) (r : ImplicitRange) (all : List ImplicitRange) → inside ≡ old → IsBegun inside
+    → IsDue old ForRange → word_of text ≡ at_ranges → rest ≡ after_word text → IsRangeText rest r → MayFollow inside.ranges r
+    → length inside.ranges < 256 → all ≡ inside.ranges ++ r ∷ [] → TakesText old text (record inside { ranges = all })
 takes_range old inside text rest r all same h due first argument form may few whole =
     let P : Begun → Type 0 = λ b. IsDue b ForRange → TakesText b text (record inside { ranges = all }) in
     subst P same (λ d. record {
@@ -113,9 +120,11 @@ takes_range old inside text rest r all same h due first argument form may few wh
       };
     }) due
 
-pub takes_row : (old inside new : Begun) (text : List ℕ) (row : Entry) → inside ≡ old → IsBegun inside → IsSome inside.version → IsRow text row → (Contains (keys_of old.rows) row.key → ⊥) → length old.rows < 200000 → new ≡ record old { rows = old.rows ++ row ∷ [] } → TakesText old text new
+pub takes_row : (old inside new : Begun) (text : List ℕ) (row : Entry) → inside ≡ old → IsBegun inside → IsSome inside.version → IsRow text row
+    → (Contains (keys_of old.rows) row.key → ⊥) → length old.rows < 200000 → new ≡ record old { rows = old.rows ++ row ∷ [] } → TakesText old text new
 takes_row old inside new text row same h v form absent few whole =
-    let P : Begun → Type 0 = λ b. (Contains (keys_of b.rows) row.key → ⊥) → length b.rows < 200000 → new ≡ record b { rows = b.rows ++ row ∷ [] } → TakesText b text new in
+    let P : Begun → Type 0 = λ b. (Contains (keys_of b.rows) row.key → ⊥) → length b.rows < 200000 → new ≡ record b { rows = b.rows ++ row ∷ [] }
+    → TakesText b text new in
     subst P same (λ a f w. subst (TakesText inside text) (sym w) (record {
       item = OfRow row;
       form = form;
@@ -130,10 +139,12 @@ takes_row old inside new text row same h v form absent few whole =
 
 -- ---- Why a line is refused
 
-pub out_of_order : (b : Begun) (text : List ℕ) (purpose : Purpose) (due : Bool) → Has text purpose → (due ≡ true) ↔ IsDue b purpose → due ≡ false → (kinds.Order ≡ kinds.Memory) ⊎ TextCause b text kinds.Order
+pub out_of_order : (b : Begun) (text : List ℕ) (purpose : Purpose) (due : Bool) → Has text purpose → (due ≡ true) ↔ IsDue b purpose → due ≡ false
+    → (kinds.Order ≡ kinds.Memory) ⊎ TextCause b text kinds.Order
 out_of_order b text purpose due has h e = inr (inr (inl (refl, (purpose, has, (λ d. false≢true (sym e ∙ h.1 d))))))
 
-pub cause_in : (b : Begun) (text : List ℕ) (purpose : Purpose) (kind : FaultKind) → Has text purpose → PurposeCause b text purpose kind → (kind ≡ kinds.Memory) ⊎ TextCause b text kind
+pub cause_in : (b : Begun) (text : List ℕ) (purpose : Purpose) (kind : FaultKind) → Has text purpose → PurposeCause b text purpose kind
+    → (kind ≡ kinds.Memory) ⊎ TextCause b text kind
 cause_in b text purpose kind has h = inr (inr (inr (purpose, has, h)))
 
 -- a name is text
@@ -168,7 +179,9 @@ has_none f (Some x) none h e s = false≢true (sym (h ∙ ap not e))
 
 -- ---- What is kept
 
-pub keeps_version : {K : Type 0} (points : K → List ℕ) (has : K → Bool) (inside old : Begun) (text name : List ℕ) (version : Option (List ℕ)) → Keeps points has inside → TakesText old text (record inside { version = version }) → version ≡ Some name → is_version_name name ≡ true → Keeps points has (record inside { version = version })
+pub keeps_version : {K : Type 0} (points : K → List ℕ) (has : K → Bool) (inside old : Begun) (text name : List ℕ) (version : Option (List ℕ))
+    → Keeps points has inside → TakesText old text (record inside { version = version }) → version ≡ Some name → is_version_name name ≡ true
+    → Keeps points has (record inside { version = version })
 keeps_version points has inside old text name version h t v named = record {
   keys = h.keys;
   named = λ n e. (let P : List ℕ → Type 0 = λ m. is_version_name m ≡ true in subst P (same n (sym v ∙ e)) named);
@@ -178,15 +191,19 @@ keeps_version points has inside old text name version h t v named = record {
     same : (n : List ℕ) → Some name ≡ Some n → name ≡ n
     same n q = cc
 
-pub keeps_ranges : {K : Type 0} (points : K → List ℕ) (has : K → Bool) (inside old : Begun) (text : List ℕ) (all : List ImplicitRange) → Keeps points has inside → TakesText old text (record inside { ranges = all }) → Keeps points has (record inside { ranges = all })
+pub keeps_ranges : {K : Type 0} (points : K → List ℕ) (has : K → Bool) (inside old : Begun) (text : List ℕ) (all : List ImplicitRange)
+    → Keeps points has inside → TakesText old text (record inside { ranges = all }) → Keeps points has (record inside { ranges = all })
 keeps_ranges points has inside old text all h t = record { keys = h.keys; named = h.named; begun = t.begun }
 
 -- ---- Why a range or a row is refused
 
-pub range_text_fault : (b : Begun) (text rest : List ℕ) (kind : FaultKind) → word_of text ≡ at_ranges → rest ≡ after_word text → RangeTextCause rest kind → (kind ≡ kinds.Memory) ⊎ TextCause b text kind
+pub range_text_fault : (b : Begun) (text rest : List ℕ) (kind : FaultKind) → word_of text ≡ at_ranges → rest ≡ after_word text
+    → RangeTextCause rest kind → (kind ≡ kinds.Memory) ⊎ TextCause b text kind
 range_text_fault b text rest kind first argument h = cause_in b text ForRange kind first (inl (subst (λ (t : List ℕ). RangeTextCause t kind) argument h))
 
-pub range_follow_fault : (b inside : Begun) (text rest : List ℕ) (r : ImplicitRange) (earlier : List ImplicitRange) (may : Bool) → inside ≡ b → word_of text ≡ at_ranges → rest ≡ after_word text → IsRangeText rest r → earlier ≡ inside.ranges → (may ≡ true) ↔ MayFollow earlier r → may ≡ false → (kinds.Range ≡ kinds.Memory) ⊎ TextCause b text kinds.Range
+pub range_follow_fault : (b inside : Begun) (text rest : List ℕ) (r : ImplicitRange) (earlier : List ImplicitRange) (may : Bool) → inside ≡ b
+    → word_of text ≡ at_ranges → rest ≡ after_word text → IsRangeText rest r → earlier ≡ inside.ranges → (may ≡ true) ↔ MayFollow earlier r
+    → may ≡ false → (kinds.Range ≡ kinds.Memory) ⊎ TextCause b text kinds.Range
 range_follow_fault b inside text rest r earlier may same first argument form e h fails =
     cause_in b text ForRange kinds.Range first (inr (
       r,
@@ -194,25 +211,31 @@ range_follow_fault b inside text rest r earlier may same first argument form e h
       (λ m. false≢true (sym fails ∙ h.1 (subst (λ (rs : List ImplicitRange). MayFollow rs r) (sym (e ∙ ap (λ (x : Begun). x.ranges) same)) m))),
     ))
 
-pub range_limit_fault : (b inside : Begun) (text rest : List ℕ) (r : ImplicitRange) → inside ≡ b → word_of text ≡ at_ranges → rest ≡ after_word text → IsRangeText rest r → 256 ≤ length inside.ranges → (kinds.Limit ≡ kinds.Memory) ⊎ TextCause b text kinds.Limit
+pub range_limit_fault : (b inside : Begun) (text rest : List ℕ) (r : ImplicitRange) → inside ≡ b → word_of text ≡ at_ranges → rest ≡ after_word text
+    → IsRangeText rest r → 256 ≤ length inside.ranges → (kinds.Limit ≡ kinds.Memory) ⊎ TextCause b text kinds.Limit
 range_limit_fault b inside text rest r same first argument form many =
     let P : Begun → Type 0 = λ x. 256 ≤ length x.ranges in
     cause_in b text ForRange kinds.Limit first (inr (r, subst (λ (t : List ℕ). IsRangeText t r) argument form, subst P same many))
 
-pub row_order_fault : (b inside : Begun) (text : List ℕ) → inside ≡ b → text ≢ [] → begins_at text ≡ false → (IsSome inside.version → ⊥) → (kinds.Order ≡ kinds.Memory) ⊎ TextCause b text kinds.Order
+pub row_order_fault : (b inside : Begun) (text : List ℕ) → inside ≡ b → text ≢ [] → begins_at text ≡ false → (IsSome inside.version → ⊥)
+    → (kinds.Order ≡ kinds.Memory) ⊎ TextCause b text kinds.Order
 row_order_fault b inside text same some row none =
     let P : Begun → Type 0 = λ x. IsSome x.version → ⊥ in
     inr (inr (inl (refl, (ForRow, (some, row), subst P same none))))
 
-pub row_text_fault : (b : Begun) (text : List ℕ) (kind : FaultKind) → text ≢ [] → begins_at text ≡ false → (kind ≡ kinds.Memory) ⊎ RowTextCause text kind → (kind ≡ kinds.Memory) ⊎ TextCause b text kind
+pub row_text_fault : (b : Begun) (text : List ℕ) (kind : FaultKind) → text ≢ [] → begins_at text ≡ false
+    → (kind ≡ kinds.Memory) ⊎ RowTextCause text kind → (kind ≡ kinds.Memory) ⊎ TextCause b text kind
 row_text_fault b text kind some row (inl m) = inl m
 row_text_fault b text kind some row (inr h) = cause_in b text ForRow kind (some, row) (inl h)
 
-pub row_add_fault : (b : Begun) (text : List ℕ) (r : Entry) (result : Result (Unit {0}) FaultKind) → text ≢ [] → begins_at text ≡ false → IsRow text r → IfErr result (λ kind. (kind ≡ kinds.Memory) ⊎ AddCause b.rows r kind) → IfErr result (λ kind. (kind ≡ kinds.Memory) ⊎ TextCause b text kind)
+pub row_add_fault : (b : Begun) (text : List ℕ) (r : Entry) (result : Result (Unit {0}) FaultKind) → text ≢ [] → begins_at text ≡ false → IsRow text r
+    → IfErr result (λ kind. (kind ≡ kinds.Memory) ⊎ AddCause b.rows r kind) → IfErr result (λ kind. (kind ≡ kinds.Memory) ⊎ TextCause b text kind)
 row_add_fault b text r (Ok x) some row form h = tt
 row_add_fault b text r (Err kind) some row form (inl m) = inl m
 row_add_fault b text r (Err kind) some row form (inr h) = cause_in b text ForRow kind (some, row) (inr (r, form, h))
 
-pub row_taken : {E : Type 0} (old inside new : Begun) (text : List ℕ) (row : Entry) (result : Result (Unit {0}) E) → inside ≡ old → IsBegun inside → IsSome inside.version → IsRow text row → OnOk result (Contains (keys_of old.rows) row.key → ⊥) → OnOk result (length old.rows < 200000) → OnOk result (new ≡ record old { rows = old.rows ++ row ∷ [] }) → OnOk result (TakesText old text new)
+pub row_taken : {E : Type 0} (old inside new : Begun) (text : List ℕ) (row : Entry) (result : Result (Unit {0}) E) → inside ≡ old → IsBegun inside
+    → IsSome inside.version → IsRow text row → OnOk result (Contains (keys_of old.rows) row.key → ⊥) → OnOk result (length old.rows < 200000)
+    → OnOk result (new ≡ record old { rows = old.rows ++ row ∷ [] }) → OnOk result (TakesText old text new)
 row_taken old inside new text row (Ok x) same h v form absent few whole = takes_row old inside new text row same h v form absent few whole
 row_taken old inside new text row (Err e) same h v form absent few whole = tt

@@ -1,4 +1,4 @@
--- What a table in the making keeps.
+-- What a table in the making keeps. For private contracts alone.
 use Rattle.std.specs.Prelude.{◌≡◌, ℕ, ◌↔◌, Bool, true, List, Some, Contains}
 use Rattle.uca_values.specs.Content.{Entry, is_version_name, keys_of}
 use Rattle.uca_table.specs.Begun.{Begun, IsBegun}

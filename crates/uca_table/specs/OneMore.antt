@@ -23,7 +23,8 @@ no_read b line (inl h) = let e = h.0 in cc
 no_read b line (inr (inl h)) = let e = h.0 in cc
 no_read b line (inr (inr h)) = no_read_in_purpose b _ h.0 h.2
 
-forms_push : (lines : List (List ℕ)) (items : List Item) (line : List ℕ) (item : Item) → AllZip IsLine lines items → IsLine line item → AllZip IsLine (lines ++ line ∷ []) (items ++ item ∷ [])
+forms_push : (lines : List (List ℕ)) (items : List Item) (line : List ℕ) (item : Item) → AllZip IsLine lines items → IsLine line item
+    → AllZip IsLine (lines ++ line ∷ []) (items ++ item ∷ [])
 forms_push [] [] line item h one = (one, tt)
 forms_push [] (i ∷ items) line item h one = absurd h
 forms_push (l ∷ lines) [] line item h one = absurd h

@@ -1,4 +1,4 @@
--- How an element is found at the front of a text.
+-- How an element is found at the front of a text. For private contracts alone.
 use Rattle.std.specs.Prelude.{ℕ, Bool, true, false, List, [], ◌∷◌, ◌==◌, Option, Some, None, option_and_then, if◌then◌else◌, take, drop}
 use Rattle.std.specs.Option.{option_map}
 use Rattle.uca_weights.specs.declared.Element.{Element}

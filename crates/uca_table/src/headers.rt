@@ -43,7 +43,7 @@ fn is_name_byte(byte: u8) -> bool
     matches!(byte, b'0'..=b'9' | b'A'..=b'Z' | b'a'..=b'z' | b'.' | b'-')
 }
 
-/// The weighting that a word behind `@variable` names.
+/// The weighting that a word after `@variable` names.
 pub fn setting(word: &[u8]) -> Option<Weighting>
     ensures { MatchOption result ((w : _) → word.now ≡ setting_word w → ⊥) (λ w. word.now ≡ setting_word w) }
 {
@@ -56,7 +56,7 @@ pub fn setting(word: &[u8]) -> Option<Weighting>
     None
 }
 
-/// The range that the text behind `@implicitweights` spells: `FIRST..LAST; LEAD`, with or without blanks
+/// The range that the text after `@implicitweights` spells: `FIRST..LAST; LEAD`, with or without blanks
 /// around its parts.
 ///
 /// # Errors

@@ -31,7 +31,7 @@ use uca_weights::Source;
 ///   has a lead outside FB00 to FB3F, overlaps an earlier one, or lies too far from those with its lead,
 ///   then `Limit` for the 257th such line.
 /// - In a row: `Order` where no version stands before it. Word by word `CodePoint`, and `Limit` for the
-///   seventeenth code point; `Line` where there is no word, or no `;` behind them. Element by element
+///   seventeenth code point; `Line` where there is no word, or no `;` after them. Element by element
 ///   `Line` where it does not begin as an element does, `Weight` where it does not go on so, and `Limit`
 ///   for the 33rd; `Line` where there is none. Then `DuplicateKey`, and `Limit` for row 200,001.
 /// - `Line`: no LF ends the line.

@@ -11,7 +11,7 @@ use Rattle.uca_text.specs.Limits.{IsLongRun, HasNoLongRun, IsFirstLongRun}
 pub record IsCounted (classes : List ℕ) (here run : ℕ) : Type 0 where
   pub few : run ≤ 64
   pub within : run ≤ here
-  pub marks : (k : ℕ) → k < here → here ≤ k + run → 0 < get_or classes k 0
+  pub non_starters : (k : ℕ) → k < here → here ≤ k + run → 0 < get_or classes k 0
   pub starter : (k : ℕ) → k + run + 1 ≡ here → get_or classes k 0 ≡ 0
   pub none : (place : ℕ) → place + 65 ≤ here → IsLongRun classes place → ⊥
 
@@ -19,13 +19,14 @@ pub nothing_counted : (classes : List ℕ) → IsCounted classes 0 0
 nothing_counted classes = record {
   few = omega arith;
   within = omega arith;
-  marks = λ k below above. absurd (omega arith);
+  non_starters = λ k below above. absurd (omega arith);
   starter = λ k e. absurd (omega arith);
   none = λ place within run. absurd (omega arith);
 }
 
 -- one class more: only the long run that ends with it can be new
-none_more : (classes : List ℕ) (here : ℕ) → ((place : ℕ) → place + 65 ≤ here → IsLongRun classes place → ⊥) → ((place : ℕ) → place + 64 ≡ here → IsLongRun classes place → ⊥) → (place : ℕ) → place + 65 ≤ here + 1 → IsLongRun classes place → ⊥
+none_more : (classes : List ℕ) (here : ℕ) → ((place : ℕ) → place + 65 ≤ here → IsLongRun classes place → ⊥) →
+    ((place : ℕ) → place + 64 ≡ here → IsLongRun classes place → ⊥) → (place : ℕ) → place + 65 ≤ here + 1 → IsLongRun classes place → ⊥
 none_more classes here none last place within run =
     elim (cases_lt (place + 64) here) [ inl below ↦ none place (omega arith) run | inr above ↦ last place (omega arith) run ]
 
@@ -34,38 +35,40 @@ pub after_starter : (classes : List ℕ) (here run : ℕ) → IsCounted classes 
 after_starter classes here run counted zero = record {
   few = omega arith;
   within = omega arith;
-  marks = λ k below above. absurd (omega arith);
+  non_starters = λ k below above. absurd (omega arith);
   starter = λ k e. let same : k ≡ here = omega arith in rw same zero;
   none = none_more classes here counted.none (λ place same long.
-      let mark : 0 < get_or classes (place + 64) 0 = long.marks 64 (omega arith) in
+      let non_starter : 0 < get_or classes (place + 64) 0 = long.non_starters 64 (omega arith) in
       let end : get_or classes (place + 64) 0 ≡ 0 = rw same zero in
       omega arith);
 }
 
 -- a non-starter makes it longer
-pub after_mark : (classes : List ℕ) (here run : ℕ) → IsCounted classes here run → 0 < get_or classes here 0 → run < 64 → IsCounted classes (here + 1) (run + 1)
-after_mark classes here run counted mark few = record {
+pub after_non_starter : (classes : List ℕ) (here run : ℕ) → IsCounted classes here run → 0 < get_or classes here 0 → run < 64 →
+    IsCounted classes (here + 1) (run + 1)
+after_non_starter classes here run counted non_starter few = record {
   few = omega arith;
   within = omega (arith, counted.within);
-  marks = λ k below above. elim (cases_lt k here) [
-    | inl before ↦ counted.marks k before (omega arith)
-    | inr after ↦ let same : k ≡ here = omega arith in rw same mark
+  non_starters = λ k below above. elim (cases_lt k here) [
+    | inl before ↦ counted.non_starters k before (omega arith)
+    | inr after ↦ let same : k ≡ here = omega arith in rw same non_starter
   ];
   starter = λ k e. counted.starter k (omega arith);
   none = none_more classes here counted.none (λ place same long.
       let start : get_or classes (place + (63 - run)) 0 ≡ 0 = counted.starter (place + (63 - run)) (omega arith) in
-      let inner : 0 < get_or classes (place + (63 - run)) 0 = long.marks (63 - run) (omega arith) in
+      let inner : 0 < get_or classes (place + (63 - run)) 0 = long.non_starters (63 - run) (omega arith) in
       omega arith);
 }
 
 -- the 65th non-starter in a row
-pub first_long_run : (classes : List ℕ) (here run : ℕ) → IsCounted classes here run → 0 < get_or classes here 0 → 64 ≤ run → here < length classes → IsFirstLongRun classes (here - 64)
-first_long_run classes here run counted mark full within = record {
+pub first_long_run : (classes : List ℕ) (here run : ℕ) → IsCounted classes here run → 0 < get_or classes here 0 → 64 ≤ run → here < length classes →
+    IsFirstLongRun classes (here - 64)
+first_long_run classes here run counted non_starter full within = record {
   run = record {
     within = omega (arith, counted.within, counted.few);
-    marks = λ k below. elim (cases_lt (here - 64 + k) here) [
-      | inl before ↦ counted.marks (here - 64 + k) before (omega (arith, counted.within, counted.few))
-      | inr after ↦ let same : here - 64 + k ≡ here = omega (arith, counted.within, counted.few) in rw same mark
+    non_starters = λ k below. elim (cases_lt (here - 64 + k) here) [
+      | inl before ↦ counted.non_starters (here - 64 + k) before (omega (arith, counted.within, counted.few))
+      | inr after ↦ let same : here - 64 + k ≡ here = omega (arith, counted.within, counted.few) in rw same non_starter
     ];
   };
   first = λ earlier before. counted.none earlier (omega (arith, counted.within, counted.few));
@@ -76,11 +79,13 @@ pub no_long_run : (classes : List ℕ) (here run : ℕ) → IsCounted classes he
 no_long_run classes here run counted all place long = counted.none place (omega (arith, long.within)) long
 
 -- the class at a place
-pub class_at : (f : ℕ → ℕ) (points : List ℕ) (here point class : ℕ) → here < length points → point ≡ get_or points here point → class ≡ f point → get_or (map f points) here 0 ≡ class
+pub class_at : (f : ℕ → ℕ) (points : List ℕ) (here point class : ℕ) → here < length points → point ≡ get_or points here point → class ≡ f point →
+    get_or (map f points) here 0 ≡ class
 class_at f points here point class within is given = get_or-map f points here point 0 within ∙ ap f (sym is) ∙ sym given
 
 -- one class more
-pub classes_more : (f : ℕ → ℕ) (points classes more : List ℕ) (here point class : ℕ) → classes ≡ map f (take here points) → more ≡ classes ++ class ∷ [] → here < length points → point ≡ get_or points here point → class ≡ f point → more ≡ map f (take (here + 1) points)
+pub classes_more : (f : ℕ → ℕ) (points classes more : List ℕ) (here point class : ℕ) → classes ≡ map f (take here points) →
+    more ≡ classes ++ class ∷ [] → here < length points → point ≡ get_or points here point → class ≡ f point → more ≡ map f (take (here + 1) points)
 classes_more f points classes more here point class before pushed within is given = grind (arith, common_steps)
 
 -- the classes of all code points
@@ -93,9 +98,11 @@ each_more P [] x all one = (one, tt)
 each_more P (y ∷ xs) x all one = (all.0, each_more P xs x all.1 one)
 
 -- one scalar more
-pub scalars_more : (points : List ℕ) (here point : ℕ) → AllByRecursion IsScalar (take here points) → here < length points → point ≡ get_or points here point → IsScalar point → AllByRecursion IsScalar (take (here + 1) points)
+pub scalars_more : (points : List ℕ) (here point : ℕ) → AllByRecursion IsScalar (take here points) → here < length points →
+    point ≡ get_or points here point → IsScalar point → AllByRecursion IsScalar (take (here + 1) points)
 scalars_more points here point before within is scalar =
-    subst (AllByRecursion IsScalar) (sym (take_more points here point within)) (each_more IsScalar (take here points) (get_or points here point) before (subst IsScalar is scalar))
+    subst (AllByRecursion IsScalar) (sym (take_more points here point within))
+    (each_more IsScalar (take here points) (get_or points here point) before (subst IsScalar is scalar))
 
 -- the scalars are all code points
 pub all_scalars : (points : List ℕ) (here : ℕ) → AllByRecursion IsScalar (take here points) → length points ≤ here → AllByRecursion IsScalar points

@@ -5,7 +5,7 @@ use Rattle.uca_text.specs.declared.limits.TextFault.TheVariants.{TooLong, LongRu
 use Rattle.uca_text.specs.Texts.{Spelled}
 use Rattle.uca_text.specs.Limits.{IsFirstLongRun}
 
--- the cause of each fault, of which the length comes first; any growth may be refused
+-- the cause of each fault, of which the length comes first; any allocation may fail
 abbrev pub IsCause : Spelled → TextFault → Type 0
 IsCause s TooLong = 1048576 < length s.points
 IsCause s (LongRun place) = (length s.points ≤ 1048576) × IsFirstLongRun s.classes place

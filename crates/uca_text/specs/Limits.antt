@@ -7,7 +7,7 @@ use Rattle.uca_text.specs.Texts.{Spelled}
 -- more than 64 non-starters in a row stand from `place` on
 pub record IsLongRun (classes : List ℕ) (place : ℕ) : Type 0 where
   pub within : place + 65 ≤ length classes
-  pub marks : (k : ℕ) → k < 65 → 0 < slice_index classes (place + k)
+  pub non_starters : (k : ℕ) → k < 65 → 0 < slice_index classes (place + k)
 
 abbrev pub HasNoLongRun : List ℕ → Type 0
 HasNoLongRun classes = (place : ℕ) → ¬ (IsLongRun classes place)

@@ -4,8 +4,6 @@
 
 mod laws;
 mod limits;
-#[cfg(test)]
-mod tests;
 mod texts;
 
 pub use laws::canonically_equivalent_texts_are_spelled_alike;

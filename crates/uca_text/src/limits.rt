@@ -71,19 +71,23 @@ impl<T: Drop> From<AllocFailed<T>> for TextFault {
     }
 }
 
-/// The text in Normalization Form D, with the classes that `data` gives its code points.
+/// The text in Normalization Form D, with the classes that `properties` gives its code points.
 ///
 /// # Errors
 ///
 /// `TooLong` where the text has more than 1,048,576 code points in that form, and otherwise `LongRun`
 /// where more than 64 non-starters stand in a row there; `Memory` where an allocation fails.
-pub fn normal<A: Allocator>(alloc: Global, text: &str, data: &Data<A>) -> Result<Normal, TextFault>
-    ensures found { IfOk result (λ n. n ≡ spelled (properties_of «data».now) (chars text.now)) }
+pub fn normal<A: Allocator>(
+    alloc: Global,
+    text: &str,
+    properties: &Data<A>,
+) -> Result<Normal, TextFault>
+    ensures found { IfOk result (λ n. n ≡ spelled (properties_of properties.now) (chars text.now)) }
     ensures accepted { IfOk result IsAccepted }
-    ensures fault { IfErr result (IsCause (spelled (properties_of «data».now) (chars text.now))) }
+    ensures fault { IfErr result (IsCause (spelled (properties_of properties.now) (chars text.now))) }
 {
     let mut normal = Normal::new(alloc);
-    normal.renew(text, data)?;
+    normal.renew(text, properties)?;
     Ok(normal)
 }
 
@@ -93,10 +97,10 @@ impl Normal {
     /// # Errors
     ///
     /// Those of [`normal`]. This text is then the empty one.
-    pub fn renew<A: Allocator>(&mut self, text: &str, data: &Data<A>) -> Result<(), TextFault>
-        ensures found { OnOk result (self.new ≡ spelled (properties_of «data».now) (chars text.now)) }
+    pub fn renew<A: Allocator>(&mut self, text: &str, properties: &Data<A>) -> Result<(), TextFault>
+        ensures found { OnOk result (self.new ≡ spelled (properties_of properties.now) (chars text.now)) }
         ensures accepted { IsAccepted self.new }
-        ensures fault { IfErr result (IsCause (spelled (properties_of «data».now) (chars text.now))) }
+        ensures fault { IfErr result (IsCause (spelled (properties_of properties.now) (chars text.now))) }
         ensures emptied { OnErr result (self.new ≡ record { points = []; classes = [] }) }
     {
         if let Err(fault) = spell(
@@ -104,7 +108,7 @@ impl Normal {
             &mut self.spare,
             &mut self.classes,
             text,
-            data,
+            properties,
         ) {
             self.chars.clear();
             self.classes.clear();
@@ -120,18 +124,18 @@ fn spell<A: Allocator>(
     spare: &mut Vec<char>,
     classes: &mut Vec<u8>,
     text: &str,
-    data: &Data<A>,
+    properties: &Data<A>,
 ) -> Result<(), TextFault>
     ensures points { OnOk result (points.new.items ≡ nfd (chars text.now)) }
-    ensures classes { OnOk result (classes.new.items ≡ map (class_in «data».now.classes) (nfd (chars text.now))) }
+    ensures classes { OnOk result (classes.new.items ≡ map (class_in properties.now.classes) (nfd (chars text.now))) }
     ensures normal { OnOk result (IsNormal (record { points = points.new.items; classes = classes.new.items })) }
-    ensures fault { IfErr result (IsCause (spelled (properties_of «data».now) (chars text.now))) }
+    ensures fault { IfErr result (IsCause (spelled (properties_of properties.now) (chars text.now))) }
 {
     decompose(points, spare, text)?;
     if points.len() > LONGEST_TEXT {
         return Err(TextFault::TooLong);
     }
-    classify(classes, points, data)
+    classify(classes, points, properties)
 }
 
 /// Writes the code points of the text in Normalization Form D, in the memory of one of the two lists.
@@ -166,19 +170,19 @@ fn write_points(points: &mut Vec<char>, text: &str) -> Result<(), AllocError>
 fn classify<A: Allocator>(
     classes: &mut Vec<u8>,
     points: &[char],
-    data: &Data<A>,
+    properties: &Data<A>,
 ) -> Result<(), TextFault>
     requires { length points.now ≤ 1048576 }
-    ensures found { OnOk result (classes.new.items ≡ map (class_in «data».now.classes) points.now) }
+    ensures found { OnOk result (classes.new.items ≡ map (class_in properties.now.classes) points.now) }
     ensures short_runs { OnOk result (HasNoLongRun classes.new.items) }
     ensures scalars { OnOk result (AllByRecursion IsScalar points.now) }
-    ensures fault { IfErr result (IsCause (record { points = points.now; classes = map (class_in «data».now.classes) points.now })) }
+    ensures fault { IfErr result (IsCause (record { points = points.now; classes = map (class_in properties.now.classes) points.now })) }
 {
     classes.clear();
     classes.reserve(points.len())?;
     let mut run = 0;
     for (place, point) in points.iter().enumerate() {
-        let class = data.class(*point);
+        let class = properties.class(*point);
         classes.push(class)?;
         if class == 0 {
             run = 0;

@@ -1,3 +1,4 @@
 pub mod Streams
 pub mod Writes
 pub mod Kinds
+pub mod WeightingText

@@ -2,6 +2,9 @@
 //! weightings of UTS #10, and the streams that bytes come from and go to.
 #![tactic(auto)]
 
+ghost use Rattle.std.specs.Prelude.{◌≡◌, IfSome, IfNone};
+ghost use Rattle.uca_weights.specs.WeightingText.{weighting_text, IsNoWeighting};
+
 pub mod streams;
 
 pub use streams::{ReadFault, Sink, Source, WriteFault};
@@ -51,4 +54,30 @@ pub enum Weighting {
     NonIgnorable,
     /// Variable elements count at a fourth level alone; there are four levels.
     Shifted,
+}
+
+impl Weighting {
+    /// The word for it, as it stands after `@variable` in a table and after `--weighting`.
+    pub fn name(self) -> &'static str
+        ensures { result.now ≡ weighting_text self }
+    {
+        match self {
+            Weighting::NonIgnorable => "non-ignorable",
+            Weighting::Shifted => "shifted",
+        }
+    }
+
+    /// The weighting that a word names, or `None` where it is the word for neither of the two.
+    pub fn from_name(word: &[u8]) -> Option<Weighting>
+        ensures known { IfSome result (λ weighting. word.now ≡ weighting_text weighting) }
+        ensures unknown { IfNone result (IsNoWeighting word.now) }
+    {
+        if word == Weighting::NonIgnorable.name().as_bytes() {
+            return Some(Weighting::NonIgnorable);
+        }
+        if word == Weighting::Shifted.name().as_bytes() {
+            return Some(Weighting::Shifted);
+        }
+        None
+    }
 }

@@ -6,16 +6,12 @@ use Rattle.clap.specs.declared.error.kind.ErrorKind.{ErrorKind}
 use Rattle.clap.specs.declared.error.kind.ErrorKind.TheVariants.{OutOfMemory}
 use Rattle.clap.specs.Words.{IsAmong, Row, Text, fault_of, first_of, kind_of, subcommand_of, takes}
 use Rattle.uca_weights.specs.declared.Weighting.{Weighting as WeightingType}
-use Rattle.uca_weights.specs.declared.Weighting.TheVariants.{NonIgnorable, Shifted}
+use Rattle.uca_weights.specs.WeightingText.{weighting_text, IsNoWeighting}
 use Rattle.uca_words.specs.declared.WordFault.{WordFault}
 use Rattle.uca_words.specs.declared.WordFault.TheVariants.{Refused, Weighting, Memory}
 use Rattle.uca_words.specs.Command.{uca_app}
 use Rattle.uca_words.specs.declared.Words.{Words}
 use Rattle.uca_words.specs.declared.Words.TheVariants.{Check, Keys, Sort, Compare}
-
-abbrev pub weighting_text : WeightingType → Text
-weighting_text NonIgnorable = codes "non-ignorable"
-weighting_text Shifted = codes "shifted"
 
 -- `--weighting` is given this value, or is not given
 abbrev pub HasWeighting : List Row → Option WeightingType → Type 0
@@ -44,10 +40,10 @@ abbrev pub SayWords : Option (Text × List Row) → Words → Type 0
 SayWords None words = ⊥
 SayWords (Some met) words = Says met.0 met.1 words
 
--- `--weighting` is given a value, and it is none of the two
+-- `--weighting` is given a value, and it is the word for no weighting
 abbrev pub IsOtherWeighting : Option Text → Type 0
 IsOtherWeighting None = ⊥
-IsOtherWeighting (Some text) = (text ≢ weighting_text NonIgnorable) × (text ≢ weighting_text Shifted)
+IsOtherWeighting (Some text) = IsNoWeighting text
 
 abbrev pub HasOtherWeighting : List Row → Type 0
 HasOtherWeighting rows = IsOtherWeighting (first_of (codes "weighting") rows)
@@ -62,7 +58,7 @@ abbrev pub AreRead : List Text → Words → Type 0
 AreRead words said = (fault_of uca_app words ≡ []) × SayWords (subcommand_of uca_app words) said
 
 -- what an error says of the words: the command has this kind of fault at them, and does not take them;
--- or it has none, and the weighting that they give is none of the two; or a growth was refused
+-- or it has none, and they give a word for no weighting; or an allocation failed
 abbrev pub IsFaultOf : List Text → WordFault → Type 0
 IsFaultOf words (Refused error) = IsAmong (kind_of error) (fault_of uca_app words) × (takes uca_app words ≢ true)
 IsFaultOf words Weighting = (fault_of uca_app words ≡ []) × AskForOtherWeighting (subcommand_of uca_app words)

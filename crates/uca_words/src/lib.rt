@@ -1,10 +1,11 @@
 //! The words of the command line, read by `clap`.
 //!
 //! Proved of `read_words`, against the specification that `clap` has of what it takes and refuses: at `Ok`
-//! the command has no fault at the words, and what is answered are the words of the subcommand that was
-//! met. `Refused` has an error of a kind that the command has at the words, and is never answered where
-//! it takes them. `Weighting` is answered only where it takes them and the weighting that they give is none
-//! of the two. When a growth is refused, and so `Memory` is answered, no contract says.
+//! the command has no fault at the words, and what is returned are the words of the subcommand that was
+//! met. `Refused` has an error of a kind that the command has at the words, and is never returned where
+//! it takes them. `Weighting` is returned only where it takes them and they give a word for no weighting.
+//! Of the text of an error no contract says anything, nor when an allocation fails, and so `Memory` is
+//! returned: tests compare the whole texts.
 #![tactic(auto)]
 
 ghost use Rattle.std.specs.Prelude.{◌≡◌, Some, IfOk, IfErr, IfSome, IfNone, true, is_some, codes, option_map};
@@ -12,7 +13,7 @@ ghost use Rattle.clap.specs.Words.{found_of, rows_of, first_of};
 ghost use Rattle.clap.specs.Walk.{texts};
 ghost use Rattle.uca_words.specs.Command.{check_app, keys_app, sort_app, compare_app};
 ghost use Rattle.uca_words.specs.Met.{has_words, is_met, IsWeightingFault};
-ghost use Rattle.uca_words.specs.Words.{weighting_text, HasFiles, HasWord, HasWeighting, IsOtherWeighting, Says, AreRead, IsFaultOf};
+ghost use Rattle.uca_words.specs.Words.{HasFiles, HasWord, HasWeighting, Says, AreRead, IsFaultOf};
 
 mod builders;
 #[cfg(test)]
@@ -74,10 +75,10 @@ pub enum WordFault {
     /// `clap` refuses the words, or help was asked for.
     #[error("{0}")]
     Refused(clap::Error),
-    /// The word behind `--weighting` is neither `non-ignorable` nor `shifted`.
+    /// The word after `--weighting` is neither `non-ignorable` nor `shifted`.
     #[error("weighting: unknown")]
     Weighting,
-    /// A growth was refused.
+    /// An allocation failed.
     #[error("memory")]
     Memory,
 }
@@ -107,18 +108,6 @@ impl From<clap::Error> for WordFault {
     }
 }
 
-// The weighting that a word names.
-fn weighting_of(word: &str) -> Option<Weighting>
-    ensures known { IfSome result (λ weighting. word.now ≡ weighting_text weighting) }
-    ensures unknown { IfNone result (IsOtherWeighting (Some word.now)) }
-{
-    match word {
-        "non-ignorable" => Some(Weighting::NonIgnorable),
-        "shifted" => Some(Weighting::Shifted),
-        _ => None,
-    }
-}
-
 // The first value of an argument.
 fn value_of<'a>(found: &ArgMatches<'a>, id: &str) -> Option<&'a str>
     ensures { option_map (λ word. word.now) result ≡ first_of id.now (rows_of (found_of found.now)) }
@@ -142,7 +131,7 @@ fn given_weighting(found: &ArgMatches) -> Result<Option<Weighting>, WordFault>
     let Some(word) = value_of(found, "weighting") else {
         return Ok(None);
     };
-    match weighting_of(word) {
+    match Weighting::from_name(word.as_bytes()) {
         Some(weighting) => Ok(Some(weighting)),
         None => Err(WordFault::Weighting),
     }
@@ -226,8 +215,8 @@ fn subcommand_words<'a>(name: &str, found: &ArgMatches<'a>) -> Result<Words<'a>,
 /// # Errors
 ///
 /// `Refused` with the error of `clap` where it refuses the words or help is asked for, `Weighting`
-/// where it takes them and the word behind `--weighting` is none of the two, and `Memory` where a growth
-/// was refused.
+/// where it takes them and the word after `--weighting` is neither, and `Memory` where an allocation
+/// failed.
 pub fn read_words<'a>(alloc: Global, words: &'a [&'a str]) -> Result<Words<'a>, WordFault>
     ensures ok { IfOk result (AreRead (texts words.entry.now)) }
     ensures err { IfErr result (IsFaultOf (texts words.entry.now)) }

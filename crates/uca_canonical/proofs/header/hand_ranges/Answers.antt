@@ -7,14 +7,17 @@ use Rattle.uca_canonical.proofs.header.hand_ranges.Goals as goal
 
 pub hand_range-requires : goal.hand_range-requires
 unfolding range_lines
-hand_range-requires g c = part_fits (λ r. ended (range_line r)) c.args.ranges.now c.loop-range.range-index _ _ _ refl refl c.loop-range-test.true c.loop-range.invariant c.requires
+hand_range-requires g c = part_fits (λ r. ended (range_line r)) c.args.ranges.now c.loop-range.range-index _ _ _ refl refl c.loop-range-test.true
+    c.loop-range.invariant c.requires
 
 pub loop-range-preserved : goal.loop-range-preserved
-loop-range-preserved g c = part_handed (λ r. ended (range_line r)) c.args.ranges.now c.loop-range.range-index _ refl c.loop-range-test.true c.loop-range.invariant c.in_ok-hand_range.ensures
+loop-range-preserved g c = part_handed (λ r. ended (range_line r)) c.args.ranges.now c.loop-range.range-index _ refl c.loop-range-test.true
+    c.loop-range.invariant c.in_ok-hand_range.ensures
 
 pub returns-in_err-hand_range : goal.returns-in_err-hand_range
 unfolding range_lines
-returns-in_err-hand_range g c = returns_fault (λ r. ended (range_line r)) c.args.ranges.now c.loop-range.range-index _ _ _ c.from_residual.result refl refl c.loop-range-test.true c.loop-range.invariant c.in_err-hand_range.ensures c.from_residual.ensures.1
+returns-in_err-hand_range g c = returns_fault (λ r. ended (range_line r)) c.args.ranges.now c.loop-range.range-index _ _ _ c.from_residual.result refl
+    refl c.loop-range-test.true c.loop-range.invariant c.in_err-hand_range.ensures c.from_residual.ensures.1
 
 pub returns : goal.returns
 unfolding range_lines

@@ -5,10 +5,13 @@ use Rattle.uca_canonical.proofs.Texts.{setting_text_some, setting_text_none}
 use Rattle.uca_canonical.proofs.header.hand_setting.Goals as goal
 
 pub hand-requires : goal.hand-requires
-hand-requires g c = subst (λ (l : List ℕ). HasRoom c.args.buffer.now (length l)) (setting_text_some c.args.setting _ _ c.in-Some.is c.setting_line.ensures) c.requires
+hand-requires g c = subst (λ (l : List ℕ). HasRoom c.args.buffer.now (length l))
+    (setting_text_some c.args.setting _ _ c.in-Some.is c.setting_line.ensures) c.requires
 
 pub returns-in-Some : goal.returns-in-Some
-returns-in-Some g c = subst (λ (l : List ℕ). Hands l c.args.buffer.now c.hand.new.buffer c.args.out.now c.hand.new.out c.hand.result) (sym (setting_text_some c.args.setting _ _ c.in-Some.is c.setting_line.ensures)) c.hand.ensures
+returns-in-Some g c = subst (λ (l : List ℕ). Hands l c.args.buffer.now c.hand.new.buffer c.args.out.now c.hand.new.out c.hand.result)
+    (sym (setting_text_some c.args.setting _ _ c.in-Some.is c.setting_line.ensures)) c.hand.ensures
 
 pub returns-in-None : goal.returns-in-None
-returns-in-None g c = subst (λ (l : List ℕ). HasHanded l c.args.buffer.now c.args.buffer.now c.args.out.now c.args.out.now) (sym (setting_text_none c.args.setting c.in-None.is)) (handed_none c.args.buffer.now c.args.out.now)
+returns-in-None g c = subst (λ (l : List ℕ). HasHanded l c.args.buffer.now c.args.buffer.now c.args.out.now c.args.out.now)
+    (sym (setting_text_none c.args.setting c.in-None.is)) (handed_none c.args.buffer.now c.args.out.now)

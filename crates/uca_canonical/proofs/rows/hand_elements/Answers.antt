@@ -4,13 +4,16 @@ use Rattle.uca_lines.proofs.HandingLemmas.{part_fits, part_handed, returns_fault
 use Rattle.uca_canonical.proofs.rows.hand_elements.Goals as goal
 
 pub hand-requires : goal.hand-requires
-hand-requires g c = part_fits element_text c.args.elements.now c.loop-element.element-index _ _ _ refl c.element_text.ensures c.loop-element-test.true c.loop-element.invariant c.requires
+hand-requires g c = part_fits element_text c.args.elements.now c.loop-element.element-index _ _ _ refl c.element_text.ensures c.loop-element-test.true
+    c.loop-element.invariant c.requires
 
 pub loop-element-preserved : goal.loop-element-preserved
-loop-element-preserved g c = part_handed element_text c.args.elements.now c.loop-element.element-index _ c.element_text.ensures c.loop-element-test.true c.loop-element.invariant c.in_ok-hand.ensures
+loop-element-preserved g c = part_handed element_text c.args.elements.now c.loop-element.element-index _ c.element_text.ensures
+    c.loop-element-test.true c.loop-element.invariant c.in_ok-hand.ensures
 
 pub returns-in_err-hand : goal.returns-in_err-hand
-returns-in_err-hand g c = returns_fault element_text c.args.elements.now c.loop-element.element-index _ _ _ c.from_residual.result refl c.element_text.ensures c.loop-element-test.true c.loop-element.invariant c.in_err-hand.ensures c.from_residual.ensures.1
+returns-in_err-hand g c = returns_fault element_text c.args.elements.now c.loop-element.element-index _ _ _ c.from_residual.result refl
+    c.element_text.ensures c.loop-element-test.true c.loop-element.invariant c.in_err-hand.ensures c.from_residual.ensures.1
 
 pub returns : goal.returns
 returns g c = all_handed element_text c.args.elements.now c.loop-element.element-index _ refl c.loop-element-test.false c.loop-element.invariant

@@ -5,14 +5,18 @@ use Rattle.uca_canonical.proofs.rows.hand_key.Goals as goal
 
 pub hand_key_point-requires : goal.hand_key_point-requires
 unfolding key_text
-hand_key_point-requires g c = part_fits key_point_text c.args.key.now c.loop-point.point-index c.point-item.result _ _ refl (ap key_point_text c.point-item.is) c.loop-point-test.true c.loop-point.invariant c.requires
+hand_key_point-requires g c = part_fits key_point_text c.args.key.now c.loop-point.point-index c.point-item.result _ _ refl
+    (ap key_point_text c.point-item.is) c.loop-point-test.true c.loop-point.invariant c.requires
 
 pub loop-point-preserved : goal.loop-point-preserved
-loop-point-preserved g c = part_handed key_point_text c.args.key.now c.loop-point.point-index c.point-item.result (ap key_point_text c.point-item.is) c.loop-point-test.true c.loop-point.invariant c.in_ok-hand_key_point.ensures
+loop-point-preserved g c = part_handed key_point_text c.args.key.now c.loop-point.point-index c.point-item.result (ap key_point_text c.point-item.is)
+    c.loop-point-test.true c.loop-point.invariant c.in_ok-hand_key_point.ensures
 
 pub returns-in_err-hand_key_point : goal.returns-in_err-hand_key_point
 unfolding key_text
-returns-in_err-hand_key_point g c = returns_fault key_point_text c.args.key.now c.loop-point.point-index c.point-item.result _ _ c.from_residual.result refl (ap key_point_text c.point-item.is) c.loop-point-test.true c.loop-point.invariant c.in_err-hand_key_point.ensures c.from_residual.ensures.1
+returns-in_err-hand_key_point g c = returns_fault key_point_text c.args.key.now c.loop-point.point-index c.point-item.result _ _
+    c.from_residual.result refl (ap key_point_text c.point-item.is) c.loop-point-test.true c.loop-point.invariant c.in_err-hand_key_point.ensures
+    c.from_residual.ensures.1
 
 pub returns : goal.returns
 unfolding key_text

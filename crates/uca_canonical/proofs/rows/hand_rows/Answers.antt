@@ -7,14 +7,18 @@ use Rattle.uca_canonical.proofs.rows.hand_rows.Goals as goal
 
 pub hand_row-requires : goal.hand_row-requires
 unfolding row_lines
-hand_row-requires g c = part_fits (λ row. ended (row_line row)) c.args.rows.now c.loop-row.row-index c.row-item.result _ _ refl (ap (λ row. ended (row_line row)) c.row-item.is) c.loop-row-test.true c.loop-row.invariant c.requires
+hand_row-requires g c = part_fits (λ row. ended (row_line row)) c.args.rows.now c.loop-row.row-index c.row-item.result _ _ refl
+    (ap (λ row. ended (row_line row)) c.row-item.is) c.loop-row-test.true c.loop-row.invariant c.requires
 
 pub loop-row-preserved : goal.loop-row-preserved
-loop-row-preserved g c = part_handed (λ row. ended (row_line row)) c.args.rows.now c.loop-row.row-index c.row-item.result (ap (λ row. ended (row_line row)) c.row-item.is) c.loop-row-test.true c.loop-row.invariant c.in_ok-hand_row.ensures
+loop-row-preserved g c = part_handed (λ row. ended (row_line row)) c.args.rows.now c.loop-row.row-index c.row-item.result
+    (ap (λ row. ended (row_line row)) c.row-item.is) c.loop-row-test.true c.loop-row.invariant c.in_ok-hand_row.ensures
 
 pub returns-in_err-hand_row : goal.returns-in_err-hand_row
 unfolding row_lines
-returns-in_err-hand_row g c = returns_fault (λ row. ended (row_line row)) c.args.rows.now c.loop-row.row-index c.row-item.result _ _ c.from_residual.result refl (ap (λ row. ended (row_line row)) c.row-item.is) c.loop-row-test.true c.loop-row.invariant c.in_err-hand_row.ensures c.from_residual.ensures.1
+returns-in_err-hand_row g c = returns_fault (λ row. ended (row_line row)) c.args.rows.now c.loop-row.row-index c.row-item.result _ _
+    c.from_residual.result refl (ap (λ row. ended (row_line row)) c.row-item.is) c.loop-row-test.true c.loop-row.invariant c.in_err-hand_row.ensures
+    c.from_residual.ensures.1
 
 pub returns : goal.returns
 unfolding row_lines

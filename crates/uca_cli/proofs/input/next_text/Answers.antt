@@ -8,22 +8,22 @@ use Rattle.uca_cli.specs.Texts.{HasTextCause}
 use Rattle.uca_cli.proofs.NextTexts.{line_refused, ended_refused, cut_refused}
 use Rattle.uca_cli.proofs.input.next_text.Goals as goal
 
-pub returns-in_err-take_text-in-Ok-Ended-clause-says : goal.returns-in_err-take_text-in-Ok-Ended-clause-says
-returns-in_err-take_text-in-Ok-Ended-clause-says g c =
+pub returns-in_err-take_text-in-Ok-Terminated-clause-says : goal.returns-in_err-take_text-in-Ok-Terminated-clause-says
+returns-in_err-take_text-in-Ok-Terminated-clause-says g c =
     let p = err_from_is_err_and c.from_residual.result c.from_residual.ensures.1 in
-    let line = rw c.in-Ok-Ended.field-0-is at c.in-Ok-Ended.ensures in
-    let says = c.in_err-take_text-in-Ok-Ended.ensures.fault c.args.reader.now.number line.limit in
-    rw (p.1, p.2) (ended_refused (properties_of c.args.properties.now) c.args.reader.now.number (left_of c.args.reader.now c.args.input.now) (left_of c.next_line.new.self c.next_line.new.source) c.next_line.new.line.items c.take_text.new.text c.in_err-take_text-in-Ok-Ended.field-0.0
-    (subst (λ l. HasTextCause (properties_of c.args.properties.now) c.args.reader.now.number l c.in_err-take_text-in-Ok-Ended.field-0.0) c.deref.ensures.value says)
+    let line = rw c.in-Ok-Terminated.field-0-is at c.in-Ok-Terminated.ensures in
+    let says = c.in_err-take_text-in-Ok-Terminated.ensures.fault c.args.reader.now.number line.limit in
+    rw (p.1, p.2) (ended_refused (properties_of c.args.properties.now) c.args.reader.now.number (left_of c.args.reader.now c.args.input.now) (left_of c.next_line.new.self c.next_line.new.source) c.next_line.new.line.items c.take_text.new.text c.in_err-take_text-in-Ok-Terminated.field-0.0
+    (subst (λ l. HasTextCause (properties_of c.args.properties.now) c.args.reader.now.number l c.in_err-take_text-in-Ok-Terminated.field-0.0) c.deref.ensures.value says)
     line.bytes line.no_lf)
 
-pub returns-in_err-take_text-in-Ok-Cut-clause-says : goal.returns-in_err-take_text-in-Ok-Cut-clause-says
-returns-in_err-take_text-in-Ok-Cut-clause-says g c =
-    let p = err_from_is_err_and c.from_residual-in_err-take_text-in-Ok-Cut.result c.from_residual-in_err-take_text-in-Ok-Cut.ensures.1 in
-    let line = rw c.in-Ok-Cut.field-0-is at c.in-Ok-Cut.ensures in
-    let says = c.in_err-take_text-in-Ok-Cut.ensures.fault c.args.reader.now.number line.limit in
-    rw (p.1, p.2) (cut_refused (properties_of c.args.properties.now) c.args.reader.now.number (left_of c.args.reader.now c.args.input.now) (left_of c.next_line.new.self c.next_line.new.source) c.next_line.new.line.items c.take_text-in-Ok-Cut.new.text c.in_err-take_text-in-Ok-Cut.field-0.0
-    (subst (λ l. HasTextCause (properties_of c.args.properties.now) c.args.reader.now.number l c.in_err-take_text-in-Ok-Cut.field-0.0) c.deref-in-Ok-Cut.ensures.value says)
+pub returns-in_err-take_text-in-Ok-Unterminated-clause-says : goal.returns-in_err-take_text-in-Ok-Unterminated-clause-says
+returns-in_err-take_text-in-Ok-Unterminated-clause-says g c =
+    let p = err_from_is_err_and c.from_residual-in_err-take_text-in-Ok-Unterminated.result c.from_residual-in_err-take_text-in-Ok-Unterminated.ensures.1 in
+    let line = rw c.in-Ok-Unterminated.field-0-is at c.in-Ok-Unterminated.ensures in
+    let says = c.in_err-take_text-in-Ok-Unterminated.ensures.fault c.args.reader.now.number line.limit in
+    rw (p.1, p.2) (cut_refused (properties_of c.args.properties.now) c.args.reader.now.number (left_of c.args.reader.now c.args.input.now) (left_of c.next_line.new.self c.next_line.new.source) c.next_line.new.line.items c.take_text-in-Ok-Unterminated.new.text c.in_err-take_text-in-Ok-Unterminated.field-0.0
+    (subst (λ l. HasTextCause (properties_of c.args.properties.now) c.args.reader.now.number l c.in_err-take_text-in-Ok-Unterminated.field-0.0) c.deref-in-Ok-Unterminated.ensures.value says)
     line.bytes (line.cut refl) line.no_lf)
 
 pub returns-in-Err-clause-says : goal.returns-in-Err-clause-says

@@ -7,4 +7,5 @@ returns-then-is_empty c =
 
 pub returns : goal.returns
 returns c =
-    first_word c.args.text.now c.skip_blanks-text.result.now _ _ c.skip_blanks-text.ensures (some_from_test _ _ c.is_empty.ensures c.if-is_empty.false) c.cut_word.ensures.word c.cut_word.ensures.rest
+    first_word c.args.text.now c.skip_blanks-text.result.now _ _ c.skip_blanks-text.ensures
+    (some_from_test _ _ c.is_empty.ensures c.if-is_empty.false) c.cut_word.ensures.word c.cut_word.ensures.rest

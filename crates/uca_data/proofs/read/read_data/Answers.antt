@@ -8,4 +8,5 @@ use Rattle.uca_data.proofs.read.read_data.Goals as goal
 
 pub returns-clause-only : goal.returns-clause-only
 returns-clause-only g c =
-    only_known {X = DataContent} {F = TableFault} properties_of (λ fault. fault.line) (λ fault. fault.kind) TABLE_FORM Says Cause IsUnfinished Gives exact gives_one gives_finished _ _ c.read_to_end.result c.read_to_end.ensures.found c.read_to_end.ensures.fault
+    only_known {X = DataContent} {F = TableFault} properties_of (λ fault. fault.line) (λ fault. fault.kind) TABLE_FORM Says Cause IsUnfinished Gives
+    exact gives_one gives_finished _ _ c.read_to_end.result c.read_to_end.ensures.found c.read_to_end.ensures.fault

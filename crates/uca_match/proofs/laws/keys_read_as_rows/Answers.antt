@@ -1,5 +1,5 @@
 -- The whole text is its longest key.
-use Rattle.uca_match.proofs.ReadingLaws.{key_reads_as_row}
+use Rattle.uca_match.proofs.ReadingLemmas.{key_reads_as_row}
 use Rattle.uca_match.proofs.laws.keys_read_as_rows.Goals as goal
 
 pub returns : goal.returns

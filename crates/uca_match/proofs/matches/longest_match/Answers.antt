@@ -2,8 +2,8 @@ use Rattle.std.proofs.Common.{◌≡◌, ◌<◌, ◌∷◌, [], ◌++◌, ◌+�
 use Rattle.uca_text.specs.Texts.{code_points}
 use Rattle.uca_match.specs.Places.{left_at}
 use Rattle.uca_match.specs.Lookups.{BeginsNoKey}
-use Rattle.uca_match.proofs.Going.{read_at}
-use Rattle.uca_match.proofs.Walking.{IsWalked, walked_gone, walked_out, walked_on, walked_through, longest_as_before, longest_now}
+use Rattle.uca_match.proofs.ExtensionSteps.{read_at}
+use Rattle.uca_match.proofs.MatchLemmas.{IsWalked, walked_gone, walked_out, walked_on, walked_through, longest_as_before, longest_now}
 use Rattle.uca_match.proofs.matches.longest_match.Goals as goal
 use Rattle.uca_match.proofs.matches.longest_match.Goals.{in-Some-elements, in_default-elements}
 
@@ -11,7 +11,8 @@ pub loop-i-preserved-then-is_removed : goal.loop-i-preserved-then-is_removed
 loop-i-preserved-then-is_removed g c =
     let s = c.args.text.now in
     let within : c.loop-i.i < length s.points = omega (arith, ap length c.chars-chars.ensures.value) in
-    walked_gone _ _ s c.args.place c.args.first c.loop-i.i c.loop-i.node c.loop-i.best c.chars-chars.ensures.accepted.same within (sym c.is_removed.ensures ∙ c.if-is_removed.true) c.loop-i.invariant
+    walked_gone _ _ s c.args.place c.args.first c.loop-i.i c.loop-i.node c.loop-i.best c.chars-chars.ensures.accepted.same within
+    (sym c.is_removed.ensures ∙ c.if-is_removed.true) c.loop-i.invariant
 
 pub returns-in_default : goal.returns-in_default
 returns-in_default g c =
@@ -22,8 +23,10 @@ returns-in_default g c =
     let within : i < length s.points = omega (arith, ap length c.chars-chars.ensures.value) in
     let letter = read_at c.chars-chars.result.now s.points i c.index-chars-i.result c.chars-chars.ensures.value within c.index-chars-i.is in
     let key = code_points (take walked.count (left_at s c.args.place c.args.first)) in
-    let none : BeginsNoKey rows (key ++ get_or s.points i 0 ∷ []) = subst (λ p. BeginsNoKey rows (key ++ p ∷ [])) letter (c.in_default.ensures key walked.node_is) in
-    walked_out _ _ s c.args.place c.args.first i c.loop-i.node c.loop-i.best c.chars-chars.ensures.accepted.same within (sym c.is_removed.ensures ∙ c.if-is_removed.false) walked none
+    let none : BeginsNoKey rows (key ++ get_or s.points i 0 ∷ []) =
+    subst (λ p. BeginsNoKey rows (key ++ p ∷ [])) letter (c.in_default.ensures key walked.node_is) in
+    walked_out _ _ s c.args.place c.args.first i c.loop-i.node c.loop-i.best c.chars-chars.ensures.accepted.same within
+    (sym c.is_removed.ensures ∙ c.if-is_removed.false) walked none
 
 pub loop-i-preserved : goal.loop-i-preserved
 loop-i-preserved g c =
@@ -37,14 +40,17 @@ loop-i-preserved g c =
     let within : i < length s.points = omega (arith, ap length c.chars-chars.ensures.value) in
     let letter = read_at c.chars-chars.result.now s.points i c.index-chars-i.result c.chars-chars.ensures.value within c.index-chars-i.is in
     let key = code_points (take walked.count (left_at s c.args.place c.args.first)) in
-    let next : stands c.in-Some.next (key ++ get_or s.points i 0 ∷ []) = subst (λ p. stands c.in-Some.next (key ++ p ∷ [])) letter (c.in-Some.ensures key walked.node_is).1 in
+    let next : stands c.in-Some.next (key ++ get_or s.points i 0 ∷ []) =
+    subst (λ p. stands c.in-Some.next (key ++ p ∷ [])) letter (c.in-Some.ensures key walked.node_is).1 in
     let on = walked_on stands rows s c.args.place c.args.first i c.loop-i.node c.loop-i.best same within kept walked c.in-Some.next in
     let longer = key ++ get_or s.points i 0 ∷ [] in
     elim c.match-elements.branch [
       | in-Some-elements w ↦
           let some : rows longer ≡ Some w.in-Some-elements.row.now = w.in-Some-elements.ensures longer next in
-          let now = longest_now stands rows s c.args.place c.args.first i c.loop-i.node c.loop-i.best same within kept walked c.in-Some.next w.in-Some-elements.row next some in
-          subst (λ best. IsWalked stands rows s c.args.place c.args.first (i + 1) c.in-Some.next best) (sym w.best-is) (on (Some (record { found = record { node = c.in-Some.next; row = w.in-Some-elements.row }; behind = i + 1 })) next now)
+          let now = longest_now stands rows s c.args.place c.args.first i c.loop-i.node c.loop-i.best same within kept walked c.in-Some.next
+          w.in-Some-elements.row next some in
+          subst (λ best. IsWalked stands rows s c.args.place c.args.first (i + 1) c.in-Some.next best) (sym w.best-is)
+          (on (Some (record { found = record { node = c.in-Some.next; row = w.in-Some-elements.row }; behind = i + 1 })) next now)
       | in_default-elements w ↦
           let none : rows longer ≡ None = w.in_default-elements.ensures longer next in
           let before = longest_as_before stands rows s c.args.place c.args.first i c.loop-i.node c.loop-i.best same within kept walked none in
@@ -54,4 +60,5 @@ loop-i-preserved g c =
 pub returns : goal.returns
 returns g c =
     let s = c.args.text.now in
-    walked_through _ _ s c.args.place c.args.first c.loop-i.i c.loop-i.node c.loop-i.best c.chars-chars.ensures.accepted.same (omega (arith, ap length c.chars-chars.ensures.value)) c.loop-i.invariant
+    walked_through _ _ s c.args.place c.args.first c.loop-i.i c.loop-i.node c.loop-i.best c.chars-chars.ensures.accepted.same
+    (omega (arith, ap length c.chars-chars.ensures.value)) c.loop-i.invariant

@@ -1,4 +1,4 @@
-use Rattle.uca_match.proofs.Walking.{IsWalked}
+use Rattle.uca_match.proofs.MatchLemmas.{IsWalked}
 use Rattle.uca_match.proofs.matches.longest_match.Given as goal
 
 abbrev pub invariant-loop-i : goal.invariant-loop-i

@@ -1,22 +1,26 @@
 use Rattle.std.proofs.Common.{◌<◌, suc, take, length, ap, sym, ◌∙◌, arith}
 use Rattle.uca_match.specs.Places.{left_at}
-use Rattle.uca_match.proofs.Going.{read_at}
-use Rattle.uca_match.proofs.Left.{left_end}
+use Rattle.uca_match.proofs.ExtensionSteps.{read_at}
+use Rattle.uca_match.proofs.PlaceLemmas.{left_end}
 use Rattle.uca_match.proofs.Portions.{portion_unlisted, portion_listed}
 use Rattle.uca_match.proofs.matches.next_portion.Goals as goal
 
 pub returns-then-first-chars : goal.returns-then-first-chars
 returns-then-first-chars g c =
     let s = c.args.text.now in
-    sym c.first_left-first.ensures.left ∙ left_end s c.args.place c.first_left-first.result c.chars-chars.ensures.accepted.same (omega (arith, ap length c.chars-chars.ensures.value))
+    sym c.first_left-first.ensures.left ∙ left_end s c.args.place c.first_left-first.result c.chars-chars.ensures.accepted.same
+    (omega (arith, ap length c.chars-chars.ensures.value))
 
 pub returns-in_default : goal.returns-in_default
 returns-in_default g c =
     let s = c.args.text.now in
     let first = c.first_left-first in
     let within : first.result < length s.points = omega (arith, ap length c.chars-chars.ensures.value) in
-    let letter = read_at c.chars-chars.result.now s.points first.result c.index-chars-first.result c.chars-chars.ensures.value within c.index-chars-first.is in
-    portion_unlisted (g.L.Lookup.content c.args.lookup.now) s c.args.place first.result first.ensures.behind first.ensures.left c.moved.result c.index-chars-first.result c.chars-chars.ensures.accepted.same within (first.ensures.kept within) c.in_default.ensures letter c.moved.ensures.place c.moved.ensures.at c.moved.ensures.left
+    let letter = read_at c.chars-chars.result.now s.points first.result c.index-chars-first.result c.chars-chars.ensures.value within
+    c.index-chars-first.is in
+    portion_unlisted (g.L.Lookup.content c.args.lookup.now) s c.args.place first.result first.ensures.behind first.ensures.left c.moved.result
+    c.index-chars-first.result c.chars-chars.ensures.accepted.same within (first.ensures.kept within) c.in_default.ensures letter
+    c.moved.ensures.place c.moved.ensures.at c.moved.ensures.left
 
 pub returns : goal.returns
 returns g c =
@@ -24,4 +28,6 @@ returns g c =
     let first = c.first_left-first in
     let longest = c.in-Some.ensures in
     let front = take (suc longest.count) (left_at s c.args.place first.result) in
-    portion_listed (g.L.Lookup.content c.args.lookup.now) s c.args.place first.result first.ensures.behind first.ensures.left (g.L.Lookup.stands_for c.args.lookup.now) c.in-Some.key c.moved-behind.result c.extend.result longest c.moved-behind.ensures.at c.moved-behind.ensures.left (c.extend.ensures front longest.found)
+    portion_listed (g.L.Lookup.content c.args.lookup.now) s c.args.place first.result first.ensures.behind first.ensures.left
+    (g.L.Lookup.stands_for c.args.lookup.now) c.in-Some.key c.moved-behind.result c.extend.result longest c.moved-behind.ensures.at
+    c.moved-behind.ensures.left (c.extend.ensures front longest.found)

@@ -9,7 +9,8 @@ use Rattle.uca_match.proofs.trie.add_row.Goals as goal
 pub index_mut-requires : goal.index_mut-requires
 index_mut-requires g c =
     let along = c.loop-point.invariant in
-    let within = (walk_root c.loop-point.nodes.items along.texts along.shape c.loop-point.number (take c.loop-point.point-index c.args.row.now.key) along.leads).0 in
+    let within = (walk_root c.loop-point.nodes.items along.texts along.shape c.loop-point.number (take c.loop-point.point-index c.args.row.now.key)
+    along.leads).0 in
     omega (arith, c.loop-point.nodes.ok.0)
 
 pub returns : goal.returns
@@ -20,10 +21,13 @@ returns g c =
     let front = take c.loop-point.point-index row.key in
     let walked = c.loop-point.invariant in
     let within = (walk_root nodes walked.texts walked.shape n front walked.leads).0 in
-    let all : front ≡ row.key = take_all c.loop-point.point-index row.key (omega (arith, ap length c.deref-point-items.ensures.value, ap (λ r. length r.key) c.row.view_is)) in
+    let all : front ≡ row.key = take_all c.loop-point.point-index row.key
+    (omega (arith, ap length c.deref-point-items.ensures.value, ap (λ r. length r.key) c.row.view_is)) in
     let along : IsAlong c.args.nodes.now.items nodes row.key n = subst (λ key. IsAlong c.args.nodes.now.items nodes key n) all walked in
     let before : c.index_mut.result.now ≡ node_at nodes n = get_or_read nodes n c.index_mut.result.now within c.index_mut.ensures.value empty_node in
     let same : c.behind-nodes.inside.edges.items ≡ (node_at nodes n).edges = ap (λ (b : NodeContent). b.edges) (c.behind-nodes.view_is ∙ before) in
-    let elements : c.in_ok-elements.elements.items ≡ row.elements = c.in_ok-elements.ensures.items ∙ c.deref.ensures.value ∙ ap (λ r. r.elements) c.row.view_is in
-    let put = row_put c.args.nodes.now.items nodes n (record { edges = c.behind-nodes.inside.edges.items; row = Some c.in_ok-elements.elements.items }) row along same (ap Some elements) in
+    let elements : c.in_ok-elements.elements.items ≡ row.elements = c.in_ok-elements.ensures.items ∙ c.deref.ensures.value
+    ∙ ap (λ r. r.elements) c.row.view_is in
+    let put = row_put c.args.nodes.now.items nodes n
+    (record { edges = c.behind-nodes.inside.edges.items; row = Some c.in_ok-elements.elements.items }) row along same (ap Some elements) in
     record { tree = put.0; row = put.1 }

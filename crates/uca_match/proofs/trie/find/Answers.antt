@@ -12,6 +12,8 @@ returns-else-at-edges c =
     let edges = c.args.edges.now in let point = c.args.point in
     let no : Edge = record { point = 0; target = 0 } in
     elim c.else-at-edges.branch [
-      | else-at-edges-via-then-at-edges+else-edges-at w ↦ new_place edges c.requires point _ c.place-at.ensures.bound c.place-at.ensures.place no (λ _. w.if-edges-at.false)
-      | else-at-edges-via-else-at-edges w ↦ new_place edges c.requires point _ c.place-at.ensures.bound c.place-at.ensures.place no (λ l. absurd (omega arith))
+      | else-at-edges-via-then-at-edges+else-edges-at w ↦
+          new_place edges c.requires point _ c.place-at.ensures.bound c.place-at.ensures.place no (λ _. w.if-edges-at.false)
+      | else-at-edges-via-else-at-edges w ↦ new_place edges c.requires point _ c.place-at.ensures.bound c.place-at.ensures.place no
+          (λ l. absurd (omega arith))
     ]

@@ -18,9 +18,11 @@ loop-edge-preserved g c =
     let root = c.deref-edge-items.ensures.value ∙ ap (λ b. b.edges) (c.root.view_is ∙ node) in
     elim c.if-code-len.branch [
       | then-code-len w ↦ subst (λ v. AreHeads (take (i + 1) edges) v.items) (sym w.heads-is)
-          (heads_more_put nodes c.requires edges root heads i _ c.loop-edge-test.true c.loop-edge.invariant (omega (arith, w.if-code-len.true, c.len-in-loop-edge.ensures, c.loop-edge.heads.ok.0)))
+          (heads_more_put nodes c.requires edges root heads i _ c.loop-edge-test.true c.loop-edge.invariant
+          (omega (arith, w.if-code-len.true, c.len-in-loop-edge.ensures, c.loop-edge.heads.ok.0)))
       | else-code-len w ↦ subst (λ v. AreHeads (take (i + 1) edges) v.items) (sym w.heads-is)
-          (heads_more_kept edges heads i (record { point = 0; target = 0 }) c.loop-edge-test.true c.loop-edge.invariant (omega (arith, w.if-code-len.false, c.len-in-loop-edge.ensures, c.loop-edge.heads.ok.0)))
+          (heads_more_kept edges heads i (record { point = 0; target = 0 }) c.loop-edge-test.true c.loop-edge.invariant
+          (omega (arith, w.if-code-len.false, c.len-in-loop-edge.ensures, c.loop-edge.heads.ok.0)))
     ]
 
 pub returns : goal.returns
@@ -28,4 +30,5 @@ returns g c =
     let nodes = c.args.nodes.now in
     let node = branch_read nodes nodes 0 c.index-nodes-0.result refl c.requires.shape.some c.index-nodes-0.is in
     let root = c.deref-edge-items.ensures.value ∙ ap (λ b. b.edges) (c.root.view_is ∙ node) in
-    heads_all (node_at nodes 0).edges c.deref-edge-items.result.now root c.loop-edge.heads.items c.loop-edge.edge-index c.loop-edge-test.false c.loop-edge.invariant
+    heads_all (node_at nodes 0).edges c.deref-edge-items.result.now root c.loop-edge.heads.items c.loop-edge.edge-index c.loop-edge-test.false
+    c.loop-edge.invariant

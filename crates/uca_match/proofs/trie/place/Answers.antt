@@ -8,4 +8,5 @@ pub returns-clause-place : goal.returns-clause-place
 returns-clause-place c =
     let edges = c.args.edges.now in let point = c.args.point in
     let parted = IsPartitionedBy-ltb (λ (e : Edge). e.point) edges point (never_falling edges c.requires) in
-    place_from_tests edges point _ (IsPartitionPoint-from_clause (λ e. ltb e.point point) _ _ c.partition_point.ensures.partitioned parted (λ a r q k. search rules))
+    place_from_tests edges point _ (IsPartitionPoint-from_clause (λ e. ltb e.point point) _ _ c.partition_point.ensures.partitioned parted
+    (λ a r q k. search rules))

@@ -8,12 +8,14 @@ use Rattle.uca_table.proofs.elements.read_elements.Goals as goal
 
 pub returns-in_default-clause-fault : goal.returns-in_default-clause-fault
 returns-in_default-clause-fault g c =
-    inr (weight_cause c.args.text.now c.loop-rest.elements.items c.loop-rest.rest.now c.loop-rest.invariant.leads (sym c.opens.ensures ∙ c.if-not-opens.false) c.in_default.ensures)
+    inr (weight_cause c.args.text.now c.loop-rest.elements.items c.loop-rest.rest.now c.loop-rest.invariant.leads
+    (sym c.opens.ensures ∙ c.if-not-opens.false) c.in_default.ensures)
 
 pub returns-then-len-eq-MOST_ELEMENTS-clause-fault : goal.returns-then-len-eq-MOST_ELEMENTS-clause-fault
 returns-then-len-eq-MOST_ELEMENTS-clause-fault g c =
     let begins = element_takes c.loop-rest.rest.now c.in-Some.found.0 c.in-Some.found.1.now (sym c.in-Some.ensures) in
-    inr (limit_cause c.args.text.now c.loop-rest.elements.items c.loop-rest.rest.now c.in-Some.found.0 c.in-Some.found.1.now c.loop-rest.invariant.leads (omega arith) begins)
+    inr (limit_cause c.args.text.now c.loop-rest.elements.items c.loop-rest.rest.now c.in-Some.found.0 c.in-Some.found.1.now
+    c.loop-rest.invariant.leads (omega arith) begins)
 
 pub loop-rest-smaller : goal.loop-rest-smaller
 loop-rest-smaller g c =

@@ -7,8 +7,12 @@ use Rattle.uca_table.proofs.RowLaws.{after_semicolon}
 use Rattle.uca_table.proofs.headers.read_range.Goals as goal
 
 pub returns-in_default-weight-clause-fault : goal.returns-in_default-weight-clause-fault
-returns-in_default-weight-clause-fault c =
-    (c.in-Some.back.now, after_semicolon c.args.text.now _ _ _ c.cut_at.ensures.back c.in-Some.ensures.cases.0, ap weight_of (sym c.trim-2.ensures) ∙ sym c.in_default-weight.ensures)
+returns-in_default-weight-clause-fault c = (
+  c.in-Some.back.now,
+  after_semicolon c.args.text.now _ _ _ c.cut_at.ensures.back c.in-Some.ensures.cases.0,
+  ap weight_of (sym c.trim-2.ensures)
+      ∙ sym c.in_default-weight.ensures,
+)
 
 pub returns-clause-found : goal.returns-clause-found
 returns-clause-found c = record {

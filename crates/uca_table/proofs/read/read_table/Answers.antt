@@ -9,4 +9,5 @@ use Rattle.uca_table.proofs.read.read_table.Goals as goal
 
 pub returns-clause-only : goal.returns-clause-only
 returns-clause-only g c =
-    only_known {X = TableContent} {F = TableFault} (λ table. table) (λ fault. fault.line) (λ fault. fault.kind) TABLE_FORM Says Cause IsUnfinished Gives exact gives_one gives_finished _ _ c.read_to_end.result c.read_to_end.ensures.found c.read_to_end.ensures.fault
+    only_known {X = TableContent} {F = TableFault} (λ table. table) (λ fault. fault.line) (λ fault. fault.kind) TABLE_FORM Says Cause IsUnfinished
+    Gives exact gives_one gives_finished _ _ c.read_to_end.result c.read_to_end.ensures.found c.read_to_end.ensures.fault

@@ -10,4 +10,5 @@ returns-in_err-elements-clause-fault g c =
 
 pub returns-clause-found : goal.returns-clause-found
 returns-clause-found g c =
-    row_is c.args.text.now _ _ _ _ _ c.cut_at.ensures.front c.cut_at.ensures.back c.in-Some.ensures.cases.0 c.in_ok-key.ensures.found c.in_ok-elements.ensures.found
+    row_is c.args.text.now _ _ _ _ _ c.cut_at.ensures.front c.cut_at.ensures.back c.in-Some.ensures.cases.0 c.in_ok-key.ensures.found
+    c.in_ok-elements.ensures.found

@@ -7,7 +7,7 @@ use Rattle.uca_text.proofs.limits.classify.Given as goal
 
 abbrev pub invariant-loop-place : goal.invariant-loop-place
 invariant-loop-place g l = record {
-  items : l.classes.items ≡ map (class_in l.data.classes) (take l.place l.points);
-  counted : IsCounted (map (class_in l.data.classes) l.points) l.place l.run;
+  items : l.classes.items ≡ map (class_in l.properties.classes) (take l.place l.points);
+  counted : IsCounted (map (class_in l.properties.classes) l.points) l.place l.run;
   scalars : AllByRecursion IsScalar (take l.place l.points);
 }

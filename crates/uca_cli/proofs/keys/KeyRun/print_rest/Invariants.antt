@@ -1,7 +1,6 @@
 -- The keys of the lines so far were handed over, and neither reader nor writer has failed since.
 use Rattle.std.proofs.Common.{◌≡◌, ℕ, ◌+◌, ◌-◌, ◌*◌, ◌^◌, ◌≤◌, List, Option, length}
-use Rattle.uca_values.specs.Content.{properties_of}
-use Rattle.uca_cli.specs.Keys.{collation_by}
+use Rattle.uca_cli.specs.Keys.{keying_of}
 use Rattle.uca_cli.specs.KeysSoFar.{HasPrinted}
 use Rattle.uca_cli.proofs.keys.KeyRun.print_rest.Given as goal
 
@@ -11,8 +10,8 @@ invariant-lines g l = record {
   weighting : l.self.key.weighting ≡ l.fn.self.key.weighting;
   small : l.self.output.written + length l.self.output.held ≤ l.self.reader.number * 2 ^ 42;
   printed : (start begun : Option (List ℕ)) (before : List (List ℕ)) →
-      HasPrinted (collation_by (g.L.Lookup.content l.collator.lookup.now) l.collator.header.now.ranges (properties_of l.collator.data.now) l.fn.self.key.weighting) start begun before l.fn.self.reader l.fn.input l.fn.self.output l.fn.out →
-      (now : List (List ℕ)) × HasPrinted (collation_by (g.L.Lookup.content l.collator.lookup.now) l.collator.header.now.ranges (properties_of l.collator.data.now) l.fn.self.key.weighting) start begun now l.self.reader l.input l.self.output l.out;
+      HasPrinted (keying_of g.L.Lookup.content l.collator l.fn.self.key.weighting) start begun before l.fn.self.reader l.fn.input l.fn.self.output l.fn.out →
+      (now : List (List ℕ)) × HasPrinted (keying_of g.L.Lookup.content l.collator l.fn.self.key.weighting) start begun now l.self.reader l.input l.self.output l.out;
   input_failed : l.input.failed ≡ l.fn.input.failed;
   out_failed : l.out.failed ≡ l.fn.out.failed;
 }

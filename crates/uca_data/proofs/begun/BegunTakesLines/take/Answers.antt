@@ -15,7 +15,8 @@ returns-in_err-range_line-clause-fault g c =
       other = not_header text _ c.eq.ensures c.if-eq.false;
     } in
     let p = err_from_is_err_and c.from_residual.result c.from_residual.ensures.1 in
-    rw (p.1, p.2) (inr (words_cause (summary self.started self.«data») c.args.line.now text c.line_text-text.ensures due _ c.in_err-range_line.ensures.value _ refl))
+    rw (p.1, p.2) (inr (words_cause (summary self.started self.«data») c.args.line.now text c.line_text-text.ensures due _
+    c.in_err-range_line.ensures.value _ refl))
 
 pub returns-clause-ok : goal.returns-clause-ok
 returns-clause-ok g c =
@@ -26,7 +27,8 @@ returns-clause-ok g c =
       some = some_from_test text _ c.is_empty.ensures c.if-is_empty.false;
       other = not_header text _ c.eq.ensures c.if-eq.false;
     } in
-    added_takes self.«data» c.add.new.«data» self.started c.args.line.now text c.line_text-text.ensures due _ c.in_ok-range_line.ensures.value _ c.add.ensures.ok
+    added_takes self.«data» c.add.new.«data» self.started c.args.line.now text c.line_text-text.ensures due _ c.in_ok-range_line.ensures.value _
+    c.add.ensures.ok
 
 pub returns-clause-fault : goal.returns-clause-fault
 returns-clause-fault g c =
@@ -37,4 +39,5 @@ returns-clause-fault g c =
       some = some_from_test text _ c.is_empty.ensures c.if-is_empty.false;
       other = not_header text _ c.eq.ensures c.if-eq.false;
     } in
-    refused_cause self.«data» c.add.new.«data» self.started c.args.line.now text c.line_text-text.ensures due _ c.in_ok-range_line.ensures.value _ c.add.ensures.err
+    refused_cause self.«data» c.add.new.«data» self.started c.args.line.now text c.line_text-text.ensures due _ c.in_ok-range_line.ensures.value _
+    c.add.ensures.err

@@ -23,16 +23,20 @@ pub returns-then-branch-clause-bytes : goal.returns-then-branch-clause-bytes
 returns-then-branch-clause-bytes g c =
     let i = c.loop-self.invariant in
     let taken = c.in_ok-take_waiting.ensures in
-    Consumes-ended (left_of c.args.self.now c.args.source.now) c.loop-self.source.remaining c.loop-self.line.items c.loop-self.self.pending c.take_waiting.new.line.items c.take_waiting.new.self.pending i.bytes (taken.found.0 c.if-branch.true) taken.line taken.pending
+    Consumes-ended (left_of c.args.self.now c.args.source.now) c.loop-self.source.remaining c.loop-self.line.items c.loop-self.self.pending
+    c.take_waiting.new.line.items c.take_waiting.new.self.pending i.bytes (taken.found.0 c.if-branch.true) taken.line taken.pending
 
 pub returns-then-branch-clause-no_lf : goal.returns-then-branch-clause-no_lf
-returns-then-branch-clause-no_lf g c = Lacks_more c.loop-self.line.items c.loop-self.self.pending c.take_waiting.new.line.items c.loop-self.invariant.no_lf c.in_ok-take_waiting.ensures.line
+returns-then-branch-clause-no_lf g c = Lacks_more c.loop-self.line.items c.loop-self.self.pending c.take_waiting.new.line.items
+    c.loop-self.invariant.no_lf c.in_ok-take_waiting.ensures.line
 
 pub returns-in_err-fill-clause-no_lf : goal.returns-in_err-fill-clause-no_lf
-returns-in_err-fill-clause-no_lf g c = Lacks_more c.loop-self.line.items c.loop-self.self.pending c.take_waiting.new.line.items c.loop-self.invariant.no_lf c.in_ok-take_waiting.ensures.line
+returns-in_err-fill-clause-no_lf g c = Lacks_more c.loop-self.line.items c.loop-self.self.pending c.take_waiting.new.line.items
+    c.loop-self.invariant.no_lf c.in_ok-take_waiting.ensures.line
 
 pub returns-then-not-branch-clause-no_lf : goal.returns-then-not-branch-clause-no_lf
-returns-then-not-branch-clause-no_lf g c = Lacks_more c.loop-self.line.items c.loop-self.self.pending c.take_waiting.new.line.items c.loop-self.invariant.no_lf c.in_ok-take_waiting.ensures.line
+returns-then-not-branch-clause-no_lf g c = Lacks_more c.loop-self.line.items c.loop-self.self.pending c.take_waiting.new.line.items
+    c.loop-self.invariant.no_lf c.in_ok-take_waiting.ensures.line
 
 pub loop-self-preserved : goal.loop-self-preserved
 loop-self-preserved g c =
@@ -43,7 +47,8 @@ loop-self-preserved g c =
     record {
       bytes = Consumes-kept (left_of c.args.self.now c.args.source.now)
           (left_of c.take_waiting.new.self c.loop-self.source) (left_of c.fill.new.self c.fill.new.source) c.take_waiting.new.line.items
-          (Consumes-part (left_of c.args.self.now c.args.source.now) c.loop-self.source.remaining c.loop-self.line.items c.loop-self.self.pending c.take_waiting.new.line.items c.take_waiting.new.self.pending i.bytes none taken.line taken.pending) filled.bytes;
+          (Consumes-part (left_of c.args.self.now c.args.source.now) c.loop-self.source.remaining c.loop-self.line.items c.loop-self.self.pending
+          c.take_waiting.new.line.items c.take_waiting.new.self.pending i.bytes none taken.line taken.pending) filled.bytes;
       no_lf = Lacks_more c.loop-self.line.items c.loop-self.self.pending c.take_waiting.new.line.items i.no_lf taken.line;
       fits = omega (arith, taken.fits, taken.longest, filled.longest);
       some = MatchBool-at_true _ _ c.if-not-branch.false filled.pending;

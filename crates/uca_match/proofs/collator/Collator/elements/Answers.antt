@@ -2,7 +2,7 @@ use Rattle.std.proofs.Common.{ap, ◌∙◌}
 use Rattle.uca_match.specs.Reading.{collation_elements}
 use Rattle.uca_match.specs.Places.{left_of}
 use Rattle.uca_match.specs.Collations.{collation_of}
-use Rattle.uca_match.proofs.Gone.{left_of_start}
+use Rattle.uca_match.proofs.PlaceLemmas.{left_of_start}
 use Rattle.uca_match.proofs.collator.Collator.elements.Goals as goal
 
 pub returns : goal.returns

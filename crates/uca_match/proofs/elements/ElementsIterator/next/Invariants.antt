@@ -11,7 +11,8 @@ invariant-loop-first g l =
     record {
       no_second : now.second ≡ None;
       is_place : IsPlace now.text.now now.place;
-      same_rest : rest_of (collation_of g.L.Lookup.content now.collator) None now.row.now (left_of now.text.now now.place) ≡ rest_of (collation_of g.L.Lookup.content before.collator) None before.row.now (left_of before.text.now before.place);
+      same_rest : rest_of (collation_of g.L.Lookup.content now.collator) None now.row.now (left_of now.text.now now.place)
+          ≡ rest_of (collation_of g.L.Lookup.content before.collator) None before.row.now (left_of before.text.now before.place);
     }
 
 abbrev pub decreases-loop-first : goal.decreases-loop-first

@@ -1,6 +1,6 @@
 use Rattle.std.proofs.Common.{◌<◌, length, ap, sym, ◌∙◌, arith, add-one}
 use Rattle.uca_match.specs.Places.{left_at}
-use Rattle.uca_match.proofs.Left.{left_gone}
+use Rattle.uca_match.proofs.PlaceLemmas.{left_gone}
 use Rattle.uca_match.proofs.places.Place.first_left.Goals as goal
 
 pub loop-i-preserved : goal.loop-i-preserved

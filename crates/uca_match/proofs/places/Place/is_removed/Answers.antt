@@ -1,5 +1,5 @@
 use Rattle.std.proofs.Common.{sym, rules, arith}
-use Rattle.uca_match.proofs.Gone.{gone_is, gone_far, gone_before_run}
+use Rattle.uca_match.proofs.PlaceLemmas.{gone_is, gone_far, gone_before_run}
 use Rattle.uca_match.proofs.places.Place.is_removed.Goals as goal
 use Rattle.uca_match.proofs.places.Place.is_removed.Goals.{then-i-self-via-then-i-self, then-i-self-via-else-i-self+then-i-self-ge64}
 

@@ -1,5 +1,5 @@
 use Rattle.std.proofs.Common.{refl, arith}
-use Rattle.uca_match.proofs.Gone.{left_anew}
+use Rattle.uca_match.proofs.PlaceLemmas.{left_anew}
 use Rattle.uca_match.proofs.places.Place.moved.Goals as goal
 
 pub returns-clause-left : goal.returns-clause-left

@@ -1,4 +1,4 @@
-use Rattle.uca_match.proofs.Gone.{gone_here, gone_elsewhere}
+use Rattle.uca_match.proofs.PlaceLemmas.{gone_here, gone_elsewhere}
 use Rattle.uca_match.proofs.places.Place.with_removed.Goals as goal
 
 pub returns-clause-here : goal.returns-clause-here

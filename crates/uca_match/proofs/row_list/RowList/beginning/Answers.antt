@@ -7,6 +7,7 @@ returns-then-node-rows g c = node_past c.args.self.now.rows.now c.args.node c.if
 
 pub returns : goal.returns
 returns g c =
-    node_row c.args.self.now.rows.now c.args.node c.index-rows-node.result c.deref.result.now c.len.result c.min-len.result c.if-node-rows.false c.index-rows-node.is
+    node_row c.args.self.now.rows.now c.args.node c.index-rows-node.result c.deref.result.now c.len.result c.min-len.result c.if-node-rows.false
+    c.index-rows-node.is
     (c.deref.ensures.value ∙ ap (λ row. row.key) c.row.view_is)
     (c.len.ensures ∙ c.row.inside.key.ok.0 ∙ ap (λ row. length row) (sym c.deref.ensures.value)) c.min-len.ensures

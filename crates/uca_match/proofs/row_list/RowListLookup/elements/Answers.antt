@@ -10,7 +10,8 @@ returns-then-eq g c = λ key is.
     let same = is ∙ sym c.beginning-key.ensures in
     let row_key = c.as_slice.ensures.value ∙ ap (λ row. row.key) c.row.view_is in
     let test = c.eq.ensures ∙ ap (λ k. bytes_eq k c.beginning-key.result.now) row_key in
-    let there = row_here rows c.loop-row.row-index c.row-item.result c.beginning-key.result.now c.eq.result c.loop-row-test.true c.row-item.is test c.if-eq.true in
+    let there = row_here rows c.loop-row.row-index c.row-item.result c.beginning-key.result.now c.eq.result c.loop-row-test.true c.row-item.is test
+    c.if-eq.true in
     ap (rows_of rows) same ∙ sym c.loop-row.invariant ∙ there ∙ ap (λ row. Some row.elements) (sym c.row.view_is) ∙ ap Some (sym c.deref.ensures.value)
 
 pub loop-row-preserved : goal.loop-row-preserved
@@ -18,4 +19,5 @@ loop-row-preserved g c =
     let rows = c.args.self.now.rows.now in
     let row_key = c.as_slice.ensures.value ∙ ap (λ row. row.key) c.row.view_is in
     let test = c.eq.ensures ∙ ap (λ k. bytes_eq k c.beginning-key.result.now) row_key in
-    sym (row_later rows c.loop-row.row-index c.row-item.result c.beginning-key.result.now c.eq.result c.loop-row-test.true c.row-item.is test c.if-eq.false) ∙ c.loop-row.invariant
+    sym (row_later rows c.loop-row.row-index c.row-item.result c.beginning-key.result.now c.eq.result c.loop-row-test.true c.row-item.is test
+    c.if-eq.false) ∙ c.loop-row.invariant

@@ -9,8 +9,10 @@ returns-then-number-eq0 g c = λ key is.
     let nodes = c.args.self.now in
     let heads = c.self.inside.heads.items in
     let are = subst (λ t. AreHeads (node_at t 0).edges heads) c.self.view_is c.self.invariant.first_steps in
-    let there = head_read (node_at nodes 0).edges heads c.args.c c.index-number.result.now are (omega (arith, c.if-code-len.true, c.len.ensures, c.self.inside.heads.ok.0)) c.index-number.ensures in
-    leads_nowhere nodes 0 c.args.c (head_none (node_at nodes 0).edges heads c.args.c c.index-number.result.now are (omega (arith, c.if-code-len.true, c.len.ensures, c.self.inside.heads.ok.0)) there c.if-number-eq0.true) key (is ∙ ap Some c.if-node-eq0.true)
+    let there = head_read (node_at nodes 0).edges heads c.args.c c.index-number.result.now are
+    (omega (arith, c.if-code-len.true, c.len.ensures, c.self.inside.heads.ok.0)) c.index-number.ensures in
+    leads_nowhere nodes 0 c.args.c (head_none (node_at nodes 0).edges heads c.args.c c.index-number.result.now are
+    (omega (arith, c.if-code-len.true, c.len.ensures, c.self.inside.heads.ok.0)) there c.if-number-eq0.true) key (is ∙ ap Some c.if-node-eq0.true)
 
 pub returns-then-code-len : goal.returns-then-code-len
 returns-then-code-len g c = λ key is.
@@ -18,8 +20,11 @@ returns-then-code-len g c = λ key is.
     let heads = c.self.inside.heads.items in
     let tree = subst (λ t. IsTree t) c.self.view_is c.self.invariant.tree in
     let are = subst (λ t. AreHeads (node_at t 0).edges heads) c.self.view_is c.self.invariant.first_steps in
-    let there = head_read (node_at nodes 0).edges heads c.args.c c.index-number.result.now are (omega (arith, c.if-code-len.true, c.len.ensures, c.self.inside.heads.ok.0)) c.index-number.ensures in
-    leads_on nodes tree 0 c.args.c c.index-number.result.now (head_some (node_at nodes 0).edges heads c.args.c c.index-number.result.now are (omega (arith, c.if-code-len.true, c.len.ensures, c.self.inside.heads.ok.0)) there c.if-number-eq0.false) key (is ∙ ap Some c.if-node-eq0.true)
+    let there = head_read (node_at nodes 0).edges heads c.args.c c.index-number.result.now are
+    (omega (arith, c.if-code-len.true, c.len.ensures, c.self.inside.heads.ok.0)) c.index-number.ensures in
+    leads_on nodes tree 0 c.args.c c.index-number.result.now
+    (head_some (node_at nodes 0).edges heads c.args.c c.index-number.result.now are
+    (omega (arith, c.if-code-len.true, c.len.ensures, c.self.inside.heads.ok.0)) there c.if-number-eq0.false) key (is ∙ ap Some c.if-node-eq0.true)
 
 pub index-requires : goal.index-requires
 index-requires g c =
@@ -51,4 +56,5 @@ returns-in-Err g c = λ key is.
     let within = is_node nodes tree c.args.node.number c.requires in
     let node = branch_read c.self.inside.nodes.items nodes c.args.node.number c.index.result.now c.self.view_is within c.index.ensures in
     let edges = c.deref.ensures.value ∙ ap (λ b. b.edges) (c.behind-self.view_is ∙ node) in
-    leads_nowhere nodes c.args.node.number c.args.c (ap (λ e. target_of e c.args.c) (sym edges) ∙ none_at_new_place c.deref.result.now c.args.c c.in-Err.field-0 c.in-Err.ensures) key is
+    leads_nowhere nodes c.args.node.number c.args.c
+    (ap (λ e. target_of e c.args.c) (sym edges) ∙ none_at_new_place c.deref.result.now c.args.c c.in-Err.field-0 c.in-Err.ensures) key is

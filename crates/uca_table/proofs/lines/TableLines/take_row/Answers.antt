@@ -5,7 +5,8 @@ use Rattle.uca_table.proofs.lines.TableLines.take_row.Goals as goal
 
 pub returns-then-is_none-clause-fault : goal.returns-then-is_none-clause-fault
 returns-then-is_none-clause-fault g c =
-    row_order_fault c.args.self.now _ c.args.text.now c.self.view_is c.requires.some c.requires.row (has_none _ c.self.inside.version _ c.is_none.ensures c.if-is_none.true)
+    row_order_fault c.args.self.now _ c.args.text.now c.self.view_is c.requires.some c.requires.row
+    (has_none _ c.self.inside.version _ c.is_none.ensures c.if-is_none.true)
 
 pub add_row-requires-clause-entry : goal.add_row-requires-clause-entry
 add_row-requires-clause-entry g c = row_is_entry c.args.text.now c.in_ok-row.row c.in_ok-row.ensures.found
@@ -13,10 +14,12 @@ add_row-requires-clause-entry g c = row_is_entry c.args.text.now c.in_ok-row.row
 pub returns-clause-ok : goal.returns-clause-ok
 returns-clause-ok g c =
     row_taken c.args.self.now _ _ c.args.text.now c.in_ok-row.row c.add_row.result c.self.view_is c.self.invariant.begun
-    (has_some _ c.self.inside.version _ c.is_none.ensures c.if-is_none.false) c.in_ok-row.ensures.found c.add_row.ensures.new c.add_row.ensures.few c.add_row.ensures.ok
+    (has_some _ c.self.inside.version _ c.is_none.ensures c.if-is_none.false) c.in_ok-row.ensures.found c.add_row.ensures.new c.add_row.ensures.few
+    c.add_row.ensures.ok
 
 pub returns-clause-fault : goal.returns-clause-fault
-returns-clause-fault g c = row_add_fault c.args.self.now c.args.text.now c.in_ok-row.row c.add_row.result c.requires.some c.requires.row c.in_ok-row.ensures.found c.add_row.ensures.fault
+returns-clause-fault g c = row_add_fault c.args.self.now c.args.text.now c.in_ok-row.row c.add_row.result c.requires.some c.requires.row
+    c.in_ok-row.ensures.found c.add_row.ensures.fault
 
 pub returns-in_err-row-clause-fault : goal.returns-in_err-row-clause-fault
 returns-in_err-row-clause-fault g c =

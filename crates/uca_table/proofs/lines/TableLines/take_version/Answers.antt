@@ -5,7 +5,8 @@ use Rattle.uca_table.proofs.TakeLaws.{takes_version, keeps_version, name_is_text
 use Rattle.uca_table.proofs.lines.TableLines.take_version.Goals as goal
 
 pub unwrap-name-requires : goal.unwrap-name-requires
-unwrap-name-requires g c = is_ok_by _ _ _ _ c.from_utf8.ensures.cases (name_is_text c.argument-name.result.now (sym c.is_version_name.ensures ∙ c.if-not-is_version_name.false))
+unwrap-name-requires g c = is_ok_by _ _ _ _ c.from_utf8.ensures.cases
+    (name_is_text c.argument-name.result.now (sym c.is_version_name.ensures ∙ c.if-not-is_version_name.false))
 
 pub invariant_of-self : goal.invariant_of-self
 invariant_of-self g c =

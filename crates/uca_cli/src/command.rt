@@ -1,0 +1,231 @@
+//! The command: it reads its words, opens the files that they name, and calls the run.
+
+ghost use Rattle.std.specs.Prelude.{◌≡◌, ⊤, ℕ, List, Bool, Result, MatchResult};
+ghost use Rattle.clap.specs.Walk.{texts};
+ghost use Rattle.uca_cli.specs.CheckRun.{RunsCheck};
+ghost use Rattle.uca_cli.specs.CompareRun.{RunsCompare};
+ghost use Rattle.uca_cli.specs.KeysRun.{RunsKeys};
+ghost use Rattle.uca_cli.specs.SortRun.{RunsSort};
+ghost use Rattle.uca_cli.specs.Runs.{RunsOver};
+ghost use Rattle.uca_cli.specs.declared.command.OpenFault.{OpenFault};
+ghost use Rattle.uca_cli.specs.declared.faults.RunFault.{RunFault};
+ghost use Rattle.uca_cli.specs.Command.{AreOpened, DoesNotOpen, OpensAndRuns, done_result, check_result, DoesWords, DoesCommand};
+
+use crate::faults::{Role, RunFault};
+use crate::reporting::{DONE, REFUSED, report};
+use crate::{run_check, run_compare, run_keys, run_sort};
+use std::alloc::Global;
+use std::io::{Read, Write};
+use thiserror::Error;
+use uca_weights::{Sink, Source, Weighting};
+use uca_words::{Words, read_words};
+
+/// A file does not open.
+#[derive(Clone, Copy, Debug, PartialEq, Eq, Error)]
+#[error("the file does not open")]
+pub struct OpenFault;
+
+/// Opens files by their names.
+pub trait Opens {
+    /// An opened file.
+    type File: Read + Drop;
+
+    // Holds of the opener before a call, the name, the result and the opener after, where the impl says it.
+    ghost open_gives: { Self → List ℕ → Result Self.File OpenFault → Self → Type 0 } = { λ _ _ _ _. ⊤ };
+
+    /// Opens the file of this name to be read.
+    ///
+    /// # Errors
+    ///
+    /// `OpenFault` where the file does not open.
+    fn open(&mut self, name: &str) -> Result<Self::File, OpenFault>
+        ensures { open_gives self.old name.now result self.new };
+}
+
+// The sources of a table file and of a data file, which are opened in this order, or the first that does
+// not open.
+fn open_files<O: Opens>(
+    opener: &mut O,
+    table: &str,
+    properties: &str,
+) -> Result<(Source<O::File>, Source<O::File>), Role>
+    ensures { MatchResult result
+        (λ files. AreOpened O.open_gives O.File.remaining opener.old opener.new table.now properties.now files.0 files.1)
+        (DoesNotOpen O.open_gives opener.old opener.new table.now properties.now) }
+{
+    let Ok(table) = opener.open(table) else {
+        return Err(Role::Table);
+    };
+    let Ok(properties) = opener.open(properties) else {
+        return Err(Role::Data);
+    };
+    Ok((Source::new(table), Source::new(properties)))
+}
+
+// The status of a run that was done.
+fn done(run: Result<(), RunFault>) -> Result<u8, RunFault>
+    ensures { result ≡ done_result run }
+{
+    match run {
+        Ok(()) => Ok(DONE),
+        Err(fault) => Err(fault),
+    }
+}
+
+// The status of a check that was done.
+fn checked(run: Result<bool, RunFault>) -> Result<u8, RunFault>
+    ensures { result ≡ check_result run }
+{
+    match run {
+        Ok(true) => Ok(DONE),
+        Ok(false) => Ok(REFUSED),
+        Err(fault) => Err(fault),
+    }
+}
+
+// `check`.
+fn check<O: Opens, W: Write>(
+    alloc: Global,
+    opener: &mut O,
+    table: &str,
+    properties: &str,
+    out: &mut Sink<W>,
+) -> Result<u8, RunFault>
+    ensures { OpensAndRuns O.open_gives O.File.remaining opener.old opener.new table.now properties.now (out.new ≡ out.old)
+        (λ t t_new d d_new. (run : Result Bool RunFault) × (result ≡ check_result run) × RunsOver t t_new d d_new (RunsCheck out.old out.new run) run) result }
+{
+    let (mut table, mut properties) = match open_files(opener, table, properties) {
+        Ok(files) => files,
+        Err(role) => return Err(RunFault::Open(role)),
+    };
+    checked(run_check(alloc, &mut table, &mut properties, out))
+}
+
+// `keys`.
+fn keys<O: Opens, I: Read, W: Write>(
+    alloc: Global,
+    opener: &mut O,
+    weighting: Option<Weighting>,
+    table: &str,
+    properties: &str,
+    input: &mut Source<I>,
+    out: &mut Sink<W>,
+) -> Result<u8, RunFault>
+    ensures { OpensAndRuns O.open_gives O.File.remaining opener.old opener.new table.now properties.now ((input.new ≡ input.old) × (out.new ≡ out.old))
+        (λ t t_new d d_new. (run : Result (Unit {0}) RunFault) × (result ≡ done_result run) × RunsOver t t_new d d_new (RunsKeys weighting input.old input.new out.old out.new run) run) result }
+{
+    let (mut table, mut properties) = match open_files(opener, table, properties) {
+        Ok(files) => files,
+        Err(role) => return Err(RunFault::Open(role)),
+    };
+    done(run_keys(alloc, &mut table, &mut properties, input, out, weighting))
+}
+
+// `sort`.
+fn sort<O: Opens, I: Read, W: Write>(
+    alloc: Global,
+    opener: &mut O,
+    weighting: Option<Weighting>,
+    table: &str,
+    properties: &str,
+    input: &mut Source<I>,
+    out: &mut Sink<W>,
+) -> Result<u8, RunFault>
+    ensures { OpensAndRuns O.open_gives O.File.remaining opener.old opener.new table.now properties.now ((input.new ≡ input.old) × (out.new ≡ out.old))
+        (λ t t_new d d_new. (run : Result (Unit {0}) RunFault) × (result ≡ done_result run) × RunsOver t t_new d d_new (RunsSort weighting input.old input.new out.old out.new run) run) result }
+{
+    let (mut table, mut properties) = match open_files(opener, table, properties) {
+        Ok(files) => files,
+        Err(role) => return Err(RunFault::Open(role)),
+    };
+    done(run_sort(alloc, &mut table, &mut properties, input, out, weighting))
+}
+
+// `compare`.
+fn compare<O: Opens, W: Write>(
+    alloc: Global,
+    opener: &mut O,
+    weighting: Option<Weighting>,
+    table: &str,
+    properties: &str,
+    left: &str,
+    right: &str,
+    out: &mut Sink<W>,
+) -> Result<u8, RunFault>
+    ensures { OpensAndRuns O.open_gives O.File.remaining opener.old opener.new table.now properties.now (out.new ≡ out.old)
+        (λ t t_new d d_new. (run : Result (Unit {0}) RunFault) × (result ≡ done_result run) × RunsOver t t_new d d_new (RunsCompare weighting left.now right.now out.old out.new run) run) result }
+{
+    let (mut table, mut properties) = match open_files(opener, table, properties) {
+        Ok(files) => files,
+        Err(role) => return Err(RunFault::Open(role)),
+    };
+    done(run_compare(
+        alloc,
+        &mut table,
+        &mut properties,
+        left,
+        right,
+        out,
+        weighting,
+    ))
+}
+
+// Does what the words say, and returns the status of what was done.
+fn run_words<O: Opens, I: Read, W: Write>(
+    alloc: Global,
+    opener: &mut O,
+    asked: &Words,
+    input: &mut Source<I>,
+    out: &mut Sink<W>,
+) -> Result<u8, RunFault>
+    ensures { DoesWords O.open_gives O.File.remaining opener.old opener.new asked.now
+        input.old input.new out.old out.new result }
+{
+    match *asked {
+        Words::Check { table, properties } => check(alloc, opener, table, properties, out),
+        Words::Keys {
+            weighting,
+            table,
+            properties,
+        } => keys(alloc, opener, weighting, table, properties, input, out),
+        Words::Sort {
+            weighting,
+            table,
+            properties,
+        } => sort(alloc, opener, weighting, table, properties, input, out),
+        Words::Compare {
+            weighting,
+            table,
+            properties,
+            left,
+            right,
+        } => compare(
+            alloc, opener, weighting, table, properties, left, right, out,
+        ),
+    }
+}
+
+/// Does what the words ask for, of which the first is the program's name, and returns the status that the
+/// program ends with: the words are read, then all files that they name are opened in the order of the words,
+/// and then the run reads and writes. A fault is reported, and nothing is read or opened where the words
+/// are refused.
+pub fn run_command<'a, O: Opens, I: Read, W: Write, E: Write>(
+    alloc: Global,
+    opener: &mut O,
+    words: &'a [&'a str],
+    input: &mut Source<I>,
+    out: &mut Sink<W>,
+    err: &mut Sink<E>,
+) -> u8
+    ensures { DoesCommand O.open_gives O.File.remaining opener.old opener.new (texts words.entry.now)
+        input.old input.new out.old out.new err.old err.new result }
+{
+    let asked = match read_words(alloc, words) {
+        Ok(asked) => asked,
+        Err(fault) => return report(alloc, &RunFault::Words(fault), out, err),
+    };
+    match run_words(alloc, opener, &asked, input, out) {
+        Ok(status) => status,
+        Err(fault) => report(alloc, &fault, out, err),
+    }
+}

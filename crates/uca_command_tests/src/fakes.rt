@@ -1,0 +1,156 @@
+//! An opener of two files in memory that sees in which order they are opened and read.
+
+use std::cell::Cell;
+use std::io;
+use std::io::Read;
+use std::process::Abort;
+use std::test::Fail;
+use uca_cli::{OpenFault, Opens, run_command};
+use uca_fakes::{Calls, FakeReader, Pace};
+use uca_weights::{Sink, Source};
+
+/// The name of the table file.
+pub const TABLE: &str = "allkeys.txt";
+
+/// The name of the data file.
+pub const DATA: &str = "data.txt";
+
+/// The files of a command: their texts, or nothing where one does not open.
+#[derive(Clone, Copy)]
+pub struct Files<'a> {
+    /// The text of the table file.
+    pub table: Option<&'a str>,
+    /// The text of the data file.
+    pub properties: Option<&'a str>,
+}
+
+// What the opener and its files saw.
+#[derive(Drop)]
+struct Seen {
+    // How many files were opened.
+    opened: Cell<u32>,
+    // How many reads there were before two files were opened.
+    early: Cell<u32>,
+    // How many reads of the first file there were after one of the second.
+    back: Cell<u32>,
+    // The file that was read last.
+    last: Cell<u32>,
+}
+
+impl Seen {
+    fn see_read(&self, number: u32) {
+        if self.opened.get() < 2 {
+            self.early.set(self.early.get().saturating_add(1));
+        }
+        if number < self.last.get() {
+            self.back.set(self.back.get().saturating_add(1));
+        }
+        self.last.set(number);
+    }
+}
+
+#[derive(Drop)]
+struct FakeOpener<'a> {
+    files: Files<'a>,
+    seen: &'a Seen,
+}
+
+#[derive(Drop)]
+struct FakeFile<'a> {
+    rest: &'a [u8],
+    number: u32,
+    seen: &'a Seen,
+}
+
+impl<'a> Opens for FakeOpener<'a> {
+    type File = FakeFile<'a>;
+
+    fn open(&mut self, name: &str) -> Result<FakeFile<'a>, OpenFault> {
+        let text = match name {
+            "allkeys.txt" => self.files.table,
+            "data.txt" => self.files.properties,
+            _ => None,
+        };
+        let Some(text) = text else {
+            return Err(OpenFault);
+        };
+        let number = self.seen.opened.get().saturating_add(1);
+        self.seen.opened.set(number);
+        Ok(FakeFile {
+            rest: text.as_bytes(),
+            number,
+            seen: self.seen,
+        })
+    }
+}
+
+impl Read for FakeFile<'_> {
+    fn read(&mut self, buf: &mut [u8]) -> io::Result<usize> {
+        self.seen.see_read(self.number);
+        let count = self.rest.len().min(buf.len());
+        let (given, rest) = self.rest.split_at(count);
+        buf[..count].copy_from_slice(given);
+        self.rest = rest;
+        Ok(count)
+    }
+}
+
+/// How a command ends: its status, what it writes on standard output and on standard error, and how many
+/// files it opens.
+#[derive(Clone, Copy)]
+pub struct End<'a> {
+    /// The status.
+    pub status: u8,
+    /// What is written on standard output.
+    pub out: &'a str,
+    /// What is written on standard error.
+    pub err: &'a str,
+    /// How many files are opened.
+    pub opened: u32,
+}
+
+/// The command ends so over these files and this input: all files are opened before one is read, the
+/// first is read before the second, and the input is read only where both are opened.
+pub fn check(
+    rt: &(impl Abort + AllocGlobal),
+    files: Files,
+    words: &[&str],
+    input: &[u8],
+    end: End,
+) -> Result<(), Fail> {
+    let seen = Seen {
+        opened: Cell::new(0),
+        early: Cell::new(0),
+        back: Cell::new(0),
+        last: Cell::new(0),
+    };
+    let calls = Calls::new();
+    let mut opener = FakeOpener { files, seen: &seen };
+    let mut input = Source::new(FakeReader::new(input, Pace::steps(7), &calls));
+    let mut out = Sink::new(Vec::new(rt.alloc()));
+    let mut err = Sink::new(Vec::new(rt.alloc()));
+    let status = run_command(
+        rt.alloc(),
+        &mut opener,
+        words,
+        &mut input,
+        &mut out,
+        &mut err,
+    );
+    assert_eq!(rt;
+        out.into_inner().as_slice(),
+        end.out.as_bytes(),
+        "out of {words:?}"
+    );
+    assert_eq!(rt;
+        err.into_inner().as_slice(),
+        end.err.as_bytes(),
+        "err of {words:?}"
+    );
+    assert_eq!(rt; status, end.status, "status of {words:?}");
+    assert_eq!(rt; seen.opened.get(), end.opened, "opened by {words:?}");
+    assert_eq!(rt; seen.early.get(), 0);
+    assert_eq!(rt; seen.back.get(), 0);
+    assert!(rt; end.opened == 2 || calls.all.get() == 0);
+    Ok(())
+}

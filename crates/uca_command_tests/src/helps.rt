@@ -1,0 +1,224 @@
+//! The whole text of each help and of refusals.
+
+use crate::fakes::{DATA, End, Files, TABLE, check};
+use std::test::Fail;
+
+const NONE: Files<'static> = Files {
+    table: None,
+    properties: None,
+};
+
+const WHOLE: &str =
+    "Unicode collation (UTS #10): checks tables of weights, prints sort keys, sorts and compares\n\
+    \n\
+    Usage: uca <COMMAND>\n\
+    \n\
+    Commands:\n\
+    \x20 check    Say whether a weight table is well-formed\n\
+    \x20 keys     Print the sort key of each line of standard input\n\
+    \x20 sort     Sort the lines of standard input by their sort keys\n\
+    \x20 compare  Say how two texts compare, and at which level they differ\n\
+    \n\
+    Options:\n\
+    \x20 -h, --help  Print help\n\
+    \n\
+    `uca COMMAND --help` says more of each, with an example.\n";
+
+const CHECK: &str =
+    "Says whether a weight table is well-formed (UTS #10, section 9.2): prints `well-formed`, or the\n\
+    condition that is broken and the row that breaks it, as `WF5 row 8`, with status 1.\n\
+    \n\
+    Usage: uca check <TABLE> <DATA>\n\
+    \n\
+    Arguments:\n\
+    \x20 <TABLE>\n\
+    \x20         A weight table in the form of allkeys.txt\n\
+    \n\
+    \x20 <DATA>\n\
+    \x20         A data file: combining classes and Han ranges\n\
+    \n\
+    Options:\n\
+    \x20 -h, --help\n\
+    \x20         Print help (see a summary with '-h')\n\
+    \n\
+    Example: uca check allkeys.txt data.txt\n";
+
+const KEYS: &str =
+    "Prints the sort key (UTS #10, S3) of each line of standard input on a line of its own, in groups\n\
+    of four hexadecimal digits. `0000` stands between two levels.\n\
+    \n\
+    Usage: uca keys [OPTIONS] <TABLE> <DATA>\n\
+    \n\
+    Arguments:\n\
+    \x20 <TABLE>\n\
+    \x20         A weight table in the form of allkeys.txt\n\
+    \n\
+    \x20 <DATA>\n\
+    \x20         A data file: combining classes and Han ranges\n\
+    \n\
+    Options:\n\
+    \x20     --weighting <W>\n\
+    \x20         non-ignorable or shifted [default: what the table's @variable says, else shifted]\n\
+    \n\
+    \x20 -h, --help\n\
+    \x20         Print help (see a summary with '-h')\n\
+    \n\
+    Example: uca keys allkeys.txt data.txt < lines.txt\n";
+
+const SORT: &str =
+    "Sorts the lines of standard input by their sort keys. Lines of equal keys keep their order.\n\
+    \n\
+    Usage: uca sort [OPTIONS] <TABLE> <DATA>\n\
+    \n\
+    Arguments:\n\
+    \x20 <TABLE>\n\
+    \x20         A weight table in the form of allkeys.txt\n\
+    \n\
+    \x20 <DATA>\n\
+    \x20         A data file: combining classes and Han ranges\n\
+    \n\
+    Options:\n\
+    \x20     --weighting <W>\n\
+    \x20         non-ignorable or shifted [default: what the table's @variable says, else shifted]\n\
+    \n\
+    \x20 -h, --help\n\
+    \x20         Print help (see a summary with '-h')\n\
+    \n\
+    Example: uca sort --weighting non-ignorable allkeys.txt data.txt < lines.txt\n";
+
+const COMPARE: &str =
+    "Prints `<`, `=` or `>`, as LEFT comes before RIGHT, is equal to it or comes after it, and the level\n\
+    at which the two first differ, 0 if none: `< 2`.\n\
+    \n\
+    Usage: uca compare [OPTIONS] <TABLE> <DATA> <LEFT> <RIGHT>\n\
+    \n\
+    Arguments:\n\
+    \x20 <TABLE>\n\
+    \x20         A weight table in the form of allkeys.txt\n\
+    \n\
+    \x20 <DATA>\n\
+    \x20         A data file: combining classes and Han ranges\n\
+    \n\
+    \x20 <LEFT>\n\
+    \x20         The text on the left\n\
+    \n\
+    \x20 <RIGHT>\n\
+    \x20         The text on the right\n\
+    \n\
+    Options:\n\
+    \x20     --weighting <W>\n\
+    \x20         non-ignorable or shifted [default: what the table's @variable says, else shifted]\n\
+    \n\
+    \x20 -h, --help\n\
+    \x20         Print help (see a summary with '-h')\n\
+    \n\
+    Example: uca compare --weighting shifted allkeys.txt data.txt cote côté\n";
+
+#[test]
+fn whole_help_texts(rt: HostRuntime) -> Result<(), Fail> {
+    let cases: [(&[&str], &str); 6] = [
+        (&["uca", "--help"], WHOLE),
+        (&["uca", "-h"], WHOLE),
+        (&["uca", "check", "--help"], CHECK),
+        (&["uca", "keys", "--help"], KEYS),
+        (&["uca", "sort", "--help"], SORT),
+        (&["uca", "compare", "--help"], COMPARE),
+    ];
+    for (words, out) in cases {
+        let end = End {
+            status: 0,
+            out,
+            err: "",
+            opened: 0,
+        };
+        check(&rt, NONE, words, b"", end)?;
+    }
+    Ok(())
+}
+
+#[test]
+fn whole_refusals(rt: HostRuntime) -> Result<(), Fail> {
+    let cases: [(&[&str], &str); 8] = [
+        (
+            &["uca"],
+            "error: 'uca' requires a subcommand but one was not provided\n\
+             \x20 [subcommands: check, keys, sort, compare]\n\
+             \n\
+             Usage: uca <COMMAND>\n\
+             \n\
+             For more information, try '--help'.\n",
+        ),
+        (
+            &["uca", "other", "t", "d"],
+            "error: unrecognized subcommand 'other'\n\
+             \n\
+             Usage: uca <COMMAND>\n\
+             \n\
+             For more information, try '--help'.\n",
+        ),
+        (
+            &["uca", "keys", "t"],
+            "error: the following required arguments were not provided:\n\
+             \x20 <DATA>\n\
+             \n\
+             Usage: uca keys <TABLE> <DATA>\n\
+             \n\
+             For more information, try '--help'.\n",
+        ),
+        (
+            &["uca", "keys", "--weighting"],
+            "error: a value is required for '--weighting <W>' but none was supplied\n\
+             \n\
+             For more information, try '--help'.\n",
+        ),
+        (
+            &["uca", "keys", "--other", "t", "d"],
+            "error: unexpected argument '--other' found\n\
+             \n\
+             \x20 tip: to pass '--other' as a value, use '-- --other'\n\
+             \n\
+             Usage: uca keys [OPTIONS] <TABLE> <DATA>\n\
+             \n\
+             For more information, try '--help'.\n",
+        ),
+        (
+            &["uca", "keys", "t", "d", "l"],
+            "error: unexpected argument 'l' found\n\
+             \n\
+             Usage: uca keys [OPTIONS] <TABLE> <DATA>\n\
+             \n\
+             For more information, try '--help'.\n",
+        ),
+        (
+            &[
+                "uca",
+                "sort",
+                "--weighting",
+                "x",
+                "--weighting",
+                "x",
+                "t",
+                "d",
+            ],
+            "error: the argument '--weighting <W>' cannot be used multiple times\n\
+             \n\
+             Usage: uca sort [OPTIONS] <TABLE> <DATA>\n\
+             \n\
+             For more information, try '--help'.\n",
+        ),
+        (
+            &["uca", "keys", "--weighting", "other", TABLE, DATA],
+            "weighting: unknown\n",
+        ),
+    ];
+    for (words, err) in cases {
+        let end = End {
+            status: 2,
+            out: "",
+            err,
+            opened: 0,
+        };
+        check(&rt, NONE, words, b"", end)?;
+    }
+    Ok(())
+}

@@ -1,0 +1,11 @@
+//! Tests of the whole command over an opener in memory, and of all that it says of a fault.
+#![tactic(auto)]
+
+#[cfg(test)]
+mod commands;
+#[cfg(test)]
+mod fakes;
+#[cfg(test)]
+mod helps;
+#[cfg(test)]
+mod lines;

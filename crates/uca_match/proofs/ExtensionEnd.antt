@@ -1,0 +1,119 @@
+-- The non-starters after a key from the first to the last.
+use Rattle.std.proofs.Common.{◌≡◌, ◌≢◌, ℕ, suc, ◌+◌, ◌-◌, ◌<◌, ◌≤◌, List, [], ◌∷◌, ◌++◌, length, get_or, true, false, nat_lt, sym, ap, refl, ◌∙◌}
+use Rattle.std.proofs.Common.{⊎_elim, arith, unwrap_or}
+use Rattle.std.proofs.lemmas.Bool.{cases_lt, cases_eq, both_ways}
+use Rattle.std.proofs.lemmas.Bool.Decides.{nat_tests}
+use Rattle.std.specs.Borrow.{Bor}
+use Rattle.uca_weights.specs.declared.Element.{Element}
+use Rattle.uca_text.specs.Texts.{Text, Spelled, code_points, is_starter, letters_of}
+use Rattle.uca_text.specs.Limits.{IsAccepted}
+use Rattle.uca_match.specs.Rows.{Rows}
+use Rattle.uca_match.specs.Reading.{non_starters_at_front, after_non_starters}
+use Rattle.uca_match.specs.Places.{is_gone, left_at, IsPlace}
+use Rattle.uca_match.specs.Matches.{IsFound, IsExtended}
+use Rattle.uca_match.specs.Extensions.{IsBehind, IsGoing}
+use Rattle.uca_match.specs.declared.places.Place.{Place}
+use Rattle.uca_match.specs.declared.matches.Found.{Found}
+use Rattle.uca_match.specs.declared.matches.Given.TheVariants.{Row}
+use Rattle.uca_match.proofs.MatchLemmas.{marks_none, after_none}
+use Rattle.uca_match.proofs.PlaceLemmas.{length-letters, letter_at, left_kept, left_end, not_true}
+use Rattle.uca_match.proofs.ExtensionSteps.{key_at_end, rest_at_end, between_none, between_whole}
+
+-- ---- The first non-starter
+
+pub behind_at_start : (s : Spelled) (place : Place) → IsPlace s place → IsBehind s place place.at place
+behind_at_start s place here =
+    record {
+      begun = omega arith;
+      within = omega (arith, here.reached, here.within);
+      at = refl;
+      run = refl;
+      non_starters = λ k above below. here.non_starters k above (omega (arith, here.reached));
+      kept_beyond = λ k above below. not_true (is_gone place k) (λ gone. let before = here.gone_before k gone in omega arith);
+    }
+
+pub going_at_start : {N : Type 0} (stands_for : N → List ℕ → Type 0) (rows : Rows) (s : Spelled) (place : Place) (front : Text) (found : Found N) →
+    IsFound stands_for rows (code_points front) found →
+    IsGoing stands_for rows s place front place.at (record { node = found.node; row = found.row; next = place; highest = 0 })
+going_at_start stands_for rows s place front found is_found =
+    record {
+      key = front;
+      skipped = [];
+      node = is_found.node;
+      row = is_found.row;
+      same_key = refl;
+      same_rest = refl;
+      skipped_is = sym (between_none s place place.at);
+      highest = λ class above. let test : true ≡ nat_lt 0 class = grind (arith, nat_tests) in test;
+    }
+
+-- no run of non-starters is longer than 64
+pub near_start : (s : Spelled) (place next : Place) (i : ℕ) → IsAccepted s → IsBehind s place i next → i < length s.classes →
+    (get_or s.classes i 0 ≡ 0 → ⊥) → i - next.run < 64
+near_start s place next i accepted behind within mark =
+    ⊎_elim (λ near. near)
+    (λ far.
+    let run = behind.run in
+    let positive : (k : ℕ) → k < 65 → 0 < get_or s.classes (i - 64 + k) 0 = λ k below.
+    ⊎_elim
+    (λ last. let there : i - 64 + k ≡ i = omega arith in let not_zero : get_or s.classes i 0 ≢ 0 = mark in
+    omega (arith, ap (λ n. get_or s.classes n 0) there))
+    (λ other. let not_zero : get_or s.classes (i - 64 + k) 0 ≢ 0 = behind.non_starters (i - 64 + k) (omega arith) (omega arith) in omega arith)
+    (cases_eq k 64) in
+    absurd (accepted.short_runs (i - 64) (record { within = omega arith; non_starters = positive })))
+    (cases_lt (i - next.run) 64)
+
+-- ---- The end of the non-starters
+
+module _ (s : Spelled) (place next : Place) (i : ℕ) (accepted : IsAccepted s) (here : IsPlace s place) (behind : IsBehind s place i next)
+    (ended : i < length s.points → get_or s.classes i 0 ≡ 0) where
+  past_run : i < length s.points → place.end ≤ i
+  past_run within =
+      ⊎_elim (λ before. absurd (here.non_starters i (omega (arith, here.begun, behind.begun)) before (ended within))) (λ past. past) (cases_lt i place.end)
+
+  no_marks : (non_starters_at_front (left_at s next i) ≡ []) × (after_non_starters (left_at s next i) ≡ left_at s next i)
+  no_marks =
+      ⊎_elim
+      (λ within.
+      let kept : is_gone next i ≡ false = behind.kept_beyond i (past_run within) (omega arith) in
+      let starter : is_starter (letter_at s i) ≡ true = let zero_class = ended within in grind (arith, nat_tests) in
+      let on : left_at s next i ≡ letter_at s i ∷ left_at s next (suc i) = left_kept s next i accepted.same within kept in (
+        ap non_starters_at_front on ∙ marks_none (letter_at s i) (left_at s next (suc i)) starter,
+        ap after_non_starters on ∙ after_none (letter_at s i) (left_at s next (suc i)) starter ∙ sym on,
+      ))
+      (λ past. let none = left_end s next i accepted.same past in (ap non_starters_at_front none, ap after_non_starters none ∙ sym none))
+      (cases_lt i (length s.points))
+
+  place_at_end : IsPlace s (record next { end = i })
+  place_at_end =
+      record {
+        begun = omega (arith, behind.at, behind.run, here.begun);
+        reached = omega (arith, behind.at, behind.begun);
+        within = behind.within;
+        non_starters = λ k above below. behind.non_starters k (omega (arith, behind.run)) below;
+        gone_before = λ k gone.
+            ⊎_elim (λ before. before)
+            (λ past.
+            ⊎_elim
+            (λ inside. let within : i < length s.points = omega (arith, here.within) in let beyond = past_run within in absurd (omega arith))
+            (λ beyond. absurd (both_ways (is_gone next k) (behind.kept_beyond k beyond past) gone))
+            (cases_lt k place.end))
+            (cases_lt k i);
+      }
+
+  pub extended_at_end : {N : Type 0} (stands_for : N → List ℕ → Type 0) (rows : Rows) (front : Text) (node : N) (row : Bor (List Element))
+      (highest : ℕ) → IsGoing stands_for rows s place front i (record { node = node; row = row; next = next; highest = highest }) →
+      IsExtended rows s front place (record { given = Row row; next = record next { end = i } })
+  extended_at_end stands_for rows front node row highest going =
+      let key = going.same_key ∙ key_at_end rows going.key going.skipped (left_at s next i) no_marks.0 in
+      let inside : i ≤ length (letters_of s) = omega (arith, length-letters s.points s.classes accepted.same, behind.within) in
+      record {
+        elements = λ implicit. sym (ap (λ k. unwrap_or (rows (code_points k)) []) key ∙ ap (λ o. unwrap_or o []) going.row);
+        left =
+            ap (left_at s next) behind.at
+            ∙ between_whole s next place.at i behind.begun inside
+            ∙ ap (λ t. t ++ left_at s next i) (sym going.skipped_is)
+            ∙ sym (going.same_rest ∙ rest_at_end rows going.key going.skipped (left_at s next i) no_marks.0 no_marks.1);
+        is_place = place_at_end;
+        at = behind.at;
+      }

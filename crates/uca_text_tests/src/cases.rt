@@ -1,0 +1,72 @@
+//! Tables of cases written as text, a case a line. What a test finds is written as text too, and compared with
+//! what the case says.
+
+use std::alloc::{AllocError, Global};
+use std::test::Fail;
+
+/// The code point of some hexadecimal digits.
+pub fn code_point(digits: &str) -> Result<char, Fail> {
+    let number = u32::from_str_radix(digits, 16)?;
+    Ok(char::from_u32(number).ok_or("a surrogate, or too great")?)
+}
+
+/// The text of some code points, each in hexadecimal digits.
+pub fn text_of(alloc: Global, points: &str) -> Result<String, Fail> {
+    let mut text = String::new(alloc);
+    for digits in points.split_whitespace() {
+        text.push(code_point(digits)?)?;
+    }
+    Ok(text)
+}
+
+/// The bytes of some groups, each in hexadecimal digits: four digits are two bytes, and two are one.
+pub fn bytes_of(alloc: Global, groups: &str) -> Result<Vec<u8>, Fail> {
+    let mut bytes = Vec::new(alloc);
+    for digits in groups.split_whitespace() {
+        if digits.len() == 4 {
+            bytes.extend_from_slice(&u16::from_str_radix(digits, 16)?.to_be_bytes())?;
+        } else {
+            bytes.push(u8::from_str_radix(digits, 16)?)?;
+        }
+    }
+    Ok(bytes)
+}
+
+/// Bytes as groups of two in hexadecimal digits.
+pub fn groups_of(alloc: Global, bytes: &[u8]) -> Result<String, AllocError> {
+    let mut groups = String::new(alloc);
+    for (place, byte) in bytes.iter().enumerate() {
+        if place > 0 && place % 2 == 0 {
+            groups.push(' ')?;
+        }
+        groups.push_str(&format!(in alloc; "{:02X}", byte)?)?;
+    }
+    Ok(groups)
+}
+
+/// The two parts of a case, around the first ` | `.
+pub fn halves(case: &str) -> Result<(&str, &str), Fail> {
+    Ok(case.split_once(" | ").ok_or("a case without its answer")?)
+}
+
+/// Fails with the case unless this holds.
+pub fn holds(is_so: bool, case: &str) -> Result<(), Fail> {
+    if is_so { Ok(()) } else { Err(Fail::new(case)) }
+}
+
+/// Fails unless the two are equal.
+pub fn same(found: &str, wanted: &str, case: &str) -> Result<(), Fail> {
+    if found == wanted {
+        return Ok(());
+    }
+    Err(Fail::new(format_args!("{found}\nand not {wanted}\nat {case}")))
+}
+
+/// A part so many times.
+pub fn repeated(alloc: Global, part: &str, count: usize) -> Result<String, AllocError> {
+    let mut text = String::new(alloc);
+    for _ in 0..count {
+        text.push_str(part)?;
+    }
+    Ok(text)
+}

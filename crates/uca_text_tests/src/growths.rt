@@ -1,0 +1,125 @@
+//! Allocations that fail: in heaps from none to more than enough, what is made is right, and what is not made
+//! leaves nothing.
+
+use crate::cases::{groups_of, holds, same};
+use crate::lookups::check_lookup;
+use crate::samples::{DATA, TABLE, data_of, table_of};
+use linked_list_allocator::LocalHeap;
+use std::alloc::{AllocError, Global};
+use std::test::Fail;
+use uca_key::{KeyBuffer, key};
+use uca_match::{Collator, Trie};
+use uca_text::{Normal, normal};
+use uca_weights::Weighting::Shifted;
+
+/// How often a thing was made, and how often an allocation failed.
+#[derive(Clone, Copy)]
+struct Count {
+    made: u32,
+    failed: u32,
+}
+
+impl Count {
+    fn new() -> Count {
+        Count { made: 0, failed: 0 }
+    }
+
+    /// One more. In a larger heap no allocation fails, and at the end nothing is left in any.
+    fn add(&mut self, is_made: bool, left: usize) -> Result<(), Fail> {
+        if is_made {
+            self.made = self.made.saturating_add(1);
+        } else {
+            holds(self.made == 0, "an allocation fails in a larger heap")?;
+            self.failed = self.failed.saturating_add(1);
+        }
+        holds(left == 0, "something is left")
+    }
+
+    /// Both came.
+    fn check(self) -> Result<(), Fail> {
+        holds(self.made > 0 && self.failed > 0, "made and failed")
+    }
+}
+
+const ROWS: &str = "@version 1\n\
+    0061 0062 ; [.0001.0020.0002]\n\
+    0062 ; [.0002.0020.0002]\n\
+    0061 0063 0064 ; [.0003.0020.0002]\n\
+    4E00 ; [.0004.0020.0002]\n\
+    0061 ; [.0005.0020.0002]\n";
+
+const ROWS_CASES: &str = r"0061 | 0005
+0061 0062 | 0001
+0061 0063 | beginning
+0061 0063 0064 | 0003
+0062 | 0002
+4E00 | 0004";
+
+#[test]
+fn tries_in_small_heaps(rt: HostRuntime) -> Result<(), Fail> {
+    let table = table_of(rt.alloc(), ROWS)?;
+    let mut count = Count::new();
+    for room in 0..256 {
+        let heap = LocalHeap::new(rt.alloc(), 16 * room)?;
+        let made = Trie::new(&heap, &table);
+        let is_made = made.is_ok();
+        if let Ok(trie) = made {
+            check_lookup(rt.alloc(), &trie, ROWS_CASES)?;
+        }
+        count.add(is_made, heap.used())?;
+    }
+    count.check()
+}
+
+/// The key of `a`, a space, `b` and an acute accent.
+const KEY: &str = "1C47 1C60 0000 0020 0020 0024 0000 0002 0002 0002 0000 FFFF 0209 FFFF FFFF";
+
+/// A key as it is made at once, if there is memory for it.
+fn made_key(
+    alloc: Global,
+    heap: &LocalHeap,
+    collator: &Collator<Trie>,
+    text: &Normal,
+) -> Result<Option<String>, AllocError> {
+    match key(heap, collator, Shifted, text) {
+        Ok(bytes) => Ok(Some(groups_of(alloc, &bytes)?)),
+        Err(_) => Ok(None),
+    }
+}
+
+/// A key as a buffer writes it, if there is memory for it. A second time it is written as at the first.
+fn written_key(
+    alloc: Global,
+    heap: &LocalHeap,
+    collator: &Collator<Trie>,
+    text: &Normal,
+) -> Result<Option<String>, AllocError> {
+    let mut buffer = KeyBuffer::new(heap, Shifted);
+    let _ = buffer.write_text(collator, text);
+    match buffer.write_text(collator, text) {
+        Ok(()) => Ok(Some(groups_of(alloc, buffer.bytes())?)),
+        Err(_) => Ok(None),
+    }
+}
+
+#[test]
+fn keys_in_small_heaps(rt: HostRuntime) -> Result<(), Fail> {
+    let table = table_of(rt.alloc(), TABLE)?;
+    let data = data_of(rt.alloc(), DATA)?;
+    let trie = Trie::new(rt.alloc(), &table)?;
+    let collator = Collator::new(&trie, &table.header, &data);
+    let text = normal(rt.alloc(), "a b\u{301}", &data)?;
+    let mut made = Count::new();
+    let mut written = Count::new();
+    for room in 0..64 {
+        let heap = LocalHeap::new(rt.alloc(), 16 * room)?;
+        let found = made_key(rt.alloc(), &heap, &collator, &text)?;
+        same(found.as_deref().unwrap_or(KEY), KEY, "made")?;
+        made.add(found.is_some(), heap.used())?;
+        let found = written_key(rt.alloc(), &heap, &collator, &text)?;
+        same(found.as_deref().unwrap_or(KEY), KEY, "written")?;
+        written.add(found.is_some(), heap.used())?;
+    }
+    made.check()?;
+    written.check()
+}

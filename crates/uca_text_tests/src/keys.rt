@@ -1,0 +1,124 @@
+//! Keys that were worked out by hand: from elements on, and from texts on.
+
+use crate::cases::{groups_of, halves, same, text_of};
+use crate::samples::{DATA, TABLE, data_of, table_of};
+use std::alloc::Global;
+use std::test::Fail;
+use uca_key::{KeyBuffer, key, key_of};
+use uca_match::{Collator, Lookup, RowList, Trie};
+use uca_text::normal;
+use uca_weights::Weighting::{NonIgnorable, Shifted};
+use uca_weights::{Element, Weighting};
+
+/// The elements that stand so in a row.
+pub fn elements_of(alloc: Global, text: &str) -> Result<Vec<Element>, Fail> {
+    let mut elements = Vec::new(alloc);
+    if !text.is_empty() {
+        let table = table_of(alloc, &format!(in alloc; "@version 1\n0061 ; {text}\n")?)?;
+        for row in &table.rows {
+            elements.extend_from_slice(&row.elements)?;
+        }
+    }
+    Ok(elements)
+}
+
+/// Elements and their key, also in a buffer that held another key.
+fn check_elements(alloc: Global, weighting: Weighting, case: &str) -> Result<(), Fail> {
+    let (elements, wanted) = halves(case)?;
+    let elements = elements_of(alloc, elements)?;
+    let found = key_of(alloc, weighting, elements.iter().copied())?;
+    same(&groups_of(alloc, &found)?, wanted, case)?;
+    let other = elements_of(alloc, "[.1C47.0020.0002][*0209.0020.0002]")?;
+    let mut buffer = KeyBuffer::new(alloc, weighting);
+    buffer.write(other.iter().copied())?;
+    buffer.write(elements.iter().copied())?;
+    same(&groups_of(alloc, buffer.bytes())?, wanted, case)
+}
+
+/// The last cases are of contractions.
+const NON_IGNORABLE: &str = r" | 0000 0000
+[.1C47.0020.0002] | 1C47 0000 0020 0000 0002
+[.1C47.0020.0002][.0000.0024.0002] | 1C47 0000 0020 0024 0000 0002 0002
+[.FB40.0020.0002][.CE00.0000.0000] | FB40 CE00 0000 0020 0000 0002
+[*0209.0020.0002][.0000.0024.0002] | 0209 0000 0020 0024 0000 0002 0002
+[.0000.0000.0004][.0000.0000.0000] | 0000 0000 0004
+[.1C50.0020.0002][.0000.002C.0002] | 1C50 0000 0020 002C 0000 0002 0002
+[.1C47.0020.0002][.0000.0025.0002][.0000.0024.0002] | 1C47 0000 0020 0025 0024 0000 0002 0002 0002
+[.1C58.0020.0002][.0000.002C.0002] | 1C58 0000 0020 002C 0000 0002 0002";
+
+const SHIFTED: &str = r" | 0000 0000 0000
+[.FB40.0020.0002][.CE00.0000.0000] | FB40 CE00 0000 0020 0000 0002 0000 FFFF FFFF
+[.1C47.0020.0002][*0209.0020.0002][.1C60.0020.0002] | 1C47 1C60 0000 0020 0020 0000 0002 0002 0000 FFFF 0209 FFFF
+[*0209.0020.0002][.0000.0024.0002] | 0000 0000 0000 0209
+[*0209.0020.0002][.0000.0000.0000][.0000.0024.0002] | 0000 0000 0000 0209
+[*0209.0020.0002][*0000.0020.0002][.0000.0024.0002] | 0000 0000 0000 0209
+[*0000.0020.0002][.0000.0024.0002] | 0000 0024 0000 0002 0000 FFFF
+[.0000.0000.0004] | 0000 0000 0004 0000 FFFF
+[.0000.0000.0000] | 0000 0000 0000
+[*0209.0020.0002][.1C47.0020.0002][.0000.0024.0002] | 1C47 0000 0020 0024 0000 0002 0002 0000 0209 FFFF FFFF";
+
+#[test]
+fn keys_of_elements(rt: HostRuntime) -> Result<(), Fail> {
+    for (weighting, cases) in [(NonIgnorable, NON_IGNORABLE), (Shifted, SHIFTED)] {
+        for case in cases.lines() {
+            check_elements(rt.alloc(), weighting, case)?;
+        }
+    }
+    Ok(())
+}
+
+/// The key of a text, made at once and written into the buffer of its weighting.
+fn check_key<L: Lookup>(
+    alloc: Global,
+    collator: &Collator<L>,
+    weighting: Weighting,
+    points: &str,
+    wanted: &str,
+) -> Result<(), Fail> {
+    let text = normal(alloc, &text_of(alloc, points)?, collator.data)?;
+    let made = key(alloc, collator, weighting, &text)?;
+    same(&groups_of(alloc, &made)?, wanted, points)?;
+    let mut buffer = KeyBuffer::new(alloc, weighting);
+    buffer.write_text(collator, &text)?;
+    same(&groups_of(alloc, buffer.bytes())?, wanted, points)
+}
+
+/// Canonically equivalent texts with ` = ` between them, the levels of their key that both weightings have,
+/// and the fourth.
+fn check_case<L: Lookup>(alloc: Global, collator: &Collator<L>, case: &str) -> Result<(), Fail> {
+    let (texts, keys) = halves(case)?;
+    let (levels, fourth) = halves(keys)?;
+    let shifted = format!(in alloc; "{levels} 0000 {fourth}")?;
+    for points in texts.split(" = ") {
+        check_key(alloc, collator, NonIgnorable, points, levels)?;
+        check_key(alloc, collator, Shifted, points, &shifted)?;
+    }
+    Ok(())
+}
+
+/// Cases of texts over both lookups of a table file. The texts have no variable elements.
+pub fn check_texts(alloc: Global, table: &str, data: &str, cases: &str) -> Result<(), Fail> {
+    let table = table_of(alloc, table)?;
+    let data = data_of(alloc, data)?;
+    let rows = RowList::new(&table);
+    let trie = Trie::new(alloc, &table)?;
+    for case in cases.lines() {
+        check_case(alloc, &Collator::new(&rows, &table.header, &data), case)?;
+        check_case(alloc, &Collator::new(&trie, &table.header, &data), case)?;
+    }
+    Ok(())
+}
+
+const TEXTS: &str = r"0061 | 1C47 0000 0020 0000 0002 | FFFF
+0041 | 1C47 0000 0020 0000 0008 | FFFF
+00E1 = 0061 0301 | 1C47 0000 0020 0024 0000 0002 0002 | FFFF FFFF
+1EA1 0301 = 0061 0301 0323 = 0061 0323 0301 | 1C47 0000 0020 002C 0024 0000 0002 0002 0002 | FFFF FFFF FFFF
+AC00 = 1100 1161 | FBC0 9100 FBC0 9161 0000 0020 0020 0000 0002 0002 | FFFF FFFF FFFF FFFF
+F900 = 8C48 | FB41 8C48 0000 0020 0000 0002 | FFFF FFFF
+20000 | FB84 8000 0000 0020 0000 0002 | FFFF FFFF
+17001 | FB00 8001 0000 0020 0000 0002 | FFFF FFFF";
+
+#[test]
+fn keys_of_texts(rt: HostRuntime) -> Result<(), Fail> {
+    check_texts(rt.alloc(), TABLE, DATA, TEXTS)
+}

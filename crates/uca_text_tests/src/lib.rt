@@ -1,0 +1,22 @@
+//! Tests of texts, of their collation elements and of their keys: what no clause says, and values that come
+//! from outside. Tables and data files are given as bytes, and cases as lines of text.
+#![tactic(auto)]
+
+#[cfg(test)]
+mod cases;
+#[cfg(test)]
+mod elements;
+#[cfg(test)]
+mod growths;
+#[cfg(test)]
+mod keys;
+#[cfg(test)]
+mod lookups;
+#[cfg(test)]
+mod samples;
+#[cfg(test)]
+mod stored_keys;
+#[cfg(test)]
+mod sweeps;
+#[cfg(test)]
+mod texts;

@@ -1,0 +1,172 @@
+//! Texts: how they are spelled, within which limits, and what is said of one that is refused.
+
+use crate::cases::{code_point, halves, same, text_of};
+use crate::samples::{CLASSES, data_of};
+use std::alloc::{AllocError, Global};
+use std::test::Fail;
+use uca_text::{Normal, TextFault, canonically_equivalent_texts_are_spelled_alike, normal};
+use uca_values::Data;
+
+/// The code points of a text, each with its class.
+fn spelling(alloc: Global, text: &Normal) -> Result<String, AllocError> {
+    if text.chars().len() != text.classes().len() {
+        return String::from_str(alloc, "not a class for each code point");
+    }
+    let mut words = String::new(alloc);
+    for (point, class) in text.chars().iter().zip(text.classes()) {
+        if !words.is_empty() {
+            words.push(' ')?;
+        }
+        let code = u32::from(*point);
+        words.push_str(&format!(in alloc; "{:04X}.{class}", code)?)?;
+    }
+    Ok(words)
+}
+
+/// Texts and what they are spelled as. The second and the third are canonically equivalent, and so are the
+/// three after them.
+const SPELLED: &str = r"0061 | 0061.0
+00E1 | 0061.0 0301.230
+0061 0301 | 0061.0 0301.230
+0061 0323 0301 0062 | 0061.0 0323.220 0301.230 0062.0
+0061 0301 0323 0062 | 0061.0 0323.220 0301.230 0062.0
+1EA1 0301 0062 | 0061.0 0323.220 0301.230 0062.0";
+
+#[test]
+fn spells_texts(rt: HostRuntime) -> Result<(), Fail> {
+    let data = data_of(rt.alloc(), CLASSES)?;
+    let mut renewed = Normal::new(rt.alloc());
+    for case in SPELLED.lines() {
+        let (points, wanted) = halves(case)?;
+        let text = text_of(rt.alloc(), points)?;
+        let found = normal(rt.alloc(), &text, &data)?;
+        same(&spelling(rt.alloc(), &found)?, wanted, case)?;
+        renewed.renew(&text, &data)?;
+        same(&spelling(rt.alloc(), &renewed)?, wanted, case)?;
+    }
+    Ok(())
+}
+
+#[test]
+fn spells_the_empty_text(rt: HostRuntime) -> Result<(), Fail> {
+    let data = data_of(rt.alloc(), CLASSES)?;
+    let mut text = Normal::new(rt.alloc());
+    same(&spelling(rt.alloc(), &text)?, "", "new")?;
+    text.renew("a", &data)?;
+    text.renew("", &data)?;
+    same(&spelling(rt.alloc(), &text)?, "", "renewed")?;
+    let empty = normal(rt.alloc(), "", &data)?;
+    same(&spelling(rt.alloc(), &empty)?, "", "normal")?;
+    canonically_equivalent_texts_are_spelled_alike();
+    Ok(())
+}
+
+#[test]
+fn takes_texts_after_a_refused_one(rt: HostRuntime) -> Result<(), Fail> {
+    let data = data_of(rt.alloc(), CLASSES)?;
+    let marks = with_repeated(rt.alloc(), "ab", '\u{301}', 65)?;
+    let mut text = normal(rt.alloc(), "b", &data)?;
+    let answer = text.renew(&marks, &data);
+    assert_eq!(rt; answer, Err(TextFault::LongRun(2)));
+    same(&spelling(rt.alloc(), &text)?, "", "refused")?;
+    text.renew("\u{e1}", &data)?;
+    same(&spelling(rt.alloc(), &text)?, "0061.0 0301.230", "taken")
+}
+
+#[test]
+fn a_copy_stays_as_it_is(rt: HostRuntime) -> Result<(), Fail> {
+    let data = data_of(rt.alloc(), CLASSES)?;
+    let mut text = normal(rt.alloc(), "\u{e1}b", &data)?;
+    let copy = text.clone()?;
+    text.renew("\u{323}", &data)?;
+    same(&spelling(rt.alloc(), &text)?, "0323.220", "renewed")?;
+    same(
+        &spelling(rt.alloc(), &copy)?,
+        "0061.0 0301.230 0062.0",
+        "copied",
+    )
+}
+
+#[test]
+fn prints_texts_without_spare_memory(rt: HostRuntime) -> Result<(), Fail> {
+    let data = data_of(rt.alloc(), CLASSES)?;
+    // Its code points as they stood are left in spare memory.
+    let mut text = normal(rt.alloc(), "\u{e1}", &data)?;
+    text.renew("ab", &data)?;
+    let wanted = "Normal { chars: ['a', 'b'], classes: [0, 0] }";
+    same(&format!(in rt.alloc(); "{text:?}")?, wanted, "printed")
+}
+
+/// A text with a last character so many times.
+fn with_repeated(
+    alloc: Global,
+    start: &str,
+    last: char,
+    count: usize,
+) -> Result<String, AllocError> {
+    let mut text = String::from_str(alloc, start)?;
+    for _ in 0..count {
+        text.push(last)?;
+    }
+    Ok(text)
+}
+
+/// How many code points a text has, or why it is refused.
+fn said(alloc: Global, text: &str, data: &Data) -> Result<String, Fail> {
+    match normal(alloc, text, data) {
+        Err(fault) if fault != TextFault::Memory => Ok(format!(in alloc; "{fault}")?),
+        found => {
+            let count = found?.chars().len();
+            Ok(format!(in alloc; "{count}")?)
+        }
+    }
+}
+
+/// The start of a text, the character that follows it and how often, and what is said of the text.
+fn check_limit(alloc: Global, data: &Data, case: &str) -> Result<(), Fail> {
+    let (start, rest) = halves(case)?;
+    let (last, wanted) = halves(rest)?;
+    let (last, count) = last.split_once(" x ").ok_or("no count")?;
+    let start = text_of(alloc, start)?;
+    let text = with_repeated(alloc, &start, code_point(last)?, count.parse()?)?;
+    same(&said(alloc, &text, data)?, wanted, case)
+}
+
+fn check_limits(alloc: Global, cases: &str) -> Result<(), Fail> {
+    let data = data_of(alloc, CLASSES)?;
+    for case in cases.lines() {
+        check_limit(alloc, &data, case)?;
+    }
+    Ok(())
+}
+
+const RUNS: &str = r"0061 | 0301 x 64 | 65
+0061 | 0301 x 65 | LongRun at 1
+ | 0301 x 64 | 64
+ | 0301 x 65 | LongRun at 0
+00E1 | 0301 x 63 | 65
+00E1 | 0301 x 64 | LongRun at 1
+0061 0301 0062 0301 | 0323 x 63 | 67
+0061 0301 0062 0301 | 0323 x 70 | LongRun at 3";
+
+#[test]
+fn limits_runs_of_non_starters(rt: HostRuntime) -> Result<(), Fail> {
+    check_limits(rt.alloc(), RUNS)
+}
+
+const LENGTHS: &str = r" | 0061 x 1048576 | 1048576
+ | 0061 x 1048577 | TooLong
+ | 00E1 x 524288 | 1048576
+ | 00E1 x 524289 | TooLong
+ | 0301 x 1048577 | TooLong";
+
+#[test]
+fn limits_lengths(rt: HostRuntime) -> Result<(), Fail> {
+    check_limits(rt.alloc(), LENGTHS)
+}
+
+#[test]
+fn prints_memory(rt: HostRuntime) -> Result<(), Fail> {
+    let printed = format!(in rt.alloc(); "{}", TextFault::Memory)?;
+    same(&printed, "Memory", "the text")
+}

@@ -1,0 +1,136 @@
+//! The runs of the command over any readers and any writer, and over files in memory.
+
+use crate::files::{Files, joined};
+use std::alloc::{AllocError, Allocator, Global};
+use std::io::{Read, Write};
+use uca_cli::{
+    RunFault, run_check, run_compare, run_compare_in, run_keys, run_keys_in, run_sort, run_sort_in,
+};
+use uca_weights::{Sink, Source, Weighting};
+
+/// A run, and the weighting that it is asked for, if any.
+#[derive(Clone, Copy)]
+pub enum Run<'a> {
+    /// It prints the keys of the lines of the input.
+    Keys(Option<Weighting>),
+    /// It prints the lines of the input in the order of their keys.
+    Sort(Option<Weighting>),
+    /// It says whether the table is well-formed.
+    Check,
+    /// It says how a left text and a right text compare.
+    Compare(&'a str, &'a str, Option<Weighting>),
+}
+
+/// What a run without a fault returns.
+#[derive(Clone, Copy)]
+pub enum Answer {
+    /// That it is done.
+    Done,
+    /// Whether the table is well-formed.
+    Verdict(bool),
+}
+
+/// What is told of the end of a run: what it returns, or the text of its fault.
+pub fn told(alloc: Global, end: &Result<Answer, RunFault>) -> Result<String, AllocError> {
+    match end {
+        Ok(Answer::Done) => String::from_str(alloc, "done"),
+        Ok(Answer::Verdict(verdict)) => format!(in alloc; "{verdict}"),
+        Err(RunFault::Write { written }) => format!(in alloc; "output: Write after {written}"),
+        Err(fault) => format!(in alloc; "{fault}"),
+    }
+}
+
+/// The streams of a run.
+#[derive(Drop)]
+pub struct Streams<T: Read, D: Read, I: Read, W: Write> {
+    /// The table.
+    pub table: Source<T>,
+    /// The data file.
+    pub properties: Source<D>,
+    /// The input.
+    pub input: Source<I>,
+    /// The output.
+    pub out: Sink<W>,
+}
+
+impl<T: Read, D: Read, I: Read, W: Write> Streams<T, D, I, W> {
+    /// Which of the four say that they failed.
+    pub fn failed(&self) -> [bool; 4] {
+        [
+            self.table.failed(),
+            self.properties.failed(),
+            self.input.failed(),
+            self.out.failed(),
+        ]
+    }
+
+    fn parts(&mut self) -> (&mut Source<T>, &mut Source<D>, &mut Source<I>, &mut Sink<W>) {
+        (
+            &mut self.table,
+            &mut self.properties,
+            &mut self.input,
+            &mut self.out,
+        )
+    }
+
+    /// Runs over them.
+    pub fn run(&mut self, alloc: Global, run: Run) -> Result<Answer, RunFault> {
+        let (table, properties, input, out) = self.parts();
+        match run {
+            Run::Keys(asked) => run_keys(alloc, table, properties, input, out, asked)?,
+            Run::Sort(asked) => run_sort(alloc, table, properties, input, out, asked)?,
+            Run::Check => return Ok(Answer::Verdict(run_check(alloc, table, properties, out)?)),
+            Run::Compare(left, right, asked) => {
+                run_compare(alloc, table, properties, left, right, out, asked)?;
+            }
+        }
+        Ok(Answer::Done)
+    }
+
+    /// Runs over them in the memory of an allocator, with Normalization Form D in that of `global`.
+    pub fn run_in<A: Allocator + Copy>(
+        &mut self,
+        alloc: A,
+        global: Global,
+        run: Run,
+    ) -> Result<Answer, RunFault> {
+        let (table, properties, input, out) = self.parts();
+        match run {
+            Run::Keys(asked) => run_keys_in(alloc, global, table, properties, input, out, asked)?,
+            Run::Sort(asked) => run_sort_in(alloc, global, table, properties, input, out, asked)?,
+            Run::Check => return Ok(Answer::Verdict(run_check(alloc, table, properties, out)?)),
+            Run::Compare(left, right, asked) => {
+                run_compare_in(alloc, global, table, properties, left, right, out, asked)?;
+            }
+        }
+        Ok(Answer::Done)
+    }
+}
+
+/// What came of a run over files in memory.
+#[derive(Drop)]
+pub struct Outcome {
+    /// What is told of its end.
+    pub end: String,
+    /// What it printed.
+    pub printed: Vec<u8>,
+    /// Which of its streams say that they failed: the table, the data file, the input and the output.
+    pub failed: [bool; 4],
+}
+
+/// Runs over files in memory. None of the streams fails.
+pub fn run_files(alloc: Global, files: Files, run: Run) -> Result<Outcome, AllocError> {
+    let table = joined(alloc, files.table)?;
+    let mut streams = Streams {
+        table: Source::new(table.as_bytes()),
+        properties: Source::new(files.data.as_bytes()),
+        input: Source::new(files.input),
+        out: Sink::new(Vec::new(alloc)),
+    };
+    let end = streams.run(alloc, run);
+    Ok(Outcome {
+        end: told(alloc, &end)?,
+        failed: streams.failed(),
+        printed: streams.out.into_inner(),
+    })
+}
