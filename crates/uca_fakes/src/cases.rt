@@ -74,11 +74,6 @@ pub fn halves(case: &str) -> Result<(&str, &str), Fail> {
     Ok(case.split_once(" | ").ok_or("a case without its answer")?)
 }
 
-/// The first word of a text, and what follows the space after it.
-pub fn first_word(text: &str) -> (&str, &str) {
-    text.split_once(' ').unwrap_or((text, ""))
-}
-
 /// Fails with the case unless this holds.
 pub fn holds(is_so: bool, case: &str) -> Result<(), Fail> {
     if is_so { Ok(()) } else { Err(Fail::new(case)) }

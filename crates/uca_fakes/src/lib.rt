@@ -7,7 +7,7 @@ pub mod samples;
 pub mod streams;
 
 pub use cases::{
-    bytes_of, code_point, first_word, halves, holds, is_remark, joined, repeated, same, same_bytes,
+    bytes_of, code_point, halves, holds, is_remark, joined, repeated, same, same_bytes,
 };
 pub use samples::{DATA, TABLE, data_of, table_of};
 pub use streams::{Calls, Failure, FakeReader, FakeWriter, Pace};

@@ -3,6 +3,8 @@
 #![tactic(auto)]
 
 #[cfg(test)]
+mod any_lines;
+#[cfg(test)]
 mod broken;
 #[cfg(test)]
 mod data_files;
