@@ -6,8 +6,8 @@ ghost use Rattle.uca_cli.specs.declared.faults.RunFault.TheVariants.{Write};
 
 use std::fmt;
 use thiserror::Error;
-use uca_values::TableFault;
 use uca_text::TextFault;
+use uca_values::TableFault;
 use uca_weights::WriteFault;
 use uca_words::WordFault;
 

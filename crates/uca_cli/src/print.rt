@@ -76,6 +76,3 @@ fn digits_of(byte: u8) -> [u8; 2]
 {
     [hexadecimal_digit(byte / 16), hexadecimal_digit(byte % 16)]
 }
-
-#[cfg(test)]
-mod tests;

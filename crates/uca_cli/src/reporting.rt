@@ -14,8 +14,8 @@ use std::alloc::Global;
 use std::fmt::Display;
 use std::io::Write;
 use std::string::ToString;
-use uca_values::FaultKind;
 use uca_text::TextFault;
+use uca_values::FaultKind;
 use uca_weights::Sink;
 use uca_words::WordFault;
 

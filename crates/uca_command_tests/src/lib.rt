@@ -9,3 +9,5 @@ mod fakes;
 mod helps;
 #[cfg(test)]
 mod lines;
+#[cfg(test)]
+mod words;

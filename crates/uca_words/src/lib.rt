@@ -16,8 +16,6 @@ ghost use Rattle.uca_words.specs.Met.{has_words, is_met, IsWeightingFault};
 ghost use Rattle.uca_words.specs.Words.{HasFiles, HasWord, HasWeighting, Says, AreRead, IsFaultOf};
 
 mod builders;
-#[cfg(test)]
-mod tests;
 
 use builders::uca_command;
 use clap::ArgMatches;

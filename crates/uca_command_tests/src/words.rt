@@ -1,6 +1,5 @@
 //! Words that are read and words that are refused, each written as a line that is cut at its blanks.
 
-use crate::{WordFault, Words, read_words};
 use clap::error::ErrorKind::{
     self, ArgumentConflict, DisplayHelp, InvalidSubcommand, InvalidValue, MissingRequiredArgument,
     MissingSubcommand, UnknownArgument,
@@ -9,6 +8,7 @@ use std::alloc::{AllocError, Global};
 use std::iter::once;
 use std::test::Fail;
 use uca_weights::Weighting;
+use uca_words::{WordFault, Words, read_words};
 
 /// How the reading of words ends.
 #[derive(Clone, Copy, Debug, PartialEq, Eq)]
