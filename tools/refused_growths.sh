@@ -22,7 +22,7 @@ if [ $# -gt 0 ]; then
     shift
 fi
 if [ $# -eq 0 ]; then
-    set -- uca_text_tests uca_command_tests
+    set -- uca_text uca_words
 fi
 log=$(mktemp)
 trap 'rm -f "$log"' EXIT

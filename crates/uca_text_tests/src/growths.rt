@@ -1,7 +1,7 @@
 //! Allocations that fail: in heaps from none to more than enough, what is made is right, and what is not made
 //! leaves nothing.
 
-use crate::cases::{groups_of, holds, same};
+use crate::cases::{groups_of, holds};
 use crate::lookups::check_lookup;
 use crate::samples::{DATA, TABLE, data_of, table_of};
 use linked_list_allocator::LocalHeap;
@@ -87,19 +87,40 @@ fn made_key(
     }
 }
 
-/// A key as a buffer writes it, if there is memory for it. A second time it is written as at the first.
+/// A key as a buffer writes it, if there is memory for it.
 fn written_key(
     alloc: Global,
-    heap: &LocalHeap,
+    buffer: &mut KeyBuffer<&LocalHeap>,
     collator: &Collator<Trie>,
     text: &Normal,
 ) -> Result<Option<String>, AllocError> {
-    let mut buffer = KeyBuffer::new(heap, Shifted);
-    let _ = buffer.write_text(collator, text);
     match buffer.write_text(collator, text) {
         Ok(()) => Ok(Some(groups_of(alloc, buffer.bytes())?)),
         Err(_) => Ok(None),
     }
+}
+
+/// What was made is the key.
+fn is_key(found: &Option<String>) -> bool {
+    match found {
+        Some(groups) => groups.as_str() == KEY,
+        None => true,
+    }
+}
+
+/// The key at once, and written twice by one buffer. The answers are whether each was made.
+fn keys_in(
+    alloc: Global,
+    heap: &LocalHeap,
+    collator: &Collator<Trie>,
+    text: &Normal,
+) -> Result<[bool; 2], Fail> {
+    let made = made_key(alloc, heap, collator, text)?;
+    let mut buffer = KeyBuffer::new(heap, Shifted);
+    let first = written_key(alloc, &mut buffer, collator, text)?;
+    let second = written_key(alloc, &mut buffer, collator, text)?;
+    holds(is_key(&made) && is_key(&first) && is_key(&second), KEY)?;
+    Ok([made.is_some(), first.is_some()])
 }
 
 #[test]
@@ -113,12 +134,9 @@ fn keys_in_small_heaps(rt: HostRuntime) -> Result<(), Fail> {
     let mut written = Count::new();
     for room in 0..64 {
         let heap = LocalHeap::new(rt.alloc(), 16 * room)?;
-        let found = made_key(rt.alloc(), &heap, &collator, &text)?;
-        same(found.as_deref().unwrap_or(KEY), KEY, "made")?;
-        made.add(found.is_some(), heap.used())?;
-        let found = written_key(rt.alloc(), &heap, &collator, &text)?;
-        same(found.as_deref().unwrap_or(KEY), KEY, "written")?;
-        written.add(found.is_some(), heap.used())?;
+        let [is_made, is_written] = keys_in(rt.alloc(), &heap, &collator, &text)?;
+        made.add(is_made, heap.used())?;
+        written.add(is_written, heap.used())?;
     }
     made.check()?;
     written.check()

@@ -1,11 +1,11 @@
 //! What lookups say of code points: over tables of a few rows, of which a list of rows and a trie say the same,
 //! and over one of many.
 
-use crate::cases::{code_point, halves, same};
+use crate::cases::{code_point, halves, holds, same};
 use crate::samples::table_of;
 use std::alloc::{AllocError, Global};
 use std::test::Fail;
-use uca_match::{Lookup, RowList, Trie};
+use uca_match::{Lookup, RowList, Trie, row_of};
 
 /// What a lookup says of some code points: `nothing`, where no key begins with them; `beginning`, where they
 /// are no key, but there is a node for them; the primary weight of the first element, where they are a key.
@@ -24,14 +24,18 @@ fn said<L: Lookup>(alloc: Global, lookup: &L, points: &[char]) -> Result<String,
     }
 }
 
-/// Some code points, and what the lookup says of them.
+/// Some code points, and what the lookup says of them, step by step and at once.
 fn check_case<L: Lookup>(alloc: Global, lookup: &L, case: &str) -> Result<(), Fail> {
     let (numbers, wanted) = halves(case)?;
     let mut points = Vec::new(alloc);
     for digits in numbers.split_whitespace() {
         points.push(code_point(digits)?)?;
     }
-    same(&said(alloc, lookup, &points)?, wanted, case)
+    same(&said(alloc, lookup, &points)?, wanted, case)?;
+    match row_of(lookup, &points) {
+        Some([first, ..]) => same(&format!(in alloc; "{:04X}", first.primary)?, wanted, case),
+        _ => holds(wanted == "beginning" || wanted == "nothing", case),
+    }
 }
 
 /// Cases over a lookup.

@@ -60,15 +60,20 @@ fn each_class(rt: HostRuntime) -> Result<(), Fail> {
 }
 
 /// A key of so many code points, whose row has so many elements, and the key of the text that is it.
-fn add_lengths(made: &mut Made, alloc: Global, points: usize, elements: usize) -> Result<(), Fail> {
-    let code = 0xF0000u32 + 0x100 * points as u32 + elements as u32;
-    let key = repeated(alloc, &format!(in alloc; "{:04X} ", code)?, points)?;
-    let row = repeated(alloc, "[.1C47.0020.0002]", elements)?;
+fn add_lengths(made: &mut Made, alloc: Global, points: u8, elements: u8) -> Result<(), Fail> {
+    let code = 0xF0000 + 0x100 * u32::from(points) + u32::from(elements);
+    let count = usize::from(elements);
+    let key = repeated(
+        alloc,
+        &format!(in alloc; "{:04X} ", code)?,
+        usize::from(points),
+    )?;
+    let row = repeated(alloc, "[.1C47.0020.0002]", count)?;
     made.table.push_str(&format!(in alloc; "{key}; {row}\n")?)?;
-    let primaries = repeated(alloc, "1C47 ", elements)?;
-    let secondaries = repeated(alloc, " 0020", elements)?;
-    let tertiaries = repeated(alloc, " 0002", elements)?;
-    let fourths = repeated(alloc, " FFFF", elements)?;
+    let primaries = repeated(alloc, "1C47 ", count)?;
+    let secondaries = repeated(alloc, " 0020", count)?;
+    let tertiaries = repeated(alloc, " 0002", count)?;
+    let fourths = repeated(alloc, " FFFF", count)?;
     made.cases.push_str(&format!(in alloc;
         "{key}| {primaries}0000{secondaries} 0000{tertiaries} |{fourths}\n"
     )?)?;
@@ -78,8 +83,8 @@ fn add_lengths(made: &mut Made, alloc: Global, points: usize, elements: usize) -
 #[test]
 fn each_length(rt: HostRuntime) -> Result<(), Fail> {
     let mut made = Made::new(rt.alloc())?;
-    for points in 1..=16 {
-        for elements in 1..=32 {
+    for points in 1..=16u8 {
+        for elements in 1..=32u8 {
             add_lengths(&mut made, rt.alloc(), points, elements)?;
         }
     }
