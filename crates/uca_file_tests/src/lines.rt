@@ -11,9 +11,9 @@ use uca_weights::Source;
 /// What comes next: `+` where LF ended the line, `-` where none did; `$` at the end; the fault's name.
 fn name_of(next: Result<NextLine, LineFault>) -> &'static str {
     match next {
-        Ok(NextLine::Ended) => "+",
-        Ok(NextLine::Cut) => "-",
-        Ok(NextLine::End) => "$",
+        Ok(NextLine::Terminated) => "+",
+        Ok(NextLine::Unterminated) => "-",
+        Ok(NextLine::EndOfInput) => "$",
         Err(LineFault::TooLong) => "TooLong",
         Err(LineFault::Limit) => "Limit",
         Err(LineFault::Read) => "Read",
