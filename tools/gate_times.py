@@ -15,6 +15,7 @@ import subprocess
 import sys
 import threading
 import time
+from concurrent.futures import ThreadPoolExecutor
 
 TASK = threading.local()
 LOCK = threading.Lock()
@@ -42,6 +43,19 @@ def counting_wait(self, flags):
         with LOCK:
             SECONDS[key] = SECONDS.get(key, 0.0) + used.ru_utime + used.ru_stime
     return pid, status
+
+
+class Pool(ThreadPoolExecutor):
+    """A pool whose threads count for the task of the thread that hands them work."""
+
+    def submit(self, call, *given, **named):
+        key = getattr(TASK, "key", ("", "runs"))
+
+        def run(*given, **named):
+            TASK.key = key
+            return call(*given, **named)
+
+        return super().submit(run, *given, **named)
 
 
 def counted(key, call):
@@ -74,6 +88,7 @@ def table():
 def main():
     rt = load(os.path.realpath(shutil.which("rt")))
     subprocess.Popen._try_wait = counting_wait
+    rt.rtlib.ThreadPoolExecutor = Pool
     in_lanes = rt.in_lanes
     rt.in_lanes = lambda tasks: in_lanes({key: (*task[:3], counted(key, task[3])) for key, task in tasks.items()})
     begun = time.time()
