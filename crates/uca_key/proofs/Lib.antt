@@ -5,3 +5,6 @@ pub mod Equivalence
 pub mod WeightLemmas
 pub mod BufferLemmas
 pub mod KeyLength
+pub mod WalkLemmas
+pub mod LevelSteps
+pub mod FetchedLemmas

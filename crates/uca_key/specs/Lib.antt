@@ -1,8 +1,11 @@
 pub mod Levels
+pub mod Depths
+pub mod Fetched
 pub mod Laws
 pub mod StreamedWeights
 pub mod Buffers
 pub mod LevelBuffers
+pub mod LevelWalks
 pub mod StoredKeys
 pub mod Lengths
 pub mod WorkedKeys

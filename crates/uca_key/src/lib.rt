@@ -3,6 +3,7 @@
 #![tactic(auto)]
 
 pub mod buffers;
+pub mod comparison;
 pub mod keys;
 pub mod laws;
 mod levels;
@@ -10,6 +11,7 @@ pub mod stored;
 pub mod weighting;
 
 pub use buffers::KeyBuffer;
+pub use comparison::{Compared, compare};
 pub use keys::{key, key_of};
 pub use stored::{compare_keys, level_count};
 pub use weighting::{is_after_variable, weights_of};

@@ -56,6 +56,16 @@ pub enum Weighting {
     Shifted,
 }
 
+/// How far two texts are compared (UTS #10, section 1.1).
+#[derive(Clone, Copy, Debug, PartialEq, Eq)]
+pub enum Depth {
+    /// By their weights alone: texts that weigh the same are equal.
+    Weights,
+    /// By their weights, and where these are the same by one level more, the code points of their
+    /// Normalization Form D: only canonically equivalent texts are equal.
+    Identical,
+}
+
 impl Weighting {
     /// The word for it, as it stands after `@variable` in a table and after `--weighting`.
     pub fn name(self) -> &'static str
