@@ -1,10 +1,12 @@
 -- What one more element adds to the levels of a key in the making, and what the levels make when they are joined.
 use Rattle.std.proofs.Common.{Option, None, Result, Ok, Err, OnOk, ◌≡◌, ℕ, List, [], ◌∷◌, ◌++◌, Bool, true, false}
-use Rattle.std.proofs.Common.{cond, not, nat_eq, filter, map, refl, sym, ap, ◌∙◌, subst, get_or}
+use Rattle.std.proofs.Common.{cond, not, nat_eq, filter, map, refl, sym, ap, ◌∙◌, subst, get_or, ◌+◌, ◌<◌, ◌≤◌, length, take}
 use Rattle.std.specs.Prelude.{reverse, if◌then◌else◌}
 use Rattle.std.proofs.lemmas.List.{reverse-append, map-append}
 use Rattle.std.proofs.lemmas.List.Elements.{filter-append}
 use Rattle.std.proofs.lemmas.Grind.{flat_map-append}
+use Rattle.std.proofs.lemmas.List.{append_assoc, take_more, take_all}
+use Rattle.uca_key.specs.Depths.{point_bytes, points_bytes}
 use mathlib.Core.List.{reverse_aux}
 use Rattle.std.specs.Iterator.{Yields}
 use Rattle.std.specs.Iterator.Runs.{WholeRun}
@@ -92,8 +94,24 @@ written {S} steps s start t u es (Ok v) key weighting same begins ran ends under
 written steps s start t u es (Err e) key weighting same begins ran ends under is = tt
 
 -- the same of a key that was taken out of its buffer
-pub taken : {S : Type 0} (steps : S → Option Element → S → Type 0) (s : S) (held key : List ℕ) (weighting same : Weighting)
-    → key ≡ held → weighting ≡ same → WholeRun steps s (λ p. held ≡ key_bytes weighting p.items)
-    → WholeRun steps s (λ p. key ≡ key_bytes same p.items)
-taken steps s held key weighting same is under (p, from, whole, holds) =
-    (p, from, whole, is ∙ holds ∙ ap (λ w. key_bytes w p.items) under)
+pub taken : {S : Type 0} (steps : S → Option Element → S → Type 0) (s : S) (held key : List ℕ) (weighting : Weighting)
+    → key ≡ held → WholeRun steps s (λ p. held ≡ key_bytes weighting p.items) → WholeRun steps s (λ p. key ≡ key_bytes weighting p.items)
+taken steps s held key weighting is (p, from, whole, holds) = (p, from, whole, is ∙ holds)
+
+-- ---- The identical level
+
+-- the bytes of one more code point
+pub one_point_more : (points : List ℕ) (place point : ℕ) (old held now : List ℕ) → place < length points → point ≡ get_or points place point
+    → held ≡ old ++ (0 ∷ 0 ∷ points_bytes (take place points)) → now ≡ held ++ point_bytes point
+    → now ≡ old ++ (0 ∷ 0 ∷ points_bytes (take (place + 1) points))
+one_point_more points place point old held now within is was grown =
+    let next : take (place + 1) points ≡ take place points ++ point ∷ [] = take_more points place point within ∙ ap (λ p. take place points ++ p ∷ []) (sym is) in
+    let bytes : points_bytes (take (place + 1) points) ≡ points_bytes (take place points) ++ point_bytes point =
+    ap points_bytes next ∙ flat_map-append point_bytes (take place points) (point ∷ []) in
+    grown ∙ ap (λ l. l ++ point_bytes point) was ∙ append_assoc old (0 ∷ 0 ∷ points_bytes (take place points)) (point_bytes point)
+    ∙ ap (λ l. old ++ (0 ∷ 0 ∷ l)) (sym bytes)
+
+-- the bytes of all
+pub all_points : (points : List ℕ) (place : ℕ) (old held : List ℕ) → length points ≤ place → held ≡ old ++ (0 ∷ 0 ∷ points_bytes (take place points))
+    → held ≡ old ++ (0 ∷ 0 ∷ points_bytes points)
+all_points points place old held end was = was ∙ ap (λ l. old ++ (0 ∷ 0 ∷ points_bytes l)) (take_all place points end)

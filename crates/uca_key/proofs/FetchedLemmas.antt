@@ -1,7 +1,6 @@
 -- Counts of elements are exact where texts and rows are within their limits.
-use Rattle.std.proofs.Common.{◌≡◌, ℕ, zero, suc, ◌+◌, ◌*◌, ◌≤◌, ◌^◌, List, [], ◌∷◌, length, Bool, true, false, nat_eq, map, refl, sym, ap, ◌∙◌, arith}
+use Rattle.std.proofs.Common.{◌≡◌, ℕ, zero, suc, ◌≤◌, ◌^◌, List, [], ◌∷◌, length, Bool, true, false, nat_eq, refl, ap, ◌∙◌, arith}
 use Rattle.std.proofs.lemmas.List.{length-map}
-use Rattle.uca_weights.specs.declared.Element.{Element}
 use Rattle.uca_weights.specs.declared.Weighting.{Weighting}
 use Rattle.uca_text.specs.Texts.{Spelled, letters_of}
 use Rattle.uca_text.specs.Limits.{IsAccepted}
@@ -56,11 +55,11 @@ fetched_both c weighting left right begun_left begun_right f g short good good_t
     let ws = level_begun weighting 1 es begun_left one in
     let vs = level_begun weighting 1 fs begun_right other in
     let place : shared_length (non_zero (weights_left weighting 1 begun_left)) (non_zero (weights_left weighting 1 begun_right)) ≡ first_difference weighting es fs =
-        ap (λ l. shared_length (non_zero l) (non_zero (weights_left weighting 1 begun_right))) ws ∙ ap (λ l. shared_length (non_zero (primaries weighting es)) (non_zero l)) vs in (
+    ap (λ l. shared_length (non_zero l) (non_zero (weights_left weighting 1 begun_right))) ws ∙ ap (λ l. shared_length (non_zero (primaries weighting es)) (non_zero l)) vs in (
       count ∙ ap (λ n. counted n (length_to (shared_length (non_zero (weights_left weighting 1 begun_left)) (non_zero (weights_left weighting 1 begun_right))) (weights_left weighting 1 begun_left))) (ap (λ (b : WalkState). b.fetched) one)
-      ∙ ap (λ n. counted 0 (length_to n (weights_left weighting 1 begun_left))) place ∙ ap (λ l. counted 0 (length_to (first_difference weighting es fs) l)) ws
-      ∙ fetched_is c weighting left (first_difference weighting es fs) short good,
+          ∙ ap (λ n. counted 0 (length_to n (weights_left weighting 1 begun_left))) place ∙ ap (λ l. counted 0 (length_to (first_difference weighting es fs) l)) ws
+          ∙ fetched_is c weighting left (first_difference weighting es fs) short good,
       count_too ∙ ap (λ n. counted n (length_to (shared_length (non_zero (weights_left weighting 1 begun_left)) (non_zero (weights_left weighting 1 begun_right))) (weights_left weighting 1 begun_right))) (ap (λ (b : WalkState). b.fetched) other)
-      ∙ ap (λ n. counted 0 (length_to n (weights_left weighting 1 begun_right))) place ∙ ap (λ l. counted 0 (length_to (first_difference weighting es fs) l)) vs
-      ∙ fetched_is c weighting right (first_difference weighting es fs) short good_too,
+          ∙ ap (λ n. counted 0 (length_to n (weights_left weighting 1 begun_right))) place ∙ ap (λ l. counted 0 (length_to (first_difference weighting es fs) l)) vs
+          ∙ fetched_is c weighting right (first_difference weighting es fs) short good_too,
     )

@@ -5,6 +5,7 @@ use Rattle.std.proofs.Common.{length, take, drop, refl, ap, arith, length-append
 use Rattle.std.specs.Prelude.{unwrap_or}
 use Rattle.std.proofs.lemmas.List.{length-map}
 use Rattle.uca_weights.specs.declared.Element.{Element}
+use Rattle.uca_weights.specs.declared.Depth.TheVariants.{Weights, Identical}
 use Rattle.uca_weights.specs.declared.Weighting.{Weighting}
 use Rattle.uca_weights.specs.declared.Weighting.TheVariants.{NonIgnorable, Shifted}
 use Rattle.uca_values.specs.declared.ImplicitRange.{ImplicitRange}
@@ -19,8 +20,9 @@ use Rattle.uca_match.specs.Rows.{Rows, rows_of, same_key}
 use Rattle.uca_match.specs.Reading.{others, non_starters_at_front, after_non_starters, removed, longest_key, Portion, portion_at}
 use Rattle.uca_match.specs.Reading.{portion, read_within, collation_elements}
 use Rattle.uca_match.specs.Collations.{Collation, elements_of}
-use Rattle.uca_key.specs.Levels.{Weights, weight_at, level_list, level_lists_from, weighted, level_bytes, levels_bytes}
+use Rattle.uca_key.specs.Levels.{Weights as WeightsType, weight_at, level_list, level_lists_from, weighted, level_bytes, levels_bytes}
 use Rattle.uca_key.specs.Levels.{weighted_following, key_bytes}
+use Rattle.uca_key.specs.Depths.{read_text, points_bytes, key_at}
 use Rattle.uca_key.specs.Lengths.{HasShortRows}
 use Rattle.uca_key.specs.Laws.{KeysAreShort, RowsAreShort}
 use Rattle.std.specs.List.{AllByRecursion}
@@ -47,7 +49,7 @@ length-weighted weighting earlier [] = refl
 length-weighted weighting earlier (e ∷ es) = ap suc (length-weighted weighting (e ∷ earlier) es)
 
 -- a level has at most two bytes for each element
-pub length-level : (n : ℕ) (ws : List Weights) → length (level_bytes (level_list n ws)) ≤ 2 * length ws
+pub length-level : (n : ℕ) (ws : List WeightsType) → length (level_bytes (level_list n ws)) ≤ 2 * length ws
 length-level n ws =
     let a = length-level_bytes (level_list n ws) in
     let b = length-filter (λ w. not (nat_eq w 0)) (map (weight_at n) ws) in
@@ -55,7 +57,7 @@ length-level n ws =
     omega (arith, a, b, c)
 
 -- three levels and two separators
-pub length-three : (ws : List Weights) → length (levels_bytes (level_lists_from 1 3 ws)) ≤ 6 * length ws + 4
+pub length-three : (ws : List WeightsType) → length (levels_bytes (level_lists_from 1 3 ws)) ≤ 6 * length ws + 4
 length-three ws =
     let one = level_bytes (level_list 1 ws) in
     let two = level_bytes (level_list 2 ws) in
@@ -70,7 +72,7 @@ length-three ws =
     )
 
 -- four levels and three separators
-pub length-four : (ws : List Weights) → length (levels_bytes (level_lists_from 1 4 ws)) ≤ 8 * length ws + 6
+pub length-four : (ws : List WeightsType) → length (levels_bytes (level_lists_from 1 4 ws)) ≤ 8 * length ws + 6
 length-four ws =
     let one = level_bytes (level_list 1 ws) in
     let two = level_bytes (level_list 2 ws) in
@@ -174,15 +176,31 @@ length-letters [] classes = omega arith
 length-letters (c ∷ points) [] = omega arith
 length-letters (c ∷ points) (k ∷ classes) = omega (arith, length-letters points classes)
 
+-- three bytes for each code point
+length-points_bytes : (points : List ℕ) → length (points_bytes points) ≡ 3 * length points
+length-points_bytes [] = refl
+length-points_bytes (p ∷ points) = omega (arith, length-points_bytes points)
+
 -- the key of a text within the limits
 pub keys_short : KeysAreShort
-keys_short c weighting text short accepted =
+keys_short c Weights weighting text short accepted =
     let t = letters_of text in
     omega (
       arith,
       length-key weighting (elements_of c text),
       length-elements c t short,
       length-letters text.points text.classes,
+      accepted.few,
+    )
+keys_short c Identical weighting text short accepted =
+    let t = letters_of text in
+    omega (
+      arith,
+      length-key weighting (elements_of c text),
+      length-elements c t short,
+      length-letters text.points text.classes,
+      length-points_bytes text.points,
+      length-append (key_bytes weighting (elements_of c text)) (0 ∷ 0 ∷ points_bytes text.points),
       accepted.few,
     )
 
@@ -199,14 +217,29 @@ whole_is s p from whole =
     let (u, ended) = ends whole in
     shown p.from p.items t u ran ended ∙ from
 
--- so a key that was written of a text is short
-pub written_short : {U E : Type 0} (r : Result U E) (key : List ℕ) (weighting : Weighting) (c : Collation) (text : Spelled) (es : List Element)
-    → es ≡ elements_of c text → OnOk r (WholeRun (YieldsFirst (λ (rest : List Element). rest)) es (λ p. key ≡ key_bytes weighting p.items))
-    → HasShortRows c.rows → IsAccepted text → OnOk r (length key < 2 ^ 40)
-written_short (Ok v) key weighting c text es are (p, from, whole, is) short accepted =
-    let e : key ≡ key_bytes weighting (elements_of c text) = is ∙ ap (key_bytes weighting) (whole_is es p from whole ∙ are) in
-    subst (λ (l : List ℕ). length l < 2 ^ 40) (sym e) (keys_short c weighting text short accepted)
-written_short (Err e) key weighting c text es are whole short accepted = tt
+-- so a key of a whole run over the elements of a text is theirs
+run_is : (key : List ℕ) (weighting : Weighting) (c : Collation) (text : Spelled) (es : List Element)
+    → es ≡ elements_of c text → WholeRun (YieldsFirst (λ (rest : List Element). rest)) es (λ p. key ≡ key_bytes weighting p.items)
+    → key ≡ key_bytes weighting (elements_of c text)
+run_is key weighting c text es are (p, from, whole, is) = is ∙ ap (key_bytes weighting) (whole_is es p from whole ∙ are)
+
+-- and short
+pub weights_short : (key : List ℕ) (weighting : Weighting) (c : Collation) (text : Spelled) (es : List Element)
+    → es ≡ elements_of c text → WholeRun (YieldsFirst (λ (rest : List Element). rest)) es (λ p. key ≡ key_bytes weighting p.items)
+    → HasShortRows c.rows → IsAccepted text → length key < 2 ^ 40
+weights_short key weighting c text es are run short accepted =
+    subst (λ (l : List ℕ). length l < 2 ^ 40) (sym (run_is key weighting c text es are run)) (keys_short c Weights weighting text short accepted)
+
+-- also with the identical level behind it
+pub identical_short : {U E : Type 0} (r : Result U E) (key held points : List ℕ) (weighting : Weighting) (c : Collation) (text : Spelled) (es : List Element)
+    → es ≡ elements_of c text → WholeRun (YieldsFirst (λ (rest : List Element). rest)) es (λ p. held ≡ key_bytes weighting p.items)
+    → points ≡ text.points → OnOk r (key ≡ held ++ (0 ∷ 0 ∷ points_bytes points)) → HasShortRows c.rows → IsAccepted text → OnOk r (length key < 2 ^ 40)
+identical_short (Ok v) key held points weighting c text es are run same is short accepted =
+    let whole : key ≡ key_at Identical weighting (read_text c text) =
+    is ∙ ap (λ l. l ++ (0 ∷ 0 ∷ points_bytes points)) (run_is held weighting c text es are run)
+    ∙ ap (λ l. key_bytes weighting (elements_of c text) ++ (0 ∷ 0 ∷ points_bytes l)) same in
+    subst (λ (l : List ℕ). length l < 2 ^ 40) (sym whole) (keys_short c Identical weighting text short accepted)
+identical_short (Err e) key held points weighting c text es are run same is short accepted = tt
 
 -- ---- Rows
 

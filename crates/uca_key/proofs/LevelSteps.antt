@@ -1,5 +1,5 @@
 -- A comparison goes on level by level.
-use Rattle.std.proofs.Common.{◌≡◌, ◌≢◌, ℕ, suc, ◌+◌, ◌-◌, ◌≤◌, List, [], ◌∷◌, ◌++◌, refl, sym, ap, ◌∙◌, arith}
+use Rattle.std.proofs.Common.{◌≡◌, ◌≢◌, ℕ, suc, ◌-◌, ◌≤◌, List, [], ◌∷◌, ◌++◌, refl, sym, ap, ◌∙◌, arith}
 use Rattle.std.specs.declared.cmp.Ordering.{Ordering}
 use Rattle.std.specs.declared.cmp.Ordering.TheVariants.{Less, Equal, Greater}
 use Rattle.uca_weights.specs.declared.Depth.{Depth}
@@ -33,7 +33,7 @@ from_step Identical weighting level t few = ap (λ l. l ++ t.points ∷ []) (lis
 pub compared_step : (depth : Depth) (weighting : Weighting) (level : ℕ) (left right : ReadText) → level ≤ level_count weighting
     → compared_from depth weighting level left right
     ≡ decided (dictionary (level_list level (weighted weighting left.elements)) (level_list level (weighted weighting right.elements))) level
-      (compared_from depth weighting (suc level) left right)
+    (compared_from depth weighting (suc level) left right)
 compared_step depth weighting level left right few =
     ap (λ l. compare_from level l (lists_from depth weighting level right)) (from_step depth weighting level left few)
     ∙ ap (compare_from level (level_list level (weighted weighting left.elements) ∷ lists_from depth weighting (suc level) left)) (from_step depth weighting level right few)

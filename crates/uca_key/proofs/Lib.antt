@@ -8,3 +8,4 @@ pub mod KeyLength
 pub mod WalkLemmas
 pub mod LevelSteps
 pub mod FetchedLemmas
+pub mod DepthOrder

@@ -12,7 +12,7 @@ use Rattle.uca_weights.specs.declared.Weighting.TheVariants.{NonIgnorable, Shift
 use Rattle.uca_key.specs.Levels.{Comparison, level_lists, level_count, weighted, dictionary, decided, compare_from}
 use Rattle.uca_key.specs.Levels.{compared, weight_bytes, level_bytes, levels_bytes, key_bytes}
 use Rattle.uca_key.specs.StoredKeys.{groups, shared_groups, shared_separators, stored_level}
-use Rattle.uca_key.specs.Laws.{StoredKeysCompareAsElements, StoredKeysCompareAsTexts, text_elements}
+use Rattle.uca_key.specs.Laws.{StoredKeysCompareAsElements}
 use Rattle.uca_key.proofs.KeyOrder.{AreNonZero, AreLevels, AreLevels-from, joined, levels_bytes-joined, key_order}
 use Rattle.uca_key.proofs.KeyOrder.{key_same, same_from_dictionary, dictionary_itself}
 
@@ -254,10 +254,6 @@ stored_key_level weighting left right =
 -- the law of elements
 pub stored_keys_compare : StoredKeysCompareAsElements
 stored_keys_compare weighting left right = (key_order weighting left right, stored_key_level weighting left right)
-
--- the law of texts
-pub stored_texts_compare : StoredKeysCompareAsTexts
-stored_texts_compare c weighting left right = stored_keys_compare weighting (text_elements c left) (text_elements c right)
 
 -- ---- What `compare_keys` answers
 

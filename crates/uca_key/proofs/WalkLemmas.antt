@@ -145,7 +145,6 @@ order_here vs ws differ = at (nat_eq (first_weight vs) 0) refl (nat_eq (first_we
         ∙ ap (dictionary (first_weight vs ∷ non_zero (behind_first vs))) (non_zero_first ws more)
         ∙ then_apart (first_weight vs) (first_weight ws) (dictionary (non_zero (behind_first vs)) (non_zero (behind_first ws))) (λ e. some (differ e))
 
-
 -- so they begin alike by nothing
 pub shared_here : (vs ws : List ℕ) → (first_weight vs ≡ first_weight ws → first_weight vs ≡ 0) → shared_length (non_zero vs) (non_zero ws) ≡ 0
 shared_here vs ws differ = at (nat_eq (first_weight vs) 0) refl (nat_eq (first_weight ws) 0) refl
@@ -251,7 +250,7 @@ compares_on left right all_left all_right left1 right1 v w f g f0 g0 f1 g1 first
     let shared = shared_past left right some_left both in
     let here = shared_length (non_zero (behind_first left)) (non_zero (behind_first right)) in
     let is : shared_length (non_zero left1) (non_zero right1) ≡ here =
-        ap (λ l. shared_length (non_zero l) (non_zero right1)) behind ∙ ap (λ l. shared_length (non_zero (behind_first left)) (non_zero l)) behind_too in
+    ap (λ l. shared_length (non_zero l) (non_zero right1)) behind ∙ ap (λ l. shared_length (non_zero (behind_first left)) (non_zero l)) behind_too in
     record {
       order = ap (λ l. dictionary (non_zero l) (non_zero right1)) behind ∙ ap (λ l. dictionary (non_zero (behind_first left)) (non_zero l)) behind_too
           ∙ sym (order_past left right some_left both) ∙ on.order;

@@ -2,13 +2,16 @@
 use Rattle.std.specs.Prelude.{◌≡◌, ◌↔◌, ℕ, ◌<◌, ◌^◌, List, length, IsTrue}
 use Rattle.uca_weights.specs.declared.Element.{Element}
 use Rattle.uca_weights.specs.declared.Weighting.{Weighting}
+use Rattle.uca_weights.specs.declared.Depth.{Depth}
+use Rattle.uca_weights.specs.declared.Depth.TheVariants.{Identical}
 use Rattle.uca_weights.specs.Kinds.{IsCompletelyIgnorable}
 use Rattle.uca_values.specs.Content.{Entry, AreRows}
 use Rattle.uca_text.specs.Texts.{Spelled, AreCanonicallyEquivalent, spelled}
 use Rattle.uca_text.specs.Limits.{IsAccepted}
 use Rattle.uca_match.specs.Rows.{Rows, rows_of}
-use Rattle.uca_match.specs.Collations.{Collation, elements_of}
-use Rattle.uca_key.specs.Levels.{is_completely_ignorable, level_count, dictionary, compared, key_bytes}
+use Rattle.uca_match.specs.Collations.{Collation}
+use Rattle.uca_key.specs.Levels.{Comparison, is_completely_ignorable, level_count, dictionary, compared, key_bytes}
+use Rattle.uca_key.specs.Depths.{ReadText, read_text, levels_at, compared_at, key_at}
 use Rattle.uca_key.specs.StoredKeys.{stored_level}
 use Rattle.uca_key.specs.Lengths.{HasShortRows}
 
@@ -18,13 +21,14 @@ KeysCompareAsElements = (weighting : Weighting) (left right : List Element) →
     (dictionary (key_bytes weighting left) (key_bytes weighting right) ≡ (compared weighting left right).order)
     × ((key_bytes weighting left ≡ key_bytes weighting right) ↔ ((compared weighting left right).level ≡ 0))
 
--- the collation elements of a text, given as its code points before normalization
-abbrev pub text_elements : Collation → List ℕ → List Element
-text_elements c points = elements_of c (spelled c.properties points)
+-- the key of a text that is given as its code points before normalization
+abbrev pub text_key : Collation → Depth → Weighting → List ℕ → List ℕ
+text_key c depth weighting points = key_at depth weighting (read_text c (spelled c.properties points))
 
--- its key
-abbrev pub text_key : Collation → Weighting → List ℕ → List ℕ
-text_key c weighting points = key_bytes weighting (text_elements c points)
+-- how two such texts compare
+abbrev pub texts_compared : Collation → Depth → Weighting → List ℕ → List ℕ → Comparison
+texts_compared c depth weighting left right =
+    compared_at depth weighting (read_text c (spelled c.properties left)) (read_text c (spelled c.properties right))
 
 -- Two stored keys give the order of their elements and the level at which they differ, by their bytes alone.
 abbrev pub StoredKeysCompareAsElements : Type 0
@@ -32,23 +36,38 @@ StoredKeysCompareAsElements = (weighting : Weighting) (left right : List Element
     (dictionary (key_bytes weighting left) (key_bytes weighting right) ≡ (compared weighting left right).order)
     × (stored_level (level_count weighting) (key_bytes weighting left) (key_bytes weighting right) ≡ (compared weighting left right).level)
 
--- So do the stored keys of two texts, given as their code points before normalization.
+-- The keys of two texts compare as the texts do at their depth, and so do their stored keys, which are equal exactly where
+-- no level differs.
+pub record KeysCompareAsTexts : Type 0 where
+  pub order : (depth : Depth) (weighting : Weighting) (left right : ReadText) →
+      dictionary (key_at depth weighting left) (key_at depth weighting right) ≡ (compared_at depth weighting left right).order
+  pub level : (depth : Depth) (weighting : Weighting) (left right : ReadText) →
+      stored_level (levels_at depth weighting) (key_at depth weighting left) (key_at depth weighting right) ≡ (compared_at depth weighting left right).level
+  pub equal : (depth : Depth) (weighting : Weighting) (left right : ReadText) →
+      (key_at depth weighting left ≡ key_at depth weighting right) ↔ ((compared_at depth weighting left right).level ≡ 0)
+
+-- So do the stored keys of two texts that are given as their code points before normalization.
 abbrev pub StoredKeysCompareAsTexts : Type 0
-StoredKeysCompareAsTexts = (c : Collation) (weighting : Weighting) (left right : List ℕ) →
-    let left_key = text_key c weighting left in
-    let right_key = text_key c weighting right in
-    let answer = compared weighting (text_elements c left) (text_elements c right) in
-    (dictionary left_key right_key ≡ answer.order) × (stored_level (level_count weighting) left_key right_key ≡ answer.level)
+StoredKeysCompareAsTexts = (c : Collation) (depth : Depth) (weighting : Weighting) (left right : List ℕ) →
+    let left_key = text_key c depth weighting left in
+    let right_key = text_key c depth weighting right in
+    let answer = texts_compared c depth weighting left right in
+    (dictionary left_key right_key ≡ answer.order) × (stored_level (levels_at depth weighting) left_key right_key ≡ answer.level)
 
 -- Canonically equivalent texts have one key.
 abbrev pub CanonicallyEquivalentTextsHaveEqualKeys : Type 0
-CanonicallyEquivalentTextsHaveEqualKeys = (c : Collation) (weighting : Weighting) (left right : List ℕ) →
-    AreCanonicallyEquivalent left right → text_key c weighting left ≡ text_key c weighting right
+CanonicallyEquivalentTextsHaveEqualKeys = (c : Collation) (depth : Depth) (weighting : Weighting) (left right : List ℕ) →
+    AreCanonicallyEquivalent left right → text_key c depth weighting left ≡ text_key c depth weighting right
+
+-- With an identical level no other texts have.
+abbrev pub IdenticalKeysAreOfEquivalentTexts : Type 0
+IdenticalKeysAreOfEquivalentTexts = (c : Collation) (weighting : Weighting) (left right : List ℕ) →
+    text_key c Identical weighting left ≡ text_key c Identical weighting right → AreCanonicallyEquivalent left right
 
 -- The key of every accepted text is short, under rows as those of a table.
 abbrev pub KeysAreShort : Type 0
-KeysAreShort = (c : Collation) (weighting : Weighting) (text : Spelled) →
-    HasShortRows c.rows → IsAccepted text → length (key_bytes weighting (elements_of c text)) < 2 ^ 40
+KeysAreShort = (c : Collation) (depth : Depth) (weighting : Weighting) (text : Spelled) →
+    HasShortRows c.rows → IsAccepted text → length (key_at depth weighting (read_text c text)) < 2 ^ 40
 
 -- The rows of a table are short, under any lookup that finds them.
 abbrev pub RowsAreShort : Type 0

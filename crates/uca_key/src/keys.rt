@@ -3,30 +3,34 @@
 ghost use Rattle.std.specs.Prelude.{◌≡◌, ◌<◌, ◌^◌, length, IfOk};
 ghost use Rattle.std.specs.Iterator.{IsFinite};
 ghost use Rattle.std.specs.Iterator.Runs.{WholeRun};
-ghost use Rattle.uca_match.specs.Collations.{collation_of, elements_of};
+ghost use Rattle.uca_match.specs.Collations.{collation_of};
 ghost use Rattle.uca_key.specs.Levels.{key_bytes};
+ghost use Rattle.uca_key.specs.Depths.{read_text, key_at};
 ghost use Rattle.uca_key.specs.Lengths.{HasShortRows};
 
 use crate::KeyBuffer;
+use crate::levels::LevelBuffers;
 use std::alloc::{AllocError, Allocator};
 use uca_match::{Collator, Lookup};
 use uca_text::Normal;
-use uca_weights::{Element, Weighting};
+use uca_weights::{Depth, Element, Weighting};
 
-/// The sort key of a text (UTS #10, section 7.3): that of its collation elements, by [`key_of`], in memory of
-/// `alloc`. The error says that no memory was left.
+/// The sort key of a text (UTS #10, section 7.3) in memory of `alloc`: that of its collation elements, by
+/// [`key_of`]. At the depth `Identical` two bytes 0 follow, and each code point of the text in Normalization
+/// Form D as three bytes, the high byte first. The error says that no memory was left.
 pub fn key<K: Allocator + Copy, L: Lookup, A: Allocator>(
     alloc: K,
     collator: &Collator<L, A>,
     weighting: Weighting,
+    depth: Depth,
     text: &Normal,
 ) -> Result<Vec<u8, K>, AllocError>
-    ensures found { IfOk result (λ key. key.items ≡ key_bytes weighting
-        (elements_of (collation_of L.content collator.now) text.now)) }
+    ensures found { IfOk result (λ key. key.items ≡ key_at depth weighting
+        (read_text (collation_of L.content collator.now) text.now)) }
     ensures short { HasShortRows (collation_of L.content collator.now).rows →
         IfOk result (λ key. length key.items < 2 ^ 40) }
 {
-    let mut buffer = KeyBuffer::new(alloc, weighting);
+    let mut buffer = KeyBuffer::new(alloc, weighting, depth);
     buffer.write_text(collator, text)?;
     Ok(buffer.into_bytes())
 }
@@ -44,7 +48,7 @@ pub fn key_of<I: Iterator<Item = Element> + Drop, A: Allocator + Copy>(
     ensures { IfOk result (λ key. WholeRun I.next_gives elements (λ p.
         key.items ≡ key_bytes weighting p.items)) }
 {
-    let mut buffer = KeyBuffer::new(alloc, weighting);
-    buffer.write(elements)?;
-    Ok(buffer.into_bytes())
+    let mut levels = LevelBuffers::new(alloc);
+    levels.write(weighting, elements)?;
+    Ok(levels.into_key())
 }

@@ -1,6 +1,6 @@
 //! What holds of the keys of all texts. The functions do nothing: their contracts are the laws.
 
-ghost use Rattle.uca_key.specs.Laws.{KeysCompareAsElements, CanonicallyEquivalentTextsHaveEqualKeys, KeysAreShort, RowsAreShort, FindsCompletelyIgnorable, StoredKeysCompareAsElements, StoredKeysCompareAsTexts};
+ghost use Rattle.uca_key.specs.Laws.{KeysCompareAsElements, CanonicallyEquivalentTextsHaveEqualKeys, KeysAreShort, RowsAreShort, FindsCompletelyIgnorable, StoredKeysCompareAsElements, KeysCompareAsTexts, StoredKeysCompareAsTexts, IdenticalKeysAreOfEquivalentTexts};
 ghost use Rattle.uca_key.specs.StreamedWeights.{WeightsMayBeStreamed};
 ghost use Rattle.uca_key.specs.WorkedKeys.{WorkedKeys};
 ghost use Rattle.uca_key.specs.WorkedComparisons.{WorkedComparisons};
@@ -18,14 +18,26 @@ pub fn stored_keys_compare_as_elements()
     ensures { StoredKeysCompareAsElements }
 {}
 
-/// So do the stored keys of two texts, under any table.
+/// The keys of two texts compare as the texts do, at either depth: what [`compare`](crate::compare) answers of two texts
+/// is what [`compare_keys`](crate::compare_keys) answers of their keys, with [`level_count`](crate::level_count) levels,
+/// and one more at the depth `Identical`.
+pub fn keys_compare_as_texts()
+    ensures { KeysCompareAsTexts }
+{}
+
+/// So do the stored keys of two texts that are given before normalization, under any table.
 pub fn stored_keys_compare_as_texts()
     ensures { StoredKeysCompareAsTexts }
 {}
 
-/// Canonically equivalent texts (UAX #15) have equal keys, under any table and either weighting.
+/// Canonically equivalent texts (UAX #15) have equal keys, under any table, either weighting and at either depth.
 pub fn canonically_equivalent_texts_have_equal_keys()
     ensures { CanonicallyEquivalentTextsHaveEqualKeys }
+{}
+
+/// With an identical level no other texts have equal keys.
+pub fn identical_keys_are_of_equivalent_texts()
+    ensures { IdenticalKeysAreOfEquivalentTexts }
 {}
 
 /// The key of a text that keeps the limits has less than 2^40 bytes, where no row has more than 32

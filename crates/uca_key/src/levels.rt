@@ -1,8 +1,12 @@
 //! The levels of a key in the making: a buffer for each level.
 
 ghost use Rattle.std.specs.Prelude.{◌≡◌, ◌++◌, ◌∷◌, [], ◌==◌, List, OnOk, if◌then◌else◌};
+ghost use Rattle.std.specs.Iterator.{IsFinite};
+ghost use Rattle.std.specs.Iterator.Runs.{WholeRun};
 ghost use Rattle.uca_weights.specs.declared.Element.{Element};
 ghost use Rattle.uca_key.specs.Levels.{weight_bytes, key_bytes};
+ghost use Rattle.uca_key.specs.Depths;
+ghost use Rattle.uca_key.specs.Depths.{points_bytes};
 ghost use Rattle.uca_key.specs.LevelBuffers.{HoldsLevels};
 
 use crate::weighting::{is_after_variable, weights_of};
@@ -54,8 +58,26 @@ impl<A: Allocator + Copy> LevelBuffers<A> {
 }
 
 impl<A: Allocator> LevelBuffers<A> {
-    /// Takes all weights out, and keeps the memory.
-    pub(crate) fn clear(&mut self)
+    /// Writes the key of the elements, in place of the key that was there. An error says that no memory
+    /// was left; the bytes then are no key.
+    pub(crate) fn write<I: Iterator<Item = Element> + Drop>(
+        &mut self,
+        weighting: Weighting,
+        elements: I,
+    ) -> Result<(), AllocError>
+        requires can { I.can_next elements }
+        requires finite { IsFinite (I.remaining elements) }
+        ensures { OnOk result (WholeRun I.next_gives elements (λ p. self.new.key ≡ key_bytes weighting p.items)) }
+    {
+        self.clear();
+        for element in elements {
+            self.push(weighting, element)?;
+        }
+        self.join(weighting)
+    }
+
+    // Takes all weights out, and keeps the memory.
+    fn clear(&mut self)
         ensures { (weighting : Weighting) → HoldsLevels weighting [] self.new }
     {
         self.after_variable = false;
@@ -65,8 +87,8 @@ impl<A: Allocator> LevelBuffers<A> {
         self.quaternary.clear();
     }
 
-    /// Adds the weights of the next element.
-    pub(crate) fn push(&mut self, weighting: Weighting, element: Element) -> Result<(), AllocError>
+    // Adds the weights of the next element.
+    fn push(&mut self, weighting: Weighting, element: Element) -> Result<(), AllocError>
         ensures { (es : List Element) → HoldsLevels weighting es self.old →
             OnOk result (HoldsLevels weighting (es ++ element ∷ []) self.new) }
     {
@@ -83,8 +105,8 @@ impl<A: Allocator> LevelBuffers<A> {
         Ok(())
     }
 
-    /// Puts the other levels of the weighting after the first.
-    pub(crate) fn join(&mut self, weighting: Weighting) -> Result<(), AllocError>
+    // Puts the other levels of the weighting after the first.
+    fn join(&mut self, weighting: Weighting) -> Result<(), AllocError>
         ensures { (es : List Element) → HoldsLevels weighting es self.old →
             OnOk result (self.new.key ≡ key_bytes weighting es) }
     {
@@ -94,6 +116,17 @@ impl<A: Allocator> LevelBuffers<A> {
             Weighting::NonIgnorable => Ok(()),
             Weighting::Shifted => push_level(&mut self.key, &self.quaternary),
         }
+    }
+
+    /// Puts the identical level behind the key: the code points, three bytes each with the high byte first.
+    pub(crate) fn push_points(&mut self, points: &[char]) -> Result<(), AllocError>
+        ensures { OnOk result (self.new.key ≡ self.old.key ++ (0 ∷ 0 ∷ points_bytes points.now)) }
+    {
+        self.key.extend_from_slice(&SEPARATOR)?;
+        for point in points {
+            self.key.extend_from_slice(&point_bytes(*point))?;
+        }
+        Ok(())
     }
 
     /// The first level, and the key once the levels are joined.
@@ -128,4 +161,12 @@ fn push_level<A: Allocator>(key: &mut Vec<u8, A>, level: &Vec<u8, A>) -> Result<
 {
     key.extend_from_slice(&SEPARATOR)?;
     key.extend_from_slice(level.as_slice())
+}
+
+// A code point as three bytes, the high one first.
+fn point_bytes(point: char) -> [u8; 3]
+    ensures { result ≡ Depths.point_bytes point }
+{
+    let [_, high, middle, low] = u32::from(point).to_be_bytes();
+    [high, middle, low]
 }

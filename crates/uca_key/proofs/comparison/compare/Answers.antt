@@ -1,4 +1,4 @@
-use Rattle.std.proofs.Common.{◌≡◌, ◌∙◌, ap, sym}
+use Rattle.std.proofs.Common.{◌∙◌, ap}
 use Rattle.uca_match.specs.Collations.{collation_of}
 use Rattle.uca_key.specs.Depths.{read_text}
 use Rattle.uca_key.specs.LevelWalks.{WalkState}
@@ -15,8 +15,8 @@ returns-clause-compared g c =
     let right = read_text by c.args.right.now in
     let primary = level_compares c.args.weighting 1 left.elements right.elements _ _ _ c.new-left_walk.ensures c.new-right_walk.ensures c.compare_level-primary.ensures.order in
     elim c.match-primary.branch [
-      in-Equal w ↦ primary_equal c.args.depth c.args.weighting left right c.compare_level-primary.result c.match-primary.order w.later_levels.result primary w.in-Equal.is w.order-is w.later_levels.ensures
-    | in_default w ↦ primary_differs c.args.depth c.args.weighting left right c.compare_level-primary.result c.match-primary.order primary w.in_default.not-Equal w.order-is
+      | in-Equal w ↦ primary_equal c.args.depth c.args.weighting left right c.compare_level-primary.result c.match-primary.order w.later_levels.result primary w.in-Equal.is w.order-is w.later_levels.ensures
+      | in_default w ↦ primary_differs c.args.depth c.args.weighting left right c.compare_level-primary.result c.match-primary.order primary w.in_default.not-Equal w.order-is
     ]
 
 pub returns-clause-fetched : goal.returns-clause-fetched

@@ -1,4 +1,4 @@
-use Rattle.std.proofs.Common.{◌≡◌, ◌∙◌, arith}
+use Rattle.std.proofs.Common.{◌∙◌}
 use Rattle.uca_key.proofs.WalkLemmas.{compares_on, compares_here, fewer_left}
 use Rattle.uca_key.proofs.comparison.compare_level.Goals as goal
 use Rattle.uca_key.proofs.comparison.compare_level.Goals.{then-first-second-via-then-first-second, then-first-second-via-else-first-second+then-first-eq0}
@@ -15,8 +15,8 @@ pub returns-then-first-second-clause-order : goal.returns-then-first-second-clau
 returns-then-first-second-clause-order g c =
     c.cmp.ensures ∙ (compares_here _ _ _ _ _ _ _ _ _ _ _ _ c.next_weight-first.ensures.weight c.next_weight-second.ensures.weight
     (elim c.then-first-second.branch [
-      then-first-second-via-then-first-second w ↦ λ same. absurd (w.if-first-second.true same)
-    | then-first-second-via-else-first-second+then-first-eq0 w ↦ λ same. w.if-first-eq0.true
+      | then-first-second-via-then-first-second w ↦ λ same. absurd (w.if-first-second.true same)
+      | then-first-second-via-else-first-second+then-first-eq0 w ↦ λ same. w.if-first-eq0.true
     ])
     c.next_weight-first.ensures.fetched c.next_weight-second.ensures.fetched c.loop-weighting.invariant).0
 
@@ -24,8 +24,8 @@ pub returns-then-first-second-clause-fetched_left : goal.returns-then-first-seco
 returns-then-first-second-clause-fetched_left g c =
     (compares_here _ _ _ _ _ _ _ _ _ _ _ _ c.next_weight-first.ensures.weight c.next_weight-second.ensures.weight
     (elim c.then-first-second.branch [
-      then-first-second-via-then-first-second w ↦ λ same. absurd (w.if-first-second.true same)
-    | then-first-second-via-else-first-second+then-first-eq0 w ↦ λ same. w.if-first-eq0.true
+      | then-first-second-via-then-first-second w ↦ λ same. absurd (w.if-first-second.true same)
+      | then-first-second-via-else-first-second+then-first-eq0 w ↦ λ same. w.if-first-eq0.true
     ])
     c.next_weight-first.ensures.fetched c.next_weight-second.ensures.fetched c.loop-weighting.invariant).1
 
@@ -33,7 +33,7 @@ pub returns-then-first-second-clause-fetched_right : goal.returns-then-first-sec
 returns-then-first-second-clause-fetched_right g c =
     (compares_here _ _ _ _ _ _ _ _ _ _ _ _ c.next_weight-first.ensures.weight c.next_weight-second.ensures.weight
     (elim c.then-first-second.branch [
-      then-first-second-via-then-first-second w ↦ λ same. absurd (w.if-first-second.true same)
-    | then-first-second-via-else-first-second+then-first-eq0 w ↦ λ same. w.if-first-eq0.true
+      | then-first-second-via-then-first-second w ↦ λ same. absurd (w.if-first-second.true same)
+      | then-first-second-via-else-first-second+then-first-eq0 w ↦ λ same. w.if-first-eq0.true
     ])
     c.next_weight-first.ensures.fetched c.next_weight-second.ensures.fetched c.loop-weighting.invariant).2

@@ -7,7 +7,7 @@ use Rattle.uca_key.proofs.comparison.LevelWalk.next_weight.Goals as goal
 pub returns-then-weight-ne0-clause-weight : goal.returns-then-weight-ne0-clause-weight
 returns-then-weight-ne0-clause-weight g c =
     let step =
-        weights_step c.args.weighting c.args.level c.loop-element.self-inside.elements c.next.new.self c.in-Some.element c.loop-element.self-inside.after_variable
+    weights_step c.args.weighting c.args.level c.loop-element.self-inside.elements c.next.new.self c.in-Some.element c.loop-element.self-inside.after_variable
     c.is_after_variable-self-inside.result c.loop-element.self-inside.fetched c.saturating_add-self-inside.result c.weights_of-weights.result
     c.requires.first c.requires.last c.in-Some.ensures.steps c.weights_of-weights.ensures c.is_after_variable-self-inside.ensures in
     ((walk_taken _ (weights_left c.args.weighting c.args.level (record { elements = c.next.new.self; after_variable = c.is_after_variable-self-inside.result; fetched = c.saturating_add-self-inside.result })) _ _ _ _ _ step c.if-weight-ne0.true c.saturating_add-self-inside.ensures c.loop-element.invariant).0)
@@ -15,7 +15,7 @@ returns-then-weight-ne0-clause-weight g c =
 pub loop-element-preserved : goal.loop-element-preserved
 loop-element-preserved g c =
     let step =
-        weights_step c.args.weighting c.args.level c.loop-element.self-inside.elements c.next.new.self c.in-Some.element c.loop-element.self-inside.after_variable
+    weights_step c.args.weighting c.args.level c.loop-element.self-inside.elements c.next.new.self c.in-Some.element c.loop-element.self-inside.after_variable
     c.is_after_variable-self-inside.result c.loop-element.self-inside.fetched c.saturating_add-self-inside.result c.weights_of-weights.result
     c.requires.first c.requires.last c.in-Some.ensures.steps c.weights_of-weights.ensures c.is_after_variable-self-inside.ensures in
     (walk_on _ (weights_left c.args.weighting c.args.level (record { elements = c.next.new.self; after_variable = c.is_after_variable-self-inside.result; fetched = c.saturating_add-self-inside.result })) _ _ _ _ _ step c.if-weight-ne0.false c.saturating_add-self-inside.ensures c.loop-element.invariant)
