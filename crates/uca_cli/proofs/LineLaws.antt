@@ -1,16 +1,18 @@
 -- The laws of key lines, from those of keys.
-use Rattle.std.proofs.Common.{chars, ap}
+use Rattle.std.proofs.Common.{ℕ, List, map, chars, ap}
 use Rattle.uca_text.specs.Texts.{spelled}
-use Rattle.uca_match.specs.Collations.{elements_of}
-use Rattle.uca_key.specs.Laws.{KeysCompareAsElements, CanonicallyEquivalentTextsHaveEqualKeys}
-use Rattle.uca_cli.specs.Laws.{LineKeysCompareAsElements, CanonicallyEquivalentLinesHaveOneKeyLine}
-use Rattle.uca_cli.specs.Print.{print_line}
+use Rattle.uca_key.specs.Depths.{read_text}
+use Rattle.uca_key.specs.Laws.{KeysCompareAsTexts}
+use Rattle.uca_cli.specs.Keys.{text_line}
+use Rattle.uca_cli.specs.Laws.{LineKeysCompareAsLines, CanonicallyEquivalentLinesHaveOneKeyLine}
 
--- the keys of lines are those of their elements
-pub line_keys_compare : KeysCompareAsElements → LineKeysCompareAsElements
+-- the keys of lines are those of their texts
+pub line_keys_compare : KeysCompareAsTexts → LineKeysCompareAsLines
 line_keys_compare law c left right =
-    law c.weighting (elements_of c.collation (spelled c.collation.properties (chars left))) (elements_of c.collation (spelled c.collation.properties (chars right)))
+    let one = read_text c.collation (spelled c.collation.properties (chars left)) in
+    let other = read_text c.collation (spelled c.collation.properties (chars right)) in
+    (law.order c.depth c.weighting one other, law.equal c.depth c.weighting one other)
 
--- equal keys print as equal lines
-pub one_key_line : CanonicallyEquivalentTextsHaveEqualKeys → CanonicallyEquivalentLinesHaveOneKeyLine
-one_key_line law c left right same = ap print_line (law c.collation c.weighting (chars left) (chars right) same)
+-- a line is printed by its code points in Normalization Form D alone
+pub one_key_line : CanonicallyEquivalentLinesHaveOneKeyLine
+one_key_line c left right same = ap (λ (points : List ℕ). text_line c (record { points = points; classes = map c.collation.properties.class points })) same

@@ -197,7 +197,7 @@ pub record HandedUpTo (key rest : List ℕ) (begin : ℕ) (out now : SinkState) 
   pub key_is : key ≡ done ++ rest
   pub whole : 0 < length rest → length done % 2 ≡ 0
   pub begins : begin ≡ 1 - length done
-  pub handed : HasHanded (printed_groups done) out now buffer held
+  pub handed : HasHanded (printed_groups done) buffer held out now
 
 pub handed_up_to_start : (key rest : List ℕ) (out : SinkState) (buffer : BufferState) → rest ≡ key → HandedUpTo key rest 1 out out buffer buffer
 handed_up_to_start key rest out buffer is = record {
@@ -215,11 +215,11 @@ text_from key rest part left text begin size out now buffer held upto cut is spa
     let some = some_spaced part (omega (arith, cut.1, cut.2, is)) in
     omega (arith, upto.begins, some, ap length spaced)
 
--- the line of a key goes on behind each of its parts
+-- the printed groups of a key go on behind each of its parts
 pub record GoesOn (key done part piece : List ℕ) : Type 0 where
   pub more : List ℕ
   pub grown : printed_groups (done ++ part) ≡ printed_groups done ++ piece
-  pub line : print_line key ≡ (printed_groups done ++ piece) ++ more
+  pub line : printed_groups key ≡ (printed_groups done ++ piece) ++ more
 
 -- of the text of a part, what is handed over
 part_grown : (done part piece : List ℕ) (begin : ℕ) → length done % 2 ≡ 0 → begin ≡ 1 - length done → piece ≡ drop begin (spaced_groups part) → printed_groups (done ++ part) ≡ printed_groups done ++ piece
@@ -233,18 +233,17 @@ part_grown (a ∷ more) part piece begin even begins is =
 line_goes_on : (key done part left piece : List ℕ) → key ≡ done ++ (part ++ left) → (0 < length left → length (done ++ part) % 2 ≡ 0) → 0 < length (done ++ part)
     → printed_groups (done ++ part) ≡ printed_groups done ++ piece → GoesOn key done part piece
 line_goes_on key done part [] piece is even some grown = record {
-  more = 10 ∷ [];
+  more = [];
   grown = grown;
-  line = ap print_line (is ∙ ap (λ l. done ++ l) (append-nil part)) ∙ ap (λ l. l ++ 10 ∷ []) grown;
+  line = ap printed_groups (is ∙ ap (λ l. done ++ l) (append-nil part)) ∙ grown ∙ sym (append-nil (printed_groups done ++ piece));
 }
 line_goes_on key done part (a ∷ left) piece is even some grown =
     let text = spaced_groups (a ∷ left) in
     record {
-      more = text ++ 10 ∷ [];
+      more = text;
       grown = grown;
-      line = ap print_line (is ∙ sym (append_assoc done part (a ∷ left)))
-          ∙ ap (λ l. l ++ 10 ∷ []) (printed-append (done ++ part) (a ∷ left) (even (omega arith)) some ∙ ap (λ l. l ++ text) grown)
-          ∙ append_assoc (printed_groups done ++ piece) text (10 ∷ []);
+      line = ap printed_groups (is ∙ sym (append_assoc done part (a ∷ left)))
+          ∙ printed-append (done ++ part) (a ∷ left) (even (omega arith)) some ∙ ap (λ l. l ++ text) grown;
     }
 
 pub goes_on : (key rest part left text : List ℕ) (begin size : ℕ) (out now : SinkState) (buffer held : BufferState) (upto : HandedUpTo key rest begin out now buffer held) → size ≡ 256
@@ -258,10 +257,10 @@ goes_on key rest part left text begin size out now buffer held upto is cut space
     (λ some. omega (arith, some, is, cut.1, both, ends, even)) (omega (arith, is, cut.1, cut.2, ends))
     (part_grown done part _ begin even upto.begins (take_rest text begin ∙ ap (drop begin) spaced))
 
--- there is room for the piece where there is room for the line
-pub piece_fits : (key done part piece : List ℕ) (limit : ℕ) (out now : SinkState) (buffer held : BufferState) → HasHanded (printed_groups done) out now buffer held → GoesOn key done part piece
-    → buffer.written + length buffer.held + length (print_line key) < limit → held.written + length held.held + length piece < limit
-piece_fits key done part piece limit out now buffer held handed on room =
+-- there is room for the piece where there is room for all groups
+pub piece_fits : (key done part piece : List ℕ) (out now : SinkState) (buffer held : BufferState) → HasHanded (printed_groups done) buffer held out now → GoesOn key done part piece
+    → HasRoom buffer (length (printed_groups key)) → HasRoom held (length piece)
+piece_fits key done part piece out now buffer held handed on room =
     let front = printed_groups done in
     omega (arith, handed.count, room, ap length on.line, length-append (front ++ piece) on.more, length-append front piece)
 

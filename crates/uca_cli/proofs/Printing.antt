@@ -12,9 +12,8 @@ use Rattle.uca_cli.proofs.NextTexts.{ended_left, cut_left}
 use Rattle.uca_lines.specs.OutputBuffer.{BufferState, HandedOver}
 use Rattle.uca_cli.specs.declared.faults.InputKind.{InputKind}
 use Rattle.uca_cli.specs.declared.faults.InputKind.TheVariants.{Read, Memory}
-use Rattle.uca_cli.specs.Print.{print_line}
 use Rattle.uca_cli.specs.Input.{cause_of, clean_from}
-use Rattle.uca_cli.specs.Keys.{Keying, key_of_text, line_key, key_lines, keys_output}
+use Rattle.uca_cli.specs.Keys.{Keying, text_line, key_line, key_lines, keys_output}
 use Rattle.uca_cli.specs.LinesSoFar.{IsKnownBehind, AreAll}
 use Rattle.uca_cli.specs.KeysSoFar.{HasPrinted, HasPrintedAll, IsPartOfOutput, IsStopped, PrintsText}
 use Rattle.uca_cli.specs.declared.faults.RunFault.{RunFault}
@@ -22,11 +21,10 @@ use Rattle.uca_cli.specs.declared.faults.RunFault.TheVariants.{Input, Write}
 use Rattle.uca_cli.specs.Texts.{IsTextOf, SaysNext}
 use Rattle.uca_cli.proofs.LinesSoFar.{output_begins}
 use Rattle.uca_cli.proofs.KnownLines.{known_end, known_more, known_last, known_refused, known_no_memory}
-use Rattle.uca_cli.proofs.PrintLemmas.{line_is_short}
 
 -- the key of one more line
-pub key_lines-push : (c : Keying) (before : List (List ℕ)) (line : List ℕ) → key_lines c (before ++ line ∷ []) ≡ key_lines c before ++ print_line (line_key c line)
-key_lines-push c before line = flat_map-append _ before (line ∷ []) ∙ ap (λ more. key_lines c before ++ more) (append-nil (print_line (line_key c line)))
+pub key_lines-push : (c : Keying) (before : List (List ℕ)) (line : List ℕ) → key_lines c (before ++ line ∷ []) ≡ key_lines c before ++ key_line c line
+key_lines-push c before line = flat_map-append _ before (line ∷ []) ∙ ap (λ more. key_lines c before ++ more) (append-nil (key_line c line))
 
 -- ---- Known bytes
 
@@ -43,15 +41,11 @@ all_output c (Some bytes) all are = ([], ap (key_lines c) are.clean ∙ sym (app
 -- ---- One line
 
 -- so much was handed over that the count of all bytes fits
-pub small_enough : (n : ℕ) (key : List ℕ) (all : ℕ) → all ≤ n * 2 ^ 42 → n < 1000000 → length key < 2 ^ 40 → all + length (print_line key) < 2 ^ 64
-small_enough n key all small few short =
-    let line = line_is_short key in
-    omega (arith, small, few, short, line)
+pub small_enough : (n all line : ℕ) → all ≤ n * 2 ^ 42 → n < 1000000 → line < 2 ^ 42 → all + line < 2 ^ 64
+small_enough n all line small few short = omega (arith, small, few, short)
 
-pub still_small : (n m : ℕ) (key : List ℕ) (old new : ℕ) → old ≤ n * 2 ^ 42 → m ≡ n + 1 → length key < 2 ^ 40 → new ≡ old + length (print_line key) → new ≤ m * 2 ^ 42
-still_small n m key old new small next short count =
-    let line = line_is_short key in
-    omega (arith, small, next, short, count, line)
+pub still_small : (n m old new line : ℕ) → old ≤ n * 2 ^ 42 → m ≡ n + 1 → line < 2 ^ 42 → new ≡ old + line → new ≤ m * 2 ^ 42
+still_small n m old new line small next short count = omega (arith, small, next, short, count)
 
 -- the end
 pub all_printed : (c : Keying) (start begun : Option (List ℕ)) (before : List (List ℕ)) (reader : LineState) (input : SourceState) (buffer : BufferState) (out : SinkState) → HasPrinted c start begun before reader input buffer out → IsAtEnd (left_of reader input) → HasPrintedAll c start begun buffer out
@@ -72,26 +66,26 @@ refused c start begun before reader now input unread buffer out line text number
     (known_refused c.collation.properties start before reader now input unread line text number kind p.behind p.count place says read, p.printed)
 
 -- the key of the line's text is that of the line
-line_key_is : (c : Keying) (before : ℕ) (line : List ℕ) (text : Spelled) → IsTextOf c.collation.properties before line text → key_of_text c text ≡ line_key c line
-line_key_is c before line text t = ap (λ s. key_of_text c s) t.spelling
+line_key_is : (c : Keying) (before : ℕ) (line : List ℕ) (text : Spelled) → IsTextOf c.collation.properties before line text → text_line c text ≡ key_line c line
+line_key_is c before line text t = ap (λ s. text_line c s) t.spelling
 
 -- a line was read and its key was handed over
-pub printed_more : (c : Keying) (start begun : Option (List ℕ)) (before : List (List ℕ)) (reader now : LineState) (input unread : SourceState) (buffer held : BufferState) (out sink : SinkState) (line : List ℕ) (text : Spelled) → HasPrinted c start begun before reader input buffer out → IsTextOf c.collation.properties reader.number line text → Consumes (left_of reader input) (left_of now unread) (ended line) → HandedOver begun sink.contents (key_lines c before ++ print_line (key_of_text c text)) held → now.number ≡ reader.number + 1 → held.written + length held.held ≤ now.number * 2 ^ 42 → HasPrinted c start begun (before ++ line ∷ []) now unread held sink
+pub printed_more : (c : Keying) (start begun : Option (List ℕ)) (before : List (List ℕ)) (reader now : LineState) (input unread : SourceState) (buffer held : BufferState) (out sink : SinkState) (line : List ℕ) (text : Spelled) → HasPrinted c start begun before reader input buffer out → IsTextOf c.collation.properties reader.number line text → Consumes (left_of reader input) (left_of now unread) (ended line) → HandedOver begun sink.contents (key_lines c before ++ text_line c text) held → now.number ≡ reader.number + 1 → held.written + length held.held ≤ now.number * 2 ^ 42 → HasPrinted c start begun (before ++ line ∷ []) now unread held sink
 printed_more c start begun before reader now input unread buffer held out sink line text p t takes handed next small =
     let many : now.number ≡ length (before ++ line ∷ []) = next ∙ ap (λ n. n + 1) p.count ∙ sym (length-append before (line ∷ [])) in
     record {
       behind = known_more c.collation.properties start (left_of reader input) (left_of now unread) before line p.behind takes t.lacks (subst (λ n. cause_of c.collation.properties n line ≡ None) p.count t.clean);
-      printed = subst (λ output. HandedOver begun sink.contents output held) (ap (λ key. key_lines c before ++ print_line key) (line_key_is c reader.number line text t) ∙ sym (key_lines-push c before line)) handed;
+      printed = subst (λ output. HandedOver begun sink.contents output held) (ap (λ l. key_lines c before ++ l) (line_key_is c reader.number line text t) ∙ sym (key_lines-push c before line)) handed;
       count = many;
       small = subst (λ n. held.written + length held.held ≤ n * 2 ^ 42) many small;
     }
 
 -- the last line was read and its key was handed over
-pub printed_last : (c : Keying) (start begun : Option (List ℕ)) (before : List (List ℕ)) (reader now : LineState) (input unread : SourceState) (buffer held : BufferState) (out sink : SinkState) (line : List ℕ) (text : Spelled) → HasPrinted c start begun before reader input buffer out → IsTextOf c.collation.properties reader.number line text → 0 < length line → Consumes (left_of reader input) (left_of now unread) line → IsAtEnd (left_of now unread) → HandedOver begun sink.contents (key_lines c before ++ print_line (key_of_text c text)) held → HasPrintedAll c start begun held sink
+pub printed_last : (c : Keying) (start begun : Option (List ℕ)) (before : List (List ℕ)) (reader now : LineState) (input unread : SourceState) (buffer held : BufferState) (out sink : SinkState) (line : List ℕ) (text : Spelled) → HasPrinted c start begun before reader input buffer out → IsTextOf c.collation.properties reader.number line text → 0 < length line → Consumes (left_of reader input) (left_of now unread) line → IsAtEnd (left_of now unread) → HandedOver begun sink.contents (key_lines c before ++ text_line c text) held → HasPrintedAll c start begun held sink
 printed_last c start begun before reader now input unread buffer held out sink line text p t some takes ends handed = record {
   all = before ++ line ∷ [];
   are_all = known_last c.collation.properties start (left_of reader input) (left_of now unread) before line p.behind takes ends some t.lacks (subst (λ n. cause_of c.collation.properties n line ≡ None) p.count t.clean);
-  printed = subst (λ output. HandedOver begun sink.contents output held) (ap (λ key. key_lines c before ++ print_line key) (line_key_is c reader.number line text t) ∙ sym (key_lines-push c before line)) handed;
+  printed = subst (λ output. HandedOver begun sink.contents output held) (ap (λ l. key_lines c before ++ l) (line_key_is c reader.number line text t) ∙ sym (key_lines-push c before line)) handed;
 }
 
 -- a line was read, and its key was not handed over whole
@@ -110,8 +104,8 @@ cut_part c start begun now old new before line output written behind takes ends 
 }
 
 -- the same, where the line's number is known by the reader
-printed_text : (c : Keying) (before : List (List ℕ)) (number : ℕ) (line : List ℕ) (text : Spelled) → IsTextOf c.collation.properties number line text → key_lines c before ++ print_line (key_of_text c text) ≡ key_lines c (before ++ line ∷ [])
-printed_text c before number line text t = ap (λ key. key_lines c before ++ print_line key) (line_key_is c number line text t) ∙ sym (key_lines-push c before line)
+printed_text : (c : Keying) (before : List (List ℕ)) (number : ℕ) (line : List ℕ) (text : Spelled) → IsTextOf c.collation.properties number line text → key_lines c before ++ text_line c text ≡ key_lines c (before ++ line ∷ [])
+printed_text c before number line text t = ap (λ l. key_lines c before ++ l) (line_key_is c number line text t) ∙ sym (key_lines-push c before line)
 
 memory_refused : (c : Keying) (start begun : Option (List ℕ)) (before : List (List ℕ)) (reader : LineState) (input unread : SourceState) (buffer held : BufferState) (out sink : SinkState) (number n : ℕ) (kind : InputKind) → HasPrinted c start begun before reader input buffer out → number ≡ reader.number + 1 → HasBytes (left_of reader input) → (n ≡ number) × (kind ≡ Memory) × (held ≡ buffer) × (sink ≡ out) → IsStopped c start begun before unread held sink (Input n kind)
 memory_refused c start begun before reader input unread buffer held out sink number n kind p place left same =
@@ -122,14 +116,14 @@ memory_refused c start begun before reader input unread buffer held out sink num
     subst (λ m. IsStopped c start begun before unread held sink (Input m kind)) (sym same.0) at_kind
 
 -- what the fault of handing over a key says of the run
-pub ended_stopped : (c : Keying) (start begun : Option (List ℕ)) (before : List (List ℕ)) (reader now : LineState) (input unread : SourceState) (buffer held : BufferState) (out sink : SinkState) (line : List ℕ) (text : Spelled) (number : ℕ) (fault : RunFault) → HasPrinted c start begun before reader input buffer out → number ≡ reader.number + 1 → IsTextOf c.collation.properties reader.number line text → Consumes (left_of reader input) (left_of now unread) (ended line) → PrintsText {A = Unit {0}} begun (key_lines c before) (print_line (key_of_text c text)) number buffer out held sink (Err fault) → IsStopped c start begun before unread held sink fault
+pub ended_stopped : (c : Keying) (start begun : Option (List ℕ)) (before : List (List ℕ)) (reader now : LineState) (input unread : SourceState) (buffer held : BufferState) (out sink : SinkState) (line : List ℕ) (text : Spelled) (number : ℕ) (fault : RunFault) → HasPrinted c start begun before reader input buffer out → number ≡ reader.number + 1 → IsTextOf c.collation.properties reader.number line text → Consumes (left_of reader input) (left_of now unread) (ended line) → PrintsText {A = Unit {0}} begun (key_lines c before) (text_line c text) number buffer out held sink (Err fault) → IsStopped c start begun before unread held sink fault
 ended_stopped c start begun before reader now input unread buffer held out sink line text number (Input n kind) p place t takes prints =
     memory_refused c start begun before reader input unread buffer held out sink number n kind p place (ended_left (left_of reader input) (left_of now unread) line takes) prints
 ended_stopped c start begun before reader now input unread buffer held out sink line text number (Write written) p place t takes prints =
     ended_part c start begun sink.contents (left_of reader input) (left_of now unread) before line _ written p.behind takes t.lacks (subst (λ m. cause_of c.collation.properties m line ≡ None) p.count t.clean) (printed_text c before reader.number line text t) prints
 ended_stopped c start begun before reader now input unread buffer held out sink line text number _ p place t takes prints = absurd prints
 
-pub cut_stopped : (c : Keying) (start begun : Option (List ℕ)) (before : List (List ℕ)) (reader now : LineState) (input unread : SourceState) (buffer held : BufferState) (out sink : SinkState) (line : List ℕ) (text : Spelled) (number : ℕ) (fault : RunFault) → HasPrinted c start begun before reader input buffer out → number ≡ reader.number + 1 → IsTextOf c.collation.properties reader.number line text → 0 < length line → Consumes (left_of reader input) (left_of now unread) line → IsAtEnd (left_of now unread) → PrintsText {A = Unit {0}} begun (key_lines c before) (print_line (key_of_text c text)) number buffer out held sink (Err fault) → IsStopped c start begun before unread held sink fault
+pub cut_stopped : (c : Keying) (start begun : Option (List ℕ)) (before : List (List ℕ)) (reader now : LineState) (input unread : SourceState) (buffer held : BufferState) (out sink : SinkState) (line : List ℕ) (text : Spelled) (number : ℕ) (fault : RunFault) → HasPrinted c start begun before reader input buffer out → number ≡ reader.number + 1 → IsTextOf c.collation.properties reader.number line text → 0 < length line → Consumes (left_of reader input) (left_of now unread) line → IsAtEnd (left_of now unread) → PrintsText {A = Unit {0}} begun (key_lines c before) (text_line c text) number buffer out held sink (Err fault) → IsStopped c start begun before unread held sink fault
 cut_stopped c start begun before reader now input unread buffer held out sink line text number (Input n kind) p place t some takes ends prints =
     memory_refused c start begun before reader input unread buffer held out sink number n kind p place (cut_left (left_of reader input) (left_of now unread) line takes some) prints
 cut_stopped c start begun before reader now input unread buffer held out sink line text number (Write written) p place t some takes ends prints =

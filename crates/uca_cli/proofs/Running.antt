@@ -2,6 +2,7 @@
 use Rattle.std.proofs.Common.{◌≡◌, ℕ, List, Bool, true, false, ◌&&◌, ◌||◌, Option, Some, None, IfSome, Result, Ok, Err, refl, ap, subst, sym, ◌∙◌}
 use Rattle.std.specs.Prelude.{⊤, MatchOption}
 use Rattle.uca_weights.specs.Streams.{SourceState}
+use Rattle.uca_weights.specs.declared.Depth.{Depth}
 use Rattle.uca_weights.specs.declared.Weighting.{Weighting}
 use Rattle.uca_values.specs.declared.ImplicitRange.{ImplicitRange}
 use Rattle.uca_values.specs.Content.{TableContent, Properties}
@@ -103,10 +104,11 @@ whatever_bytes (Some bytes) = tt
 
 -- ---- What keys go by
 
-abbrev pub keying_by : Rows → List ImplicitRange → Properties → Weighting → Keying
-keying_by rows ranges properties weighting = record { collation = record { rows = rows; ranges = ranges; properties = properties }; weighting = weighting }
+abbrev pub keying_by : Rows → List ImplicitRange → Properties → Weighting → Depth → Keying
+keying_by rows ranges properties weighting depth = record { collation = record { rows = rows; ranges = ranges; properties = properties }; weighting = weighting; depth = depth }
 
 -- a collator of a table and of a data file, and the weighting that was chosen
-pub same_keying : (asked : Option Weighting) (table : TableContent) (properties : Properties) (rows : Rows) (ranges : List ImplicitRange) (points : Properties) (weighting : Weighting) → rows ≡ rows_of table.rows → ranges ≡ table.header.ranges → points ≡ properties → weighting ≡ weighting_by asked table.header.setting → keying_by rows ranges points weighting ≡ keying asked table properties
-same_keying asked table properties rows ranges points weighting same_rows same_ranges same_points same_weighting =
-    ap (λ r. keying_by r ranges points weighting) same_rows ∙ ap (λ r. keying_by (rows_of table.rows) r points weighting) same_ranges ∙ ap (λ p. keying_by (rows_of table.rows) table.header.ranges p weighting) same_points ∙ ap (λ w. keying_by (rows_of table.rows) table.header.ranges properties w) same_weighting
+pub same_keying : (asked : Option Weighting) (depth : Depth) (table : TableContent) (properties : Properties) (rows : Rows) (ranges : List ImplicitRange) (points : Properties) (weighting : Weighting) → rows ≡ rows_of table.rows → ranges ≡ table.header.ranges → points ≡ properties → weighting ≡ weighting_by asked table.header.setting → keying_by rows ranges points weighting depth ≡ keying asked depth table properties
+same_keying asked depth table properties rows ranges points weighting same_rows same_ranges same_points same_weighting =
+    ap (λ r. keying_by r ranges points weighting depth) same_rows ∙ ap (λ r. keying_by (rows_of table.rows) r points weighting depth) same_ranges
+    ∙ ap (λ p. keying_by (rows_of table.rows) table.header.ranges p weighting depth) same_points ∙ ap (λ w. keying_by (rows_of table.rows) table.header.ranges properties w depth) same_weighting

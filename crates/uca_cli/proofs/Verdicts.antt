@@ -7,6 +7,7 @@ use Rattle.std.specs.declared.cmp.Ordering.{Ordering}
 use Rattle.uca_weights.specs.Streams.{SourceState, SinkState}
 use Rattle.uca_weights.specs.Writes.{WentOut}
 use Rattle.uca_weights.specs.declared.Element.{Element}
+use Rattle.uca_weights.specs.declared.Depth.{Depth}
 use Rattle.uca_weights.specs.declared.Weighting.{Weighting}
 use Rattle.uca_weights.specs.declared.Weighting.TheVariants.{NonIgnorable, Shifted}
 use Rattle.uca_values.specs.Content.{TableContent, Properties}
@@ -56,27 +57,27 @@ verdict_written table table_new properties properties_new out out_new content po
 -- ---- Compare
 
 -- a word is refused
-pub left_refused : (asked : Option Weighting) (table table_new properties properties_new : SourceState) (left right : List ℕ) (out : SinkState) (content : TableContent) (points : Properties) (fault : RunFault)
+pub left_refused : (asked : Option Weighting) (depth : Depth) (table table_new properties properties_new : SourceState) (left right : List ℕ) (out : SinkState) (content : TableContent) (points : Properties) (fault : RunFault)
     → IfSome table.remaining (λ bytes. tables.Means bytes content) → IfSome properties.remaining (λ bytes. data_files.Means bytes points)
     → RefusesWord points false left fault
-    → RunsOver {A = Unit {0}} table table_new properties properties_new (RunsCompare {A = Unit {0}} asked left right out out (Err fault)) (Err fault)
-left_refused asked table table_new properties properties_new left right out content points fault means_table means_data refuses =
-    subst (λ f. RunsOver {A = Unit {0}} table table_new properties properties_new (RunsCompare {A = Unit {0}} asked left right out out (Err f)) (Err f)) (sym refuses.1)
-    (runs_over_both {A = Unit {0}} table table_new properties properties_new (RunsCompare {A = Unit {0}} asked left right out out (Err (Text false refuses.0))) (Err (Text false refuses.0)) content points refl means_table means_data refuses.2)
+    → RunsOver {A = Unit {0}} table table_new properties properties_new (RunsCompare {A = Unit {0}} asked depth left right out out (Err fault)) (Err fault)
+left_refused asked depth table table_new properties properties_new left right out content points fault means_table means_data refuses =
+    subst (λ f. RunsOver {A = Unit {0}} table table_new properties properties_new (RunsCompare {A = Unit {0}} asked depth left right out out (Err f)) (Err f)) (sym refuses.1)
+    (runs_over_both {A = Unit {0}} table table_new properties properties_new (RunsCompare {A = Unit {0}} asked depth left right out out (Err (Text false refuses.0))) (Err (Text false refuses.0)) content points refl means_table means_data refuses.2)
 
-pub right_refused : (asked : Option Weighting) (table table_new properties properties_new : SourceState) (left right : List ℕ) (out : SinkState) (content : TableContent) (points : Properties) (fault : RunFault)
+pub right_refused : (asked : Option Weighting) (depth : Depth) (table table_new properties properties_new : SourceState) (left right : List ℕ) (out : SinkState) (content : TableContent) (points : Properties) (fault : RunFault)
     → IfSome table.remaining (λ bytes. tables.Means bytes content) → IfSome properties.remaining (λ bytes. data_files.Means bytes points)
     → IsWithinLimits points left → RefusesWord points true right fault
-    → RunsOver {A = Unit {0}} table table_new properties properties_new (RunsCompare {A = Unit {0}} asked left right out out (Err fault)) (Err fault)
-right_refused asked table table_new properties properties_new left right out content points fault means_table means_data within refuses =
-    subst (λ f. RunsOver {A = Unit {0}} table table_new properties properties_new (RunsCompare {A = Unit {0}} asked left right out out (Err f)) (Err f)) (sym refuses.1)
-    (runs_over_both {A = Unit {0}} table table_new properties properties_new (RunsCompare {A = Unit {0}} asked left right out out (Err (Text true refuses.0))) (Err (Text true refuses.0)) content points refl means_table means_data (within, refuses.2))
+    → RunsOver {A = Unit {0}} table table_new properties properties_new (RunsCompare {A = Unit {0}} asked depth left right out out (Err fault)) (Err fault)
+right_refused asked depth table table_new properties properties_new left right out content points fault means_table means_data within refuses =
+    subst (λ f. RunsOver {A = Unit {0}} table table_new properties properties_new (RunsCompare {A = Unit {0}} asked depth left right out out (Err f)) (Err f)) (sym refuses.1)
+    (runs_over_both {A = Unit {0}} table table_new properties properties_new (RunsCompare {A = Unit {0}} asked depth left right out out (Err (Text true refuses.0))) (Err (Text true refuses.0)) content points refl means_table means_data (within, refuses.2))
 
-pub no_comparison : (asked : Option Weighting) (table table_new properties properties_new : SourceState) (left right : List ℕ) (out : SinkState) (content : TableContent) (points : Properties)
+pub no_comparison : (asked : Option Weighting) (depth : Depth) (table table_new properties properties_new : SourceState) (left right : List ℕ) (out : SinkState) (content : TableContent) (points : Properties)
     → IfSome table.remaining (λ bytes. tables.Means bytes content) → IfSome properties.remaining (λ bytes. data_files.Means bytes points)
-    → RunsOver {A = Unit {0}} table table_new properties properties_new (RunsCompare {A = Unit {0}} asked left right out out (Err Memory)) (Err Memory)
-no_comparison asked table table_new properties properties_new left right out content points means_table means_data =
-    runs_over_both {A = Unit {0}} table table_new properties properties_new (RunsCompare {A = Unit {0}} asked left right out out (Err Memory)) (Err Memory) content points refl means_table means_data tt
+    → RunsOver {A = Unit {0}} table table_new properties properties_new (RunsCompare {A = Unit {0}} asked depth left right out out (Err Memory)) (Err Memory)
+no_comparison asked depth table table_new properties properties_new left right out content points means_table means_data =
+    runs_over_both {A = Unit {0}} table table_new properties properties_new (RunsCompare {A = Unit {0}} asked depth left right out out (Err Memory)) (Err Memory) content points refl means_table means_data tt
 
 -- the line was written or not
 was_written : (c : Keying) (left right : List ℕ) (begun now : Option (List ℕ)) (line : List ℕ) (result : Result (Unit {0}) RunFault) → IsWithinLimits c.collation.properties left → IsWithinLimits c.collation.properties right → line ≡ comparison_line (lines_compared c left right)
@@ -95,14 +96,14 @@ comparison_is c left right left_text right_text order level left_is right_is sam
     ∙ ap (λ t. texts_compared c t right_text) left_is ∙ ap (λ t. texts_compared c (spelled c.collation.properties (chars left)) t) right_is
 
 -- The texts were compared, and the line was written or not.
-pub comparison_written : (asked : Option Weighting) (table table_new properties properties_new : SourceState) (left right : List ℕ) (out out_new : SinkState) (content : TableContent) (points : Properties) (c : Keying) (left_text right_text : Spelled) (order : Ordering) (level : ℕ) (line : List ℕ) (result : Result (Unit {0}) RunFault)
+pub comparison_written : (asked : Option Weighting) (depth : Depth) (table table_new properties properties_new : SourceState) (left right : List ℕ) (out out_new : SinkState) (content : TableContent) (points : Properties) (c : Keying) (left_text right_text : Spelled) (order : Ordering) (level : ℕ) (line : List ℕ) (result : Result (Unit {0}) RunFault)
     → IfSome table.remaining (λ bytes. tables.Means bytes content) → IfSome properties.remaining (λ bytes. data_files.Means bytes points)
-    → c ≡ keying asked content points → left_text ≡ spelled c.collation.properties (chars left) → right_text ≡ spelled c.collation.properties (chars right) → IsAccepted left_text → IsAccepted right_text
+    → c ≡ keying asked depth content points → left_text ≡ spelled c.collation.properties (chars left) → right_text ≡ spelled c.collation.properties (chars right) → IsAccepted left_text → IsAccepted right_text
     → order ≡ (texts_compared c left_text right_text).order → level ≡ (texts_compared c left_text right_text).level → line ≡ comparison_line (comparison_of order level)
     → is_file result ≡ false → OnOk result (Appends out.contents out_new.contents line) → IfErr result (FailsToWrite Write out.contents out_new.contents line)
-    → RunsOver table table_new properties properties_new (RunsCompare asked left right out out_new result) result
-comparison_written asked table table_new properties properties_new left right out out_new content points c left_text right_text order level line result means_table means_data same left_is right_is left_accepted right_accepted same_order same_level line_is no_file out_ok fails =
-    runs_over_both table table_new properties properties_new (RunsCompare asked left right out out_new result) result content points no_file means_table means_data
+    → RunsOver table table_new properties properties_new (RunsCompare asked depth left right out out_new result) result
+comparison_written asked depth table table_new properties properties_new left right out out_new content points c left_text right_text order level line result means_table means_data same left_is right_is left_accepted right_accepted same_order same_level line_is no_file out_ok fails =
+    runs_over_both table table_new properties properties_new (RunsCompare asked depth left right out out_new result) result content points no_file means_table means_data
     (subst (λ d. WritesComparison d left right out.contents out_new.contents result) same
     (was_written c left right out.contents out_new.contents line result (subst IsAccepted left_is left_accepted) (subst IsAccepted right_is right_accepted)
     (line_is ∙ ap comparison_line (comparison_is c left right left_text right_text order level left_is right_is same_order same_level)) out_ok fails))
@@ -137,28 +138,3 @@ pub failed_by_word : (table table_new properties properties_new : SourceState) (
 failed_by_word table table_new properties properties_new out points right text fault same_table same_data refuses =
     subst (λ f. HaveFailed {A = Unit {0}} table table_new properties properties_new out out (Err f)) (sym refuses.1)
     (failed_before_output {A = Unit {0}} table table_new properties properties_new out (Err (Text right refuses.0)) same_table same_data refl refl)
-
--- ---- Keys that are compared
-
--- the bytes of two keys give what their elements do
-pub compared_by_keys : (weighting : Weighting) (es fs : List Element) (left right : List ℕ) (levels level : ℕ) (order : Ordering) → StoredKeysCompareAsElements
-    → left ≡ key_bytes weighting es → right ≡ key_bytes weighting fs → levels ≡ level_count weighting → order ≡ dictionary left right → level ≡ stored_level levels left right
-    → (order ≡ (compared weighting es fs).order) × (level ≡ (compared weighting es fs).level)
-compared_by_keys weighting es fs left right levels level order law left_is right_is levels_are order_is level_is =
-    let both = law weighting es fs in (
-      order_is ∙ ap (λ l. dictionary l right) left_is ∙ ap (λ r. dictionary (key_bytes weighting es) r) right_is ∙ both.0,
-      level_is ∙ ap (λ n. stored_level n left right) levels_are ∙ ap (λ l. stored_level (level_count weighting) l right) left_is ∙ ap (λ r. stored_level (level_count weighting) (key_bytes weighting es) r) right_is ∙ both.1,
-    )
-
-few_levels : (weighting : Weighting) → level_count weighting ≤ 4
-few_levels NonIgnorable = omega arith
-few_levels Shifted = omega arith
-
-at_most : (b : Bool) (levels n : ℕ) → levels ≤ 4 → (if b then 0 else min levels n) ≤ 4
-at_most true levels n few = omega arith
-at_most false levels n few = omega arith
-
--- at one of at most four levels
-pub level_is_few : (weighting : Weighting) (left right : List ℕ) (levels level : ℕ) → levels ≡ level_count weighting → level ≡ stored_level levels left right → level ≤ 4
-level_is_few weighting left right levels level levels_are level_is =
-    subst (λ n. n ≤ 4) (sym level_is) (at_most (bytes_eq left right) levels (1 + shared_separators left right) (subst (λ n. n ≤ 4) (sym levels_are) (few_levels weighting)))

@@ -63,12 +63,12 @@ check_result (Err fault) = Err fault
 abbrev pub DoesWords : {O F : Type 0} → (O → List ℕ → Result F OpenFault → O → Type 0) → (F → Option (List ℕ)) → O → O → WordsType → SourceState → SourceState → SinkState → SinkState → Result ℕ RunFault → Type 0
 DoesWords gives remaining old new (Check table_name data_name) input input_new out out_new result = (input_new ≡ input) × OpensAndRuns gives remaining old new table_name.now data_name.now (out_new ≡ out)
     (λ table table_new properties properties_new. (run : Result Bool RunFault) × (result ≡ check_result run) × RunsOver table table_new properties properties_new (RunsCheck out out_new run) run) result
-DoesWords gives remaining old new (Keys weighting table_name data_name) input input_new out out_new result = OpensAndRuns gives remaining old new table_name.now data_name.now ((input_new ≡ input) × (out_new ≡ out))
-    (λ table table_new properties properties_new. (run : Result (Unit {0}) RunFault) × (result ≡ done_result run) × RunsOver table table_new properties properties_new (RunsKeys weighting input input_new out out_new run) run) result
-DoesWords gives remaining old new (Sort weighting table_name data_name) input input_new out out_new result = OpensAndRuns gives remaining old new table_name.now data_name.now ((input_new ≡ input) × (out_new ≡ out))
-    (λ table table_new properties properties_new. (run : Result (Unit {0}) RunFault) × (result ≡ done_result run) × RunsOver table table_new properties properties_new (RunsSort weighting input input_new out out_new run) run) result
-DoesWords gives remaining old new (Compare weighting table_name data_name left right) input input_new out out_new result = (input_new ≡ input) × OpensAndRuns gives remaining old new table_name.now data_name.now (out_new ≡ out)
-    (λ table table_new properties properties_new. (run : Result (Unit {0}) RunFault) × (result ≡ done_result run) × RunsOver table table_new properties properties_new (RunsCompare weighting left.now right.now out out_new run) run) result
+DoesWords gives remaining old new (Keys weighting depth table_name data_name) input input_new out out_new result = OpensAndRuns gives remaining old new table_name.now data_name.now ((input_new ≡ input) × (out_new ≡ out))
+    (λ table table_new properties properties_new. (run : Result (Unit {0}) RunFault) × (result ≡ done_result run) × RunsOver table table_new properties properties_new (RunsKeys weighting depth input input_new out out_new run) run) result
+DoesWords gives remaining old new (Sort weighting depth table_name data_name) input input_new out out_new result = OpensAndRuns gives remaining old new table_name.now data_name.now ((input_new ≡ input) × (out_new ≡ out))
+    (λ table table_new properties properties_new. (run : Result (Unit {0}) RunFault) × (result ≡ done_result run) × RunsOver table table_new properties properties_new (RunsSort weighting depth input input_new out out_new run) run) result
+DoesWords gives remaining old new (Compare weighting depth table_name data_name left right) input input_new out out_new result = (input_new ≡ input) × OpensAndRuns gives remaining old new table_name.now data_name.now (out_new ≡ out)
+    (λ table table_new properties properties_new. (run : Result (Unit {0}) RunFault) × (result ≡ done_result run) × RunsOver table table_new properties properties_new (RunsCompare weighting depth left.now right.now out out_new run) run) result
 
 -- how the command ends after a run: with its status, or with what its fault reports
 abbrev pub EndsWith : Result ℕ RunFault → ℕ → SinkState → SinkState → SinkState → SinkState → Type 0

@@ -3,6 +3,7 @@ use Rattle.std.specs.Prelude.{◌≡◌, ℕ, ◌+◌, List, [], ◌∷◌, Bool
 use Rattle.std.specs.declared.cmp.Ordering.{Ordering}
 use Rattle.std.specs.declared.cmp.Ordering.TheVariants.{Less, Equal, Greater}
 use Rattle.std.specs.Io.KnownBytes.{Appends}
+use Rattle.uca_weights.specs.declared.Depth.{Depth}
 use Rattle.uca_weights.specs.declared.Weighting.{Weighting}
 use Rattle.uca_weights.specs.Streams.{SinkState}
 use Rattle.uca_weights.specs.Writes.{WentOut}
@@ -46,5 +47,5 @@ WritesComparison c left right begun now (Err Memory) = ⊤
 WritesComparison c left right begun now (Err _) = ⊥
 
 -- what a run of compare answers under a table and properties
-abbrev pub RunsCompare : {A : Type 0} → Option Weighting → List ℕ → List ℕ → SinkState → SinkState → Result A RunFault → TableContent → Properties → Type 0
-RunsCompare asked left right out out_new result table properties = WritesComparison (keying asked table properties) left right out.contents out_new.contents result
+abbrev pub RunsCompare : {A : Type 0} → Option Weighting → Depth → List ℕ → List ℕ → SinkState → SinkState → Result A RunFault → TableContent → Properties → Type 0
+RunsCompare asked depth left right out out_new result table properties = WritesComparison (keying asked depth table properties) left right out.contents out_new.contents result

@@ -1,6 +1,7 @@
 -- What a run of keys answers and writes.
 use Rattle.std.specs.Prelude.{ℕ, List, Bool, true, false, Option, IfSome, Result, Ok, Err, ⊤}
 use Rattle.std.specs.Io.KnownBytes.{Appends}
+use Rattle.uca_weights.specs.declared.Depth.{Depth}
 use Rattle.uca_weights.specs.declared.Weighting.{Weighting}
 use Rattle.uca_weights.specs.Streams.{SourceState, SinkState}
 use Rattle.uca_weights.specs.Writes.{WentOut}
@@ -21,8 +22,8 @@ WritesKeys c bytes left begun now (Err _) = ⊥
 
 -- What a run of keys answers under a table and properties, where the bytes of its input are known: the output of the
 -- keys went out, or as much of it as a fault of the input or of the writer leaves.
-abbrev pub RunsKeys : {A : Type 0} → Option Weighting → SourceState → SourceState → SinkState → SinkState → Result A RunFault → TableContent → Properties → Type 0
-RunsKeys asked input input_new out out_new result table properties = IfSome input.remaining (λ bytes. WritesKeys (keying asked table properties) bytes input_new.remaining out.contents out_new.contents result)
+abbrev pub RunsKeys : {A : Type 0} → Option Weighting → Depth → SourceState → SourceState → SinkState → SinkState → Result A RunFault → TableContent → Properties → Type 0
+RunsKeys asked depth input input_new out out_new result table properties = IfSome input.remaining (λ bytes. WritesKeys (keying asked depth table properties) bytes input_new.remaining out.contents out_new.contents result)
 
 -- whether the run ended before any line of the input was looked at
 abbrev pub is_before_input : {A : Type 0} → Result A RunFault → Bool

@@ -1,31 +1,29 @@
 -- What holds of lines and their keys in all runs.
 use Rattle.std.specs.Prelude.{◌≡◌, ◌↔◌, ℕ, List, chars}
 use Rattle.uca_text.specs.Texts.{AreCanonicallyEquivalent, Spelled, spelled}
-use Rattle.uca_match.specs.Collations.{elements_of}
-use Rattle.uca_key.specs.Levels.{Comparison, dictionary, compared}
-use Rattle.uca_cli.specs.Keys.{Keying, line_key}
-use Rattle.uca_cli.specs.Print.{print_line}
+use Rattle.uca_key.specs.Levels.{Comparison, dictionary}
+use Rattle.uca_key.specs.Depths.{read_text, compared_at}
+use Rattle.uca_cli.specs.Keys.{Keying, line_key, key_line}
 use Rattle.uca_cli.specs.SortRun.{IsInKeyOrder}
 
--- how two texts in Normalization Form D compare: level by level, by their collation elements
+-- how two texts in Normalization Form D compare: level by level, by their weights, and at the depth `Identical` by their code points
 abbrev pub texts_compared : Keying → Spelled → Spelled → Comparison
-texts_compared c left right = compared c.weighting (elements_of c.collation left) (elements_of c.collation right)
+texts_compared c left right = compared_at c.depth c.weighting (read_text c.collation left) (read_text c.collation right)
 
 -- how the texts of two lines do
 abbrev pub lines_compared : Keying → List ℕ → List ℕ → Comparison
 lines_compared c left right = texts_compared c (spelled c.collation.properties (chars left)) (spelled c.collation.properties (chars right))
 
--- The bytes of the keys of two lines compare as their elements do level by level, and are equal exactly where no
--- level differs.
-abbrev pub LineKeysCompareAsElements : Type 0
-LineKeysCompareAsElements = (c : Keying) (left right : List ℕ) →
+-- The bytes of the keys of two lines compare as the lines do level by level, and are equal exactly where no level differs.
+abbrev pub LineKeysCompareAsLines : Type 0
+LineKeysCompareAsLines = (c : Keying) (left right : List ℕ) →
     (dictionary (line_key c left) (line_key c right) ≡ (lines_compared c left right).order)
     × ((line_key c left ≡ line_key c right) ↔ ((lines_compared c left right).level ≡ 0))
 
 -- Lines whose texts are canonically equivalent have one key line.
 abbrev pub CanonicallyEquivalentLinesHaveOneKeyLine : Type 0
 CanonicallyEquivalentLinesHaveOneKeyLine = (c : Keying) (left right : List ℕ) →
-    AreCanonicallyEquivalent (chars left) (chars right) → print_line (line_key c left) ≡ print_line (line_key c right)
+    AreCanonicallyEquivalent (chars left) (chars right) → key_line c left ≡ key_line c right
 
 -- Lines have one key order.
 abbrev pub KeyOrderIsOne : Type 0

@@ -1,6 +1,8 @@
 -- A key as a line of output.
 use Rattle.std.specs.Prelude.{ℕ, ◌/◌, ◌%◌, List, [], ◌∷◌, ◌++◌}
 use Rattle.std.specs.List.{join_with_byte, flat_map}
+use Rattle.uca_weights.specs.declared.Depth.{Depth}
+use Rattle.uca_weights.specs.declared.Depth.TheVariants.{Weights, Identical}
 use Rattle.uca_fields.specs.Number.{upper_digit}
 
 -- a byte as two upper-case hexadecimal digits
@@ -17,10 +19,25 @@ groups (a ∷ b ∷ more) = (byte_digits a ++ byte_digits b) ∷ groups more
 unfoldable pub printed_groups : List ℕ → List ℕ
 printed_groups key = join_with_byte 32 (groups key)
 
--- and LF behind them
-abbrev pub print_line : List ℕ → List ℕ
-print_line key = printed_groups key ++ 10 ∷ []
-
 -- the groups, each behind a space
 unfoldable pub spaced_groups : List ℕ → List ℕ
 spaced_groups key = flat_map (λ group. 32 ∷ group) (groups key)
+
+-- a code point as six digits
+abbrev pub point_digits : ℕ → List ℕ
+point_digits c = byte_digits (c / 65536) ++ (byte_digits (c / 256 % 256) ++ byte_digits (c % 256))
+
+abbrev pub spaced_point : ℕ → List ℕ
+spaced_point c = 32 ∷ point_digits c
+
+-- the identical level behind the others: `0000`, and each code point behind a space
+abbrev pub identical_level : List ℕ → List ℕ
+identical_level points = 32 ∷ 48 ∷ 48 ∷ 48 ∷ 48 ∷ flat_map spaced_point points
+
+abbrev pub level_at : Depth → List ℕ → List ℕ
+level_at Weights points = []
+level_at Identical points = identical_level points
+
+-- the line of a text whose weights have this key, and whose code points in Normalization Form D are these
+abbrev pub print_line_at : Depth → List ℕ → List ℕ → List ℕ
+print_line_at depth key points = printed_groups key ++ (level_at depth points ++ 10 ∷ [])

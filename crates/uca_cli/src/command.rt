@@ -17,7 +17,7 @@ use crate::{run_check, run_compare, run_keys, run_sort};
 use std::alloc::Global;
 use std::io::{Read, Write};
 use thiserror::Error;
-use uca_weights::{Sink, Source, Weighting};
+use uca_weights::{Depth, Sink, Source, Weighting};
 use uca_words::{Words, read_words};
 
 /// A file does not open.
@@ -106,19 +106,20 @@ fn keys<O: Opens, I: Read, W: Write>(
     alloc: Global,
     opener: &mut O,
     weighting: Option<Weighting>,
+    depth: Depth,
     table: &str,
     properties: &str,
     input: &mut Source<I>,
     out: &mut Sink<W>,
 ) -> Result<u8, RunFault>
     ensures { OpensAndRuns O.open_gives O.File.remaining opener.old opener.new table.now properties.now ((input.new ≡ input.old) × (out.new ≡ out.old))
-        (λ t t_new d d_new. (run : Result (Unit {0}) RunFault) × (result ≡ done_result run) × RunsOver t t_new d d_new (RunsKeys weighting input.old input.new out.old out.new run) run) result }
+        (λ t t_new d d_new. (run : Result (Unit {0}) RunFault) × (result ≡ done_result run) × RunsOver t t_new d d_new (RunsKeys weighting depth input.old input.new out.old out.new run) run) result }
 {
     let (mut table, mut properties) = match open_files(opener, table, properties) {
         Ok(files) => files,
         Err(role) => return Err(RunFault::Open(role)),
     };
-    done(run_keys(alloc, &mut table, &mut properties, input, out, weighting))
+    done(run_keys(alloc, &mut table, &mut properties, input, out, weighting, depth))
 }
 
 // `sort`.
@@ -126,19 +127,20 @@ fn sort<O: Opens, I: Read, W: Write>(
     alloc: Global,
     opener: &mut O,
     weighting: Option<Weighting>,
+    depth: Depth,
     table: &str,
     properties: &str,
     input: &mut Source<I>,
     out: &mut Sink<W>,
 ) -> Result<u8, RunFault>
     ensures { OpensAndRuns O.open_gives O.File.remaining opener.old opener.new table.now properties.now ((input.new ≡ input.old) × (out.new ≡ out.old))
-        (λ t t_new d d_new. (run : Result (Unit {0}) RunFault) × (result ≡ done_result run) × RunsOver t t_new d d_new (RunsSort weighting input.old input.new out.old out.new run) run) result }
+        (λ t t_new d d_new. (run : Result (Unit {0}) RunFault) × (result ≡ done_result run) × RunsOver t t_new d d_new (RunsSort weighting depth input.old input.new out.old out.new run) run) result }
 {
     let (mut table, mut properties) = match open_files(opener, table, properties) {
         Ok(files) => files,
         Err(role) => return Err(RunFault::Open(role)),
     };
-    done(run_sort(alloc, &mut table, &mut properties, input, out, weighting))
+    done(run_sort(alloc, &mut table, &mut properties, input, out, weighting, depth))
 }
 
 // `compare`.
@@ -146,6 +148,7 @@ fn compare<O: Opens, W: Write>(
     alloc: Global,
     opener: &mut O,
     weighting: Option<Weighting>,
+    depth: Depth,
     table: &str,
     properties: &str,
     left: &str,
@@ -153,7 +156,7 @@ fn compare<O: Opens, W: Write>(
     out: &mut Sink<W>,
 ) -> Result<u8, RunFault>
     ensures { OpensAndRuns O.open_gives O.File.remaining opener.old opener.new table.now properties.now (out.new ≡ out.old)
-        (λ t t_new d d_new. (run : Result (Unit {0}) RunFault) × (result ≡ done_result run) × RunsOver t t_new d d_new (RunsCompare weighting left.now right.now out.old out.new run) run) result }
+        (λ t t_new d d_new. (run : Result (Unit {0}) RunFault) × (result ≡ done_result run) × RunsOver t t_new d d_new (RunsCompare weighting depth left.now right.now out.old out.new run) run) result }
 {
     let (mut table, mut properties) = match open_files(opener, table, properties) {
         Ok(files) => files,
@@ -167,6 +170,7 @@ fn compare<O: Opens, W: Write>(
         right,
         out,
         weighting,
+        depth,
     ))
 }
 
@@ -185,22 +189,25 @@ fn run_words<O: Opens, I: Read, W: Write>(
         Words::Check { table, properties } => check(alloc, opener, table, properties, out),
         Words::Keys {
             weighting,
+            depth,
             table,
             properties,
-        } => keys(alloc, opener, weighting, table, properties, input, out),
+        } => keys(alloc, opener, weighting, depth, table, properties, input, out),
         Words::Sort {
             weighting,
+            depth,
             table,
             properties,
-        } => sort(alloc, opener, weighting, table, properties, input, out),
+        } => sort(alloc, opener, weighting, depth, table, properties, input, out),
         Words::Compare {
             weighting,
+            depth,
             table,
             properties,
             left,
             right,
         } => compare(
-            alloc, opener, weighting, table, properties, left, right, out,
+            alloc, opener, weighting, depth, table, properties, left, right, out,
         ),
     }
 }

@@ -12,15 +12,14 @@ ghost use Rattle.uca_cli.specs.CompareRun.{sign_of, comparison_line, RefusesWord
 use crate::faults::RunFault;
 use crate::files::{chosen_weighting, read_files, rows_of_table};
 use crate::output::write_text;
-use std::alloc::{AllocError, Allocator, Global};
+use std::alloc::{Allocator, Global};
 use std::cmp::Ordering;
 use std::io::{Read, Write};
-use uca_key::laws::stored_keys_compare_as_elements;
-use uca_key::{compare_keys, key, level_count};
-use uca_match::{Collator, Lookup};
+use uca_key::{Compared, compare};
+use uca_match::Collator;
 use uca_text::{Normal, normal};
 use uca_values::Data;
-use uca_weights::{Sink, Source, Weighting};
+use uca_weights::{Depth, Sink, Source, Weighting};
 
 /// Compares two texts under the table and the data file that are read first, by the weighting that is
 /// asked for, or else that of the table's `@variable`, or else shifted (UTS #10, section 4), and writes a
@@ -30,7 +29,7 @@ use uca_weights::{Sink, Source, Weighting};
 ///
 /// `File` where the table, or else the data file, is refused; `Memory` where a growth was refused for
 /// looking up rows, before the texts are judged; `Text` where the left text, or else the right one, is
-/// refused; `Memory` where a growth was refused for a key. Nothing was written then. `Write` where the
+/// refused. Nothing was written then. No key is made, so no memory is asked for behind the texts. `Write` where the
 /// writer failed: the first `written` bytes of the line went out.
 pub fn run_compare<T: Read, D: Read, W: Write>(
     alloc: Global,
@@ -40,20 +39,21 @@ pub fn run_compare<T: Read, D: Read, W: Write>(
     right: &str,
     out: &mut Sink<W>,
     weighting: Option<Weighting>,
+    depth: Depth,
 ) -> Result<(), RunFault>
     // Where the bytes of its files are known.
     ensures runs { RunsOver table.old table.new properties.old properties.new
-        (RunsCompare weighting left.now right.now out.old out.new result) result }
+        (RunsCompare weighting depth left.now right.now out.old out.new result) result }
 
     // Whatever the readers and the writer are.
     ensures nothing_written { is_before_output result ≡ true → out.new ≡ out.old }
     ensures failed { HaveFailed table.old table.new properties.old properties.new out.old out.new result }
 {
-    run_compare_in(alloc, alloc, table, properties, left, right, out, weighting)
+    run_compare_in(alloc, alloc, table, properties, left, right, out, weighting, depth)
 }
 
-/// The same with the growths of the two files, the trie and the keys in memory of any allocator; those of
-/// Normalization Form D are in `global`.
+/// The same with the growths of the two files and the trie in memory of any allocator; those of Normalization Form D
+/// are in `global`.
 pub fn run_compare_in<A: Allocator + Copy, T: Read, D: Read, W: Write>(
     alloc: A,
     global: Global,
@@ -63,10 +63,11 @@ pub fn run_compare_in<A: Allocator + Copy, T: Read, D: Read, W: Write>(
     right: &str,
     out: &mut Sink<W>,
     weighting: Option<Weighting>,
+    depth: Depth,
 ) -> Result<(), RunFault>
     // Where the bytes of its files are known.
     ensures runs { RunsOver table.old table.new properties.old properties.new
-        (RunsCompare weighting left.now right.now out.old out.new result) result }
+        (RunsCompare weighting depth left.now right.now out.old out.new result) result }
 
     // Whatever the readers and the writer are.
     ensures nothing_written { is_before_output result ≡ true → out.new ≡ out.old }
@@ -79,10 +80,8 @@ pub fn run_compare_in<A: Allocator + Copy, T: Read, D: Read, W: Write>(
     let header = &files.table.header;
     let collator = Collator::new(&rows, header, &files.properties);
     let weighting = chosen_weighting(weighting, header);
-    let Ok((order, level)) = compare_texts(alloc, &collator, weighting, &left, &right) else {
-        return Err(RunFault::Memory);
-    };
-    write_text(&line_of(order, level), out)
+    let compared = compare(&collator, weighting, depth, &left, &right);
+    write_text(&line_of(compared), out)
 }
 
 // The text of a word, which is the right one of the two or the left one.
@@ -102,33 +101,15 @@ fn text_of<D: Allocator>(
     }
 }
 
-// The order of two texts, and the level at which they differ, by their keys.
-fn compare_texts<L: Lookup, T: Allocator, A: Allocator + Copy>(
-    alloc: A,
-    collator: &Collator<L, T>,
-    weighting: Weighting,
-    left: &Normal,
-    right: &Normal,
-) -> Result<(Ordering, u8), AllocError>
-    ensures compared { let answer = texts_compared (keying_of L.content collator.now weighting) left.now right.now in
-        IfOk result (λ found. (found.0 ≡ answer.order) × (found.1 ≡ answer.level)) }
-    ensures few { IfOk result (λ found. found.1 ≤ 4) }
-{
-    stored_keys_compare_as_elements();
-    let left = key(alloc, collator, weighting, left)?;
-    let right = key(alloc, collator, weighting, right)?;
-    Ok(compare_keys(&left, &right, level_count(weighting)))
-}
-
 // The line that says how two texts compare.
-fn line_of(order: Ordering, level: u8) -> [u8; 4]
-    requires { level ≤ 4 }
-    ensures { result ≡ comparison_line (record { order = order; level = level }) }
+fn line_of(compared: Compared) -> [u8; 4]
+    requires { compared.level ≤ 5 }
+    ensures { result ≡ comparison_line (record { order = compared.order; level = compared.level }) }
 {
-    let sign = match order {
+    let sign = match compared.order {
         Ordering::Less => b'<',
         Ordering::Equal => b'=',
         Ordering::Greater => b'>',
     };
-    [sign, b' ', b'0' + level, b'\n']
+    [sign, b' ', b'0' + compared.level, b'\n']
 }

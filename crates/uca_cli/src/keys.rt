@@ -5,9 +5,9 @@ ghost use Rattle.uca_weights.specs.Writes.{WentOut};
 ghost use Rattle.std.specs.Bool.{OnTrue};
 ghost use Rattle.uca_lines.specs.OutputBuffer.{HandedOver};
 ghost use Rattle.uca_match.specs.Collations.{collation_of};
+ghost use Rattle.uca_weights.specs.declared.Depth.TheVariants.{Weights};
 ghost use Rattle.uca_key.specs.Lengths.{HasShortRows};
-ghost use Rattle.uca_cli.specs.Print.{print_line};
-ghost use Rattle.uca_cli.specs.Keys.{key_of_text, keying_of};
+ghost use Rattle.uca_cli.specs.Keys.{keying_of, text_line};
 ghost use Rattle.uca_cli.specs.Runs.{is_input_read, is_write, HaveFailed, RunsOver};
 ghost use Rattle.uca_cli.specs.KeysRun.{is_before_input, WritesKeys, RunsKeys};
 ghost use Rattle.uca_cli.specs.KeysSoFar.{HasPrinted, PrintsNext, PrintsText, PrintsRest};
@@ -22,7 +22,7 @@ use uca_key::KeyBuffer;
 use uca_lines::{LINE_LIMIT, LineReader, NextLine, OutputBuffer};
 use uca_match::{Collator, Lookup};
 use uca_text::Normal;
-use uca_weights::{Sink, Source, Weighting};
+use uca_weights::{Depth, Sink, Source, Weighting};
 
 // The reader of lines, and what is used for one line after the other.
 #[derive(Drop)]
@@ -30,7 +30,9 @@ struct KeyRun<A: Allocator> {
     reader: LineReader,
     line: Vec<u8, A>,
     text: Normal,
+    // the key of the weights; an identical level is printed behind it
     key: KeyBuffer<A>,
+    depth: Depth,
     output: OutputBuffer,
 }
 
@@ -42,17 +44,20 @@ impl<A: Allocator> KeyRun<A> {
         number: u32,
         out: &mut Sink<W>,
     ) -> Result<(), RunFault>
+        requires weights { self.old.key.depth ≡ Weights }
         requires short_rows { HasShortRows (collation_of L.content collator.now).rows }
         requires few { 0 < number }
         requires many { number ≤ LINE_LIMIT }
         requires small { self.old.output.written + length self.old.output.held ≤ (number - 1) * 2 ^ 42 }
         ensures prints { (begun : Option (List ℕ)) (before : List ℕ) →
-            let key = key_of_text (keying_of L.content collator.now self.old.key.weighting) self.old.text in
+            let line = text_line (keying_of L.content collator.now self.old.key.weighting self.old.depth) self.old.text in
             HandedOver begun out.old.contents before self.old.output →
-            PrintsText begun before (print_line key) number self.old.output out.old self.new.output out.new result }
+            PrintsText begun before line number self.old.output out.old self.new.output out.new result }
         ensures small { OnOk result (self.new.output.written + length self.new.output.held ≤ number * 2 ^ 42) }
         ensures reader { self.new.reader ≡ self.old.reader }
         ensures weighting { self.new.key.weighting ≡ self.old.key.weighting }
+        ensures weights { self.new.key.depth ≡ self.old.key.depth }
+        ensures depth { self.new.depth ≡ self.old.depth }
         ensures not_read { is_input_read result ≡ false }
         ensures failed { out.new.failed ≡ (out.old.failed || is_write result) }
     {
@@ -62,7 +67,13 @@ impl<A: Allocator> KeyRun<A> {
                 kind: InputKind::Memory,
             });
         }
-        Ok(print_key(&mut self.output, out, self.key.bytes())?)
+        Ok(print_key(
+            &mut self.output,
+            out,
+            self.depth,
+            self.key.bytes(),
+            self.text.chars(),
+        )?)
     }
 
     // Hands over the key of the next line, and answers whether more lines may follow.
@@ -73,10 +84,11 @@ impl<A: Allocator> KeyRun<A> {
         out: &mut Sink<W>,
     ) -> Result<bool, RunFault>
         requires longest { self.old.reader.longest ≡ LONGEST_INPUT_LINE }
+        requires weights { self.old.key.depth ≡ Weights }
         requires short_rows { HasShortRows (collation_of L.content collator.now).rows }
         requires small { self.old.output.written + length self.old.output.held ≤ self.old.reader.number * 2 ^ 42 }
         ensures prints { (start begun : Option (List ℕ)) (before : List (List ℕ)) →
-            let c = keying_of L.content collator.now self.old.key.weighting in
+            let c = keying_of L.content collator.now self.old.key.weighting self.old.depth in
             HasPrinted c start begun before self.old.reader input.old self.old.output out.old →
             PrintsNext c start begun before self.new.reader input.new self.new.output out.new result }
         ensures small { IfOk result (λ more. OnTrue more (self.new.output.written
@@ -85,6 +97,8 @@ impl<A: Allocator> KeyRun<A> {
             × (self.new.reader.number ≤ LINE_LIMIT))) }
         ensures longest { self.new.reader.longest ≡ self.old.reader.longest }
         ensures weighting { self.new.key.weighting ≡ self.old.key.weighting }
+        ensures weights { self.new.key.depth ≡ self.old.key.depth }
+        ensures depth { self.new.depth ≡ self.old.depth }
         ensures input_failed { input.new.failed ≡ (input.old.failed || is_input_read result) }
         ensures out_failed { out.new.failed ≡ (out.old.failed || is_write result) }
     {
@@ -117,10 +131,11 @@ impl<A: Allocator> KeyRun<A> {
         out: &mut Sink<W>,
     ) -> Result<(), RunFault>
         requires longest { self.old.reader.longest ≡ LONGEST_INPUT_LINE }
+        requires weights { self.old.key.depth ≡ Weights }
         requires short_rows { HasShortRows (collation_of L.content collator.now).rows }
         requires small { self.old.output.written + length self.old.output.held ≤ self.old.reader.number * 2 ^ 42 }
         ensures prints { (start begun : Option (List ℕ)) (before : List (List ℕ)) →
-            let c = keying_of L.content collator.now self.old.key.weighting in
+            let c = keying_of L.content collator.now self.old.key.weighting self.old.depth in
             HasPrinted c start begun before self.old.reader input.old self.old.output out.old →
             PrintsRest c start begun input.new self.new.output out.new result }
         ensures input_failed { input.new.failed ≡ (input.old.failed || is_input_read result) }
@@ -156,12 +171,13 @@ pub fn print_keys<L: Lookup, T: Allocator, A: Allocator + Copy, I: Read, W: Writ
     global: Global,
     collator: &Collator<L, T>,
     weighting: Weighting,
+    depth: Depth,
     input: &mut Source<I>,
     out: &mut Sink<W>,
 ) -> Result<(), RunFault>
     requires { HasShortRows (collation_of L.content collator.now).rows }
     ensures writes { IfSome input.old.remaining (λ bytes.
-        let c = keying_of L.content collator.now weighting in
+        let c = keying_of L.content collator.now weighting depth in
         WritesKeys c bytes input.new.remaining out.old.contents out.new.contents result) }
     ensures of_lines { is_before_input result ≡ false }
     ensures input_failed { is_write result ≡ false →
@@ -172,7 +188,8 @@ pub fn print_keys<L: Lookup, T: Allocator, A: Allocator + Copy, I: Read, W: Writ
         reader: LineReader::new(LONGEST_INPUT_LINE),
         line: Vec::new(alloc),
         text: Normal::new(global),
-        key: KeyBuffer::new(alloc, weighting),
+        key: KeyBuffer::new(alloc, weighting, Depth::Weights),
+        depth,
         output: OutputBuffer::new(),
     };
     let end = run.print_rest(collator, input, out);
@@ -185,7 +202,8 @@ pub fn print_keys<L: Lookup, T: Allocator, A: Allocator + Copy, I: Read, W: Writ
 
 /// Prints the sort key of each line of `input`, under the table and the data file that are read first:
 /// by the weighting that is asked for, or else that of the table's `@variable`, or else shifted
-/// (UTS #10, section 4).
+/// (UTS #10, section 4). At the depth `Identical` the code points of Normalization Form D follow as one more level,
+/// six digits each.
 ///
 /// # Errors
 ///
@@ -200,10 +218,11 @@ pub fn run_keys<T: Read, D: Read, I: Read, W: Write>(
     input: &mut Source<I>,
     out: &mut Sink<W>,
     weighting: Option<Weighting>,
+    depth: Depth,
 ) -> Result<(), RunFault>
     // Where the bytes of its files are known.
     ensures runs { RunsOver table.old table.new properties.old properties.new
-        (RunsKeys weighting input.old input.new out.old out.new result) result }
+        (RunsKeys weighting depth input.old input.new out.old out.new result) result }
 
     // Whatever the readers and the writer are.
     ensures nothing_written { is_before_input result ≡ true → (out.new ≡ out.old) × (input.new ≡ input.old) }
@@ -211,7 +230,7 @@ pub fn run_keys<T: Read, D: Read, I: Read, W: Write>(
         input.new.failed ≡ (input.old.failed || is_input_read result) }
     ensures failed { HaveFailed table.old table.new properties.old properties.new out.old out.new result }
 {
-    run_keys_in(alloc, alloc, table, properties, input, out, weighting)
+    run_keys_in(alloc, alloc, table, properties, input, out, weighting, depth)
 }
 
 /// The same with the growths of the two files, the trie, the lines and the keys in memory of any
@@ -224,10 +243,11 @@ pub fn run_keys_in<A: Allocator + Copy, T: Read, D: Read, I: Read, W: Write>(
     input: &mut Source<I>,
     out: &mut Sink<W>,
     weighting: Option<Weighting>,
+    depth: Depth,
 ) -> Result<(), RunFault>
     // Where the bytes of its files are known.
     ensures runs { RunsOver table.old table.new properties.old properties.new
-        (RunsKeys weighting input.old input.new out.old out.new result) result }
+        (RunsKeys weighting depth input.old input.new out.old out.new result) result }
 
     // Whatever the readers and the writer are.
     ensures nothing_written { is_before_input result ≡ true → (out.new ≡ out.old) × (input.new ≡ input.old) }
@@ -240,5 +260,5 @@ pub fn run_keys_in<A: Allocator + Copy, T: Read, D: Read, I: Read, W: Write>(
     let header = &files.table.header;
     let collator = Collator::new(&rows, header, &files.properties);
     let weighting = chosen_weighting(weighting, header);
-    print_keys(alloc, global, &collator, weighting, input, out)
+    print_keys(alloc, global, &collator, weighting, depth, input, out)
 }

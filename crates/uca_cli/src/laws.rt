@@ -1,17 +1,17 @@
 //! What holds of lines and their keys in all runs. The functions only call the laws of keys that theirs follow
 //! from: their contracts are the laws.
 
-ghost use Rattle.uca_cli.specs.Laws.{LineKeysCompareAsElements, CanonicallyEquivalentLinesHaveOneKeyLine, KeyOrderIsOne};
+ghost use Rattle.uca_cli.specs.Laws.{LineKeysCompareAsLines, CanonicallyEquivalentLinesHaveOneKeyLine, KeyOrderIsOne};
 
-use uca_key::laws::{canonically_equivalent_texts_have_equal_keys, keys_compare_as_elements};
+use uca_key::laws::{canonically_equivalent_texts_have_equal_keys, keys_compare_as_texts};
 
 /// Between two lines of an input the byte order of their keys is the multilevel order of their collation
 /// elements (UTS #10, sections 1.1 and 7.4), whatever the table, the data file and the weighting; the keys
 /// are equal exactly where no level differs.
-pub fn line_keys_compare_as_elements()
-    ensures { LineKeysCompareAsElements }
+pub fn line_keys_compare_as_lines()
+    ensures { LineKeysCompareAsLines }
 {
-    keys_compare_as_elements();
+    keys_compare_as_texts();
 }
 
 /// Lines whose texts are canonically equivalent (UAX #15) have the same key line.

@@ -20,7 +20,7 @@ pub use compare::{run_compare, run_compare_in};
 pub use faults::{FileFault, InputKind, Role, RunFault};
 pub use keys::{print_keys, run_keys, run_keys_in};
 pub use laws::{
-    canonically_equivalent_lines_have_one_key_line, key_order_is_one, line_keys_compare_as_elements,
+    canonically_equivalent_lines_have_one_key_line, key_order_is_one, line_keys_compare_as_lines,
 };
 pub use reporting::report;
 pub use sort::{run_sort, run_sort_in, sort_lines};

@@ -1,14 +1,15 @@
 //! The printed form of keys.
 
-ghost use Rattle.std.specs.Prelude.{◌≡◌, ◌+◌, ◌^◌, ◌<◌, ◌++◌, ◌||◌, ◌≤◌, ℕ, List, Option, length, is_err, OnOk, IfErr, MatchResult};
-ghost use Rattle.uca_weights.specs.Writes.{WentOut};
-ghost use Rattle.uca_lines.specs.OutputBuffer.{HandedOver};
-ghost use Rattle.uca_cli.specs.Print.{byte_digits, spaced_groups, print_line};
+ghost use Rattle.std.specs.Prelude.{◌≡◌, ◌≤◌, length};
+ghost use Rattle.std.specs.List.{flat_map};
+ghost use Rattle.uca_lines.specs.Handing.{HasRoom, Hands};
+ghost use Rattle.uca_cli.specs.Print;
+ghost use Rattle.uca_cli.specs.Print.{byte_digits, printed_groups, spaced_groups, level_at, print_line_at};
 
 use std::io::Write;
 use uca_fields::hexadecimal_digit;
 use uca_lines::OutputBuffer;
-use uca_weights::{Sink, WriteFault};
+use uca_weights::{Depth, Sink, WriteFault};
 
 /// How many bytes of a key are printed at a time. It is even, so that each part begins where a group does.
 const PART: usize = 256;
@@ -17,26 +18,89 @@ const PART: usize = 256;
 const GROUPS: usize = PART / 2;
 
 /// Hands over a key as a line: groups of two bytes as four upper-case hexadecimal digits, one space
-/// between two groups, and LF. It takes no memory. A fault says how many bytes went out of all that was
-/// handed over.
+/// between two groups, and LF. At the depth `Identical` the code points of the text stand behind the key of its
+/// weights, after a group `0000`, as six digits each. It takes no memory. A fault says how many bytes went out of
+/// all that was handed over.
 pub fn print_key<W: Write>(
+    buffer: &mut OutputBuffer,
+    out: &mut Sink<W>,
+    depth: Depth,
+    key: &[u8],
+    points: &[char],
+) -> Result<(), WriteFault>
+    requires { HasRoom buffer.old (length (print_line_at depth key.now points.now)) }
+    ensures { Hands (print_line_at depth key.now points.now) buffer.old buffer.new out.old out.new result }
+{
+    hand_groups(buffer, out, key)?;
+    hand_level(buffer, out, depth, points)?;
+    hand(buffer, out, b"\n")
+}
+
+// Hands over a text.
+fn hand<W: Write>(
+    buffer: &mut OutputBuffer,
+    out: &mut Sink<W>,
+    text: &[u8],
+) -> Result<(), WriteFault>
+    requires { HasRoom buffer.old (length text.now) }
+    ensures { Hands text.now buffer.old buffer.new out.old out.new result }
+{
+    buffer.write(out, text)
+}
+
+// Hands over what stands behind the weights: nothing, or the identical level.
+fn hand_level<W: Write>(
+    buffer: &mut OutputBuffer,
+    out: &mut Sink<W>,
+    depth: Depth,
+    points: &[char],
+) -> Result<(), WriteFault>
+    requires { HasRoom buffer.old (length (level_at depth points.now)) }
+    ensures { Hands (level_at depth points.now) buffer.old buffer.new out.old out.new result }
+{
+    match depth {
+        Depth::Weights => Ok(()),
+        Depth::Identical => {
+            hand(buffer, out, b" 0000")?;
+            hand_points(buffer, out, points)
+        }
+    }
+}
+
+// Hands over code points, each behind a space.
+fn hand_points<W: Write>(
+    buffer: &mut OutputBuffer,
+    out: &mut Sink<W>,
+    points: &[char],
+) -> Result<(), WriteFault>
+    requires { HasRoom buffer.old (length (flat_map Print.spaced_point points.now)) }
+    ensures { Hands (flat_map Print.spaced_point points.now) buffer.old buffer.new out.old out.new result }
+{
+    for point in points {
+        hand(buffer, out, &spaced_point(*point))?;
+    }
+    Ok(())
+}
+
+// A code point as six digits behind a space.
+fn spaced_point(point: char) -> [u8; 7]
+    ensures { result ≡ Print.spaced_point point }
+{
+    let [_, high, middle, low] = u32::from(point).to_be_bytes();
+    let [first, second] = digits_of(high);
+    let [third, fourth] = digits_of(middle);
+    let [fifth, sixth] = digits_of(low);
+    [b' ', first, second, third, fourth, fifth, sixth]
+}
+
+// Hands over the groups of a key.
+fn hand_groups<W: Write>(
     buffer: &mut OutputBuffer,
     out: &mut Sink<W>,
     key: &[u8],
 ) -> Result<(), WriteFault>
-    requires { buffer.old.written + length buffer.old.held + length (print_line key.now) < 2 ^ 64 }
-
-    // Whatever the writer held at the start, and whatever was handed over since.
-    ensures text { (start : Option (List ℕ)) (before : List ℕ) →
-        HandedOver start out.old.contents before buffer.old →
-        MatchResult result
-        (λ _. HandedOver start out.new.contents (before ++ print_line key.now) buffer.new)
-        (λ fault. WentOut start out.new.contents (before ++ print_line key.now) fault.written) }
-    ensures count { OnOk result (buffer.new.written + length buffer.new.held
-        ≡ buffer.old.written + length buffer.old.held + length (print_line key.now)) }
-    ensures not_all { IfErr result (λ fault. fault.written
-        < buffer.old.written + length buffer.old.held + length (print_line key.now)) }
-    ensures failed { out.new.failed ≡ (out.old.failed || is_err result) }
+    requires { HasRoom buffer.old (length (printed_groups key.now)) }
+    ensures { Hands (printed_groups key.now) buffer.old buffer.new out.old out.new result }
 {
     let mut groups = [[0; 5]; GROUPS];
 
@@ -44,10 +108,10 @@ pub fn print_key<W: Write>(
     let mut begin = 1;
     for part in key.chunks(PART) {
         let text = spaced_text(&mut groups, part);
-        buffer.write(out, &text[begin..])?;
+        hand(buffer, out, &text[begin..])?;
         begin = 0;
     }
-    buffer.write(out, b"\n")
+    Ok(())
 }
 
 // Writes a part of a key: its groups, each behind a space. The text lies in the array.

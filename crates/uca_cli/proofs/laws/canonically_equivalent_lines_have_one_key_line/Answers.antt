@@ -2,4 +2,4 @@ use Rattle.uca_cli.proofs.LineLaws.{one_key_line}
 use Rattle.uca_cli.proofs.laws.canonically_equivalent_lines_have_one_key_line.Goals as goal
 
 pub returns : goal.returns
-returns c = one_key_line c.canonically_equivalent_texts_have_equal_keys.ensures
+returns c = one_key_line
