@@ -56,9 +56,9 @@ full_without id rows e = full_at id (λ _. []) [] rows (λ r h. refl) refl e
 
 -- ---- one use of an argument
 
--- a use of the argument has a value, or asks for help or the version
+-- a use of the argument has a value, or gets one where it has none, or asks for help or the version
 abbrev pub wants_value : Rule → Bool
-wants_value a = nat_lt 0 (unwrap_or_range a.range).start_inclusive || is_request (action_of a)
+wants_value a = nat_lt 0 (unwrap_or_range a.range).start_inclusive || (has_one a.missing || is_request (action_of a))
 
 abbrev pub want_values : List Rule → Bool
 want_values = list_all wants_value
@@ -103,15 +103,22 @@ pub full_used : (again : Bool) (a : Rule) (values : List Text) (rows : List Row)
     → are_full (used a values rows) ≡ true
 full_used again a values rows wants passes e =
     let parts = both_pass (range_kinds (unwrap_or_range a.range).start_inclusive (most_values a) (length values)) (action_fault (action_of a) again a (values_or_missing a values) rows) passes in
-    elim (either (nat_lt 0 (unwrap_or_range a.range).start_inclusive) (is_request (action_of a)) wants) [
+    elim (either (nat_lt 0 (unwrap_or_range a.range).start_inclusive) _ wants) [
       | inl one ↦ go values one parts.0
-      | inr asks ↦ absurd (request_fails (action_of a) asks (request_fault (action_of a) again a (values_or_missing a values) rows asks ∙ parts.1))
+      | inr rest ↦ elim (either (has_one a.missing) (is_request (action_of a)) rest) [
+        | inl missing ↦ with_missing values missing
+        | inr asks ↦ absurd (request_fails (action_of a) asks (request_fault (action_of a) again a (values_or_missing a values) rows asks ∙ parts.1))
+      ]
     ]
   where
     go : (vs : List Text) → nat_lt 0 (unwrap_or_range a.range).start_inclusive ≡ true → range_kinds (unwrap_or_range a.range).start_inclusive (most_values a) (length vs) ≡ []
         → are_full (used a vs rows) ≡ true
     go [] one within = absurd (fails_not _ _ (rw one at within))
     go (v ∷ vs) one within = full_used_as (action_of a) a.id (reading_by a) (v ∷ vs) rows refl e
+
+    with_missing : (vs : List Text) → has_one a.missing ≡ true → are_full (used a vs rows) ≡ true
+    with_missing [] missing = full_used_as (action_of a) a.id (reading_by a) a.missing rows missing e
+    with_missing (v ∷ vs) missing = full_used_as (action_of a) a.id (reading_by a) (v ∷ vs) rows refl e
 
 -- ---- the walk
 

@@ -1,3 +1,4 @@
 pub mod SubcommandWords
 pub mod FullRows
 pub mod Taken
+pub mod Given

@@ -1,5 +1,6 @@
 -- The command `uca`, as far as a parse reads it: its subcommands and their words.
 use Rattle.std.specs.Prelude.{◌≡◌, List, [], ◌∷◌, Some, true, false, codes, fold}
+use Rattle.clap.specs.declared.builder.action.ArgAction.TheVariants.{SetTrue}
 use Rattle.clap.specs.declared.builder.command.Command.{Command}
 use Rattle.clap.specs.declared.builder.command.Command.TheViews.{out-Command}
 use Rattle.clap.specs.Words.{App, Rule, Text, app_of, new_app, new_rule, with_rule, with_subcommand}
@@ -13,26 +14,30 @@ word_rule id = record (new_rule id) { required = true; value_names = 1 }
 abbrev pub weighting_rule : Rule
 weighting_rule = record (new_rule (codes "weighting")) { long = Some (codes "weighting"); value_names = 1 }
 
+-- `--identical`
+abbrev pub identical_rule : Rule
+identical_rule = record (new_rule (codes "identical")) { long = Some (codes "identical"); action = Some SetTrue }
+
 -- `TABLE DATA` come next
 abbrev pub with_files : App → App
 with_files app = with_rule (with_rule app (word_rule (codes "table"))) (word_rule (codes "data"))
 
--- `[--weighting W] TABLE DATA` come next
-abbrev pub with_weighting : App → App
-with_weighting app = with_files (with_rule app weighting_rule)
+-- `[--weighting W] [--identical] TABLE DATA` come next
+abbrev pub with_options : App → App
+with_options app = with_files (with_rule (with_rule app weighting_rule) identical_rule)
 
 abbrev pub check_app : App
 check_app = with_files (new_app (codes "check"))
 
 abbrev pub keys_app : App
-keys_app = with_weighting (new_app (codes "keys"))
+keys_app = with_options (new_app (codes "keys"))
 
 abbrev pub sort_app : App
-sort_app = with_weighting (new_app (codes "sort"))
+sort_app = with_options (new_app (codes "sort"))
 
--- `compare [--weighting W] TABLE DATA LEFT RIGHT`
+-- `compare [--weighting W] [--identical] TABLE DATA LEFT RIGHT`
 abbrev pub compare_app : App
-compare_app = with_rule (with_rule (with_weighting (new_app (codes "compare"))) (word_rule (codes "left"))) (word_rule (codes "right"))
+compare_app = with_rule (with_rule (with_options (new_app (codes "compare"))) (word_rule (codes "left"))) (word_rule (codes "right"))
 
 -- the command before its subcommands: one of them has to be named, and none is `help`
 abbrev pub bare_app : App

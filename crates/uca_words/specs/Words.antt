@@ -1,10 +1,13 @@
 -- What the words of a subcommand say.
-use Rattle.std.specs.Prelude.{◌≡◌, ◌≢◌, ⊤, true, List, [], Option, Some, None, codes, option_map}
+use Rattle.std.specs.Prelude.{◌≡◌, ◌≢◌, ⊤, true, false, List, [], Option, Some, None, codes, option_map}
 use Rattle.std.specs.Borrow.{Bor}
 use Rattle.clap.specs.declared.error.Error.{Error}
 use Rattle.clap.specs.declared.error.kind.ErrorKind.{ErrorKind}
 use Rattle.clap.specs.declared.error.kind.ErrorKind.TheVariants.{OutOfMemory}
+use Rattle.clap.specs.Takes.{is_given}
 use Rattle.clap.specs.Words.{IsAmong, Row, Text, fault_of, first_of, kind_of, subcommand_of, takes}
+use Rattle.uca_weights.specs.declared.Depth.{Depth}
+use Rattle.uca_weights.specs.declared.Depth.TheVariants.{Weights, Identical}
 use Rattle.uca_weights.specs.declared.Weighting.{Weighting as WeightingType}
 use Rattle.uca_weights.specs.WeightingText.{weighting_text, IsNoWeighting}
 use Rattle.uca_words.specs.declared.WordFault.{WordFault}
@@ -17,6 +20,11 @@ use Rattle.uca_words.specs.declared.Words.TheVariants.{Check, Keys, Sort, Compar
 abbrev pub HasWeighting : List Row → Option WeightingType → Type 0
 HasWeighting rows weighting = first_of (codes "weighting") rows ≡ option_map weighting_text weighting
 
+-- `--identical` is given where the depth is `Identical`, and only there
+abbrev pub HasDepth : List Row → Depth → Type 0
+HasDepth rows Identical = is_given (codes "identical") rows ≡ true
+HasDepth rows Weights = is_given (codes "identical") rows ≡ false
+
 -- the word that is called so is this one
 abbrev pub HasWord : List Row → Text → Bor Text → Type 0
 HasWord rows id word = first_of id rows ≡ Some word.now
@@ -27,12 +35,12 @@ HasFiles rows table properties = HasWord rows (codes "table") table × HasWord r
 -- the subcommand of this name, with these rows of its arguments, says these words
 abbrev pub Says : Text → List Row → Words → Type 0
 Says name rows (Check table properties) = (name ≡ codes "check") × HasFiles rows table properties
-Says name rows (Keys weighting table properties) =
-    (name ≡ codes "keys") × HasWeighting rows weighting × HasFiles rows table properties
-Says name rows (Sort weighting table properties) =
-    (name ≡ codes "sort") × HasWeighting rows weighting × HasFiles rows table properties
-Says name rows (Compare weighting table properties left right) =
-    (name ≡ codes "compare") × HasWeighting rows weighting × HasFiles rows table properties
+Says name rows (Keys weighting depth table properties) =
+    (name ≡ codes "keys") × HasWeighting rows weighting × HasDepth rows depth × HasFiles rows table properties
+Says name rows (Sort weighting depth table properties) =
+    (name ≡ codes "sort") × HasWeighting rows weighting × HasDepth rows depth × HasFiles rows table properties
+Says name rows (Compare weighting depth table properties left right) =
+    (name ≡ codes "compare") × HasWeighting rows weighting × HasDepth rows depth × HasFiles rows table properties
     × HasWord rows (codes "left") left × HasWord rows (codes "right") right
 
 -- the subcommand that was met, with the rows of its arguments, says these words

@@ -2,9 +2,9 @@
 
 ghost use Rattle.std.specs.Prelude.{◌≡◌, false, IfOk};
 ghost use Rattle.clap.specs.Words.{App, new_app, rule_of, with_rule, with_subcommand};
-ghost use Rattle.uca_words.specs.Command.{StandsFor, word_rule, weighting_rule, with_files, with_weighting, check_app, keys_app, sort_app, compare_app, bare_app, uca_app};
+ghost use Rattle.uca_words.specs.Command.{StandsFor, word_rule, weighting_rule, identical_rule, with_files, with_options, check_app, keys_app, sort_app, compare_app, bare_app, uca_app};
 
-use clap::{Arg, Command};
+use clap::{Arg, ArgAction, Command};
 use std::alloc::{AllocError, Global};
 
 fn word<'a>(alloc: Global, id: &'a str, name: &'a str, help: &'a str) -> Arg<'a>
@@ -27,6 +27,16 @@ fn weighting_option<'a>(alloc: Global) -> Arg<'a>
         .help("non-ignorable or shifted [default: what the table's @variable says, else shifted]")
 }
 
+fn identical_option<'a>(alloc: Global) -> Arg<'a>
+    ensures rule { rule_of result ≡ identical_rule }
+    ensures local { result.global ≡ false }
+{
+    Arg::new(alloc, "identical")
+        .long("identical")
+        .action(ArgAction::SetTrue)
+        .help("Compare texts that weigh the same by their code points too")
+}
+
 // `TABLE DATA` come next.
 fn take_files<'a>(alloc: Global, command: Command<'a>) -> Result<Command<'a>, AllocError>
     ensures { (app : App) → StandsFor app command.entry → IfOk result (StandsFor (with_files app)) }
@@ -46,11 +56,12 @@ fn take_files<'a>(alloc: Global, command: Command<'a>) -> Result<Command<'a>, Al
         ))
 }
 
-// `[--weighting W] TABLE DATA` come next.
-fn take_weighting<'a>(alloc: Global, command: Command<'a>) -> Result<Command<'a>, AllocError>
-    ensures { (app : App) → StandsFor app command.entry → IfOk result (StandsFor (with_weighting app)) }
+// `[--weighting W] [--identical] TABLE DATA` come next.
+fn take_options<'a>(alloc: Global, command: Command<'a>) -> Result<Command<'a>, AllocError>
+    ensures { (app : App) → StandsFor app command.entry → IfOk result (StandsFor (with_options app)) }
 {
-    take_files(alloc, command.arg(weighting_option(alloc))?)
+    let command = command.arg(weighting_option(alloc))?;
+    take_files(alloc, command.arg(identical_option(alloc))?)
 }
 
 // A subcommand before its words: its name, what it does in one line and in full, and an example.
@@ -91,10 +102,11 @@ fn keys_command<'a>(alloc: Global) -> Result<Command<'a>, AllocError>
         "keys",
         "Print the sort key of each line of standard input",
         "Prints the sort key (UTS #10, S3) of each line of standard input on a line of its own, in groups\n\
-         of four hexadecimal digits. `0000` stands between two levels.",
+         of four hexadecimal digits. `0000` stands between two levels. With `--identical` the code points\n\
+         of Normalization Form D follow as one more level, six digits each.",
         "Example: uca keys allkeys.txt data.txt < lines.txt",
     );
-    take_weighting(alloc, keys)
+    take_options(alloc, keys)
 }
 
 fn sort_command<'a>(alloc: Global) -> Result<Command<'a>, AllocError>
@@ -104,10 +116,12 @@ fn sort_command<'a>(alloc: Global) -> Result<Command<'a>, AllocError>
         alloc,
         "sort",
         "Sort the lines of standard input by their sort keys",
-        "Sorts the lines of standard input by their sort keys. Lines of equal keys keep their order.",
+        "Sorts the lines of standard input by their sort keys. Lines of equal keys keep their order.\n\
+         With `--identical` lines that weigh the same but differ in Normalization Form D get a fixed order,\n\
+         that of its code points, so that a sorted file is the same each time.",
         "Example: uca sort --weighting non-ignorable allkeys.txt data.txt < lines.txt",
     );
-    take_weighting(alloc, sort)
+    take_options(alloc, sort)
 }
 
 fn compare_command<'a>(alloc: Global) -> Result<Command<'a>, AllocError>
@@ -118,10 +132,11 @@ fn compare_command<'a>(alloc: Global) -> Result<Command<'a>, AllocError>
         "compare",
         "Say how two texts compare, and at which level they differ",
         "Prints `<`, `=` or `>`, as LEFT comes before RIGHT, is equal to it or comes after it, and the level\n\
-         at which the two first differ, 0 if none: `< 2`.",
+         at which the two first differ, 0 if none: `< 2`. With `--identical` texts that weigh the same\n\
+         are compared at one more level, by the code points of Normalization Form D.",
         "Example: uca compare --weighting shifted allkeys.txt data.txt cote côté",
     );
-    take_weighting(alloc, compare)?
+    take_options(alloc, compare)?
         .arg(word(alloc, "left", "LEFT", "The text on the left"))?
         .arg(word(alloc, "right", "RIGHT", "The text on the right"))
 }

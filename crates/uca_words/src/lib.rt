@@ -2,27 +2,30 @@
 //!
 //! Proved of `read_words`, against the specification that `clap` has of what it takes and refuses: at `Ok`
 //! the command has no fault at the words, and what is returned are the words of the subcommand that was
-//! met. `Refused` has an error of a kind that the command has at the words, and is never returned where
-//! it takes them. `Weighting` is returned only where it takes them and they give a word for no weighting.
-//! Of the text of an error no contract says anything, nor when an allocation fails, and so `Memory` is
-//! returned: tests compare the whole texts.
+//! met; their depth is `Identical` where `--identical` is given, and only there. `Refused` has an error of
+//! a kind that the command has at the words, and is never returned where it takes them. `Weighting` is
+//! returned only where it takes them and they give a word for no weighting. Of the text of an error no
+//! contract says anything, nor when an allocation fails, and so `Memory` is returned: tests compare the
+//! whole texts.
 #![tactic(auto)]
 
 ghost use Rattle.std.specs.Prelude.{◌≡◌, Some, IfOk, IfErr, IfSome, IfNone, true, is_some, codes, option_map};
 ghost use Rattle.clap.specs.Words.{found_of, rows_of, first_of};
+ghost use Rattle.clap.specs.Takes.{is_given};
 ghost use Rattle.clap.specs.Walk.{texts};
 ghost use Rattle.uca_words.specs.Command.{check_app, keys_app, sort_app, compare_app};
 ghost use Rattle.uca_words.specs.Met.{has_words, is_met, IsWeightingFault};
-ghost use Rattle.uca_words.specs.Words.{HasFiles, HasWord, HasWeighting, Says, AreRead, IsFaultOf};
+ghost use Rattle.uca_words.specs.Words.{HasFiles, HasWord, HasWeighting, HasDepth, Says, AreRead, IsFaultOf};
 
 mod builders;
 
 use builders::uca_command;
 use clap::ArgMatches;
 use clap::error::ErrorKind;
+use clap::parser::ValueSource;
 use std::alloc::{AllocError, Global};
 use thiserror::Error;
-use uca_weights::Weighting;
+use uca_weights::{Depth, Weighting};
 
 /// What a command line asks for.
 #[derive(Clone, Copy, Debug, PartialEq, Eq)]
@@ -34,28 +37,34 @@ pub enum Words<'a> {
         /// The name of the data file.
         properties: &'a str,
     },
-    /// `keys [--weighting W] TABLE DATA`: print the sort key of each line of standard input.
+    /// `keys [--weighting W] [--identical] TABLE DATA`: print the sort key of each line of standard input.
     Keys {
         /// The weighting, if one is given.
         weighting: Option<Weighting>,
+        /// How far texts are compared: `Identical` where `--identical` is given.
+        depth: Depth,
         /// The name of the table file.
         table: &'a str,
         /// The name of the data file.
         properties: &'a str,
     },
-    /// `sort [--weighting W] TABLE DATA`: sort the lines of standard input.
+    /// `sort [--weighting W] [--identical] TABLE DATA`: sort the lines of standard input.
     Sort {
         /// The weighting, if one is given.
         weighting: Option<Weighting>,
+        /// How far texts are compared: `Identical` where `--identical` is given.
+        depth: Depth,
         /// The name of the table file.
         table: &'a str,
         /// The name of the data file.
         properties: &'a str,
     },
-    /// `compare [--weighting W] TABLE DATA LEFT RIGHT`: say which of two texts comes first.
+    /// `compare [--weighting W] [--identical] TABLE DATA LEFT RIGHT`: say which of two texts comes first.
     Compare {
         /// The weighting, if one is given.
         weighting: Option<Weighting>,
+        /// How far texts are compared: `Identical` where `--identical` is given.
+        depth: Depth,
         /// The name of the table file.
         table: &'a str,
         /// The name of the data file.
@@ -135,6 +144,28 @@ fn given_weighting(found: &ArgMatches) -> Result<Option<Weighting>, WordFault>
     }
 }
 
+// Whether the words give this argument: its default does not count, and what is found with no source does.
+fn is_in_words(found: &ArgMatches, id: &str) -> bool
+    ensures { result ≡ is_given id.now (rows_of (found_of found.now)) }
+{
+    match found.value_source(id) {
+        Some(ValueSource::CommandLine) => true,
+        Some(ValueSource::DefaultValue) => false,
+        None => found.contains_id(id),
+    }
+}
+
+// How far texts are to be compared.
+fn given_depth(found: &ArgMatches) -> Depth
+    ensures { HasDepth (rows_of (found_of found.now)) result }
+{
+    if is_in_words(found, "identical") {
+        Depth::Identical
+    } else {
+        Depth::Weights
+    }
+}
+
 // The names of the two files.
 fn files_of<'a>(found: &ArgMatches<'a>) -> (&'a str, &'a str)
     requires { has_words check_app (rows_of (found_of found.now)) ≡ true }
@@ -159,6 +190,7 @@ fn keys_words<'a>(found: &ArgMatches<'a>) -> Result<Words<'a>, WordFault>
     let (table, properties) = files_of(found);
     Ok(Words::Keys {
         weighting: given_weighting(found)?,
+        depth: given_depth(found),
         table,
         properties,
     })
@@ -172,6 +204,7 @@ fn sort_words<'a>(found: &ArgMatches<'a>) -> Result<Words<'a>, WordFault>
     let (table, properties) = files_of(found);
     Ok(Words::Sort {
         weighting: given_weighting(found)?,
+        depth: given_depth(found),
         table,
         properties,
     })
@@ -185,6 +218,7 @@ fn compare_words<'a>(found: &ArgMatches<'a>) -> Result<Words<'a>, WordFault>
     let (table, properties) = files_of(found);
     Ok(Words::Compare {
         weighting: given_weighting(found)?,
+        depth: given_depth(found),
         table,
         properties,
         left: word_of(found, "left"),
@@ -208,7 +242,7 @@ fn subcommand_words<'a>(name: &str, found: &ArgMatches<'a>) -> Result<Words<'a>,
 }
 
 /// Reads the words of a command line, of which the first is the program's name: the subcommand that `clap`
-/// met, with its words and the weighting that is given.
+/// met, with its words, the weighting that is given and how far texts are compared.
 ///
 /// # Errors
 ///
