@@ -1,5 +1,5 @@
 -- A line that is printed piece by piece.
-use Rattle.std.proofs.Common.{◌≡◌, ℕ, zero, suc, min, ◌+◌, ◌-◌, ◌*◌, ◌/◌, ◌%◌, ◌<◌, ◌≤◌, List, [], ◌∷◌, ◌++◌, Bool, true, false, Option, Some, None, length, take, drop, get_or, set, take-append-drop, refl, sym, ap, subst, ◌∙◌, append_assoc, arith, length-append}
+use Rattle.std.proofs.Common.{◌≡◌, ℕ, zero, suc, min, ◌+◌, ◌-◌, ◌*◌, ◌^◌, ◌/◌, ◌%◌, ◌<◌, ◌≤◌, List, [], ◌∷◌, ◌++◌, Bool, true, false, Option, Some, None, length, take, drop, get_or, set, take-append-drop, refl, sym, ap, subst, ◌∙◌, append_assoc, arith, length-append}
 use Rattle.std.specs.Prelude.{◌||◌}
 use Rattle.std.specs.Io.KnownBytes.{Appends}
 use Rattle.std.specs.Simd.{first_chunks}
@@ -7,9 +7,13 @@ use Rattle.std.proofs.lemmas.List.{take-append-le, drop-append-le, append-nil, t
 use Rattle.std.proofs.lemmas.List.Concat.{flat_map-append}
 use Rattle.std.specs.List.{flat_map, join_with_byte}
 use Rattle.uca_weights.specs.Streams.{SinkState}
+use Rattle.uca_weights.specs.declared.Depth.{Depth}
+use Rattle.uca_weights.specs.declared.Depth.TheVariants.{Weights, Identical}
 use Rattle.uca_weights.specs.Writes.{WentOut}
 use Rattle.uca_lines.specs.OutputBuffer.{BufferState, HandedOver}
-use Rattle.uca_cli.specs.Print.{byte_digits, groups, printed_groups, spaced_groups, print_line}
+use Rattle.uca_lines.specs.Handing.{HasRoom, HasHanded as IsHanded}
+use Rattle.uca_lines.proofs.HandingLemmas.{part, handed_none as none_handed}
+use Rattle.uca_cli.specs.Print.{byte_digits, groups, printed_groups, spaced_groups, spaced_point, identical_level, level_at, print_line_at}
 
 -- ---- The groups
 
@@ -197,7 +201,7 @@ pub record HandedUpTo (key rest : List ℕ) (begin : ℕ) (out now : SinkState) 
   pub key_is : key ≡ done ++ rest
   pub whole : 0 < length rest → length done % 2 ≡ 0
   pub begins : begin ≡ 1 - length done
-  pub handed : HasHanded (printed_groups done) buffer held out now
+  pub handed : IsHanded (printed_groups done) buffer held out now
 
 pub handed_up_to_start : (key rest : List ℕ) (out : SinkState) (buffer : BufferState) → rest ≡ key → HandedUpTo key rest 1 out out buffer buffer
 handed_up_to_start key rest out buffer is = record {
@@ -205,7 +209,7 @@ handed_up_to_start key rest out buffer is = record {
   key_is = sym is;
   whole = λ _. refl;
   begins = refl;
-  handed = subst (λ (text : List ℕ). HasHanded text out out buffer buffer) (sym groups_none) (handed_none out buffer);
+  handed = subst (λ (text : List ℕ). IsHanded text buffer buffer out out) (sym groups_none) (none_handed buffer out);
 }
 
 -- the text of a part begins within it
@@ -258,7 +262,7 @@ goes_on key rest part left text begin size out now buffer held upto is cut space
     (part_grown done part _ begin even upto.begins (take_rest text begin ∙ ap (drop begin) spaced))
 
 -- there is room for the piece where there is room for all groups
-pub piece_fits : (key done part piece : List ℕ) (out now : SinkState) (buffer held : BufferState) → HasHanded (printed_groups done) buffer held out now → GoesOn key done part piece
+pub piece_fits : (key done part piece : List ℕ) (out now : SinkState) (buffer held : BufferState) → IsHanded (printed_groups done) buffer held out now → GoesOn key done part piece
     → HasRoom buffer (length (printed_groups key)) → HasRoom held (length piece)
 piece_fits key done part piece out now buffer held handed on room =
     let front = printed_groups done in
@@ -266,7 +270,7 @@ piece_fits key done part piece out now buffer held handed on room =
 
 -- and behind it the rest is left
 pub handed_up_to_more : (key rest part left : List ℕ) (begin size : ℕ) (out now next : SinkState) (buffer held kept : BufferState) (upto : HandedUpTo key rest begin out now buffer held) → size ≡ 256
-    → (rest ≡ part ++ left) × (length part ≡ min size (length rest)) × (0 < length rest) → HasHanded (printed_groups (upto.done ++ part)) out next buffer kept → HandedUpTo key left 0 out next buffer kept
+    → (rest ≡ part ++ left) × (length part ≡ min size (length rest)) × (0 < length rest) → IsHanded (printed_groups (upto.done ++ part)) buffer kept out next → HandedUpTo key left 0 out next buffer kept
 handed_up_to_more key rest part left begin size out now next buffer held kept upto is cut handed =
     let both : length rest ≡ length part + length left = ap length cut.0 ∙ length-append part left in
     let ends : length (upto.done ++ part) ≡ length upto.done + length part = length-append upto.done part in
@@ -317,5 +321,37 @@ length-groups (a ∷ b ∷ []) = omega arith
 length-groups (a ∷ b ∷ c ∷ []) = omega arith
 length-groups (a ∷ b ∷ c ∷ d ∷ more) = omega (arith, length-groups (c ∷ d ∷ more))
 
-pub line_is_short : (key : List ℕ) → length (print_line key) ≤ 3 * length key + 1
-line_is_short key = omega (arith, length-append (printed_groups key) (10 ∷ []), length-groups key)
+-- seven bytes for each code point
+length-points : (points : List ℕ) → length (flat_map spaced_point points) ≡ 7 * length points
+length-points [] = refl
+length-points (p ∷ points) = omega (arith, length-points points)
+
+length-level : (depth : Depth) (points : List ℕ) → length (level_at depth points) ≤ 7 * length points + 5
+length-level Weights points = omega arith
+length-level Identical points = omega (arith, length-points points)
+
+pub line_is_short : (depth : Depth) (key points : List ℕ) → length key < 2 ^ 40 → length points ≤ 1048576 → length (print_line_at depth key points) < 2 ^ 42
+line_is_short depth key points short few =
+    let level = level_at depth points in
+    omega (arith, short, few, length-append (printed_groups key) (level ++ 10 ∷ []), length-append level (10 ∷ []), length-groups key, length-level depth points)
+
+-- all groups of a key of which nothing is left were handed over
+pub all_groups : (key rest : List ℕ) (begin : ℕ) (out now : SinkState) (buffer held : BufferState) → HandedUpTo key rest begin out now buffer held → rest ≡ []
+    → IsHanded (printed_groups key) buffer held out now
+all_groups key rest begin out now buffer held upto none =
+    let whole : key ≡ upto.done = upto.key_is ∙ ap (λ l. upto.done ++ l) none ∙ append-nil upto.done in
+    subst (λ (l : List ℕ). IsHanded (printed_groups l) buffer held out now) (sym whole) upto.handed
+
+-- ---- The parts of a line
+
+abbrev pub line_parts : Depth → List ℕ → List ℕ → List (List ℕ)
+line_parts depth key points = printed_groups key ∷ level_at depth points ∷ (10 ∷ []) ∷ []
+
+pub line_is : (depth : Depth) (key points : List ℕ) → print_line_at depth key points ≡ flat_map part (line_parts depth key points)
+line_is depth key points = refl
+
+abbrev pub level_parts : List ℕ → List (List ℕ)
+level_parts points = (32 ∷ 48 ∷ 48 ∷ 48 ∷ 48 ∷ []) ∷ flat_map spaced_point points ∷ []
+
+pub level_is : (points : List ℕ) → identical_level points ≡ flat_map part (level_parts points)
+level_is points = ap (λ l. 32 ∷ 48 ∷ 48 ∷ 48 ∷ 48 ∷ l) (sym (append-nil (flat_map spaced_point points)))

@@ -4,7 +4,7 @@ ghost use Rattle.std.specs.Prelude.{◌≡◌, ◌≤◌, length};
 ghost use Rattle.std.specs.List.{flat_map};
 ghost use Rattle.uca_lines.specs.Handing.{HasRoom, Hands};
 ghost use Rattle.uca_cli.specs.Print;
-ghost use Rattle.uca_cli.specs.Print.{byte_digits, printed_groups, spaced_groups, level_at, print_line_at};
+ghost use Rattle.uca_cli.specs.Print.{byte_digits, printed_groups, spaced_groups, identical_level, level_at, print_line_at};
 
 use std::io::Write;
 use uca_fields::hexadecimal_digit;
@@ -60,11 +60,21 @@ fn hand_level<W: Write>(
 {
     match depth {
         Depth::Weights => Ok(()),
-        Depth::Identical => {
-            hand(buffer, out, b" 0000")?;
-            hand_points(buffer, out, points)
-        }
+        Depth::Identical => hand_identical_level(buffer, out, points),
     }
+}
+
+// Hands over the identical level: `0000`, and the code points.
+fn hand_identical_level<W: Write>(
+    buffer: &mut OutputBuffer,
+    out: &mut Sink<W>,
+    points: &[char],
+) -> Result<(), WriteFault>
+    requires { HasRoom buffer.old (length (identical_level points.now)) }
+    ensures { Hands (identical_level points.now) buffer.old buffer.new out.old out.new result }
+{
+    hand(buffer, out, b" 0000")?;
+    hand_points(buffer, out, points)
 }
 
 // Hands over code points, each behind a space.

@@ -1,48 +1,34 @@
-use Rattle.std.proofs.Common.{ap, ◌∙◌}
-use Rattle.std.specs.Slice.Iter.{chunks_rest, chunks_size}
-use Rattle.std.proofs.lemmas.Result.{err_from_is_err_and}
-use Rattle.uca_cli.proofs.PrintLemmas.{handed_up_to_start, goes_on, piece_fits, handed_up_to_more, text_from, handed_more, fault_within, fault_before_end, not_failed}
+use Rattle.std.proofs.Common.{[], refl, arith}
+use Rattle.uca_lines.proofs.HandingLemmas.{part, handed_none, part_fits, part_handed, returns_fault, returns_last}
+use Rattle.uca_cli.proofs.PrintLemmas.{line_parts, line_is}
 use Rattle.uca_cli.proofs.print.print_key.Goals as goal
 
-pub loop-part-init : goal.loop-part-init
-loop-part-init g c =
-    let is = c.into_iter-part-iterator.ensures.into_iter_gives in
-    record {
-      size = ap chunks_size is ∙ c.chunks-part-items.ensures.size;
-      handed = handed_up_to_start _ _ _ _ (ap chunks_rest is ∙ c.chunks-part-items.ensures.rest);
-    }
+pub hand_groups-requires : goal.hand_groups-requires
+hand_groups-requires g c = part_fits part (line_parts c.args.depth c.args.key.now c.args.points.now) 0 [] _ _ (line_is c.args.depth c.args.key.now c.args.points.now) refl (omega arith)
+    (handed_none c.args.buffer.now c.args.out.now) c.requires
 
-pub slice_bounds-write-count : goal.slice_bounds-write-count
-slice_bounds-write-count g c = text_from _ _ _ _ _ _ _ _ _ _ _ c.loop-part.invariant.handed c.in-Some.ensures.steps.1 c.loop-part.invariant.size c.spaced_text-text.ensures
+pub returns-in_err-hand_groups : goal.returns-in_err-hand_groups
+returns-in_err-hand_groups g c = returns_fault part (line_parts c.args.depth c.args.key.now c.args.points.now) 0 [] _ _ c.from_residual.result
+    (line_is c.args.depth c.args.key.now c.args.points.now) refl (omega arith) (handed_none c.args.buffer.now c.args.out.now) c.in_err-hand_groups.ensures c.from_residual.ensures.1
 
-pub slice_bounds-write-start : goal.slice_bounds-write-start
-slice_bounds-write-start g c = text_from _ _ _ _ _ _ _ _ _ _ _ c.loop-part.invariant.handed c.in-Some.ensures.steps.1 c.loop-part.invariant.size c.spaced_text-text.ensures
+pub hand_level-requires : goal.hand_level-requires
+hand_level-requires g c = part_fits part (line_parts c.args.depth c.args.key.now c.args.points.now) 1 [] _ _ (line_is c.args.depth c.args.key.now c.args.points.now) refl (omega arith)
+    (part_handed part (line_parts c.args.depth c.args.key.now c.args.points.now) 0 [] refl (omega arith) (handed_none c.args.buffer.now c.args.out.now) c.in_ok-hand_groups.ensures) c.requires
 
-pub write-requires : goal.write-requires
-write-requires g c =
-    let i = c.loop-part.invariant in
-    piece_fits _ _ _ _ _ _ _ _ _ i.handed.handed (goes_on _ _ _ _ _ _ _ _ _ _ _ i.handed i.size c.in-Some.ensures.steps.1 c.spaced_text-text.ensures) c.requires
+pub returns-in_err-hand_level : goal.returns-in_err-hand_level
+returns-in_err-hand_level g c = returns_fault part (line_parts c.args.depth c.args.key.now c.args.points.now) 1 [] _ _ c.from_residual-in_err-hand_level.result
+    (line_is c.args.depth c.args.key.now c.args.points.now) refl (omega arith)
+    (part_handed part (line_parts c.args.depth c.args.key.now c.args.points.now) 0 [] refl (omega arith) (handed_none c.args.buffer.now c.args.out.now) c.in_ok-hand_groups.ensures)
+    c.in_err-hand_level.ensures c.from_residual-in_err-hand_level.ensures.1
 
-pub loop-part-preserved : goal.loop-part-preserved
-loop-part-preserved g c =
-    let i = c.loop-part.invariant in
-    let on = goes_on _ _ _ _ _ _ _ _ _ _ _ i.handed i.size c.in-Some.ensures.steps.1 c.spaced_text-text.ensures in
-    let e = c.in_ok-write.ensures in
-    record {
-      size = c.in-Some.ensures.steps.0 ∙ i.size;
-      handed = handed_up_to_more _ _ _ _ _ _ _ _ _ _ _ _ i.handed i.size c.in-Some.ensures.steps.1 (handed_more _ _ _ _ _ _ _ _ _ i.handed.handed on.grown e.text e.count (not_failed _ _ e.failed));
-    }
+pub hand-requires : goal.hand-requires
+hand-requires g c = part_fits part (line_parts c.args.depth c.args.key.now c.args.points.now) 2 [] _ _ (line_is c.args.depth c.args.key.now c.args.points.now) refl (omega arith)
+    (part_handed part (line_parts c.args.depth c.args.key.now c.args.points.now) 1 [] refl (omega arith)
+    (part_handed part (line_parts c.args.depth c.args.key.now c.args.points.now) 0 [] refl (omega arith) (handed_none c.args.buffer.now c.args.out.now) c.in_ok-hand_groups.ensures)
+    c.in_ok-hand_level.ensures) c.requires
 
-pub returns-in_err-write-clause-text : goal.returns-in_err-write-clause-text
-returns-in_err-write-clause-text g c =
-    let i = c.loop-part.invariant in
-    let on = goes_on _ _ _ _ _ _ _ _ _ _ _ i.handed i.size c.in-Some.ensures.steps.1 c.spaced_text-text.ensures in
-    let p = err_from_is_err_and c.from_residual.result c.from_residual.ensures.1 in
-    rw (p.1, p.2) (fault_within _ _ _ on.more _ _ c.write.new.out _ _ c.in_err-write.field-0.0.written i.handed.handed on.line c.in_err-write.ensures.text)
-
-pub returns-in_err-write-clause-not_all : goal.returns-in_err-write-clause-not_all
-returns-in_err-write-clause-not_all g c =
-    let i = c.loop-part.invariant in
-    let on = goes_on _ _ _ _ _ _ _ _ _ _ _ i.handed i.size c.in-Some.ensures.steps.1 c.spaced_text-text.ensures in
-    let p = err_from_is_err_and c.from_residual.result c.from_residual.ensures.1 in
-    rw (p.1, p.2) (fault_before_end _ _ _ on.more _ _ _ _ c.in_err-write.field-0.0.written i.handed.handed on.line c.in_err-write.ensures.not_all)
+pub returns : goal.returns
+returns g c = returns_last part (line_parts c.args.depth c.args.key.now c.args.points.now) 2 [] _ _ _ _ c.hand.result (line_is c.args.depth c.args.key.now c.args.points.now) refl (omega arith)
+    (part_handed part (line_parts c.args.depth c.args.key.now c.args.points.now) 1 [] refl (omega arith)
+    (part_handed part (line_parts c.args.depth c.args.key.now c.args.points.now) 0 [] refl (omega arith) (handed_none c.args.buffer.now c.args.out.now) c.in_ok-hand_groups.ensures)
+    c.in_ok-hand_level.ensures) c.hand.ensures

@@ -1,7 +1,7 @@
 use Rattle.std.proofs.Common.{◌≡◌}
 use Rattle.std.specs.Slice.Iter.{chunks_rest, chunks_size}
 use Rattle.uca_cli.proofs.PrintLemmas.{HandedUpTo}
-use Rattle.uca_cli.proofs.print.print_key.Given as goal
+use Rattle.uca_cli.proofs.print.hand_groups.Given as goal
 
 abbrev pub invariant-loop-part : goal.invariant-loop-part
 invariant-loop-part g l = record {
