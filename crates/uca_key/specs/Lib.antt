@@ -10,3 +10,4 @@ pub mod StoredKeys
 pub mod Lengths
 pub mod WorkedKeys
 pub mod WorkedComparisons
+pub mod WorkedTexts

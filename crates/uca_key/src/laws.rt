@@ -4,6 +4,7 @@ ghost use Rattle.uca_key.specs.Laws.{KeysCompareAsElements, CanonicallyEquivalen
 ghost use Rattle.uca_key.specs.StreamedWeights.{WeightsMayBeStreamed};
 ghost use Rattle.uca_key.specs.WorkedKeys.{WorkedKeys};
 ghost use Rattle.uca_key.specs.WorkedComparisons.{WorkedComparisons};
+ghost use Rattle.uca_key.specs.WorkedTexts.{WorkedTexts};
 
 /// Byte order of keys is multilevel comparison (UTS #10, sections 1.1 and 7.4): under either weighting, the
 /// bytes of two keys compare as the elements do level by level, and two keys are equal exactly where no
@@ -70,4 +71,10 @@ pub fn worked_keys()
 /// The definitions compare some keys, and slices that are no keys, as was worked out by hand.
 pub fn worked_comparisons()
     ensures { WorkedComparisons }
+{}
+
+/// The definitions compare some texts at either depth, count their elements and give their keys with an identical level,
+/// as was worked out by hand.
+pub fn worked_texts()
+    ensures { WorkedTexts }
 {}
