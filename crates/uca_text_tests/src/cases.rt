@@ -62,6 +62,15 @@ pub fn same(found: &str, wanted: &str, case: &str) -> Result<(), Fail> {
     Err(Fail::new(format_args!("{found}\nand not {wanted}\nat {case}")))
 }
 
+/// Fails unless the bytes are those of the groups.
+pub fn same_bytes(alloc: Global, found: &[u8], groups: &str, case: &str) -> Result<(), Fail> {
+    let wanted = bytes_of(alloc, groups)?;
+    if found == wanted.as_slice() {
+        return Ok(());
+    }
+    same(&groups_of(alloc, found)?, groups, case)
+}
+
 /// A part so many times.
 pub fn repeated(alloc: Global, part: &str, count: usize) -> Result<String, AllocError> {
     let mut text = String::new(alloc);

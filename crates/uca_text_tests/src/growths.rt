@@ -10,6 +10,7 @@ use std::test::Fail;
 use uca_key::{KeyBuffer, key};
 use uca_match::{Collator, Trie};
 use uca_text::{Normal, normal};
+use uca_weights::Depth::Identical;
 use uca_weights::Weighting::Shifted;
 
 /// How often a thing was made, and how often an allocation failed.
@@ -71,8 +72,9 @@ fn tries_in_small_heaps(rt: HostRuntime) -> Result<(), Fail> {
     count.check()
 }
 
-/// The key of `a`, a space, `b` and an acute accent.
-const KEY: &str = "1C47 1C60 0000 0020 0020 0024 0000 0002 0002 0002 0000 FFFF 0209 FFFF FFFF";
+/// The key of `a`, a space, `b` and an acute accent, with the identical level.
+const KEY: &str = "1C47 1C60 0000 0020 0020 0024 0000 0002 0002 0002 0000 FFFF 0209 FFFF FFFF \
+    0000 0000 6100 0020 0000 6200 0301";
 
 /// A key as it is made at once, if there is memory for it.
 fn made_key(
@@ -81,7 +83,7 @@ fn made_key(
     collator: &Collator<Trie>,
     text: &Normal,
 ) -> Result<Option<String>, AllocError> {
-    match key(heap, collator, Shifted, text) {
+    match key(heap, collator, Shifted, Identical, text) {
         Ok(bytes) => Ok(Some(groups_of(alloc, &bytes)?)),
         Err(_) => Ok(None),
     }
@@ -116,7 +118,7 @@ fn keys_in(
     text: &Normal,
 ) -> Result<[bool; 2], Fail> {
     let made = made_key(alloc, heap, collator, text)?;
-    let mut buffer = KeyBuffer::new(heap, Shifted);
+    let mut buffer = KeyBuffer::new(heap, Shifted, Identical);
     let first = written_key(alloc, &mut buffer, collator, text)?;
     let second = written_key(alloc, &mut buffer, collator, text)?;
     holds(is_key(&made) && is_key(&first) && is_key(&second), KEY)?;

@@ -2,15 +2,21 @@
 
 use crate::cases::{bytes_of, halves, same};
 use crate::keys::elements_of;
-use std::alloc::Global;
+use std::alloc::{AllocError, Global};
+use std::cmp::Ordering;
 use std::cmp::Ordering::Greater;
 use std::test::Fail;
 use uca_key::{compare_keys, key_of, level_count};
 use uca_weights::Weighting;
 use uca_weights::Weighting::{NonIgnorable, Shifted};
 
+/// An order, and the level at which the difference lies.
+pub fn answer(alloc: Global, order: Ordering, level: u8) -> Result<String, AllocError> {
+    format!(in alloc; "{order:?} {level}")
+}
+
 /// How two slices compare, and how they do the other way round.
-fn check_order(
+pub fn check_order(
     alloc: Global,
     left: &[u8],
     right: &[u8],
@@ -18,15 +24,10 @@ fn check_order(
     wanted: &str,
 ) -> Result<(), Fail> {
     let (order, level) = compare_keys(left, right, levels);
-    same(
-        &format!(in alloc; "{order:?} {level}")?,
-        wanted,
-        "the order",
-    )?;
+    same(&answer(alloc, order, level)?, wanted, "the order")?;
     let (order, level) = compare_keys(right, left, levels);
-    let order = order.reverse();
     same(
-        &format!(in alloc; "{order:?} {level}")?,
+        &answer(alloc, order.reverse(), level)?,
         wanted,
         "the order of the others",
     )

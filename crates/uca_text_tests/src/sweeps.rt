@@ -7,6 +7,7 @@ use crate::samples::{DATA, data_of};
 use std::alloc::{AllocError, Global};
 use std::test::Fail;
 use uca_text::normal;
+use uca_weights::Depth::Weights;
 
 /// A table file, a data file and cases in the making.
 #[derive(Drop)]
@@ -36,10 +37,8 @@ fn all_classes(alloc: Global) -> Result<Made, AllocError> {
         made.data.push_str(&line)?;
         let row = format!(in alloc; "{:04X} ; [.0000.{:04X}.0002]\n", code, weight)?;
         made.table.push_str(&row)?;
-        let case = format!(in alloc;
-            "0061 {:04X} | 1C47 0000 0020 {:04X} 0000 0002 0002 | FFFF FFFF\n",
-            code, weight
-        )?;
+        let key = format!(in alloc; "1C47 0000 0020 {:04X} 0000 0002 0002", weight)?;
+        let case = format!(in alloc; "0061 {:04X} | {key} | {key} 0000 FFFF FFFF\n", code)?;
         made.cases.push_str(&case)?;
     }
     Ok(made)
@@ -48,7 +47,7 @@ fn all_classes(alloc: Global) -> Result<Made, AllocError> {
 #[test]
 fn each_class(rt: HostRuntime) -> Result<(), Fail> {
     let made = all_classes(rt.alloc())?;
-    check_texts(rt.alloc(), &made.table, &made.data, &made.cases)?;
+    check_texts(rt.alloc(), Weights, &made.table, &made.data, &made.cases)?;
     let data = data_of(rt.alloc(), &made.data)?;
     for class in 1..=254u16 {
         let code = format!(in rt.alloc(); "0061 {:04X}", 0xE000 + class)?;
@@ -74,9 +73,8 @@ fn add_lengths(made: &mut Made, alloc: Global, points: u8, elements: u8) -> Resu
     let secondaries = repeated(alloc, " 0020", count)?;
     let tertiaries = repeated(alloc, " 0002", count)?;
     let fourths = repeated(alloc, " FFFF", count)?;
-    made.cases.push_str(&format!(in alloc;
-        "{key}| {primaries}0000{secondaries} 0000{tertiaries} |{fourths}\n"
-    )?)?;
+    let weights = format!(in alloc; "{primaries}0000{secondaries} 0000{tertiaries}")?;
+    made.cases.push_str(&format!(in alloc; "{key}| {weights} | {weights} 0000{fourths}\n")?)?;
     Ok(())
 }
 
@@ -88,7 +86,7 @@ fn each_length(rt: HostRuntime) -> Result<(), Fail> {
             add_lengths(&mut made, rt.alloc(), points, elements)?;
         }
     }
-    check_texts(rt.alloc(), &made.table, &made.data, &made.cases)
+    check_texts(rt.alloc(), Weights, &made.table, &made.data, &made.cases)
 }
 
 /// The greatest weight at each level, and rows of many elements without primary weights.
@@ -100,15 +98,15 @@ const GREATEST: &str = "@version 1\n\
     0065 ; [.0000.0021.0002][.0000.0022.0003][.0000.0023.0004][.0000.0024.0005][.0000.0025.0006]\n\
     0066 ; [.1C47.0020.0002][.0000.0021.0003][.0000.0022.0004][.0000.0000.0005][.0000.0000.0000]\n";
 
-const GREATEST_CASES: &str = r"0061 | FFFF 0000 0020 0000 0002 | FFFF
-0062 | 0000 FFFF 0000 0002 | FFFF
-0063 | 0000 0000 FFFF | FFFF
-0064 | FFFF 0000 FFFF 0000 FFFF | FFFF
-0065 | 0000 0021 0022 0023 0024 0025 0000 0002 0003 0004 0005 0006 | FFFF FFFF FFFF FFFF FFFF
-0066 | 1C47 0000 0020 0021 0022 0000 0002 0003 0004 0005 | FFFF FFFF FFFF FFFF
-0061 0062 0063 0064 | FFFF FFFF 0000 0020 FFFF FFFF 0000 0002 0002 FFFF FFFF | FFFF FFFF FFFF FFFF";
+const GREATEST_CASES: &str = r"0061 | FFFF 0000 0020 0000 0002 | FFFF 0000 0020 0000 0002 0000 FFFF
+0062 | 0000 FFFF 0000 0002 | 0000 FFFF 0000 0002 0000 FFFF
+0063 | 0000 0000 FFFF | 0000 0000 FFFF 0000 FFFF
+0064 | FFFF 0000 FFFF 0000 FFFF | FFFF 0000 FFFF 0000 FFFF 0000 FFFF
+0065 | 0000 0021 0022 0023 0024 0025 0000 0002 0003 0004 0005 0006 | 0000 0021 0022 0023 0024 0025 0000 0002 0003 0004 0005 0006 0000 FFFF FFFF FFFF FFFF FFFF
+0066 | 1C47 0000 0020 0021 0022 0000 0002 0003 0004 0005 | 1C47 0000 0020 0021 0022 0000 0002 0003 0004 0005 0000 FFFF FFFF FFFF FFFF
+0061 0062 0063 0064 | FFFF FFFF 0000 0020 FFFF FFFF 0000 0002 0002 FFFF FFFF | FFFF FFFF 0000 0020 FFFF FFFF 0000 0002 0002 FFFF FFFF 0000 FFFF FFFF FFFF FFFF";
 
 #[test]
 fn greatest_weights_and_rows_without_primary_weights(rt: HostRuntime) -> Result<(), Fail> {
-    check_texts(rt.alloc(), GREATEST, DATA, GREATEST_CASES)
+    check_texts(rt.alloc(), Weights, GREATEST, DATA, GREATEST_CASES)
 }
