@@ -1,15 +1,32 @@
 //! How two texts compare: without keys, and as their keys do.
 
-use crate::cases::{halves, same, text_of};
-use crate::samples::{DATA, TABLE, data_of, table_of};
+use crate::cases::{halves, same};
+use crate::samples::{Check, DATA, TABLE, normal_of, over_both};
 use crate::stored_keys::{answer, check_order};
 use std::alloc::Global;
 use std::test::Fail;
 use uca_key::{Compared, compare, key, level_count};
-use uca_match::{Collator, Lookup, RowList, Trie};
-use uca_text::{Normal, normal};
+use uca_match::{Collator, Lookup};
+use uca_text::Normal;
 use uca_weights::Weighting::{NonIgnorable, Shifted};
 use uca_weights::{Depth, Weighting};
+
+/// The keys of two texts compare so.
+fn check_by_keys<L: Lookup>(
+    alloc: Global,
+    collator: &Collator<L>,
+    (weighting, depth): (Weighting, Depth),
+    (left, right): (&Normal, &Normal),
+    wanted: &str,
+) -> Result<(), Fail> {
+    let levels = match depth {
+        Depth::Weights => level_count(weighting),
+        Depth::Identical => level_count(weighting) + 1,
+    };
+    let left = key(alloc, collator, weighting, depth, left)?;
+    let right = key(alloc, collator, weighting, depth, right)?;
+    check_order(alloc, &left, &right, levels, wanted)
+}
 
 /// How two texts compare at a depth, and how many elements the comparison of level 1 fetched. Their keys
 /// compare so too.
@@ -20,44 +37,38 @@ fn check_depth<L: Lookup>(
     (left, right): (&Normal, &Normal),
     (wanted, counts): (&str, &str),
 ) -> Result<(), Fail> {
-    let found = compare(collator, weighting, depth, left, right);
-    same(&answer(alloc, found.order, found.level)?, wanted, counts)?;
     let Compared {
+        order,
+        level,
         fetched_left,
         fetched_right,
-        ..
-    } = found;
-    let fetched = format!(in alloc; "{fetched_left} {fetched_right}")?;
-    same(&fetched, counts, wanted)?;
-    let levels = match depth {
-        Depth::Weights => level_count(weighting),
-        Depth::Identical => level_count(weighting) + 1,
-    };
-    let left = key(alloc, collator, weighting, depth, left)?;
-    let right = key(alloc, collator, weighting, depth, right)?;
-    check_order(alloc, &left, &right, levels, wanted)
+    } = compare(collator, weighting, depth, left, right);
+    same(&answer(alloc, order, level)?, wanted, counts)?;
+    same(
+        &format!(in alloc; "{fetched_left} {fetched_right}")?,
+        counts,
+        wanted,
+    )?;
+    check_by_keys(alloc, collator, (weighting, depth), (left, right), wanted)
 }
 
-/// Two texts, how they compare at either depth, and how many of their elements are fetched.
-fn check_case<L: Lookup>(
+/// How two texts compare at either depth, and how many of their elements are fetched.
+fn check_depths<L: Lookup>(
     alloc: Global,
     collator: &Collator<L>,
     weighting: Weighting,
-    case: &str,
+    texts: (&Normal, &Normal),
+    answers: &str,
 ) -> Result<(), Fail> {
-    let (left, rest) = halves(case)?;
-    let (right, rest) = halves(rest)?;
-    let (by_weights, rest) = halves(rest)?;
+    let (by_weights, rest) = halves(answers)?;
     let (identical, counts) = halves(rest)?;
-    let left = normal(alloc, &text_of(alloc, left)?, collator.data)?;
-    let right = normal(alloc, &text_of(alloc, right)?, collator.data)?;
-    let texts = (&left, &right);
+    let by_weights = (by_weights, counts);
     check_depth(
         alloc,
         collator,
         (weighting, Depth::Weights),
         texts,
-        (by_weights, counts),
+        by_weights,
     )?;
     check_depth(
         alloc,
@@ -66,6 +77,20 @@ fn check_case<L: Lookup>(
         texts,
         (identical, counts),
     )
+}
+
+/// Two texts, and what is answered.
+fn check_case<L: Lookup>(
+    alloc: Global,
+    collator: &Collator<L>,
+    weighting: Weighting,
+    case: &str,
+) -> Result<(), Fail> {
+    let (left, rest) = halves(case)?;
+    let (right, answers) = halves(rest)?;
+    let left = normal_of(alloc, left, collator.data)?;
+    let right = normal_of(alloc, right, collator.data)?;
+    check_depths(alloc, collator, weighting, (&left, &right), answers)
 }
 
 const PLAINLY: &str = r"0041 0061 | 0061 0062 | Less 1 | Less 1 | 2 2
@@ -84,14 +109,20 @@ const SHIFTED: &str = r"0061 0020 0062 | 0061 0062 | Less 4 | Less 4 | 3 2
 0020 0301 | 0020 | Equal 0 | Greater 5 | 2 1
 0061 0020 0062 | 0061 0020 0062 | Equal 0 | Equal 0 | 3 3";
 
-fn check_collator<L: Lookup>(alloc: Global, collator: &Collator<L>) -> Result<(), Fail> {
-    for case in PLAINLY.lines() {
-        check_case(alloc, collator, NonIgnorable, case)?;
+/// The cases of both weightings.
+#[derive(Clone, Copy)]
+struct Pairs;
+
+impl Check for Pairs {
+    fn check<L: Lookup>(&self, alloc: Global, collator: &Collator<L>) -> Result<(), Fail> {
+        for case in PLAINLY.lines() {
+            check_case(alloc, collator, NonIgnorable, case)?;
+        }
+        for case in SHIFTED.lines() {
+            check_case(alloc, collator, Shifted, case)?;
+        }
+        Ok(())
     }
-    for case in SHIFTED.lines() {
-        check_case(alloc, collator, Shifted, case)?;
-    }
-    Ok(())
 }
 
 /// A code point that is completely ignorable.
@@ -99,12 +130,6 @@ const IGNORABLE: &str = "0001 ; [.0000.0000.0000]\n";
 
 #[test]
 fn compares_texts(rt: HostRuntime) -> Result<(), Fail> {
-    let mut file = String::from_str(rt.alloc(), TABLE)?;
-    file.push_str(IGNORABLE)?;
-    let table = table_of(rt.alloc(), &file)?;
-    let data = data_of(rt.alloc(), DATA)?;
-    let rows = RowList::new(&table);
-    let trie = Trie::new(rt.alloc(), &table)?;
-    check_collator(rt.alloc(), &Collator::new(&rows, &table.header, &data))?;
-    check_collator(rt.alloc(), &Collator::new(&trie, &table.header, &data))
+    let table = format!(in rt.alloc(); "{TABLE}{IGNORABLE}")?;
+    over_both(rt.alloc(), &table, DATA, &Pairs)
 }

@@ -1,12 +1,12 @@
 //! Keys that were worked out by hand: from elements on, and from texts on.
 
-use crate::cases::{halves, same_bytes, text_of};
-use crate::samples::{DATA, TABLE, data_of, table_of};
+use crate::cases::{halves, same_bytes};
+use crate::samples::{Check, DATA, TABLE, normal_of, over_both, table_of};
 use std::alloc::Global;
 use std::test::Fail;
 use uca_key::{KeyBuffer, key, key_of};
-use uca_match::{Collator, Lookup, RowList, Trie};
-use uca_text::normal;
+use uca_match::{Collator, Lookup};
+use uca_text::Normal;
 use uca_weights::Weighting::{NonIgnorable, Shifted};
 use uca_weights::{Depth, Element, Weighting};
 
@@ -62,37 +62,91 @@ fn keys_of_elements(rt: HostRuntime) -> Result<(), Fail> {
     Ok(())
 }
 
-/// The key of a text, made at once and written into a buffer that held another key.
-fn check_key<L: Lookup>(
+/// The key of a text, made at once.
+fn check_made<L: Lookup>(
     alloc: Global,
     collator: &Collator<L>,
     (weighting, depth): (Weighting, Depth),
+    text: &Normal,
+    wanted: &str,
+) -> Result<(), Fail> {
+    let made = key(alloc, collator, weighting, depth, text)?;
+    same_bytes(alloc, &made, wanted, "a key made at once")
+}
+
+/// The key of a text, written after the key of another.
+fn check_written<L: Lookup>(
+    alloc: Global,
+    collator: &Collator<L>,
+    buffer: &mut KeyBuffer,
+    text: &Normal,
+    wanted: &str,
+) -> Result<(), Fail> {
+    buffer.write_text(collator, text)?;
+    same_bytes(alloc, buffer.bytes(), wanted, "a key in a buffer")
+}
+
+fn check_key<L: Lookup>(
+    alloc: Global,
+    collator: &Collator<L>,
+    ways: (Weighting, Depth),
+    buffer: &mut KeyBuffer,
     points: &str,
     wanted: &str,
 ) -> Result<(), Fail> {
-    let text = normal(alloc, &text_of(alloc, points)?, collator.data)?;
-    let made = key(alloc, collator, weighting, depth, &text)?;
-    same_bytes(alloc, &made, wanted, points)?;
-    let mut buffer = KeyBuffer::new(alloc, weighting, depth);
-    buffer.write_text(collator, &normal(alloc, "a b", collator.data)?)?;
-    buffer.write_text(collator, &text)?;
-    same_bytes(alloc, buffer.bytes(), wanted, points)
+    let text = normal_of(alloc, points, collator.data)?;
+    check_made(alloc, collator, ways, &text, wanted)?;
+    check_written(alloc, collator, buffer, &text, wanted)
 }
 
-/// Canonically equivalent texts with ` = ` between them, and their key under each weighting.
+/// Canonically equivalent texts with ` = ` between them, and their key.
+fn check_keys<L: Lookup>(
+    alloc: Global,
+    collator: &Collator<L>,
+    ways: (Weighting, Depth),
+    buffer: &mut KeyBuffer,
+    (texts, wanted): (&str, &str),
+) -> Result<(), Fail> {
+    for points in texts.split(" = ") {
+        check_key(alloc, collator, ways, buffer, points, wanted)?;
+    }
+    Ok(())
+}
+
+/// Canonically equivalent texts, and their key under each weighting, of which one is asked for.
 fn check_case<L: Lookup>(
     alloc: Global,
     collator: &Collator<L>,
-    depth: Depth,
+    (weighting, depth): (Weighting, Depth),
+    buffer: &mut KeyBuffer,
     case: &str,
 ) -> Result<(), Fail> {
     let (texts, keys) = halves(case)?;
     let (plain, shifted) = halves(keys)?;
-    for points in texts.split(" = ") {
-        check_key(alloc, collator, (NonIgnorable, depth), points, plain)?;
-        check_key(alloc, collator, (Shifted, depth), points, shifted)?;
+    let ways = (weighting, depth);
+    match weighting {
+        NonIgnorable => check_keys(alloc, collator, ways, buffer, (texts, plain)),
+        Shifted => check_keys(alloc, collator, ways, buffer, (texts, shifted)),
     }
-    Ok(())
+}
+
+/// Cases of texts and their keys at a depth.
+#[derive(Clone, Copy)]
+struct Keys<'a> {
+    depth: Depth,
+    cases: &'a str,
+}
+
+impl<'a> Check for Keys<'a> {
+    fn check<L: Lookup>(&self, alloc: Global, collator: &Collator<L>) -> Result<(), Fail> {
+        for weighting in [NonIgnorable, Shifted] {
+            let mut buffer = KeyBuffer::new(alloc, weighting, self.depth);
+            for case in self.cases.lines() {
+                check_case(alloc, collator, (weighting, self.depth), &mut buffer, case)?;
+            }
+        }
+        Ok(())
+    }
 }
 
 /// Cases of texts over both lookups of a table file.
@@ -103,25 +157,7 @@ pub fn check_texts(
     data: &str,
     cases: &str,
 ) -> Result<(), Fail> {
-    let table = table_of(alloc, table)?;
-    let data = data_of(alloc, data)?;
-    let rows = RowList::new(&table);
-    let trie = Trie::new(alloc, &table)?;
-    for case in cases.lines() {
-        check_case(
-            alloc,
-            &Collator::new(&rows, &table.header, &data),
-            depth,
-            case,
-        )?;
-        check_case(
-            alloc,
-            &Collator::new(&trie, &table.header, &data),
-            depth,
-            case,
-        )?;
-    }
-    Ok(())
+    over_both(alloc, table, data, &Keys { depth, cases })
 }
 
 const WEIGHTS: &str = r"0061 | 1C47 0000 0020 0000 0002 | 1C47 0000 0020 0000 0002 0000 FFFF

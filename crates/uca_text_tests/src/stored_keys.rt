@@ -1,6 +1,6 @@
 //! Stored keys, which give an order and a level, also where the slices are no keys.
 
-use crate::cases::{bytes_of, halves, same};
+use crate::cases::{bytes_of, halves, holds, same};
 use crate::keys::elements_of;
 use std::alloc::{AllocError, Global};
 use std::cmp::Ordering;
@@ -82,12 +82,14 @@ fn stored_keys_and_other_slices(rt: HostRuntime) -> Result<(), Fail> {
 }
 
 #[test]
-fn levels(rt: HostRuntime) {
-    assert_eq!(rt; level_count(NonIgnorable), 3);
-    assert_eq!(rt; level_count(Shifted), 4);
+fn levels() -> Result<(), Fail> {
+    holds(level_count(NonIgnorable) == 3, "three levels")?;
+    holds(level_count(Shifted) == 4, "four levels")?;
     let zeros = [0; 600];
-    assert_eq!(rt; compare_keys(&zeros, &zeros[..598], 255), (Greater, 255));
-    assert_eq!(rt; compare_keys(&zeros, &zeros[..80], 255), (Greater, 41));
+    let all = compare_keys(&zeros, &zeros[..598], 255);
+    holds(all == (Greater, 255), "as many levels as there can be")?;
+    let some = compare_keys(&zeros, &zeros[..80], 255);
+    holds(some == (Greater, 41), "the level behind 40")
 }
 
 /// The keys of two lists of elements, and how they compare.
