@@ -4,10 +4,14 @@
 use std::alloc::{AllocError, Global};
 use std::test::Fail;
 
+/// The number of some hexadecimal digits.
+fn number(digits: &str) -> Result<u32, Fail> {
+    Ok(u32::from_str_radix(digits, 16)?)
+}
+
 /// The code point of some hexadecimal digits.
 pub fn code_point(digits: &str) -> Result<char, Fail> {
-    let number = u32::from_str_radix(digits, 16)?;
-    Ok(char::from_u32(number).ok_or("a surrogate, or too great")?)
+    Ok(char::from_u32(number(digits)?).ok_or("a surrogate, or too great")?)
 }
 
 /// The text of some code points, each in hexadecimal digits.
@@ -23,11 +27,11 @@ pub fn text_of(alloc: Global, points: &str) -> Result<String, Fail> {
 pub fn bytes_of(alloc: Global, groups: &str) -> Result<Vec<u8>, Fail> {
     let mut bytes = Vec::new(alloc);
     for digits in groups.split_whitespace() {
+        let [_, _, high, low] = number(digits)?.to_be_bytes();
         if digits.len() == 4 {
-            bytes.extend_from_slice(&u16::from_str_radix(digits, 16)?.to_be_bytes())?;
-        } else {
-            bytes.push(u8::from_str_radix(digits, 16)?)?;
+            bytes.push(high)?;
         }
+        bytes.push(low)?;
     }
     Ok(bytes)
 }
@@ -62,11 +66,11 @@ pub fn same(found: &str, wanted: &str, case: &str) -> Result<(), Fail> {
     Err(Fail::new(format_args!("{found}\nand not {wanted}\nat {case}")))
 }
 
-/// A part so many times.
-pub fn repeated(alloc: Global, part: &str, count: usize) -> Result<String, AllocError> {
-    let mut text = String::new(alloc);
-    for _ in 0..count {
-        text.push_str(part)?;
+/// Fails unless the bytes are those of the groups.
+pub fn same_bytes(alloc: Global, found: &[u8], groups: &str, case: &str) -> Result<(), Fail> {
+    let wanted = bytes_of(alloc, groups)?;
+    if found == wanted.as_slice() {
+        return Ok(());
     }
-    Ok(text)
+    same(&groups_of(alloc, found)?, groups, case)
 }

@@ -1,10 +1,10 @@
 //! What texts read as: the longest key, the marks that it takes, and implicit weights.
 
-use crate::cases::{halves, holds, same, text_of};
-use crate::samples::{CLASSES, data_of, table_of};
+use crate::cases::{holds, same};
+use crate::samples::{CLASSES, Check, normal_of, over_both};
 use std::alloc::{AllocError, Global};
 use std::test::Fail;
-use uca_match::{Collator, Lookup, RowList, Trie};
+use uca_match::{Collator, Lookup};
 use uca_text::{Normal, normal};
 
 const CONTRACTIONS: &str = "@version 1\n\
@@ -57,7 +57,7 @@ fn check_case<L: Lookup>(alloc: Global, collator: &Collator<L>, case: &str) -> R
         return Ok(());
     }
     let (points, wanted) = case.split_once(" |").ok_or("a case without its answer")?;
-    let text = normal(alloc, &text_of(alloc, points)?, collator.data)?;
+    let text = normal_of(alloc, points, collator.data)?;
     same(&primaries(alloc, collator, &text)?, wanted, case)
 }
 
@@ -70,19 +70,20 @@ fn check_end<L: Lookup>(alloc: Global, collator: &Collator<L>) -> Result<(), Fai
     holds(elements.next().is_none(), "and again")
 }
 
-fn check_collator<L: Lookup>(alloc: Global, collator: &Collator<L>) -> Result<(), Fail> {
-    for case in READ.lines() {
-        check_case(alloc, collator, case)?;
+/// The texts of `READ`, and the end of the elements.
+#[derive(Clone, Copy)]
+struct Read;
+
+impl Check for Read {
+    fn check<L: Lookup>(&self, alloc: Global, collator: &Collator<L>) -> Result<(), Fail> {
+        for case in READ.lines() {
+            check_case(alloc, collator, case)?;
+        }
+        check_end(alloc, collator)
     }
-    check_end(alloc, collator)
 }
 
 #[test]
 fn reads_texts(rt: HostRuntime) -> Result<(), Fail> {
-    let table = table_of(rt.alloc(), CONTRACTIONS)?;
-    let data = data_of(rt.alloc(), CLASSES)?;
-    let rows = RowList::new(&table);
-    let trie = Trie::new(rt.alloc(), &table)?;
-    check_collator(rt.alloc(), &Collator::new(&rows, &table.header, &data))?;
-    check_collator(rt.alloc(), &Collator::new(&trie, &table.header, &data))
+    over_both(rt.alloc(), CONTRACTIONS, CLASSES, &Read)
 }

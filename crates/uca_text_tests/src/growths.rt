@@ -3,13 +3,14 @@
 
 use crate::cases::{groups_of, holds};
 use crate::lookups::check_lookup;
-use crate::samples::{DATA, TABLE, data_of, table_of};
+use crate::samples::{Check, DATA, TABLE, normal_of, over_both, table_of};
 use linked_list_allocator::LocalHeap;
 use std::alloc::{AllocError, Global};
 use std::test::Fail;
 use uca_key::{KeyBuffer, key};
-use uca_match::{Collator, Trie};
-use uca_text::{Normal, normal};
+use uca_match::{Collator, Lookup, Trie};
+use uca_text::Normal;
+use uca_weights::Depth::Identical;
 use uca_weights::Weighting::Shifted;
 
 /// How often a thing was made, and how often an allocation failed.
@@ -71,27 +72,28 @@ fn tries_in_small_heaps(rt: HostRuntime) -> Result<(), Fail> {
     count.check()
 }
 
-/// The key of `a`, a space, `b` and an acute accent.
-const KEY: &str = "1C47 1C60 0000 0020 0020 0024 0000 0002 0002 0002 0000 FFFF 0209 FFFF FFFF";
+/// The key of `a`, a space, `b` and an acute accent, with the identical level.
+const KEY: &str = "1C47 1C60 0000 0020 0020 0024 0000 0002 0002 0002 0000 FFFF 0209 FFFF FFFF \
+    0000 0000 6100 0020 0000 6200 0301";
 
 /// A key as it is made at once, if there is memory for it.
-fn made_key(
+fn made_key<L: Lookup>(
     alloc: Global,
     heap: &LocalHeap,
-    collator: &Collator<Trie>,
+    collator: &Collator<L>,
     text: &Normal,
 ) -> Result<Option<String>, AllocError> {
-    match key(heap, collator, Shifted, text) {
+    match key(heap, collator, Shifted, Identical, text) {
         Ok(bytes) => Ok(Some(groups_of(alloc, &bytes)?)),
         Err(_) => Ok(None),
     }
 }
 
 /// A key as a buffer writes it, if there is memory for it.
-fn written_key(
+fn written_key<L: Lookup>(
     alloc: Global,
     buffer: &mut KeyBuffer<&LocalHeap>,
-    collator: &Collator<Trie>,
+    collator: &Collator<L>,
     text: &Normal,
 ) -> Result<Option<String>, AllocError> {
     match buffer.write_text(collator, text) {
@@ -109,35 +111,50 @@ fn is_key(found: &Option<String>) -> bool {
 }
 
 /// The key at once, and written twice by one buffer. The answers are whether each was made.
-fn keys_in(
+fn keys_in<L: Lookup>(
     alloc: Global,
     heap: &LocalHeap,
-    collator: &Collator<Trie>,
+    collator: &Collator<L>,
     text: &Normal,
 ) -> Result<[bool; 2], Fail> {
     let made = made_key(alloc, heap, collator, text)?;
-    let mut buffer = KeyBuffer::new(heap, Shifted);
+    let mut buffer = KeyBuffer::new(heap, Shifted, Identical);
     let first = written_key(alloc, &mut buffer, collator, text)?;
     let second = written_key(alloc, &mut buffer, collator, text)?;
     holds(is_key(&made) && is_key(&first) && is_key(&second), KEY)?;
     Ok([made.is_some(), first.is_some()])
 }
 
-#[test]
-fn keys_in_small_heaps(rt: HostRuntime) -> Result<(), Fail> {
-    let table = table_of(rt.alloc(), TABLE)?;
-    let data = data_of(rt.alloc(), DATA)?;
-    let trie = Trie::new(rt.alloc(), &table)?;
-    let collator = Collator::new(&trie, &table.header, &data);
-    let text = normal(rt.alloc(), "a b\u{301}", &data)?;
+/// The keys of a text in heaps of rising sizes.
+fn check_heaps<L: Lookup>(
+    alloc: Global,
+    collator: &Collator<L>,
+    text: &Normal,
+) -> Result<(), Fail> {
     let mut made = Count::new();
     let mut written = Count::new();
     for room in 0..64 {
-        let heap = LocalHeap::new(rt.alloc(), 16 * room)?;
-        let [is_made, is_written] = keys_in(rt.alloc(), &heap, &collator, &text)?;
+        let heap = LocalHeap::new(alloc, 16 * room)?;
+        let [is_made, is_written] = keys_in(alloc, &heap, collator, text)?;
         made.add(is_made, heap.used())?;
         written.add(is_written, heap.used())?;
     }
     made.check()?;
     written.check()
+}
+
+/// The key of one text in small heaps.
+#[derive(Clone, Copy)]
+struct SmallHeaps;
+
+impl Check for SmallHeaps {
+    fn check<L: Lookup>(&self, alloc: Global, collator: &Collator<L>) -> Result<(), Fail> {
+        let text = normal_of(alloc, "0061 0020 0062 0301", collator.data)?;
+        check_heaps(alloc, collator, &text)
+    }
+}
+
+#[test]
+fn keys_in_small_heaps(rt: HostRuntime) -> Result<(), Fail> {
+    over_both(rt.alloc(), TABLE, DATA, &SmallHeaps)
 }

@@ -1,14 +1,14 @@
 //! Keys that were worked out by hand: from elements on, and from texts on.
 
-use crate::cases::{groups_of, halves, same, text_of};
-use crate::samples::{DATA, TABLE, data_of, table_of};
+use crate::cases::{halves, same_bytes};
+use crate::samples::{Check, DATA, TABLE, normal_of, over_both, table_of};
 use std::alloc::Global;
 use std::test::Fail;
 use uca_key::{KeyBuffer, key, key_of};
-use uca_match::{Collator, Lookup, RowList, Trie};
-use uca_text::normal;
+use uca_match::{Collator, Lookup};
+use uca_text::Normal;
 use uca_weights::Weighting::{NonIgnorable, Shifted};
-use uca_weights::{Element, Weighting};
+use uca_weights::{Depth, Element, Weighting};
 
 /// The elements that stand so in a row.
 pub fn elements_of(alloc: Global, text: &str) -> Result<Vec<Element>, Fail> {
@@ -22,17 +22,12 @@ pub fn elements_of(alloc: Global, text: &str) -> Result<Vec<Element>, Fail> {
     Ok(elements)
 }
 
-/// Elements and their key, also in a buffer that held another key.
+/// Elements and their key.
 fn check_elements(alloc: Global, weighting: Weighting, case: &str) -> Result<(), Fail> {
     let (elements, wanted) = halves(case)?;
     let elements = elements_of(alloc, elements)?;
     let found = key_of(alloc, weighting, elements.iter().copied())?;
-    same(&groups_of(alloc, &found)?, wanted, case)?;
-    let other = elements_of(alloc, "[.1C47.0020.0002][*0209.0020.0002]")?;
-    let mut buffer = KeyBuffer::new(alloc, weighting);
-    buffer.write(other.iter().copied())?;
-    buffer.write(elements.iter().copied())?;
-    same(&groups_of(alloc, buffer.bytes())?, wanted, case)
+    same_bytes(alloc, &found, wanted, case)
 }
 
 /// The last cases are of contractions.
@@ -67,58 +62,127 @@ fn keys_of_elements(rt: HostRuntime) -> Result<(), Fail> {
     Ok(())
 }
 
-/// The key of a text, made at once and written into the buffer of its weighting.
+/// The key of a text, made at once.
+fn check_made<L: Lookup>(
+    alloc: Global,
+    collator: &Collator<L>,
+    (weighting, depth): (Weighting, Depth),
+    text: &Normal,
+    wanted: &str,
+) -> Result<(), Fail> {
+    let made = key(alloc, collator, weighting, depth, text)?;
+    same_bytes(alloc, &made, wanted, "a key made at once")
+}
+
+/// The key of a text, written after the key of another.
+fn check_written<L: Lookup>(
+    alloc: Global,
+    collator: &Collator<L>,
+    buffer: &mut KeyBuffer,
+    text: &Normal,
+    wanted: &str,
+) -> Result<(), Fail> {
+    buffer.write_text(collator, text)?;
+    same_bytes(alloc, buffer.bytes(), wanted, "a key in a buffer")
+}
+
 fn check_key<L: Lookup>(
     alloc: Global,
     collator: &Collator<L>,
-    weighting: Weighting,
+    ways: (Weighting, Depth),
+    buffer: &mut KeyBuffer,
     points: &str,
     wanted: &str,
 ) -> Result<(), Fail> {
-    let text = normal(alloc, &text_of(alloc, points)?, collator.data)?;
-    let made = key(alloc, collator, weighting, &text)?;
-    same(&groups_of(alloc, &made)?, wanted, points)?;
-    let mut buffer = KeyBuffer::new(alloc, weighting);
-    buffer.write_text(collator, &text)?;
-    same(&groups_of(alloc, buffer.bytes())?, wanted, points)
+    let text = normal_of(alloc, points, collator.data)?;
+    check_made(alloc, collator, ways, &text, wanted)?;
+    check_written(alloc, collator, buffer, &text, wanted)
 }
 
-/// Canonically equivalent texts with ` = ` between them, the levels of their key that both weightings have,
-/// and the fourth.
-fn check_case<L: Lookup>(alloc: Global, collator: &Collator<L>, case: &str) -> Result<(), Fail> {
-    let (texts, keys) = halves(case)?;
-    let (levels, fourth) = halves(keys)?;
-    let shifted = format!(in alloc; "{levels} 0000 {fourth}")?;
+/// Canonically equivalent texts with ` = ` between them, and their key.
+fn check_keys<L: Lookup>(
+    alloc: Global,
+    collator: &Collator<L>,
+    ways: (Weighting, Depth),
+    buffer: &mut KeyBuffer,
+    (texts, wanted): (&str, &str),
+) -> Result<(), Fail> {
     for points in texts.split(" = ") {
-        check_key(alloc, collator, NonIgnorable, points, levels)?;
-        check_key(alloc, collator, Shifted, points, &shifted)?;
+        check_key(alloc, collator, ways, buffer, points, wanted)?;
     }
     Ok(())
 }
 
-/// Cases of texts over both lookups of a table file. The texts have no variable elements.
-pub fn check_texts(alloc: Global, table: &str, data: &str, cases: &str) -> Result<(), Fail> {
-    let table = table_of(alloc, table)?;
-    let data = data_of(alloc, data)?;
-    let rows = RowList::new(&table);
-    let trie = Trie::new(alloc, &table)?;
-    for case in cases.lines() {
-        check_case(alloc, &Collator::new(&rows, &table.header, &data), case)?;
-        check_case(alloc, &Collator::new(&trie, &table.header, &data), case)?;
+/// Canonically equivalent texts, and their key under each weighting, of which one is asked for.
+fn check_case<L: Lookup>(
+    alloc: Global,
+    collator: &Collator<L>,
+    (weighting, depth): (Weighting, Depth),
+    buffer: &mut KeyBuffer,
+    case: &str,
+) -> Result<(), Fail> {
+    let (texts, keys) = halves(case)?;
+    let (plain, shifted) = halves(keys)?;
+    let ways = (weighting, depth);
+    match weighting {
+        NonIgnorable => check_keys(alloc, collator, ways, buffer, (texts, plain)),
+        Shifted => check_keys(alloc, collator, ways, buffer, (texts, shifted)),
     }
-    Ok(())
 }
 
-const TEXTS: &str = r"0061 | 1C47 0000 0020 0000 0002 | FFFF
-0041 | 1C47 0000 0020 0000 0008 | FFFF
-00E1 = 0061 0301 | 1C47 0000 0020 0024 0000 0002 0002 | FFFF FFFF
-1EA1 0301 = 0061 0301 0323 = 0061 0323 0301 | 1C47 0000 0020 002C 0024 0000 0002 0002 0002 | FFFF FFFF FFFF
-AC00 = 1100 1161 | FBC0 9100 FBC0 9161 0000 0020 0020 0000 0002 0002 | FFFF FFFF FFFF FFFF
-F900 = 8C48 | FB41 8C48 0000 0020 0000 0002 | FFFF FFFF
-20000 | FB84 8000 0000 0020 0000 0002 | FFFF FFFF
-17001 | FB00 8001 0000 0020 0000 0002 | FFFF FFFF";
+/// Cases of texts and their keys at a depth.
+#[derive(Clone, Copy)]
+struct Keys<'a> {
+    depth: Depth,
+    cases: &'a str,
+}
+
+impl<'a> Check for Keys<'a> {
+    fn check<L: Lookup>(&self, alloc: Global, collator: &Collator<L>) -> Result<(), Fail> {
+        for weighting in [NonIgnorable, Shifted] {
+            let mut buffer = KeyBuffer::new(alloc, weighting, self.depth);
+            for case in self.cases.lines() {
+                check_case(alloc, collator, (weighting, self.depth), &mut buffer, case)?;
+            }
+        }
+        Ok(())
+    }
+}
+
+/// Cases of texts over both lookups of a table file.
+pub fn check_texts(
+    alloc: Global,
+    depth: Depth,
+    table: &str,
+    data: &str,
+    cases: &str,
+) -> Result<(), Fail> {
+    over_both(alloc, table, data, &Keys { depth, cases })
+}
+
+const WEIGHTS: &str = r"0061 | 1C47 0000 0020 0000 0002 | 1C47 0000 0020 0000 0002 0000 FFFF
+0041 | 1C47 0000 0020 0000 0008 | 1C47 0000 0020 0000 0008 0000 FFFF
+00E1 = 0061 0301 | 1C47 0000 0020 0024 0000 0002 0002 | 1C47 0000 0020 0024 0000 0002 0002 0000 FFFF FFFF
+1EA1 0301 = 0061 0301 0323 = 0061 0323 0301 | 1C47 0000 0020 002C 0024 0000 0002 0002 0002 | 1C47 0000 0020 002C 0024 0000 0002 0002 0002 0000 FFFF FFFF FFFF
+AC00 = 1100 1161 | FBC0 9100 FBC0 9161 0000 0020 0020 0000 0002 0002 | FBC0 9100 FBC0 9161 0000 0020 0020 0000 0002 0002 0000 FFFF FFFF FFFF FFFF
+F900 = 8C48 | FB41 8C48 0000 0020 0000 0002 | FB41 8C48 0000 0020 0000 0002 0000 FFFF FFFF
+20000 | FB84 8000 0000 0020 0000 0002 | FB84 8000 0000 0020 0000 0002 0000 FFFF FFFF
+17001 | FB00 8001 0000 0020 0000 0002 | FB00 8001 0000 0020 0000 0002 0000 FFFF FFFF";
 
 #[test]
 fn keys_of_texts(rt: HostRuntime) -> Result<(), Fail> {
-    check_texts(rt.alloc(), TABLE, DATA, TEXTS)
+    check_texts(rt.alloc(), Depth::Weights, TABLE, DATA, WEIGHTS)
+}
+
+/// The code points of the spelling stand last, three bytes each.
+const IDENTICAL: &str = r" | 0000 0000 0000 | 0000 0000 0000 0000
+0061 | 1C47 0000 0020 0000 0002 0000 00 00 61 | 1C47 0000 0020 0000 0002 0000 FFFF 0000 00 00 61
+00E1 = 0061 0301 | 1C47 0000 0020 0024 0000 0002 0002 0000 00 00 61 00 03 01 | 1C47 0000 0020 0024 0000 0002 0002 0000 FFFF FFFF 0000 00 00 61 00 03 01
+0020 0301 | 0209 0000 0020 0024 0000 0002 0002 0000 00 00 20 00 03 01 | 0000 0000 0000 0209 0000 00 00 20 00 03 01
+2A7C5 | FBC5 A7C5 0000 0020 0000 0002 0000 02 A7 C5 | FBC5 A7C5 0000 0020 0000 0002 0000 FFFF FFFF 0000 02 A7 C5
+10FFFF | FBE1 FFFF 0000 0020 0000 0002 0000 10 FF FF | FBE1 FFFF 0000 0020 0000 0002 0000 FFFF FFFF 0000 10 FF FF";
+
+#[test]
+fn identical_keys_of_texts(rt: HostRuntime) -> Result<(), Fail> {
+    check_texts(rt.alloc(), Depth::Identical, TABLE, DATA, IDENTICAL)
 }

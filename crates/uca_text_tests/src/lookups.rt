@@ -24,13 +24,19 @@ fn said<L: Lookup>(alloc: Global, lookup: &L, points: &[char]) -> Result<String,
     }
 }
 
-/// Some code points, and what the lookup says of them, step by step and at once.
-fn check_case<L: Lookup>(alloc: Global, lookup: &L, case: &str) -> Result<(), Fail> {
-    let (numbers, wanted) = halves(case)?;
+/// Some code points, each in hexadecimal digits.
+fn points_of(alloc: Global, numbers: &str) -> Result<Vec<char>, Fail> {
     let mut points = Vec::new(alloc);
     for digits in numbers.split_whitespace() {
         points.push(code_point(digits)?)?;
     }
+    Ok(points)
+}
+
+/// Some code points, and what the lookup says of them, step by step and at once.
+fn check_case<L: Lookup>(alloc: Global, lookup: &L, case: &str) -> Result<(), Fail> {
+    let (numbers, wanted) = halves(case)?;
+    let points = points_of(alloc, numbers)?;
     same(&said(alloc, lookup, &points)?, wanted, case)?;
     match row_of(lookup, &points) {
         Some([first, ..]) => same(&format!(in alloc; "{:04X}", first.primary)?, wanted, case),

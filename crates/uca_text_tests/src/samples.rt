@@ -1,9 +1,12 @@
-//! A table and data files, and the values of files.
+//! A table and data files, the values of files, and collators over them.
 
+use crate::cases::text_of;
 use std::alloc::Global;
 use std::test::Fail;
 use uca_data::read_data;
+use uca_match::{Collator, Lookup, RowList, Trie};
 use uca_table::read_table;
+use uca_text::{Normal, normal};
 use uca_values::{Data, Table};
 use uca_weights::Source;
 
@@ -38,4 +41,33 @@ pub fn table_of(alloc: Global, file: &str) -> Result<Table, Fail> {
 /// The properties of a data file.
 pub fn data_of(alloc: Global, file: &str) -> Result<Data, Fail> {
     Ok(read_data(alloc, &mut Source::new(file.as_bytes()))?)
+}
+
+/// The normal form of some code points, each in hexadecimal digits.
+pub fn normal_of(alloc: Global, points: &str, data: &Data) -> Result<Normal, Fail> {
+    Ok(normal(alloc, &text_of(alloc, points)?, data)?)
+}
+
+/// What is checked of a collator, whatever its lookup.
+pub trait Check {
+    /// Fails unless the collator is right.
+    fn check<L: Lookup>(&self, alloc: Global, collator: &Collator<L>) -> Result<(), Fail>;
+}
+
+fn over_rows<C: Check>(alloc: Global, table: &Table, data: &Data, cases: &C) -> Result<(), Fail> {
+    let rows = RowList::new(table);
+    cases.check(alloc, &Collator::new(&rows, &table.header, data))
+}
+
+fn over_trie<C: Check>(alloc: Global, table: &Table, data: &Data, cases: &C) -> Result<(), Fail> {
+    let trie = Trie::new(alloc, table)?;
+    cases.check(alloc, &Collator::new(&trie, &table.header, data))
+}
+
+/// Checks the collators over both lookups of a table file.
+pub fn over_both<C: Check>(alloc: Global, table: &str, data: &str, cases: &C) -> Result<(), Fail> {
+    let table = table_of(alloc, table)?;
+    let data = data_of(alloc, data)?;
+    over_rows(alloc, &table, &data, cases)?;
+    over_trie(alloc, &table, &data, cases)
 }

@@ -1,16 +1,22 @@
 //! Stored keys, which give an order and a level, also where the slices are no keys.
 
-use crate::cases::{bytes_of, halves, same};
+use crate::cases::{bytes_of, halves, holds, same};
 use crate::keys::elements_of;
-use std::alloc::Global;
+use std::alloc::{AllocError, Global};
+use std::cmp::Ordering;
 use std::cmp::Ordering::Greater;
 use std::test::Fail;
 use uca_key::{compare_keys, key_of, level_count};
 use uca_weights::Weighting;
 use uca_weights::Weighting::{NonIgnorable, Shifted};
 
+/// An order, and the level at which the difference lies.
+pub fn answer(alloc: Global, order: Ordering, level: u8) -> Result<String, AllocError> {
+    format!(in alloc; "{order:?} {level}")
+}
+
 /// How two slices compare, and how they do the other way round.
-fn check_order(
+pub fn check_order(
     alloc: Global,
     left: &[u8],
     right: &[u8],
@@ -18,15 +24,10 @@ fn check_order(
     wanted: &str,
 ) -> Result<(), Fail> {
     let (order, level) = compare_keys(left, right, levels);
-    same(
-        &format!(in alloc; "{order:?} {level}")?,
-        wanted,
-        "the order",
-    )?;
+    same(&answer(alloc, order, level)?, wanted, "the order")?;
     let (order, level) = compare_keys(right, left, levels);
-    let order = order.reverse();
     same(
-        &format!(in alloc; "{order:?} {level}")?,
+        &answer(alloc, order.reverse(), level)?,
         wanted,
         "the order of the others",
     )
@@ -81,12 +82,14 @@ fn stored_keys_and_other_slices(rt: HostRuntime) -> Result<(), Fail> {
 }
 
 #[test]
-fn levels(rt: HostRuntime) {
-    assert_eq!(rt; level_count(NonIgnorable), 3);
-    assert_eq!(rt; level_count(Shifted), 4);
+fn levels() -> Result<(), Fail> {
+    holds(level_count(NonIgnorable) == 3, "three levels")?;
+    holds(level_count(Shifted) == 4, "four levels")?;
     let zeros = [0; 600];
-    assert_eq!(rt; compare_keys(&zeros, &zeros[..598], 255), (Greater, 255));
-    assert_eq!(rt; compare_keys(&zeros, &zeros[..80], 255), (Greater, 41));
+    let all = compare_keys(&zeros, &zeros[..598], 255);
+    holds(all == (Greater, 255), "as many levels as there can be")?;
+    let some = compare_keys(&zeros, &zeros[..80], 255);
+    holds(some == (Greater, 41), "the level behind 40")
 }
 
 /// The keys of two lists of elements, and how they compare.

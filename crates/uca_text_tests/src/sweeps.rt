@@ -1,12 +1,13 @@
 //! With ample memory no call gives up: each class, each length of a key and of a row, the greatest weight at
 //! each level, and rows of many elements without primary weights.
 
-use crate::cases::{repeated, same, text_of};
+use crate::cases::holds;
 use crate::keys::check_texts;
-use crate::samples::{DATA, data_of};
+use crate::samples::{DATA, data_of, normal_of};
 use std::alloc::{AllocError, Global};
 use std::test::Fail;
-use uca_text::normal;
+use uca_values::Data;
+use uca_weights::Depth::Weights;
 
 /// A table file, a data file and cases in the making.
 #[derive(Drop)]
@@ -26,58 +27,71 @@ impl Made {
     }
 }
 
-/// For each class a mark in a private use area, with a secondary weight of its own, after a letter.
-fn all_classes(alloc: Global) -> Result<Made, AllocError> {
-    let mut made = Made::new(alloc)?;
-    for class in 1..=254u16 {
-        let code = 0xE000 + class;
-        let weight = 0x100 + class;
-        let line = format!(in alloc; "ccc {:04X}..{:04X} {class}\n", code, code)?;
-        made.data.push_str(&line)?;
-        let row = format!(in alloc; "{:04X} ; [.0000.{:04X}.0002]\n", code, weight)?;
-        made.table.push_str(&row)?;
-        let case = format!(in alloc;
-            "0061 {:04X} | 1C47 0000 0020 {:04X} 0000 0002 0002 | FFFF FFFF\n",
-            code, weight
-        )?;
-        made.cases.push_str(&case)?;
-    }
-    Ok(made)
+/// A mark of a class in a private use area, with a secondary weight of its own, after a letter.
+fn add_class(made: &mut Made, alloc: Global, class: u8) -> Result<(), AllocError> {
+    let code = format!(in alloc; "{:04X}", 0xE000 + u16::from(class))?;
+    let weight = format!(in alloc; "{:04X}", 0x100 + u16::from(class))?;
+    made.data
+        .push_str(&format!(in alloc; "ccc {code}..{code} {class}\n")?)?;
+    made.table
+        .push_str(&format!(in alloc; "{code} ; [.0000.{weight}.0002]\n")?)?;
+    made.cases.push_str(&format!(in alloc;
+        "0061 {code} | 1C47 0000 0020 {weight} 0000 0002 0002 | 1C47 0000 0020 {weight} 0000 0002 0002 0000 FFFF FFFF\n"
+    )?)
+}
+
+/// The class that a text has for such a mark.
+fn check_class(alloc: Global, data: &Data, class: u8) -> Result<(), Fail> {
+    let code = format!(in alloc; "0061 {:04X}", 0xE000 + u16::from(class))?;
+    let text = normal_of(alloc, &code, data)?;
+    holds(text.classes() == [0, class].as_slice(), &code)
 }
 
 #[test]
 fn each_class(rt: HostRuntime) -> Result<(), Fail> {
-    let made = all_classes(rt.alloc())?;
-    check_texts(rt.alloc(), &made.table, &made.data, &made.cases)?;
+    let mut made = Made::new(rt.alloc())?;
+    for class in 1..=254u8 {
+        add_class(&mut made, rt.alloc(), class)?;
+    }
+    check_texts(rt.alloc(), Weights, &made.table, &made.data, &made.cases)?;
     let data = data_of(rt.alloc(), &made.data)?;
-    for class in 1..=254u16 {
-        let code = format!(in rt.alloc(); "0061 {:04X}", 0xE000 + class)?;
-        let text = normal(rt.alloc(), &text_of(rt.alloc(), &code)?, &data)?;
-        let found = format!(in rt.alloc(); "{:?}", text.classes())?;
-        same(&found, &format!(in rt.alloc(); "[0, {class}]")?, &code)?;
+    for class in 1..=254u8 {
+        check_class(rt.alloc(), &data, class)?;
     }
     Ok(())
 }
 
-/// A key of so many code points, whose row has so many elements, and the key of the text that is it.
-fn add_lengths(made: &mut Made, alloc: Global, points: u8, elements: u8) -> Result<(), Fail> {
-    let code = 0xF0000 + 0x100 * u32::from(points) + u32::from(elements);
-    let count = usize::from(elements);
-    let key = repeated(
-        alloc,
-        &format!(in alloc; "{:04X} ", code)?,
-        usize::from(points),
-    )?;
-    let row = repeated(alloc, "[.1C47.0020.0002]", count)?;
-    made.table.push_str(&format!(in alloc; "{key}; {row}\n")?)?;
-    let primaries = repeated(alloc, "1C47 ", count)?;
-    let secondaries = repeated(alloc, " 0020", count)?;
-    let tertiaries = repeated(alloc, " 0002", count)?;
-    let fourths = repeated(alloc, " FFFF", count)?;
-    made.cases.push_str(&format!(in alloc;
-        "{key}| {primaries}0000{secondaries} 0000{tertiaries} |{fourths}\n"
-    )?)?;
+/// Adds a part so many times.
+fn push_repeated(text: &mut String, part: &str, count: u8) -> Result<(), AllocError> {
+    for _ in 0..count {
+        text.push_str(part)?;
+    }
     Ok(())
+}
+
+/// Adds the three levels of so many letters.
+fn push_weights(text: &mut String, count: u8) -> Result<(), AllocError> {
+    push_repeated(text, "1C47 ", count)?;
+    text.push_str("0000")?;
+    push_repeated(text, " 0020", count)?;
+    text.push_str(" 0000")?;
+    push_repeated(text, " 0002", count)
+}
+
+/// A key of so many code points, whose row has so many elements, and the key of the text that is it.
+fn add_lengths(made: &mut Made, point: &str, points: u8, elements: u8) -> Result<(), AllocError> {
+    push_repeated(&mut made.table, point, points)?;
+    made.table.push_str("; ")?;
+    push_repeated(&mut made.table, "[.1C47.0020.0002]", elements)?;
+    made.table.push('\n')?;
+    push_repeated(&mut made.cases, point, points)?;
+    made.cases.push_str("| ")?;
+    push_weights(&mut made.cases, elements)?;
+    made.cases.push_str(" | ")?;
+    push_weights(&mut made.cases, elements)?;
+    made.cases.push_str(" 0000")?;
+    push_repeated(&mut made.cases, " FFFF", elements)?;
+    made.cases.push('\n')
 }
 
 #[test]
@@ -85,10 +99,12 @@ fn each_length(rt: HostRuntime) -> Result<(), Fail> {
     let mut made = Made::new(rt.alloc())?;
     for points in 1..=16u8 {
         for elements in 1..=32u8 {
-            add_lengths(&mut made, rt.alloc(), points, elements)?;
+            let code = 0xF0000 + 0x100 * u32::from(points) + u32::from(elements);
+            let point = format!(in rt.alloc(); "{:04X} ", code)?;
+            add_lengths(&mut made, &point, points, elements)?;
         }
     }
-    check_texts(rt.alloc(), &made.table, &made.data, &made.cases)
+    check_texts(rt.alloc(), Weights, &made.table, &made.data, &made.cases)
 }
 
 /// The greatest weight at each level, and rows of many elements without primary weights.
@@ -100,15 +116,15 @@ const GREATEST: &str = "@version 1\n\
     0065 ; [.0000.0021.0002][.0000.0022.0003][.0000.0023.0004][.0000.0024.0005][.0000.0025.0006]\n\
     0066 ; [.1C47.0020.0002][.0000.0021.0003][.0000.0022.0004][.0000.0000.0005][.0000.0000.0000]\n";
 
-const GREATEST_CASES: &str = r"0061 | FFFF 0000 0020 0000 0002 | FFFF
-0062 | 0000 FFFF 0000 0002 | FFFF
-0063 | 0000 0000 FFFF | FFFF
-0064 | FFFF 0000 FFFF 0000 FFFF | FFFF
-0065 | 0000 0021 0022 0023 0024 0025 0000 0002 0003 0004 0005 0006 | FFFF FFFF FFFF FFFF FFFF
-0066 | 1C47 0000 0020 0021 0022 0000 0002 0003 0004 0005 | FFFF FFFF FFFF FFFF
-0061 0062 0063 0064 | FFFF FFFF 0000 0020 FFFF FFFF 0000 0002 0002 FFFF FFFF | FFFF FFFF FFFF FFFF";
+const GREATEST_CASES: &str = r"0061 | FFFF 0000 0020 0000 0002 | FFFF 0000 0020 0000 0002 0000 FFFF
+0062 | 0000 FFFF 0000 0002 | 0000 FFFF 0000 0002 0000 FFFF
+0063 | 0000 0000 FFFF | 0000 0000 FFFF 0000 FFFF
+0064 | FFFF 0000 FFFF 0000 FFFF | FFFF 0000 FFFF 0000 FFFF 0000 FFFF
+0065 | 0000 0021 0022 0023 0024 0025 0000 0002 0003 0004 0005 0006 | 0000 0021 0022 0023 0024 0025 0000 0002 0003 0004 0005 0006 0000 FFFF FFFF FFFF FFFF FFFF
+0066 | 1C47 0000 0020 0021 0022 0000 0002 0003 0004 0005 | 1C47 0000 0020 0021 0022 0000 0002 0003 0004 0005 0000 FFFF FFFF FFFF FFFF
+0061 0062 0063 0064 | FFFF FFFF 0000 0020 FFFF FFFF 0000 0002 0002 FFFF FFFF | FFFF FFFF 0000 0020 FFFF FFFF 0000 0002 0002 FFFF FFFF 0000 FFFF FFFF FFFF FFFF";
 
 #[test]
 fn greatest_weights_and_rows_without_primary_weights(rt: HostRuntime) -> Result<(), Fail> {
-    check_texts(rt.alloc(), GREATEST, DATA, GREATEST_CASES)
+    check_texts(rt.alloc(), Weights, GREATEST, DATA, GREATEST_CASES)
 }

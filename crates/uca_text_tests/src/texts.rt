@@ -1,6 +1,6 @@
 //! Texts: how they are spelled, within which limits, and what is said of one that is refused.
 
-use crate::cases::{code_point, halves, same, text_of};
+use crate::cases::{code_point, halves, holds, same, text_of};
 use crate::samples::{CLASSES, data_of};
 use std::alloc::{AllocError, Global};
 use std::test::Fail;
@@ -30,47 +30,56 @@ const SPELLED: &str = r"0061 | 0061.0
 0061 0301 | 0061.0 0301.230
 0061 0323 0301 0062 | 0061.0 0323.220 0301.230 0062.0
 0061 0301 0323 0062 | 0061.0 0323.220 0301.230 0062.0
-1EA1 0301 0062 | 0061.0 0323.220 0301.230 0062.0";
+1EA1 0301 0062 | 0061.0 0323.220 0301.230 0062.0
+ | ";
+
+/// A text is spelled so, on its own and in the place of another.
+fn check_spelling(
+    alloc: Global,
+    data: &Data,
+    renewed: &mut Normal,
+    case: &str,
+) -> Result<(), Fail> {
+    let (points, wanted) = halves(case)?;
+    let text = text_of(alloc, points)?;
+    same(
+        &spelling(alloc, &normal(alloc, &text, data)?)?,
+        wanted,
+        case,
+    )?;
+    renewed.renew(&text, data)?;
+    same(&spelling(alloc, renewed)?, wanted, case)
+}
 
 #[test]
 fn spells_texts(rt: HostRuntime) -> Result<(), Fail> {
+    canonically_equivalent_texts_are_spelled_alike();
     let data = data_of(rt.alloc(), CLASSES)?;
     let mut renewed = Normal::new(rt.alloc());
+    same(&spelling(rt.alloc(), &renewed)?, "", "new")?;
     for case in SPELLED.lines() {
-        let (points, wanted) = halves(case)?;
-        let text = text_of(rt.alloc(), points)?;
-        let found = normal(rt.alloc(), &text, &data)?;
-        same(&spelling(rt.alloc(), &found)?, wanted, case)?;
-        renewed.renew(&text, &data)?;
-        same(&spelling(rt.alloc(), &renewed)?, wanted, case)?;
+        check_spelling(rt.alloc(), &data, &mut renewed, case)?;
     }
     Ok(())
 }
 
-#[test]
-fn spells_the_empty_text(rt: HostRuntime) -> Result<(), Fail> {
-    let data = data_of(rt.alloc(), CLASSES)?;
-    let mut text = Normal::new(rt.alloc());
-    same(&spelling(rt.alloc(), &text)?, "", "new")?;
-    text.renew("a", &data)?;
-    text.renew("", &data)?;
-    same(&spelling(rt.alloc(), &text)?, "", "renewed")?;
-    let empty = normal(rt.alloc(), "", &data)?;
-    same(&spelling(rt.alloc(), &empty)?, "", "normal")?;
-    canonically_equivalent_texts_are_spelled_alike();
-    Ok(())
+/// A text that is refused is empty afterwards, and takes another.
+fn check_refused(alloc: Global, data: &Data, text: &mut Normal) -> Result<(), Fail> {
+    let marks = with_repeated(alloc, "ab", '\u{301}', 65)?;
+    holds(
+        text.renew(&marks, data) == Err(TextFault::LongRun(2)),
+        "refused",
+    )?;
+    same(&spelling(alloc, text)?, "", "refused")?;
+    text.renew("\u{e1}", data)?;
+    same(&spelling(alloc, text)?, "0061.0 0301.230", "taken")
 }
 
 #[test]
 fn takes_texts_after_a_refused_one(rt: HostRuntime) -> Result<(), Fail> {
     let data = data_of(rt.alloc(), CLASSES)?;
-    let marks = with_repeated(rt.alloc(), "ab", '\u{301}', 65)?;
     let mut text = normal(rt.alloc(), "b", &data)?;
-    let answer = text.renew(&marks, &data);
-    assert_eq!(rt; answer, Err(TextFault::LongRun(2)));
-    same(&spelling(rt.alloc(), &text)?, "", "refused")?;
-    text.renew("\u{e1}", &data)?;
-    same(&spelling(rt.alloc(), &text)?, "0061.0 0301.230", "taken")
+    check_refused(rt.alloc(), &data, &mut text)
 }
 
 #[test]
