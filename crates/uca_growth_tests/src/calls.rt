@@ -13,8 +13,8 @@ use uca_table::read_table;
 use uca_text::normal;
 use uca_trials::{A_ACUTE, A_ACUTE_GRAVE, DATA, TABLE, X_ACUTE, joined};
 use uca_values::{Data, FaultKind, Table};
-use uca_weights::Source;
 use uca_weights::Weighting::Shifted;
+use uca_weights::{Depth, Source};
 
 #[test]
 fn tables_in_little_memory(rt: HostRuntime) -> Result<(), Fail> {
@@ -126,12 +126,12 @@ fn keys_in_little_memory(rt: HostRuntime) -> Result<(), Fail> {
     ] {
         wanted.extend_from_slice(&group.to_be_bytes())?;
     }
-    let whole = key(rt.alloc(), &collator, Shifted, &text)?;
+    let whole = key(rt.alloc(), &collator, Shifted, Depth::Weights, &text)?;
     assert_eq!(rt; whole.as_slice(), wanted.as_slice());
     let mut done = false;
     for size in 0..100usize {
         let heap = LocalHeap::new(rt.alloc(), size * 16)?;
-        match key(&heap, &collator, Shifted, &text) {
+        match key(&heap, &collator, Shifted, Depth::Weights, &text) {
             Ok(key) => {
                 done = true;
                 assert_eq!(rt; key.as_slice(), wanted.as_slice());
