@@ -336,11 +336,11 @@ line_is_short depth key points short few =
     omega (arith, short, few, length-append (printed_groups key) (level ++ 10 ∷ []), length-append level (10 ∷ []), length-groups key, length-level depth points)
 
 -- all groups of a key of which nothing is left were handed over
-pub all_groups : (key rest : List ℕ) (begin : ℕ) (out now : SinkState) (buffer held : BufferState) → HandedUpTo key rest begin out now buffer held → rest ≡ []
+pub all_groups : (key rest : List ℕ) (begin : ℕ) (out now : SinkState) (buffer held : BufferState) → HandedUpTo key rest begin out now buffer held → length rest ≡ 0
     → IsHanded (printed_groups key) buffer held out now
-all_groups key rest begin out now buffer held upto none =
-    let whole : key ≡ upto.done = upto.key_is ∙ ap (λ l. upto.done ++ l) none ∙ append-nil upto.done in
-    subst (λ (l : List ℕ). IsHanded (printed_groups l) buffer held out now) (sym whole) upto.handed
+all_groups key [] begin out now buffer held upto none =
+    subst (λ (l : List ℕ). IsHanded (printed_groups l) buffer held out now) (sym (upto.key_is ∙ append-nil upto.done)) upto.handed
+all_groups key (a ∷ rest) begin out now buffer held upto none = absurd (omega arith)
 
 -- ---- The parts of a line
 

@@ -1,21 +1,15 @@
 -- What the runs of check and compare answer, from what is found and what went out of its line.
-use Rattle.std.proofs.Common.{◌≡◌, ℕ, ◌||◌, List, [], ◌∷◌, ◌++◌, append_assoc, Bool, true, false, Option, IfSome, Result, Ok, Err, OnOk, IfErr, chars, refl, ap, subst, sym, ◌∙◌, arith}
-use Rattle.std.specs.Prelude.{◌+◌, ◌≤◌, min, if◌then◌else◌}
-use Rattle.std.specs.Str.{bytes_eq}
+use Rattle.std.proofs.Common.{◌≡◌, ℕ, ◌||◌, List, [], ◌∷◌, ◌++◌, append_assoc, Bool, true, false, Option, IfSome, Result, Ok, Err, OnOk, IfErr, chars, refl, ap, subst, sym, ◌∙◌}
 use Rattle.std.specs.Io.KnownBytes.{Appends}
 use Rattle.std.specs.declared.cmp.Ordering.{Ordering}
 use Rattle.uca_weights.specs.Streams.{SourceState, SinkState}
 use Rattle.uca_weights.specs.Writes.{WentOut}
-use Rattle.uca_weights.specs.declared.Element.{Element}
 use Rattle.uca_weights.specs.declared.Depth.{Depth}
 use Rattle.uca_weights.specs.declared.Weighting.{Weighting}
-use Rattle.uca_weights.specs.declared.Weighting.TheVariants.{NonIgnorable, Shifted}
 use Rattle.uca_values.specs.Content.{TableContent, Properties}
 use Rattle.uca_text.specs.Texts.{Spelled, spelled}
 use Rattle.uca_text.specs.Limits.{IsAccepted}
-use Rattle.uca_key.specs.Levels.{Comparison, dictionary, compared, level_count, key_bytes}
-use Rattle.uca_key.specs.StoredKeys.{shared_separators, stored_level}
-use Rattle.uca_key.specs.Laws.{StoredKeysCompareAsElements}
+use Rattle.uca_key.specs.Levels.{Comparison}
 use Rattle.uca_table.specs.Lines as tables
 use Rattle.uca_data.specs.Said as data_files
 use Rattle.uca_cli.specs.declared.faults.RunFault.{RunFault}

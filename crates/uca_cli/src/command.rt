@@ -119,7 +119,15 @@ fn keys<O: Opens, I: Read, W: Write>(
         Ok(files) => files,
         Err(role) => return Err(RunFault::Open(role)),
     };
-    done(run_keys(alloc, &mut table, &mut properties, input, out, weighting, depth))
+    done(run_keys(
+        alloc,
+        &mut table,
+        &mut properties,
+        input,
+        out,
+        weighting,
+        depth,
+    ))
 }
 
 // `sort`.
@@ -140,7 +148,15 @@ fn sort<O: Opens, I: Read, W: Write>(
         Ok(files) => files,
         Err(role) => return Err(RunFault::Open(role)),
     };
-    done(run_sort(alloc, &mut table, &mut properties, input, out, weighting, depth))
+    done(run_sort(
+        alloc,
+        &mut table,
+        &mut properties,
+        input,
+        out,
+        weighting,
+        depth,
+    ))
 }
 
 // `compare`.
@@ -192,13 +208,17 @@ fn run_words<O: Opens, I: Read, W: Write>(
             depth,
             table,
             properties,
-        } => keys(alloc, opener, weighting, depth, table, properties, input, out),
+        } => keys(
+            alloc, opener, weighting, depth, table, properties, input, out,
+        ),
         Words::Sort {
             weighting,
             depth,
             table,
             properties,
-        } => sort(alloc, opener, weighting, depth, table, properties, input, out),
+        } => sort(
+            alloc, opener, weighting, depth, table, properties, input, out,
+        ),
         Words::Compare {
             weighting,
             depth,

@@ -49,7 +49,9 @@ pub fn run_compare<T: Read, D: Read, W: Write>(
     ensures nothing_written { is_before_output result ≡ true → out.new ≡ out.old }
     ensures failed { HaveFailed table.old table.new properties.old properties.new out.old out.new result }
 {
-    run_compare_in(alloc, alloc, table, properties, left, right, out, weighting, depth)
+    run_compare_in(
+        alloc, alloc, table, properties, left, right, out, weighting, depth,
+    )
 }
 
 /// The same with the growths of the two files and the trie in memory of any allocator; those of Normalization Form D

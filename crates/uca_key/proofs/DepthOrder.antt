@@ -338,3 +338,23 @@ identical_points Shifted left right same =
 
 pub identical_texts : IdenticalKeysAreOfEquivalentTexts
 identical_texts c weighting left right same = identical_points weighting (read_text c (spelled c.properties left)) (read_text c (spelled c.properties right)) same
+
+-- ---- How many levels a comparison can name
+
+level_step : (o : Ordering) (n count : ℕ) (later : Comparison) → later.level ≤ suc n + count → (decided o (suc n) later).level ≤ n + suc count
+level_step Less n count later few = omega arith
+level_step Equal n count later few = omega (arith, few)
+level_step Greater n count later few = omega arith
+
+level_within : (n : ℕ) (left right : List (List ℕ)) → (compare_from (suc n) left right).level ≤ n + length left
+level_within n [] right = omega arith
+level_within n (a ∷ left) [] = omega arith
+level_within n (a ∷ left) (b ∷ right) =
+    level_step (dictionary a b) n (length left) (compare_from (suc (suc n)) left right) (level_within (suc n) left right)
+
+-- at most five
+pub five_levels : (depth : Depth) (weighting : Weighting) (left right : ReadText) → (compared_at depth weighting left right).level ≤ 5
+five_levels Weights NonIgnorable left right = omega (arith, level_within 0 (lists_at Weights NonIgnorable left) (lists_at Weights NonIgnorable right))
+five_levels Weights Shifted left right = omega (arith, level_within 0 (lists_at Weights Shifted left) (lists_at Weights Shifted right))
+five_levels Identical NonIgnorable left right = omega (arith, level_within 0 (lists_at Identical NonIgnorable left) (lists_at Identical NonIgnorable right))
+five_levels Identical Shifted left right = omega (arith, level_within 0 (lists_at Identical Shifted left) (lists_at Identical Shifted right))

@@ -1,7 +1,7 @@
 use Rattle.std.proofs.Common.{List, ℕ, ap, subst, sym, ◌∙◌}
 use Rattle.std.specs.Slice.Iter.{chunks_rest, chunks_size}
 use Rattle.std.proofs.lemmas.Result.{err_from_is_err_and}
-use Rattle.uca_lines.specs.Handing.{HasHanded, FailsToHand}
+use Rattle.uca_lines.specs.Handing.{HasHanded}
 use Rattle.uca_lines.proofs.HandingLemmas.{handed_then, fails_then}
 use Rattle.uca_cli.proofs.PrintLemmas.{handed_up_to_start, goes_on, piece_fits, handed_up_to_more, text_from, all_groups}
 use Rattle.uca_cli.proofs.print.hand_groups.Goals as goal
@@ -40,8 +40,7 @@ returns-in_err-hand g c =
     let i = c.loop-part.invariant in
     let on = goes_on _ _ _ _ _ _ _ _ _ _ _ i.handed i.size c.in-Some.ensures.steps.1 c.spaced_text-text.ensures in
     let p = err_from_is_err_and c.from_residual.result c.from_residual.ensures.1 in
-    rw (p.1, p.2) (subst (λ (text : List ℕ). FailsToHand text c.args.buffer.now c.args.out.now c.hand.new.out c.in_err-hand.field-0.0.written) (sym on.line)
-    (fails_then on.more i.handed.handed c.in_err-hand.ensures))
+    rw (p.1, p.2, on.line) (fails_then on.more i.handed.handed c.in_err-hand.ensures)
 
 pub returns : goal.returns
-returns g c = all_groups _ _ _ _ _ _ _ c.loop-part.invariant.handed c.in-None.ensures.steps.1
+returns g c = all_groups _ _ _ _ _ _ _ c.loop-part.invariant.handed c.in-None.ensures.steps.1.0

@@ -1,6 +1,4 @@
-use Rattle.std.proofs.Common.{List, ℕ, [], ◌∷◌, refl, arith}
-use Rattle.std.specs.List.{flat_map}
-use Rattle.uca_cli.specs.Print.{spaced_point}
+use Rattle.std.proofs.Common.{[], refl, arith}
 use Rattle.uca_lines.proofs.HandingLemmas.{part, handed_none, part_fits, part_handed, returns_fault, returns_last}
 use Rattle.uca_cli.proofs.PrintLemmas.{level_parts, level_is}
 use Rattle.uca_cli.proofs.print.hand_identical_level.Goals as goal
