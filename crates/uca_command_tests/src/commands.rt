@@ -101,6 +101,40 @@ fn each_subcommand(rt: HostRuntime) -> Result<(), Fail> {
     Ok(())
 }
 
+// The space and the accent behind it weigh the same as the space.
+#[test]
+fn to_the_identical_level(rt: HostRuntime) -> Result<(), Fail> {
+    let cases: [(&[&str], &str); 5] = [
+        (
+            &["uca", "keys", "--identical", TABLE, DATA],
+            "0000 0000 0000 0209 0000 000020 000301\n\
+             0000 0000 0000 0209 0000 000020\n",
+        ),
+        (&["uca", "sort", TABLE, DATA], " \u{301}\n \n"),
+        (
+            &["uca", "sort", "--identical", TABLE, DATA],
+            " \n \u{301}\n",
+        ),
+        (&["uca", "compare", TABLE, DATA, " \u{301}", " "], "= 0\n"),
+        (
+            &[
+                "uca",
+                "compare",
+                "--identical",
+                TABLE,
+                DATA,
+                " \u{301}",
+                " ",
+            ],
+            "> 5\n",
+        ),
+    ];
+    for (words, out) in cases {
+        check(&rt, BOTH, words, " \u{301}\n \n".as_bytes(), done(out))?;
+    }
+    Ok(())
+}
+
 // Only the weighting tells these lines' order: a space counts at the fourth level or at the first.
 #[test]
 fn sorting_by_the_weighting(rt: HostRuntime) -> Result<(), Fail> {

@@ -45,7 +45,8 @@ const CHECK: &str =
 
 const KEYS: &str =
     "Prints the sort key (UTS #10, S3) of each line of standard input on a line of its own, in groups\n\
-    of four hexadecimal digits. `0000` stands between two levels.\n\
+    of four hexadecimal digits. `0000` stands between two levels. With `--identical` the code points\n\
+    of Normalization Form D follow as one more level, six digits each.\n\
     \n\
     Usage: uca keys [OPTIONS] <TABLE> <DATA>\n\
     \n\
@@ -60,6 +61,9 @@ const KEYS: &str =
     \x20     --weighting <W>\n\
     \x20         non-ignorable or shifted [default: what the table's @variable says, else shifted]\n\
     \n\
+    \x20     --identical\n\
+    \x20         Compare texts that weigh the same by their code points too\n\
+    \n\
     \x20 -h, --help\n\
     \x20         Print help (see a summary with '-h')\n\
     \n\
@@ -67,6 +71,8 @@ const KEYS: &str =
 
 const SORT: &str =
     "Sorts the lines of standard input by their sort keys. Lines of equal keys keep their order.\n\
+    With `--identical` lines that weigh the same but differ in Normalization Form D get a fixed order,\n\
+    that of its code points, so that a sorted file is the same each time.\n\
     \n\
     Usage: uca sort [OPTIONS] <TABLE> <DATA>\n\
     \n\
@@ -81,6 +87,9 @@ const SORT: &str =
     \x20     --weighting <W>\n\
     \x20         non-ignorable or shifted [default: what the table's @variable says, else shifted]\n\
     \n\
+    \x20     --identical\n\
+    \x20         Compare texts that weigh the same by their code points too\n\
+    \n\
     \x20 -h, --help\n\
     \x20         Print help (see a summary with '-h')\n\
     \n\
@@ -88,7 +97,8 @@ const SORT: &str =
 
 const COMPARE: &str =
     "Prints `<`, `=` or `>`, as LEFT comes before RIGHT, is equal to it or comes after it, and the level\n\
-    at which the two first differ, 0 if none: `< 2`.\n\
+    at which the two first differ, 0 if none: `< 2`. With `--identical` texts that weigh the same\n\
+    are compared at one more level, by the code points of Normalization Form D.\n\
     \n\
     Usage: uca compare [OPTIONS] <TABLE> <DATA> <LEFT> <RIGHT>\n\
     \n\
@@ -108,6 +118,9 @@ const COMPARE: &str =
     Options:\n\
     \x20     --weighting <W>\n\
     \x20         non-ignorable or shifted [default: what the table's @variable says, else shifted]\n\
+    \n\
+    \x20     --identical\n\
+    \x20         Compare texts that weigh the same by their code points too\n\
     \n\
     \x20 -h, --help\n\
     \x20         Print help (see a summary with '-h')\n\
@@ -138,7 +151,7 @@ fn whole_help_texts(rt: HostRuntime) -> Result<(), Fail> {
 
 #[test]
 fn whole_refusals(rt: HostRuntime) -> Result<(), Fail> {
-    let cases: [(&[&str], &str); 8] = [
+    let cases: [(&[&str], &str); 9] = [
         (
             &["uca"],
             "error: 'uca' requires a subcommand but one was not provided\n\
@@ -201,6 +214,14 @@ fn whole_refusals(rt: HostRuntime) -> Result<(), Fail> {
                 "d",
             ],
             "error: the argument '--weighting <W>' cannot be used multiple times\n\
+             \n\
+             Usage: uca sort [OPTIONS] <TABLE> <DATA>\n\
+             \n\
+             For more information, try '--help'.\n",
+        ),
+        (
+            &["uca", "sort", "--identical", "--identical", "t", "d"],
+            "error: the argument '--identical' cannot be used multiple times\n\
              \n\
              Usage: uca sort [OPTIONS] <TABLE> <DATA>\n\
              \n\

@@ -2,12 +2,13 @@
 
 use clap::error::ErrorKind::{
     self, ArgumentConflict, DisplayHelp, InvalidSubcommand, InvalidValue, MissingRequiredArgument,
-    MissingSubcommand, UnknownArgument,
+    MissingSubcommand, TooManyValues, UnknownArgument,
 };
 use std::alloc::{AllocError, Global};
 use std::iter::once;
 use std::test::Fail;
-use uca_weights::Weighting;
+use uca_weights::Depth::{Identical, Weights};
+use uca_weights::{Depth, Weighting};
 use uca_words::{WordFault, Words, read_words};
 
 /// How the reading of words ends.
@@ -49,27 +50,40 @@ fn text_of(alloc: Global, line: &str) -> Result<String, WordFault> {
 }
 
 /// The words of `keys`.
-fn keys<'a>(weighting: Option<Weighting>, table: &'a str, properties: &'a str) -> Words<'a> {
+fn keys<'a>(
+    weighting: Option<Weighting>,
+    depth: Depth,
+    table: &'a str,
+    properties: &'a str,
+) -> Words<'a> {
     Words::Keys {
         weighting,
+        depth,
         table,
         properties,
     }
 }
 
-/// The words of `sort`.
-fn sort<'a>(weighting: Option<Weighting>, table: &'a str, properties: &'a str) -> Words<'a> {
+/// The words of `sort` over the files `t` and `d`.
+fn sort<'a>(weighting: Option<Weighting>, depth: Depth) -> Words<'a> {
     Words::Sort {
         weighting,
-        table,
-        properties,
+        depth,
+        table: "t",
+        properties: "d",
     }
 }
 
 /// The words of `compare` over the files `t` and `d`.
-fn compare<'a>(weighting: Option<Weighting>, left: &'a str, right: &'a str) -> Words<'a> {
+fn compare<'a>(
+    weighting: Option<Weighting>,
+    depth: Depth,
+    left: &'a str,
+    right: &'a str,
+) -> Words<'a> {
     Words::Compare {
         weighting,
+        depth,
         table: "t",
         properties: "d",
         left,
@@ -87,29 +101,58 @@ fn words_that_are_read(rt: HostRuntime) -> Result<(), Fail> {
     };
     let cases = [
         ("check t d", check),
-        ("keys t d", keys(None, "t", "d")),
-        ("keys --weighting shifted t d", keys(shifted, "t", "d")),
-        ("keys t --weighting shifted d", keys(shifted, "t", "d")),
-        ("keys --weighting=shifted d t", keys(shifted, "d", "t")),
-        ("keys -- --weighting d", keys(None, "--weighting", "d")),
-        ("sort t d", sort(None, "t", "d")),
-        ("sort t d --weighting shifted", sort(shifted, "t", "d")),
+        ("keys t d", keys(None, Weights, "t", "d")),
+        (
+            "keys --weighting shifted t d",
+            keys(shifted, Weights, "t", "d"),
+        ),
+        (
+            "keys t --weighting shifted d",
+            keys(shifted, Weights, "t", "d"),
+        ),
+        (
+            "keys --weighting=shifted d t",
+            keys(shifted, Weights, "d", "t"),
+        ),
+        (
+            "keys -- --weighting d",
+            keys(None, Weights, "--weighting", "d"),
+        ),
+        ("keys --identical t d", keys(None, Identical, "t", "d")),
+        ("keys t d --identical", keys(None, Identical, "t", "d")),
+        (
+            "keys t -- --identical",
+            keys(None, Weights, "t", "--identical"),
+        ),
+        ("sort t d", sort(None, Weights)),
+        ("sort t d --weighting shifted", sort(shifted, Weights)),
         (
             "sort --weighting=non-ignorable t d",
-            sort(non_ignorable, "t", "d"),
+            sort(non_ignorable, Weights),
         ),
-        ("compare t d a b", compare(None, "a", "b")),
+        (
+            "sort --identical --weighting shifted t d",
+            sort(shifted, Identical),
+        ),
+        ("compare t d a b", compare(None, Weights, "a", "b")),
         (
             "compare --weighting shifted t d b a",
-            compare(shifted, "b", "a"),
+            compare(shifted, Weights, "b", "a"),
         ),
         (
             "compare t d a b --weighting=non-ignorable",
-            compare(non_ignorable, "a", "b"),
+            compare(non_ignorable, Weights, "a", "b"),
+        ),
+        (
+            "compare t d a --identical b",
+            compare(None, Identical, "a", "b"),
         ),
         // An empty text is a word too, as is the name of a subcommand.
-        ("compare t d  a", compare(None, "", "a")),
-        ("compare t d sort keys", compare(None, "sort", "keys")),
+        ("compare t d  a", compare(None, Weights, "", "a")),
+        (
+            "compare t d sort keys",
+            compare(None, Weights, "sort", "keys"),
+        ),
     ];
     for (line, expected) in cases {
         let words = words_of(rt.alloc(), line)?;
@@ -125,11 +168,14 @@ fn words_that_are_refused(rt: HostRuntime) -> Result<(), Fail> {
         ("check t", MissingRequiredArgument),
         ("check t d e", UnknownArgument),
         ("check --weighting shifted t d", UnknownArgument),
+        ("check --identical t d", UnknownArgument),
         ("keys t", MissingRequiredArgument),
         ("keys t d --weighting", InvalidValue),
         ("keys t d --weight shifted", UnknownArgument),
+        ("keys --identical=x t d", TooManyValues),
         ("sort t d e", UnknownArgument),
         ("sort --weighting x --weighting x t d", ArgumentConflict),
+        ("sort --identical --identical t d", ArgumentConflict),
         ("compare t d", MissingRequiredArgument),
         ("compare t d a", MissingRequiredArgument),
         ("compare t d a b c", UnknownArgument),

@@ -14,6 +14,7 @@ use uca_trials::{
     A_ACUTE_GRAVE, Answer, Files, Run, Streams, acutes, files, joined, push_key, told,
 };
 use uca_values::{FaultKind, TableFault};
+use uca_weights::Depth::Weights;
 use uca_weights::Weighting::NonIgnorable;
 use uca_weights::{Sink, Source};
 
@@ -195,7 +196,7 @@ fn judge(
             assert!(rt; text < 3);
             let last = line_of(texts[text], outcome.read[text]);
             assert_eq!(rt; line, last, "{fault}");
-            if matches!(run, Run::Keys(_)) && text == INPUT {
+            if matches!(run, Run::Keys(..)) && text == INPUT {
                 keys = keys_before(rt.alloc(), line as usize)?;
             }
             text
@@ -224,7 +225,7 @@ fn check_order(
     outcome: &Outcome,
     before_texts: Option<usize>,
 ) {
-    let has_input = matches!(run, Run::Keys(_) | Run::Sort(_));
+    let has_input = matches!(run, Run::Keys(..) | Run::Sort(..));
     assert_eq!(rt; outcome.is_input_asked, has_input && before_texts.is_none());
     if before_texts != Some(TABLE) {
         assert_eq!(rt; outcome.read[TABLE], texts[TABLE].len());
@@ -297,7 +298,7 @@ fn keys_of_lines_in_little_memory(rt: HostRuntime) -> Result<(), Fail> {
     let files = files::SMALL
         .with_data(data.as_str())
         .with_input(input.as_bytes());
-    let run = Run::Keys(Some(NonIgnorable));
+    let run = Run::Keys(Some(NonIgnorable), Weights);
     let met = refused_places(&rt, run, files, (keys.as_str(), "done"), 48)?;
     assert_eq!(rt; met.refused, [true, true, true, true, false, false]);
     Ok(())
@@ -316,7 +317,7 @@ fn sorts_in_little_memory(rt: HostRuntime) -> Result<(), Fail> {
     let files = files::SMALL
         .with_data(data.as_str())
         .with_input(input.as_bytes());
-    let run = Run::Sort(Some(NonIgnorable));
+    let run = Run::Sort(Some(NonIgnorable), Weights);
     let met = refused_places(&rt, run, files, (sorted.as_str(), "done"), 48)?;
     assert_eq!(rt; met.refused, [true; 6]);
     Ok(())
@@ -343,14 +344,15 @@ fn comparisons_in_little_memory(rt: HostRuntime) -> Result<(), Fail> {
     let data = many_classes(rt.alloc())?;
     let left = lines(rt.alloc())?;
     let files = files::SMALL.with_data(data.as_str());
-    let run = Run::Compare(left.as_str(), "b", Some(NonIgnorable));
+    let run = Run::Compare(left.as_str(), "b", Some(NonIgnorable), Weights);
     let met = refused_places(&rt, run, files, ("< 1\n", "done"), 48)?;
-    assert_eq!(rt; met.refused, [true, true, false, true, false, true]);
-    // A faulty text comes after the trie and before the keys.
+    // No key is made, so no allocation fails behind the trie: a faulty text needs as large a heap.
+    let wanted = [true, true, false, true, false, false];
+    assert_eq!(rt; met.refused, wanted);
     let long = acutes(rt.alloc(), 65)?;
-    let run = Run::Compare(long.as_str(), "b", Some(NonIgnorable));
+    let run = Run::Compare(long.as_str(), "b", Some(NonIgnorable), Weights);
     let faulty = refused_places(&rt, run, files, ("", "left: LongRun at 0"), 48)?;
-    assert_eq!(rt; faulty.refused, [true, true, false, true, false, false]);
-    assert!(rt; faulty.enough < met.enough);
+    assert_eq!(rt; faulty.refused, wanted);
+    assert_eq!(rt; faulty.enough, met.enough);
     Ok(())
 }

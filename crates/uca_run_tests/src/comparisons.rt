@@ -3,7 +3,8 @@
 use crate::trials::check;
 use std::test::Fail;
 use uca_trials::Run::Compare;
-use uca_trials::{A_ACUTE, SMALL, TABLE, acutes, joined};
+use uca_trials::{A_ACUTE, NO_WEIGHTS, SMALL, TABLE, acutes, joined};
+use uca_weights::Depth::{Identical, Weights};
 use uca_weights::Weighting;
 use uca_weights::Weighting::{NonIgnorable, Shifted};
 
@@ -33,8 +34,26 @@ fn two_texts(rt: HostRuntime) -> Result<(), Fail> {
         ("a", "a", Shifted, "= 0\n"),
     ];
     for (left, right, weighting, line) in cases {
-        let run = Compare(left, right, Some(weighting));
+        let run = Compare(left, right, Some(weighting), Weights);
         check(&rt, SMALL, run, line, "done")?;
+    }
+    Ok(())
+}
+
+#[test]
+fn texts_that_weigh_the_same(rt: HostRuntime) -> Result<(), Fail> {
+    // Run, and what is printed.
+    let by_three = Some(NonIgnorable);
+    let cases = [
+        (Compare("a", "a\u{1}", by_three, Weights), "= 0\n"),
+        (Compare("a", "a\u{1}", by_three, Identical), "< 4\n"),
+        (Compare("\u{E1}", "a\u{301}", by_three, Identical), "= 0\n"),
+        (Compare("a", "b", by_three, Identical), "< 1\n"),
+        (Compare(" \u{301}", " ", Some(Shifted), Identical), "> 5\n"),
+    ];
+    let files = SMALL.with_table(&[TABLE, NO_WEIGHTS]);
+    for (run, line) in cases {
+        check(&rt, files, run, line, "done")?;
     }
     Ok(())
 }
@@ -51,7 +70,7 @@ fn texts_with_a_contraction(rt: HostRuntime) -> Result<(), Fail> {
     ];
     let files = SMALL.with_table(&[TABLE, A_ACUTE]);
     for (left, right, line) in cases {
-        let run = Compare(left, right, Some(NonIgnorable));
+        let run = Compare(left, right, Some(NonIgnorable), Weights);
         check(&rt, files, run, line, "done")?;
     }
     Ok(())
@@ -81,7 +100,7 @@ fn refused_texts(rt: HostRuntime) -> Result<(), Fail> {
             check(
                 &rt,
                 SMALL,
-                Compare(left, right, Some(weighting)),
+                Compare(left, right, Some(weighting), Weights),
                 printed,
                 end,
             )?;

@@ -7,6 +7,7 @@ use uca_trials::Run::Keys;
 use uca_trials::{
     A_ACUTE, A_ACUTE_GRAVE, KEY_OF_A, SHORT, SMALL, TABLE, X_ACUTE, acutes, joined, push_key,
 };
+use uca_weights::Depth::{Identical, Weights};
 use uca_weights::Weighting;
 use uca_weights::Weighting::{NonIgnorable, Shifted};
 
@@ -34,7 +35,7 @@ fn single_code_points(rt: HostRuntime) -> Result<(), Fail> {
     ];
     for (input, printed, end) in cases {
         let files = SHORT.with_input(input);
-        check(&rt, files, Keys(Some(NonIgnorable)), printed, end)?;
+        check(&rt, files, Keys(Some(NonIgnorable), Weights), printed, end)?;
     }
     Ok(())
 }
@@ -85,9 +86,26 @@ fn letters_accents_and_ideographs(rt: HostRuntime) -> Result<(), Fail> {
     for (line, weighting, key) in cases {
         let input = joined(rt.alloc(), &[line, "\n"])?;
         let files = SMALL.with_input(input.as_bytes());
-        check(&rt, files, Keys(Some(weighting)), key, "done")?;
+        check(&rt, files, Keys(Some(weighting), Weights), key, "done")?;
     }
     Ok(())
+}
+
+#[test]
+fn identical_levels(rt: HostRuntime) -> Result<(), Fail> {
+    // The code points of Normalization Form D, six digits each.
+    let letters = SMALL.with_input("a\n\u{E1}\na\u{301}\n\n\u{10FFFF}\n".as_bytes());
+    let keys = "1C47 0000 0020 0000 0002 0000 000061\n\
+        1C47 0000 0020 0024 0000 0002 0002 0000 000061 000301\n\
+        1C47 0000 0020 0024 0000 0002 0002 0000 000061 000301\n\
+        0000 0000 0000\n\
+        FBE1 FFFF 0000 0020 0000 0002 0000 10FFFF\n";
+    let run = Keys(Some(NonIgnorable), Identical);
+    check(&rt, letters, run, keys, "done")?;
+    let spaces = SMALL.with_input("\n \u{301}".as_bytes());
+    let keys = "0000 0000 0000 0000\n\
+        0000 0000 0000 0209 0000 000020 000301\n";
+    check(&rt, spaces, Keys(Some(Shifted), Identical), keys, "done")
 }
 
 #[test]
@@ -126,7 +144,7 @@ fn contractions(rt: HostRuntime) -> Result<(), Fail> {
     ];
     for (table, line, key) in cases {
         let files = SMALL.with_table(table).with_input(line.as_bytes());
-        check(&rt, files, Keys(Some(NonIgnorable)), key, "done")?;
+        check(&rt, files, Keys(Some(NonIgnorable), Weights), key, "done")?;
     }
     Ok(())
 }
@@ -154,7 +172,13 @@ fn ranges_of_implicit_weights(rt: HostRuntime) -> Result<(), Fail> {
     for (table, line, primaries) in cases {
         let key = joined(rt.alloc(), &[primaries, " 0000 0020 0000 0002\n"])?;
         let files = SMALL.with_table(table).with_input(line.as_bytes());
-        check(&rt, files, Keys(Some(NonIgnorable)), key.as_str(), "done")?;
+        check(
+            &rt,
+            files,
+            Keys(Some(NonIgnorable), Weights),
+            key.as_str(),
+            "done",
+        )?;
     }
     Ok(())
 }
@@ -170,7 +194,7 @@ fn check_long(
     input.extend_from_slice(b"\na\n")?;
     input.rotate_right(2);
     let files = SMALL.with_input(input.as_slice());
-    check(rt, files, Keys(Some(NonIgnorable)), KEY_OF_A, end)
+    check(rt, files, Keys(Some(NonIgnorable), Weights), KEY_OF_A, end)
 }
 
 #[test]
@@ -190,7 +214,13 @@ fn the_longest_text(rt: HostRuntime) -> Result<(), Fail> {
     let files = SMALL.with_input(input.as_slice());
     let mut key = String::new(rt.alloc());
     push_key(&mut key, 1_048_576)?;
-    check(&rt, files, Keys(Some(NonIgnorable)), key.as_str(), "done")
+    check(
+        &rt,
+        files,
+        Keys(Some(NonIgnorable), Weights),
+        key.as_str(),
+        "done",
+    )
 }
 
 #[test]
@@ -212,7 +242,7 @@ fn long_runs_of_accents(rt: HostRuntime) -> Result<(), Fail> {
         let accents = acutes(rt.alloc(), count)?;
         let input = joined(rt.alloc(), &["\na", accents.as_str(), "\n"])?;
         let files = SMALL.with_input(input.as_bytes());
-        check(&rt, files, Keys(Some(NonIgnorable)), printed, end)?;
+        check(&rt, files, Keys(Some(NonIgnorable), Weights), printed, end)?;
     }
     Ok(())
 }

@@ -3,6 +3,7 @@
 use crate::trials::check;
 use std::test::Fail;
 use uca_trials::{DATA, Files, Run, TABLE, acutes};
+use uca_weights::Depth::{Identical, Weights};
 use uca_weights::Weighting::NonIgnorable;
 
 const SMALL: &[&str] = &[TABLE];
@@ -38,11 +39,11 @@ fn refused_files(rt: HostRuntime) -> Result<(), Fail> {
     // Nothing is printed, also where the input or the texts have a fault.
     let long = acutes(rt.alloc(), 65)?;
     let runs = [
-        Run::Keys(Some(NonIgnorable)),
-        Run::Sort(None),
+        Run::Keys(Some(NonIgnorable), Weights),
+        Run::Sort(None, Identical),
         Run::Check,
-        Run::Compare("a", "b", None),
-        Run::Compare(long.as_str(), long.as_str(), Some(NonIgnorable)),
+        Run::Compare("a", "b", None, Weights),
+        Run::Compare(long.as_str(), long.as_str(), Some(NonIgnorable), Identical),
     ];
     for (table, data, end) in CASES {
         let files = Files {

@@ -4,6 +4,7 @@ use crate::trials::check;
 use std::process::Abort;
 use std::test::Fail;
 use uca_trials::{Run, SMALL};
+use uca_weights::Depth::Weights;
 use uca_weights::Weighting;
 use uca_weights::Weighting::{NonIgnorable, Shifted};
 
@@ -46,10 +47,10 @@ fn check_weighting(
 ) -> Result<(), Fail> {
     let files = SMALL.with_table(table);
     let spaced = files.with_input(b"a \n");
-    check(rt, spaced, Run::Keys(asked), printed.key, "done")?;
+    check(rt, spaced, Run::Keys(asked, Weights), printed.key, "done")?;
     let mixed = files.with_input(b"ab\na b\naa\nb\n");
-    check(rt, mixed, Run::Sort(asked), printed.lines, "done")?;
-    let compare = Run::Compare("a b", "ab", asked);
+    check(rt, mixed, Run::Sort(asked, Weights), printed.lines, "done")?;
+    let compare = Run::Compare("a b", "ab", asked, Weights);
     check(rt, files, compare, printed.comparison, "done")
 }
 

@@ -6,6 +6,7 @@ use std::test::Fail;
 use uca_cli::{RunFault, report};
 use uca_fakes::{Calls, FakeReader, FakeWriter, Pace};
 use uca_trials::{Files, Run, SHORT, SHORT_TABLE, Streams, joined, told};
+use uca_weights::Depth::{Identical, Weights};
 use uca_weights::Weighting::NonIgnorable;
 use uca_weights::{Sink, Source};
 
@@ -38,7 +39,7 @@ pub const LINES: Files = Files {
 };
 
 pub const KEYS: Case = Case {
-    run: Run::Keys(Some(NonIgnorable)),
+    run: Run::Keys(Some(NonIgnorable), Weights),
     files: LINES,
     printed: "1C47 0000 0020 0000 0002\n\
         1C47 0000 0020 0024 0000 0002 0002\n\
@@ -46,8 +47,19 @@ pub const KEYS: Case = Case {
     end: "done",
 };
 
+/// A line whose key has an identical level.
+pub const IDENTICAL_KEYS: Case = Case {
+    run: Run::Keys(Some(NonIgnorable), Identical),
+    files: Files {
+        input: b"a\n",
+        ..SHORT
+    },
+    printed: "1C47 0000 0020 0000 0002 0000 000061\n",
+    end: "done",
+};
+
 pub const SORT: Case = Case {
-    run: Run::Sort(Some(NonIgnorable)),
+    run: Run::Sort(Some(NonIgnorable), Weights),
     files: LINES,
     printed: "a\na\n\u{E1}\n",
     end: "done",
@@ -72,7 +84,7 @@ pub const FAILED_CHECK: Case = Case {
 };
 
 pub const COMPARE: Case = Case {
-    run: Run::Compare("a", "b", Some(NonIgnorable)),
+    run: Run::Compare("a", "b", Some(NonIgnorable), Weights),
     files: SHORT,
     printed: "< 1\n",
     end: "done",

@@ -1,7 +1,8 @@
 //! Runs over readers and a writer that give or take few bytes a call. None of them fails, so no run does.
 
 use crate::paces::{
-    CHECK, COMPARE, Case, FAILED_CHECK, INPUT, KEYS, SORT, is_whole, run_at, with_input,
+    CHECK, COMPARE, Case, FAILED_CHECK, IDENTICAL_KEYS, INPUT, KEYS, SORT, is_whole, run_at,
+    with_input,
 };
 use std::alloc::{AllocError, Global};
 use std::process::Abort;
@@ -15,7 +16,7 @@ const STEPS: [usize; 6] = [1, 2, 3, 7, 4096, usize::MAX];
 // Whether the run has a use for the stream.
 fn is_used(run: Run, stream: usize) -> bool {
     match run {
-        Run::Keys(_) | Run::Sort(_) => true,
+        Run::Keys(..) | Run::Sort(..) => true,
         Run::Check | Run::Compare(..) => stream != INPUT,
     }
 }
@@ -41,7 +42,7 @@ fn check_pieces(rt: &(impl Abort + AllocGlobal), case: Case) -> Result<(), Fail>
 fn any_number_of_bytes_a_call(rt: HostRuntime) -> Result<(), Fail> {
     // A source that ends without its reader, and a run that always says that no memory is left, do not
     // print this.
-    for case in [KEYS, SORT, CHECK, FAILED_CHECK, COMPARE] {
+    for case in [KEYS, IDENTICAL_KEYS, SORT, CHECK, FAILED_CHECK, COMPARE] {
         check_pieces(&rt, case)?;
     }
     Ok(())

@@ -1,8 +1,8 @@
 //! Runs over readers and writers that fail at a chosen byte.
 
 use crate::paces::{
-    CHECK, COMPARE, Case, DATA, FAILED_CHECK, INPUT, KEYS, LINES, OUT, SORT, TABLE, run_at,
-    with_input,
+    CHECK, COMPARE, Case, DATA, FAILED_CHECK, IDENTICAL_KEYS, INPUT, KEYS, LINES, OUT, SORT, TABLE,
+    run_at, with_input,
 };
 use std::alloc::AllocError;
 use std::io::ErrorKind;
@@ -159,7 +159,14 @@ fn writers_of_other_runs_that_fail(rt: HostRuntime) -> Result<(), Fail> {
     let whole = Pace::steps(usize::MAX);
     let two_lines = with_input(SORT, b"b\na\n", "a\nb\n");
     check_write_fault(&rt, with_input(SORT, b"b\na\n", "a\nb"), 3, whole)?;
-    for case in [SORT, two_lines, CHECK, FAILED_CHECK, COMPARE] {
+    for case in [
+        IDENTICAL_KEYS,
+        SORT,
+        two_lines,
+        CHECK,
+        FAILED_CHECK,
+        COMPARE,
+    ] {
         for good in 0..case.printed.len() {
             check_write_fault(&rt, case, good, whole)?;
         }

@@ -37,6 +37,9 @@ pub const A_ACUTE_GRAVE: &str = "0061 0301 0300 ; [.1C58.0020.0002]\n";
 /// A contraction of `x`, which has no row of its own, with an acute accent.
 pub const X_ACUTE: &str = "0078 0301 ; [.1C90.0020.0002]\n";
 
+/// A row without weights: a text with this code point weighs the same as the text without it.
+pub const NO_WEIGHTS: &str = "0001 ; [.0000.0000.0000]\n";
+
 /// The key of `a`, as a line.
 pub const KEY_OF_A: &str = "1C47 0000 0020 0000 0002\n";
 

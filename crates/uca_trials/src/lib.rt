@@ -8,8 +8,8 @@ pub mod runs;
 pub mod trials;
 
 pub use files::{
-    A_ACUTE, A_ACUTE_GRAVE, DATA, Files, KEY_OF_A, SHORT, SHORT_DATA, SHORT_TABLE, SMALL, TABLE,
-    X_ACUTE, acutes, joined, push_key,
+    A_ACUTE, A_ACUTE_GRAVE, DATA, Files, KEY_OF_A, NO_WEIGHTS, SHORT, SHORT_DATA, SHORT_TABLE,
+    SMALL, TABLE, X_ACUTE, acutes, joined, push_key,
 };
 pub use runs::{Answer, Outcome, Run, Streams, run_files, told};
 pub use trials::difference;

@@ -10,7 +10,7 @@ use uca_key::{compare_keys, key, level_count};
 use uca_match::{Collator, RowList};
 use uca_table::read_table;
 use uca_text::normal;
-use uca_weights::{Source, Weighting};
+use uca_weights::{Depth, Source, Weighting};
 
 /// How many bytes an input may have. Each step in a list of rows goes through all of them.
 const LONGEST_INPUT: usize = 10_000;
@@ -57,20 +57,32 @@ struct Library<'a> {
     collator: Collator<'a, RowList<'a>>,
 }
 
-/// A line, and its key.
+/// A line, its key, and how many bytes the levels of its weights have.
 #[derive(Drop)]
 struct KeyedLine<'a> {
     key: Vec<u8>,
+    weights: usize,
     line: &'a [u8],
+}
+
+// Whether a space stands before this byte of a key: groups of two bytes, and of three for the code points, which
+// come after the weights and a group of their own.
+fn begins_group(place: usize, weights: usize) -> bool {
+    match place.checked_sub(weights.saturating_add(2)) {
+        Some(place) => place % 3 == 0,
+        None => place > 0 && place % 2 == 0,
+    }
 }
 
 impl<'a> Library<'a> {
     // What a run prints of the first lines of an input, so many at most, or of its two texts.
     fn output(self, run: Run, input: &[u8], count: usize) -> Option<Vec<u8>> {
         match run {
-            Run::Keys(asked) => self.key_lines(self.chosen(asked), input, count),
-            Run::Sort(asked) => self.sorted_lines(self.chosen(asked), input),
-            Run::Compare(left, right, asked) => self.comparison(self.chosen(asked), left, right),
+            Run::Keys(asked, depth) => self.key_lines(self.chosen(asked), depth, input, count),
+            Run::Sort(asked, depth) => self.sorted_lines(self.chosen(asked), depth, input),
+            Run::Compare(left, right, asked, depth) => {
+                self.comparison(self.chosen(asked), depth, left, right)
+            }
             Run::Check => None,
         }
     }
@@ -85,33 +97,46 @@ impl<'a> Library<'a> {
     }
 
     // The key of a text.
-    fn key(self, weighting: Weighting, text: &str) -> Option<Vec<u8>> {
+    fn key(self, weighting: Weighting, depth: Depth, text: &str) -> Option<Vec<u8>> {
         let text = normal(self.alloc, text, self.collator.data).ok()?;
-        key(self.alloc, &self.collator, weighting, &text).ok()
+        key(self.alloc, &self.collator, weighting, depth, &text).ok()
     }
 
     // The lines of an input with their keys, so many at most.
     fn keyed_lines<'t>(
         self,
         weighting: Weighting,
+        depth: Depth,
         input: &'t [u8],
         count: usize,
     ) -> Option<Vec<KeyedLine<'t>>> {
         let mut lines = Vec::new(self.alloc);
         for line in input.split_inclusive(|byte| *byte == b'\n').take(count) {
             let line = line.strip_suffix(b"\n").unwrap_or(line);
-            let key = self.key(weighting, str::from_utf8(line).ok()?)?;
-            lines.push(KeyedLine { key, line }).ok()?;
+            let text = str::from_utf8(line).ok()?;
+            let key = self.key(weighting, depth, text)?;
+            let weights = self.key(weighting, Depth::Weights, text)?.len();
+            lines.push(KeyedLine { key, weights, line }).ok()?;
         }
         Some(lines)
     }
 
     // The keys of the lines, as they are printed.
-    fn key_lines(self, weighting: Weighting, input: &[u8], count: usize) -> Option<Vec<u8>> {
+    fn key_lines(
+        self,
+        weighting: Weighting,
+        depth: Depth,
+        input: &[u8],
+        count: usize,
+    ) -> Option<Vec<u8>> {
         let mut text = Vec::new(self.alloc);
-        for keyed in &self.keyed_lines(weighting, input, count)? {
+        for keyed in &self.keyed_lines(weighting, depth, input, count)? {
             for (place, byte) in keyed.key.iter().enumerate() {
-                let space = if place > 0 && place % 2 == 0 { " " } else { "" };
+                let space = if begins_group(place, keyed.weights) {
+                    " "
+                } else {
+                    ""
+                };
                 let digits = format!(in self.alloc; "{space}{byte:02X}").ok()?;
                 text.extend_from_slice(digits.as_bytes()).ok()?;
             }
@@ -121,8 +146,8 @@ impl<'a> Library<'a> {
     }
 
     // The lines in the order of their keys.
-    fn sorted_lines(self, weighting: Weighting, input: &[u8]) -> Option<Vec<u8>> {
-        let mut lines = self.keyed_lines(weighting, input, usize::MAX)?;
+    fn sorted_lines(self, weighting: Weighting, depth: Depth, input: &[u8]) -> Option<Vec<u8>> {
+        let mut lines = self.keyed_lines(weighting, depth, input, usize::MAX)?;
         lines
             .sort_by(|left, right| left.key.as_slice().cmp(right.key.as_slice()))
             .ok()?;
@@ -135,10 +160,18 @@ impl<'a> Library<'a> {
     }
 
     // How two texts compare.
-    fn comparison(self, weighting: Weighting, left: &str, right: &str) -> Option<Vec<u8>> {
-        let left = self.key(weighting, left)?;
-        let right = self.key(weighting, right)?;
-        let (order, level) = compare_keys(&left, &right, level_count(weighting));
+    fn comparison(
+        self,
+        weighting: Weighting,
+        depth: Depth,
+        left: &str,
+        right: &str,
+    ) -> Option<Vec<u8>> {
+        let left = self.key(weighting, depth, left)?;
+        let right = self.key(weighting, depth, right)?;
+        let more = u8::from(depth == Depth::Identical);
+        let levels = level_count(weighting).saturating_add(more);
+        let (order, level) = compare_keys(&left, &right, levels);
         let sign = match order {
             Ordering::Less => '<',
             Ordering::Equal => '=',

@@ -6,19 +6,19 @@ use std::io::{Read, Write};
 use uca_cli::{
     RunFault, run_check, run_compare, run_compare_in, run_keys, run_keys_in, run_sort, run_sort_in,
 };
-use uca_weights::{Sink, Source, Weighting};
+use uca_weights::{Depth, Sink, Source, Weighting};
 
-/// A run, and the weighting that it is asked for, if any.
+/// A run, the weighting that it is asked for, if any, and its depth.
 #[derive(Clone, Copy)]
 pub enum Run<'a> {
     /// It prints the keys of the lines of the input.
-    Keys(Option<Weighting>),
+    Keys(Option<Weighting>, Depth),
     /// It prints the lines of the input in the order of their keys.
-    Sort(Option<Weighting>),
+    Sort(Option<Weighting>, Depth),
     /// It says whether the table is well-formed.
     Check,
     /// It says how a left text and a right text compare.
-    Compare(&'a str, &'a str, Option<Weighting>),
+    Compare(&'a str, &'a str, Option<Weighting>, Depth),
 }
 
 /// What a run without a fault returns.
@@ -77,11 +77,15 @@ impl<T: Read, D: Read, I: Read, W: Write> Streams<T, D, I, W> {
     pub fn run(&mut self, alloc: Global, run: Run) -> Result<Answer, RunFault> {
         let (table, properties, input, out) = self.parts();
         match run {
-            Run::Keys(asked) => run_keys(alloc, table, properties, input, out, asked)?,
-            Run::Sort(asked) => run_sort(alloc, table, properties, input, out, asked)?,
+            Run::Keys(asked, depth) => {
+                run_keys(alloc, table, properties, input, out, asked, depth)?;
+            }
+            Run::Sort(asked, depth) => {
+                run_sort(alloc, table, properties, input, out, asked, depth)?;
+            }
             Run::Check => return Ok(Answer::Verdict(run_check(alloc, table, properties, out)?)),
-            Run::Compare(left, right, asked) => {
-                run_compare(alloc, table, properties, left, right, out, asked)?;
+            Run::Compare(left, right, asked, depth) => {
+                run_compare(alloc, table, properties, left, right, out, asked, depth)?;
             }
         }
         Ok(Answer::Done)
@@ -96,11 +100,17 @@ impl<T: Read, D: Read, I: Read, W: Write> Streams<T, D, I, W> {
     ) -> Result<Answer, RunFault> {
         let (table, properties, input, out) = self.parts();
         match run {
-            Run::Keys(asked) => run_keys_in(alloc, global, table, properties, input, out, asked)?,
-            Run::Sort(asked) => run_sort_in(alloc, global, table, properties, input, out, asked)?,
+            Run::Keys(asked, depth) => {
+                run_keys_in(alloc, global, table, properties, input, out, asked, depth)?;
+            }
+            Run::Sort(asked, depth) => {
+                run_sort_in(alloc, global, table, properties, input, out, asked, depth)?;
+            }
             Run::Check => return Ok(Answer::Verdict(run_check(alloc, table, properties, out)?)),
-            Run::Compare(left, right, asked) => {
-                run_compare_in(alloc, global, table, properties, left, right, out, asked)?;
+            Run::Compare(left, right, asked, depth) => {
+                run_compare_in(
+                    alloc, global, table, properties, left, right, out, asked, depth,
+                )?;
             }
         }
         Ok(Answer::Done)
