@@ -10,6 +10,7 @@ use std::test::Fail;
 use uca_key::{KeyBuffer, key};
 use uca_match::{Collator, Lookup, Trie};
 use uca_text::Normal;
+use uca_values::Table;
 use uca_weights::Depth::Identical;
 use uca_weights::Weighting::Shifted;
 
@@ -56,17 +57,22 @@ const ROWS_CASES: &str = r"0061 | 0005
 0062 | 0002
 4E00 | 0004";
 
+/// Whether a heap has room for the trie of a table, which is then right.
+fn check_trie(alloc: Global, heap: &LocalHeap, table: &Table) -> Result<bool, Fail> {
+    let Ok(trie) = Trie::new(heap, table) else {
+        return Ok(false);
+    };
+    check_lookup(alloc, &trie, ROWS_CASES)?;
+    Ok(true)
+}
+
 #[test]
 fn tries_in_small_heaps(rt: HostRuntime) -> Result<(), Fail> {
     let table = table_of(rt.alloc(), ROWS)?;
     let mut count = Count::new();
     for room in 0..256 {
         let heap = LocalHeap::new(rt.alloc(), 16 * room)?;
-        let made = Trie::new(&heap, &table);
-        let is_made = made.is_ok();
-        if let Ok(trie) = made {
-            check_lookup(rt.alloc(), &trie, ROWS_CASES)?;
-        }
+        let is_made = check_trie(rt.alloc(), &heap, &table)?;
         count.add(is_made, heap.used())?;
     }
     count.check()

@@ -27,17 +27,38 @@ impl Made {
     }
 }
 
-/// A mark of a class in a private use area, with a secondary weight of its own, after a letter.
+/// Adds parts, one after the other.
+fn push_all(text: &mut String, parts: &[&str]) -> Result<(), AllocError> {
+    for part in parts {
+        text.push_str(part)?;
+    }
+    Ok(())
+}
+
+/// A mark of a class, with a secondary weight of its own, after a letter.
+fn add_mark(made: &mut Made, class: &str, code: &str, weight: &str) -> Result<(), AllocError> {
+    push_all(
+        &mut made.data,
+        &["ccc ", code, "..", code, " ", class, "\n"],
+    )?;
+    push_all(&mut made.table, &[code, " ; [.0000.", weight, ".0002]\n"])?;
+    push_all(&mut made.cases, &["0061 ", code])?;
+    push_all(
+        &mut made.cases,
+        &[" | 1C47 0000 0020 ", weight, " 0000 0002 0002"],
+    )?;
+    push_all(
+        &mut made.cases,
+        &[" | 1C47 0000 0020 ", weight, " 0000 0002 0002"],
+    )?;
+    made.cases.push_str(" 0000 FFFF FFFF\n")
+}
+
+/// A mark of a class in a private use area.
 fn add_class(made: &mut Made, alloc: Global, class: u8) -> Result<(), AllocError> {
     let code = format!(in alloc; "{:04X}", 0xE000 + u16::from(class))?;
     let weight = format!(in alloc; "{:04X}", 0x100 + u16::from(class))?;
-    made.data
-        .push_str(&format!(in alloc; "ccc {code}..{code} {class}\n")?)?;
-    made.table
-        .push_str(&format!(in alloc; "{code} ; [.0000.{weight}.0002]\n")?)?;
-    made.cases.push_str(&format!(in alloc;
-        "0061 {code} | 1C47 0000 0020 {weight} 0000 0002 0002 | 1C47 0000 0020 {weight} 0000 0002 0002 0000 FFFF FFFF\n"
-    )?)
+    add_mark(made, &format!(in alloc; "{class}")?, &code, &weight)
 }
 
 /// The class that a text has for such a mark.
