@@ -13,7 +13,7 @@ use Rattle.uca_lines.specs.OutputBuffer.{BufferState, HandedOver}
 use Rattle.uca_cli.specs.declared.faults.InputKind.{InputKind}
 use Rattle.uca_cli.specs.declared.faults.InputKind.TheVariants.{Read, Memory}
 use Rattle.uca_cli.specs.Input.{cause_of, clean_from}
-use Rattle.uca_cli.specs.Keys.{Keying, text_line, key_line, key_lines, keys_output}
+use Rattle.uca_cli.specs.Keys.{Keying, text_line, printed_key, key_lines, keys_output}
 use Rattle.uca_cli.specs.LinesSoFar.{IsKnownBehind, AreAll}
 use Rattle.uca_cli.specs.KeysSoFar.{HasPrinted, HasPrintedAll, IsPartOfOutput, IsStopped, PrintsText}
 use Rattle.uca_cli.specs.declared.faults.RunFault.{RunFault}
@@ -23,8 +23,8 @@ use Rattle.uca_cli.proofs.LinesSoFar.{output_begins}
 use Rattle.uca_cli.proofs.KnownLines.{known_end, known_more, known_last, known_refused, known_no_memory}
 
 -- the key of one more line
-pub key_lines-push : (c : Keying) (before : List (List ℕ)) (line : List ℕ) → key_lines c (before ++ line ∷ []) ≡ key_lines c before ++ key_line c line
-key_lines-push c before line = flat_map-append _ before (line ∷ []) ∙ ap (λ more. key_lines c before ++ more) (append-nil (key_line c line))
+pub key_lines-push : (c : Keying) (before : List (List ℕ)) (line : List ℕ) → key_lines c (before ++ line ∷ []) ≡ key_lines c before ++ printed_key c line
+key_lines-push c before line = flat_map-append _ before (line ∷ []) ∙ ap (λ more. key_lines c before ++ more) (append-nil (printed_key c line))
 
 -- ---- Known bytes
 
@@ -66,7 +66,7 @@ refused c start begun before reader now input unread buffer out line text number
     (known_refused c.collation.properties start before reader now input unread line text number kind p.behind p.count place says read, p.printed)
 
 -- the key of the line's text is that of the line
-line_key_is : (c : Keying) (before : ℕ) (line : List ℕ) (text : Spelled) → IsTextOf c.collation.properties before line text → text_line c text ≡ key_line c line
+line_key_is : (c : Keying) (before : ℕ) (line : List ℕ) (text : Spelled) → IsTextOf c.collation.properties before line text → text_line c text ≡ printed_key c line
 line_key_is c before line text t = ap (λ s. text_line c s) t.spelling
 
 -- a line was read and its key was handed over

@@ -1,9 +1,10 @@
 -- What holds of lines and their keys in all runs.
 use Rattle.std.specs.Prelude.{◌≡◌, ◌↔◌, ℕ, List, chars}
+use Rattle.uca_weights.specs.declared.Depth.TheVariants.{Identical}
 use Rattle.uca_text.specs.Texts.{AreCanonicallyEquivalent, Spelled, spelled}
 use Rattle.uca_key.specs.Levels.{Comparison, dictionary}
 use Rattle.uca_key.specs.Depths.{read_text, compared_at}
-use Rattle.uca_cli.specs.Keys.{Keying, line_key, key_line}
+use Rattle.uca_cli.specs.Keys.{Keying, line_key, printed_key}
 use Rattle.uca_cli.specs.SortRun.{IsInKeyOrder}
 
 -- how two texts in Normalization Form D compare: level by level, by their weights, and at the depth `Identical` by their code points
@@ -23,7 +24,12 @@ LineKeysCompareAsLines = (c : Keying) (left right : List ℕ) →
 -- Lines whose texts are canonically equivalent have one key line.
 abbrev pub CanonicallyEquivalentLinesHaveOneKeyLine : Type 0
 CanonicallyEquivalentLinesHaveOneKeyLine = (c : Keying) (left right : List ℕ) →
-    AreCanonicallyEquivalent (chars left) (chars right) → key_line c left ≡ key_line c right
+    AreCanonicallyEquivalent (chars left) (chars right) → printed_key c left ≡ printed_key c right
+
+-- With an identical level lines whose texts are not canonically equivalent have different keys.
+abbrev pub IdenticalLineKeysAreOfEquivalentLines : Type 0
+IdenticalLineKeysAreOfEquivalentLines = (c : Keying) (left right : List ℕ) → c.depth ≡ Identical →
+    line_key c left ≡ line_key c right → AreCanonicallyEquivalent (chars left) (chars right)
 
 -- Lines have one key order.
 abbrev pub KeyOrderIsOne : Type 0

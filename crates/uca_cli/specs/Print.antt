@@ -4,6 +4,7 @@ use Rattle.std.specs.List.{join_with_byte, flat_map}
 use Rattle.uca_weights.specs.declared.Depth.{Depth}
 use Rattle.uca_weights.specs.declared.Depth.TheVariants.{Weights, Identical}
 use Rattle.uca_fields.specs.Number.{upper_digit}
+use Rattle.uca_key.specs.Depths.{point_bytes}
 
 -- a byte as two upper-case hexadecimal digits
 abbrev pub byte_digits : ℕ → List ℕ
@@ -23,9 +24,9 @@ printed_groups key = join_with_byte 32 (groups key)
 unfoldable pub spaced_groups : List ℕ → List ℕ
 spaced_groups key = flat_map (λ group. 32 ∷ group) (groups key)
 
--- a code point as six digits
+-- a code point as the six digits of its three bytes in a key
 abbrev pub point_digits : ℕ → List ℕ
-point_digits c = byte_digits (c / 65536) ++ (byte_digits (c / 256 % 256) ++ byte_digits (c % 256))
+point_digits c = flat_map byte_digits (point_bytes c)
 
 abbrev pub spaced_point : ℕ → List ℕ
 spaced_point c = 32 ∷ point_digits c
@@ -34,10 +35,11 @@ spaced_point c = 32 ∷ point_digits c
 abbrev pub identical_level : List ℕ → List ℕ
 identical_level points = 32 ∷ 48 ∷ 48 ∷ 48 ∷ 48 ∷ flat_map spaced_point points
 
-abbrev pub level_at : Depth → List ℕ → List ℕ
-level_at Weights points = []
-level_at Identical points = identical_level points
+-- what is printed behind the weights
+abbrev pub printed_behind : Depth → List ℕ → List ℕ
+printed_behind Weights points = []
+printed_behind Identical points = identical_level points
 
 -- the line of a text whose weights have this key, and whose code points in Normalization Form D are these
 abbrev pub print_line_at : Depth → List ℕ → List ℕ → List ℕ
-print_line_at depth key points = printed_groups key ++ (level_at depth points ++ 10 ∷ [])
+print_line_at depth key points = printed_groups key ++ (printed_behind depth points ++ 10 ∷ [])

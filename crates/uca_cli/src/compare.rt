@@ -1,13 +1,11 @@
 //! The run that compares two texts.
 
-ghost use Rattle.std.specs.Prelude.{◌≡◌, ◌≤◌, ◌||◌, true, chars, IfOk, IfErr};
+ghost use Rattle.std.specs.Prelude.{◌≡◌, ◌≤◌, true, chars, IfOk, IfErr};
 ghost use Rattle.uca_values.specs.Content.{properties_of};
 ghost use Rattle.uca_text.specs.Texts.{spelled};
 ghost use Rattle.uca_text.specs.Limits.{IsAccepted};
-ghost use Rattle.uca_cli.specs.Keys.{keying_of};
-ghost use Rattle.uca_cli.specs.Laws.{texts_compared};
-ghost use Rattle.uca_cli.specs.Runs.{is_before_output, is_write, HaveFailed, RunsOver};
-ghost use Rattle.uca_cli.specs.CompareRun.{sign_of, comparison_line, RefusesWord, RunsCompare};
+ghost use Rattle.uca_cli.specs.Runs.{is_before_output, HaveFailed, RunsOver};
+ghost use Rattle.uca_cli.specs.CompareRun.{comparison_line, RefusesWord, RunsCompare};
 
 use crate::faults::RunFault;
 use crate::files::{chosen_weighting, read_files, rows_of_table};
@@ -29,7 +27,7 @@ use uca_weights::{Depth, Sink, Source, Weighting};
 ///
 /// `File` where the table, or else the data file, is refused; `Memory` where a growth was refused for
 /// looking up rows, before the texts are judged; `Text` where the left text, or else the right one, is
-/// refused. Nothing was written then. No key is made, so no memory is asked for behind the texts. `Write` where the
+/// refused. Nothing was written then. No key is made, so the comparison itself takes no memory. `Write` where the
 /// writer failed: the first `written` bytes of the line went out.
 pub fn run_compare<T: Read, D: Read, W: Write>(
     alloc: Global,

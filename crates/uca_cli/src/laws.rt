@@ -1,12 +1,12 @@
-//! What holds of lines and their keys in all runs. The functions only call the laws of keys that theirs follow
+//! What holds of lines and their keys in all runs. The functions at most call the laws of keys that theirs follow
 //! from: their contracts are the laws.
 
-ghost use Rattle.uca_cli.specs.Laws.{LineKeysCompareAsLines, CanonicallyEquivalentLinesHaveOneKeyLine, KeyOrderIsOne};
+ghost use Rattle.uca_cli.specs.Laws.{LineKeysCompareAsLines, CanonicallyEquivalentLinesHaveOneKeyLine, IdenticalLineKeysAreOfEquivalentLines, KeyOrderIsOne};
 
-use uca_key::laws::{canonically_equivalent_texts_have_equal_keys, keys_compare_as_texts};
+use uca_key::laws::{identical_keys_are_of_equivalent_texts, keys_compare_as_texts};
 
-/// Between two lines of an input the byte order of their keys is the multilevel order of their collation
-/// elements (UTS #10, sections 1.1 and 7.4), whatever the table, the data file and the weighting; the keys
+/// Between two lines of an input the byte order of their keys is the multilevel order of their texts
+/// (UTS #10, sections 1.1 and 7.4), whatever the table, the data file, the weighting and the depth; the keys
 /// are equal exactly where no level differs.
 pub fn line_keys_compare_as_lines()
     ensures { LineKeysCompareAsLines }
@@ -17,12 +17,17 @@ pub fn line_keys_compare_as_lines()
 /// Lines whose texts are canonically equivalent (UAX #15) have the same key line.
 pub fn canonically_equivalent_lines_have_one_key_line()
     ensures { CanonicallyEquivalentLinesHaveOneKeyLine }
+{}
+
+/// With an identical level lines whose texts are not canonically equivalent have different keys.
+pub fn identical_line_keys_are_of_equivalent_lines()
+    ensures { IdenticalLineKeysAreOfEquivalentLines }
 {
-    canonically_equivalent_texts_have_equal_keys();
+    identical_keys_are_of_equivalent_texts();
 }
 
 /// The lines of an input have one key order, the rearrangement in which keys never fall and lines of equal
-/// keys keep their order, whatever the table, the data file and the weighting. So the text that a run of sort
+/// keys keep their order, whatever the table, the data file, the weighting and the depth. So the text that a run of sort
 /// is promised to write is the only one that its definition allows.
 pub fn key_order_is_one()
     ensures { KeyOrderIsOne }

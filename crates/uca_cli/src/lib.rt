@@ -20,7 +20,8 @@ pub use compare::{run_compare, run_compare_in};
 pub use faults::{FileFault, InputKind, Role, RunFault};
 pub use keys::{print_keys, run_keys, run_keys_in};
 pub use laws::{
-    canonically_equivalent_lines_have_one_key_line, key_order_is_one, line_keys_compare_as_lines,
+    canonically_equivalent_lines_have_one_key_line, identical_line_keys_are_of_equivalent_lines,
+    key_order_is_one, line_keys_compare_as_lines,
 };
 pub use reporting::report;
 pub use sort::{run_sort, run_sort_in, sort_lines};

@@ -4,7 +4,7 @@ ghost use Rattle.std.specs.Prelude.{◌≡◌, ◌≤◌, length};
 ghost use Rattle.std.specs.List.{flat_map};
 ghost use Rattle.uca_lines.specs.Handing.{HasRoom, Hands};
 ghost use Rattle.uca_cli.specs.Print;
-ghost use Rattle.uca_cli.specs.Print.{byte_digits, printed_groups, spaced_groups, identical_level, level_at, print_line_at};
+ghost use Rattle.uca_cli.specs.Print.{byte_digits, printed_groups, spaced_groups, identical_level, printed_behind, print_line_at};
 
 use std::io::Write;
 use uca_fields::hexadecimal_digit;
@@ -18,8 +18,8 @@ const PART: usize = 256;
 const GROUPS: usize = PART / 2;
 
 /// Hands over a key as a line: groups of two bytes as four upper-case hexadecimal digits, one space
-/// between two groups, and LF. At the depth `Identical` the code points of the text stand behind the key of its
-/// weights, after a group `0000`, as six digits each. It takes no memory. A fault says how many bytes went out of
+/// between two groups, and LF. The key is that of the weights alone; at the depth `Identical` the code points of the
+/// text follow, after a group `0000`, as six digits each. It takes no memory. A fault says how many bytes went out of
 /// all that was handed over.
 pub fn print_key<W: Write>(
     buffer: &mut OutputBuffer,
@@ -55,8 +55,8 @@ fn hand_level<W: Write>(
     depth: Depth,
     points: &[char],
 ) -> Result<(), WriteFault>
-    requires { HasRoom buffer.old (length (level_at depth points.now)) }
-    ensures { Hands (level_at depth points.now) buffer.old buffer.new out.old out.new result }
+    requires { HasRoom buffer.old (length (printed_behind depth points.now)) }
+    ensures { Hands (printed_behind depth points.now) buffer.old buffer.new out.old out.new result }
 {
     match depth {
         Depth::Weights => Ok(()),

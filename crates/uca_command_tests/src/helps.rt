@@ -71,8 +71,8 @@ const KEYS: &str =
 
 const SORT: &str =
     "Sorts the lines of standard input by their sort keys. Lines of equal keys keep their order.\n\
-    With `--identical` lines that weigh the same but differ in Normalization Form D get a fixed order,\n\
-    that of its code points, so that a sorted file is the same each time.\n\
+    With `--identical` lines that weigh the same stand in the order of their code points, and only lines\n\
+    that are canonically equivalent still stand as in the input: so a sorted file is the same each time.\n\
     \n\
     Usage: uca sort [OPTIONS] <TABLE> <DATA>\n\
     \n\

@@ -9,9 +9,10 @@ use Rattle.uca_values.specs.Content.{Entry, AreRows}
 use Rattle.uca_text.specs.Texts.{Spelled, AreCanonicallyEquivalent, spelled}
 use Rattle.uca_text.specs.Limits.{IsAccepted}
 use Rattle.uca_match.specs.Rows.{Rows, rows_of}
-use Rattle.uca_match.specs.Collations.{Collation}
+use Rattle.uca_match.specs.Collations.{Collation, elements_of}
 use Rattle.uca_key.specs.Levels.{Comparison, is_completely_ignorable, level_count, dictionary, compared, key_bytes}
 use Rattle.uca_key.specs.Depths.{ReadText, read_text, levels_at, compared_at, key_at}
+use Rattle.uca_key.specs.Fetched.{fetched_left, fetched_right}
 use Rattle.uca_key.specs.StoredKeys.{stored_level}
 use Rattle.uca_key.specs.Lengths.{HasShortRows}
 
@@ -36,8 +37,8 @@ StoredKeysCompareAsElements = (weighting : Weighting) (left right : List Element
     (dictionary (key_bytes weighting left) (key_bytes weighting right) ≡ (compared weighting left right).order)
     × (stored_level (level_count weighting) (key_bytes weighting left) (key_bytes weighting right) ≡ (compared weighting left right).level)
 
--- The keys of two texts compare as the texts do at their depth, and so do their stored keys, which are equal exactly where
--- no level differs.
+-- The keys of two texts give the order of the texts and the level at which they differ, by their bytes alone, at either depth,
+-- and are equal exactly where no level differs.
 pub record KeysCompareAsTexts : Type 0 where
   pub order : (depth : Depth) (weighting : Weighting) (left right : ReadText) →
       dictionary (key_at depth weighting left) (key_at depth weighting right) ≡ (compared_at depth weighting left right).order
@@ -46,7 +47,7 @@ pub record KeysCompareAsTexts : Type 0 where
   pub equal : (depth : Depth) (weighting : Weighting) (left right : ReadText) →
       (key_at depth weighting left ≡ key_at depth weighting right) ↔ ((compared_at depth weighting left right).level ≡ 0)
 
--- So do the stored keys of two texts that are given as their code points before normalization.
+-- The same of two texts that are given as their code points before normalization.
 abbrev pub StoredKeysCompareAsTexts : Type 0
 StoredKeysCompareAsTexts = (c : Collation) (depth : Depth) (weighting : Weighting) (left right : List ℕ) →
     let left_key = text_key c depth weighting left in
@@ -59,7 +60,7 @@ abbrev pub CanonicallyEquivalentTextsHaveEqualKeys : Type 0
 CanonicallyEquivalentTextsHaveEqualKeys = (c : Collation) (depth : Depth) (weighting : Weighting) (left right : List ℕ) →
     AreCanonicallyEquivalent left right → text_key c depth weighting left ≡ text_key c depth weighting right
 
--- With an identical level no other texts have.
+-- With an identical level texts that are not canonically equivalent have different keys.
 abbrev pub IdenticalKeysAreOfEquivalentTexts : Type 0
 IdenticalKeysAreOfEquivalentTexts = (c : Collation) (weighting : Weighting) (left right : List ℕ) →
     text_key c Identical weighting left ≡ text_key c Identical weighting right → AreCanonicallyEquivalent left right
@@ -68,6 +69,12 @@ IdenticalKeysAreOfEquivalentTexts = (c : Collation) (weighting : Weighting) (lef
 abbrev pub KeysAreShort : Type 0
 KeysAreShort = (c : Collation) (depth : Depth) (weighting : Weighting) (text : Spelled) →
     HasShortRows c.rows → IsAccepted text → length (key_at depth weighting (read_text c text)) < 2 ^ 40
+
+-- The counts of a comparison are far below 2^64 then.
+abbrev pub CountsAreExact : Type 0
+CountsAreExact = (c : Collation) (weighting : Weighting) (left right : Spelled) → HasShortRows c.rows → IsAccepted left → IsAccepted right →
+    (fetched_left weighting (elements_of c left) (elements_of c right) < 2 ^ 64)
+    × (fetched_right weighting (elements_of c left) (elements_of c right) < 2 ^ 64)
 
 -- The rows of a table are short, under any lookup that finds them.
 abbrev pub RowsAreShort : Type 0

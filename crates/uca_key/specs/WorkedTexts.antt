@@ -16,31 +16,31 @@ abbrev pub small_text : List ℕ → ReadText
 small_text points = record { elements = elements_under small_rows points; points = points }
 
 -- two such texts compare so
-abbrev pub CompareSo : Depth → Weighting → List ℕ → List ℕ → Ordering → ℕ → Type 0
-CompareSo depth weighting left right order level = compared_at depth weighting (small_text left) (small_text right) ≡ record { order = order; level = level }
+abbrev pub ComparesAs : Depth → Weighting → List ℕ → List ℕ → Ordering → ℕ → Type 0
+ComparesAs depth weighting left right order level = compared_at depth weighting (small_text left) (small_text right) ≡ record { order = order; level = level }
 
 -- and at level 1 so many of their elements are fetched
-abbrev pub FetchSo : Weighting → List ℕ → List ℕ → ℕ → ℕ → Type 0
-FetchSo weighting left right f g =
+abbrev pub Fetches : Weighting → List ℕ → List ℕ → ℕ → ℕ → Type 0
+Fetches weighting left right f g =
     (fetched_left weighting (elements_under small_rows left) (elements_under small_rows right) ≡ f)
     × (fetched_right weighting (elements_under small_rows left) (elements_under small_rows right) ≡ g)
 
 pub record WorkedTexts : Type 0 where
   -- `Aa` and `ab`, `ba` and `ab`: the first letters decide, or the next ones
-  pub second_letter : CompareSo Weights NonIgnorable (0x41 ∷ 0x61 ∷ []) (0x61 ∷ 0x62 ∷ []) Less 1 × FetchSo NonIgnorable (0x41 ∷ 0x61 ∷ []) (0x61 ∷ 0x62 ∷ []) 2 2
-  pub first_letter : CompareSo Weights NonIgnorable (0x62 ∷ 0x61 ∷ []) (0x61 ∷ 0x62 ∷ []) Greater 1 × FetchSo NonIgnorable (0x62 ∷ 0x61 ∷ []) (0x61 ∷ 0x62 ∷ []) 1 1
+  pub second_letter : ComparesAs Weights NonIgnorable (0x41 ∷ 0x61 ∷ []) (0x61 ∷ 0x62 ∷ []) Less 1 × Fetches NonIgnorable (0x41 ∷ 0x61 ∷ []) (0x61 ∷ 0x62 ∷ []) 2 2
+  pub first_letter : ComparesAs Weights NonIgnorable (0x62 ∷ 0x61 ∷ []) (0x61 ∷ 0x62 ∷ []) Greater 1 × Fetches NonIgnorable (0x62 ∷ 0x61 ∷ []) (0x61 ∷ 0x62 ∷ []) 1 1
   -- one text has no letter, or its letters are equal: all of its elements are fetched
-  pub nothing : CompareSo Weights NonIgnorable [] (0x61 ∷ []) Less 1 × FetchSo NonIgnorable [] (0x61 ∷ []) 0 1
-  pub accent : CompareSo Weights NonIgnorable (0x61 ∷ 0x301 ∷ []) (0x61 ∷ []) Greater 2 × FetchSo NonIgnorable (0x61 ∷ 0x301 ∷ []) (0x61 ∷ []) 2 1
-  pub han : CompareSo Weights NonIgnorable (0x4E00 ∷ []) (0x4E01 ∷ []) Less 1 × FetchSo NonIgnorable (0x4E00 ∷ []) (0x4E01 ∷ []) 2 2
+  pub nothing : ComparesAs Weights NonIgnorable [] (0x61 ∷ []) Less 1 × Fetches NonIgnorable [] (0x61 ∷ []) 0 1
+  pub accent : ComparesAs Weights NonIgnorable (0x61 ∷ 0x301 ∷ []) (0x61 ∷ []) Greater 2 × Fetches NonIgnorable (0x61 ∷ 0x301 ∷ []) (0x61 ∷ []) 2 1
+  pub han : ComparesAs Weights NonIgnorable (0x4E00 ∷ []) (0x4E01 ∷ []) Less 1 × Fetches NonIgnorable (0x4E00 ∷ []) (0x4E01 ∷ []) 2 2
   -- elements without a weight at level 1 are counted
-  pub accent_first : CompareSo Weights NonIgnorable (0x301 ∷ 0x61 ∷ []) (0x62 ∷ []) Less 1 × FetchSo NonIgnorable (0x301 ∷ 0x61 ∷ []) (0x62 ∷ []) 2 1
-  pub space_first : CompareSo Weights Shifted (0x20 ∷ 0x61 ∷ []) (0x62 ∷ []) Less 1 × FetchSo Shifted (0x20 ∷ 0x61 ∷ []) (0x62 ∷ []) 2 1
-  pub space : CompareSo Weights Shifted (0x61 ∷ 0x20 ∷ 0x62 ∷ []) (0x61 ∷ 0x62 ∷ []) Less 4 × FetchSo Shifted (0x61 ∷ 0x20 ∷ 0x62 ∷ []) (0x61 ∷ 0x62 ∷ []) 3 2
+  pub accent_first : ComparesAs Weights NonIgnorable (0x301 ∷ 0x61 ∷ []) (0x62 ∷ []) Less 1 × Fetches NonIgnorable (0x301 ∷ 0x61 ∷ []) (0x62 ∷ []) 2 1
+  pub space_first : ComparesAs Weights Shifted (0x20 ∷ 0x61 ∷ []) (0x62 ∷ []) Less 1 × Fetches Shifted (0x20 ∷ 0x61 ∷ []) (0x62 ∷ []) 2 1
+  pub space : ComparesAs Weights Shifted (0x61 ∷ 0x20 ∷ 0x62 ∷ []) (0x61 ∷ 0x62 ∷ []) Less 4 × Fetches Shifted (0x61 ∷ 0x20 ∷ 0x62 ∷ []) (0x61 ∷ 0x62 ∷ []) 3 2
   -- with an identical level
-  pub further : CompareSo Identical Shifted (0x20 ∷ 0x301 ∷ []) (0x20 ∷ []) Greater 5
-  pub not_needed : CompareSo Identical NonIgnorable (0x61 ∷ []) (0x62 ∷ []) Less 1
-  pub same : CompareSo Identical NonIgnorable (0x61 ∷ []) (0x61 ∷ []) Equal 0
+  pub further : ComparesAs Identical Shifted (0x20 ∷ 0x301 ∷ []) (0x20 ∷ []) Greater 5
+  pub not_needed : ComparesAs Identical NonIgnorable (0x61 ∷ []) (0x62 ∷ []) Less 1
+  pub same : ComparesAs Identical NonIgnorable (0x61 ∷ []) (0x61 ∷ []) Equal 0
   pub letter : key_at Identical NonIgnorable (small_text (0x61 ∷ [])) ≡ level_bytes (0x1C47 ∷ 0 ∷ 0x20 ∷ 0 ∷ 2 ∷ 0 ∷ []) ++ (0 ∷ 0 ∷ 0x61 ∷ [])
   pub letter_with_accent : key_at Identical NonIgnorable (small_text (0x61 ∷ 0x301 ∷ []))
       ≡ level_bytes (0x1C47 ∷ 0 ∷ 0x20 ∷ 0x24 ∷ 0 ∷ 2 ∷ 2 ∷ 0 ∷ []) ++ (0 ∷ 0 ∷ 0x61 ∷ 0 ∷ 3 ∷ 1 ∷ [])

@@ -1,12 +1,10 @@
 //! How two texts compare, without keys.
 
-ghost use Rattle.std.specs.Prelude.{◌≡◌, ◌≤◌, false};
+ghost use Rattle.std.specs.Prelude.{◌≡◌, ◌≤◌, ◌-◌, ◌^◌, false, min};
 ghost use Rattle.uca_match.specs.Collations.{collation_of, elements_of};
-ghost use Rattle.uca_key.specs.Levels;
-ghost use Rattle.uca_key.specs.Levels.{dictionary, compare_from, compared, level_list, weighted};
+ghost use Rattle.uca_key.specs.Levels.{dictionary, level_list, weighted};
 ghost use Rattle.uca_key.specs.Depths.{read_text, compared_at};
 ghost use Rattle.uca_key.specs.Fetched.{shared_length, length_to, fetched_left, fetched_right};
-ghost use Rattle.uca_key.specs.Lengths.{HasShortRows};
 ghost use Rattle.uca_key.specs.LevelWalks.{WalkState, weights_left, non_zero, first_weight, behind_first, counted, compared_from};
 
 use crate::stored::level_count;
@@ -160,9 +158,11 @@ fn later_levels<'a, L: Lookup, A: Allocator>(
 /// behind all levels by their code points in Normalization Form D. These are the order and the level of
 /// [`compare_keys`](crate::compare_keys) for the keys of the two texts.
 ///
-/// No key is made: each level reads both texts once more, as far as the first weight that differs. It takes no memory.
+/// No key is made: each level reads both texts from their start, as far as the first weight that differs. It takes no
+/// memory.
 ///
-/// The counts are those of level 1, under rows of at most 32 elements, as every table has them.
+/// The counts are those of level 1, but at most `u64::MAX`. Under rows of at most 32 elements, as every table has them,
+/// no text has so many elements ([`counts_are_exact`](crate::laws::counts_are_exact)).
 pub fn compare<'a, L: Lookup, A: Allocator>(
     collator: &'a Collator<'a, L, A>,
     weighting: Weighting,
@@ -173,13 +173,11 @@ pub fn compare<'a, L: Lookup, A: Allocator>(
     ensures compared { let c = collation_of L.content collator.now in
         let answer = compared_at depth weighting (read_text c left.now) (read_text c right.now) in
         (result.order ≡ answer.order) × (result.level ≡ answer.level) }
-    ensures fetched { let c = collation_of L.content collator.now in HasShortRows c.rows →
-        (result.fetched_left ≡ fetched_left weighting (elements_of c left.now) (elements_of c right.now))
-        × (result.fetched_right ≡ fetched_right weighting (elements_of c left.now) (elements_of c right.now)) }
+    ensures fetched_left { let c = collation_of L.content collator.now in
+        result.fetched_left ≡ min (2 ^ 64 - 1) (fetched_left weighting (elements_of c left.now) (elements_of c right.now)) }
+    ensures fetched_right { let c = collation_of L.content collator.now in
+        result.fetched_right ≡ min (2 ^ 64 - 1) (fetched_right weighting (elements_of c left.now) (elements_of c right.now)) }
 {
-    // The texts keep the limits of `Normal`, so their elements can be counted.
-    let _ = left.chars();
-    let _ = right.chars();
     let mut left_walk = LevelWalk::new(collator, left);
     let mut right_walk = LevelWalk::new(collator, right);
     let primary = compare_level(weighting, 1, &mut left_walk, &mut right_walk);

@@ -1,6 +1,6 @@
 //! What holds of the keys of all texts. The functions do nothing: their contracts are the laws.
 
-ghost use Rattle.uca_key.specs.Laws.{KeysCompareAsElements, CanonicallyEquivalentTextsHaveEqualKeys, KeysAreShort, RowsAreShort, FindsCompletelyIgnorable, StoredKeysCompareAsElements, KeysCompareAsTexts, StoredKeysCompareAsTexts, IdenticalKeysAreOfEquivalentTexts};
+ghost use Rattle.uca_key.specs.Laws.{KeysCompareAsElements, CanonicallyEquivalentTextsHaveEqualKeys, KeysAreShort, RowsAreShort, FindsCompletelyIgnorable, StoredKeysCompareAsElements, KeysCompareAsTexts, StoredKeysCompareAsTexts, IdenticalKeysAreOfEquivalentTexts, CountsAreExact};
 ghost use Rattle.uca_key.specs.StreamedWeights.{WeightsMayBeStreamed};
 ghost use Rattle.uca_key.specs.WorkedKeys.{WorkedKeys};
 ghost use Rattle.uca_key.specs.WorkedComparisons.{WorkedComparisons};
@@ -26,7 +26,8 @@ pub fn keys_compare_as_texts()
     ensures { KeysCompareAsTexts }
 {}
 
-/// So do the stored keys of two texts that are given before normalization, under any table.
+/// Two stored keys of one weighting and one depth give the order of their texts, which are given before normalization, and
+/// the level at which they differ, under any table.
 pub fn stored_keys_compare_as_texts()
     ensures { StoredKeysCompareAsTexts }
 {}
@@ -36,7 +37,7 @@ pub fn canonically_equivalent_texts_have_equal_keys()
     ensures { CanonicallyEquivalentTextsHaveEqualKeys }
 {}
 
-/// With an identical level no other texts have equal keys.
+/// With an identical level texts that are not canonically equivalent have different keys.
 pub fn identical_keys_are_of_equivalent_texts()
     ensures { IdenticalKeysAreOfEquivalentTexts }
 {}
@@ -45,6 +46,11 @@ pub fn identical_keys_are_of_equivalent_texts()
 /// elements.
 pub fn keys_are_short()
     ensures { KeysAreShort }
+{}
+
+/// Under the same rows the counts of [`compare`](crate::compare) are exact: they are far below 2^64.
+pub fn counts_are_exact()
+    ensures { CountsAreExact }
 {}
 
 /// No row of a table has more than 32 elements, also where a lookup finds it.

@@ -1,5 +1,6 @@
 //! Sort keys (UTS #10, section 7.3): the levels of the collation elements of a text, one after the other,
-//! as bytes that compare as the texts do, and how two stored keys compare.
+//! as bytes that compare as the texts do, with an identical level behind them or without; how two stored keys
+//! compare; and how two texts do, without keys.
 #![tactic(auto)]
 
 pub mod buffers;

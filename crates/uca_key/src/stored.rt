@@ -9,7 +9,8 @@ use crate::levels::SEPARATOR;
 use std::cmp::Ordering;
 use uca_weights::Weighting;
 
-/// How many levels a key has under the weighting (UTS #10, section 4): 3, and 4 under `Shifted`.
+/// How many levels of weights a key has under the weighting (UTS #10, section 4): 3, and 4 under `Shifted`. At the depth
+/// `Identical` a key has one level more.
 pub fn level_count(weighting: Weighting) -> u8
     ensures { result ≡ Levels.level_count weighting }
 {
@@ -24,9 +25,10 @@ pub fn level_count(weighting: Weighting) -> u8
 ///
 /// The order is that of the bytes, where a beginning is less. The level is one more than the groups `00 00`
 /// among the groups of two bytes before the first group that differs, or that one side is without; a last
-/// single byte is a group. So every two slices have an answer. For two keys of one weighting and its
-/// [`level_count`] these are the order and the level of multilevel comparison (UTS #10, section 1.1), as
-/// [`stored_keys_compare_as_elements`](crate::laws::stored_keys_compare_as_elements) says.
+/// single byte is a group. So every two slices have an answer. For two keys of one weighting and one
+/// depth, with as many levels as they have ([`level_count`], and one more at the depth `Identical`), these are the order and
+/// the level of multilevel comparison (UTS #10, section 1.1), as
+/// [`keys_compare_as_texts`](crate::laws::keys_compare_as_texts) says.
 #[tactic(auto, using(crate::proofs::StoredOrder::equal_level, crate::proofs::StoredOrder::differing_level))]
 pub fn compare_keys(left: &[u8], right: &[u8], levels: u8) -> (Ordering, u8)
     ensures order { result.0 ≡ dictionary left.now right.now }

@@ -1,5 +1,5 @@
-//! The words that every crate of `uca` shares: collation elements, the levels, strengths and
-//! weightings of UTS #10, and the streams that bytes come from and go to.
+//! The words that every crate of `uca` shares: collation elements, the levels, strengths,
+//! weightings and depths of UTS #10, and the streams that bytes come from and go to.
 #![tactic(auto)]
 
 ghost use Rattle.std.specs.Prelude.{◌≡◌, IfSome, IfNone};

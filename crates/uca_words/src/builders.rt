@@ -117,8 +117,8 @@ fn sort_command<'a>(alloc: Global) -> Result<Command<'a>, AllocError>
         "sort",
         "Sort the lines of standard input by their sort keys",
         "Sorts the lines of standard input by their sort keys. Lines of equal keys keep their order.\n\
-         With `--identical` lines that weigh the same but differ in Normalization Form D get a fixed order,\n\
-         that of its code points, so that a sorted file is the same each time.",
+         With `--identical` lines that weigh the same stand in the order of their code points, and only lines\n\
+         that are canonically equivalent still stand as in the input: so a sorted file is the same each time.",
         "Example: uca sort --weighting non-ignorable allkeys.txt data.txt < lines.txt",
     );
     take_options(alloc, sort)
