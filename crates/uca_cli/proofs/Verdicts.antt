@@ -13,7 +13,7 @@ use Rattle.uca_key.specs.Levels.{Comparison}
 use Rattle.uca_table.specs.Lines as tables
 use Rattle.uca_data.specs.Said as data_files
 use Rattle.uca_cli.specs.declared.faults.RunFault.{RunFault}
-use Rattle.uca_cli.specs.declared.faults.RunFault.TheVariants.{Write, Text, Memory}
+use Rattle.uca_cli.specs.declared.faults.RunFault.TheVariants.{File, Input, Write, Memory, Text, Open, Words}
 use Rattle.uca_cli.specs.declared.faults.Role.TheVariants as roles
 use Rattle.uca_cli.specs.Keys.{Keying, keying}
 use Rattle.uca_cli.specs.Laws.{texts_compared, lines_compared}
@@ -50,28 +50,15 @@ verdict_written table table_new properties properties_new out out_new content po
 
 -- ---- Compare
 
--- a word is refused
-pub left_refused : (asked : Option Weighting) (depth : Depth) (table table_new properties properties_new : SourceState) (left right : List ℕ) (out : SinkState) (content : TableContent) (points : Properties) (fault : RunFault)
-    → IfSome table.remaining (λ bytes. tables.Means bytes content) → IfSome properties.remaining (λ bytes. data_files.Means bytes points)
-    → RefusesWord points false left fault
-    → RunsOver {A = Unit {0}} table table_new properties properties_new (RunsCompare {A = Unit {0}} asked depth left right out out (Err fault)) (Err fault)
-left_refused asked depth table table_new properties properties_new left right out content points fault means_table means_data refuses =
-    subst (λ f. RunsOver {A = Unit {0}} table table_new properties properties_new (RunsCompare {A = Unit {0}} asked depth left right out out (Err f)) (Err f)) (sym refuses.1)
-    (runs_over_both {A = Unit {0}} table table_new properties properties_new (RunsCompare {A = Unit {0}} asked depth left right out out (Err (Text false refuses.0))) (Err (Text false refuses.0)) content points refl means_table means_data refuses.2)
+-- the left word is refused
+pub left_refused : (c : Keying) (left right : List ℕ) (begun : Option (List ℕ)) (fault : RunFault) → RefusesWord c.collation.properties false left fault
+    → WritesComparison {A = Unit {0}} c left right begun begun (Err fault)
+left_refused c left right begun fault refuses = subst (λ f. WritesComparison {A = Unit {0}} c left right begun begun (Err f)) (sym refuses.1) refuses.2
 
-pub right_refused : (asked : Option Weighting) (depth : Depth) (table table_new properties properties_new : SourceState) (left right : List ℕ) (out : SinkState) (content : TableContent) (points : Properties) (fault : RunFault)
-    → IfSome table.remaining (λ bytes. tables.Means bytes content) → IfSome properties.remaining (λ bytes. data_files.Means bytes points)
-    → IsWithinLimits points left → RefusesWord points true right fault
-    → RunsOver {A = Unit {0}} table table_new properties properties_new (RunsCompare {A = Unit {0}} asked depth left right out out (Err fault)) (Err fault)
-right_refused asked depth table table_new properties properties_new left right out content points fault means_table means_data within refuses =
-    subst (λ f. RunsOver {A = Unit {0}} table table_new properties properties_new (RunsCompare {A = Unit {0}} asked depth left right out out (Err f)) (Err f)) (sym refuses.1)
-    (runs_over_both {A = Unit {0}} table table_new properties properties_new (RunsCompare {A = Unit {0}} asked depth left right out out (Err (Text true refuses.0))) (Err (Text true refuses.0)) content points refl means_table means_data (within, refuses.2))
-
-pub no_comparison : (asked : Option Weighting) (depth : Depth) (table table_new properties properties_new : SourceState) (left right : List ℕ) (out : SinkState) (content : TableContent) (points : Properties)
-    → IfSome table.remaining (λ bytes. tables.Means bytes content) → IfSome properties.remaining (λ bytes. data_files.Means bytes points)
-    → RunsOver {A = Unit {0}} table table_new properties properties_new (RunsCompare {A = Unit {0}} asked depth left right out out (Err Memory)) (Err Memory)
-no_comparison asked depth table table_new properties properties_new left right out content points means_table means_data =
-    runs_over_both {A = Unit {0}} table table_new properties properties_new (RunsCompare {A = Unit {0}} asked depth left right out out (Err Memory)) (Err Memory) content points refl means_table means_data tt
+-- or the right one
+pub right_refused : (c : Keying) (left right : List ℕ) (begun : Option (List ℕ)) (fault : RunFault) → IsWithinLimits c.collation.properties left
+    → RefusesWord c.collation.properties true right fault → WritesComparison {A = Unit {0}} c left right begun begun (Err fault)
+right_refused c left right begun fault within refuses = subst (λ f. WritesComparison {A = Unit {0}} c left right begun begun (Err f)) (sym refuses.1) (within, refuses.2)
 
 -- the line was written or not
 was_written : (c : Keying) (left right : List ℕ) (begun now : Option (List ℕ)) (line : List ℕ) (result : Result (Unit {0}) RunFault) → IsWithinLimits c.collation.properties left → IsWithinLimits c.collation.properties right → line ≡ comparison_line (lines_compared c left right)
@@ -90,17 +77,35 @@ comparison_is c left right left_text right_text order level left_is right_is sam
     ∙ ap (λ t. texts_compared c t right_text) left_is ∙ ap (λ t. texts_compared c (spelled c.collation.properties (chars left)) t) right_is
 
 -- The texts were compared, and the line was written or not.
-pub comparison_written : (asked : Option Weighting) (depth : Depth) (table table_new properties properties_new : SourceState) (left right : List ℕ) (out out_new : SinkState) (content : TableContent) (points : Properties) (c : Keying) (left_text right_text : Spelled) (order : Ordering) (level : ℕ) (line : List ℕ) (result : Result (Unit {0}) RunFault)
-    → IfSome table.remaining (λ bytes. tables.Means bytes content) → IfSome properties.remaining (λ bytes. data_files.Means bytes points)
-    → c ≡ keying asked depth content points → left_text ≡ spelled c.collation.properties (chars left) → right_text ≡ spelled c.collation.properties (chars right) → IsAccepted left_text → IsAccepted right_text
+pub comparison_written : (c : Keying) (left right : List ℕ) (begun now : Option (List ℕ)) (left_text right_text : Spelled) (order : Ordering) (level : ℕ) (line : List ℕ) (result : Result (Unit {0}) RunFault)
+    → left_text ≡ spelled c.collation.properties (chars left) → right_text ≡ spelled c.collation.properties (chars right) → IsAccepted left_text → IsAccepted right_text
     → order ≡ (texts_compared c left_text right_text).order → level ≡ (texts_compared c left_text right_text).level → line ≡ comparison_line (comparison_of order level)
-    → is_file result ≡ false → OnOk result (Appends out.contents out_new.contents line) → IfErr result (FailsToWrite Write out.contents out_new.contents line)
-    → RunsOver table table_new properties properties_new (RunsCompare asked depth left right out out_new result) result
-comparison_written asked depth table table_new properties properties_new left right out out_new content points c left_text right_text order level line result means_table means_data same left_is right_is left_accepted right_accepted same_order same_level line_is no_file out_ok fails =
-    runs_over_both table table_new properties properties_new (RunsCompare asked depth left right out out_new result) result content points no_file means_table means_data
-    (subst (λ d. WritesComparison d left right out.contents out_new.contents result) same
-    (was_written c left right out.contents out_new.contents line result (subst IsAccepted left_is left_accepted) (subst IsAccepted right_is right_accepted)
-    (line_is ∙ ap comparison_line (comparison_is c left right left_text right_text order level left_is right_is same_order same_level)) out_ok fails))
+    → OnOk result (Appends begun now line) → IfErr result (FailsToWrite Write begun now line) → WritesComparison c left right begun now result
+comparison_written c left right begun now left_text right_text order level line result left_is right_is left_accepted right_accepted same_order same_level line_is out_ok fails =
+    was_written c left right begun now line result (subst IsAccepted left_is left_accepted) (subst IsAccepted right_is right_accepted)
+    (line_is ∙ ap comparison_line (comparison_is c left right left_text right_text order level left_is right_is same_order same_level)) out_ok fails
+
+-- a refused word is of no file, and nothing was written
+pub of_word : (points : Properties) (right : Bool) (text : List ℕ) (fault : RunFault) → RefusesWord points right text fault
+    → (is_file {A = Unit {0}} (Err fault) ≡ false) × (is_write {A = Unit {0}} (Err fault) ≡ false)
+of_word points right text fault refuses = rw refuses.1 (refl, refl)
+
+-- what is written of two texts is what a run answers of them
+pub run_compares : (asked : Option Weighting) (depth : Depth) (left right : List ℕ) (out out_new : SinkState) (content : TableContent) (points : Properties) (result : Result (Unit {0}) RunFault)
+    → WritesComparison (keying asked depth content points) left right out.contents out_new.contents result → RunsCompare asked depth left right out out_new result content points
+run_compares asked depth left right out out_new content points (Ok x) writes = writes
+run_compares asked depth left right out out_new content points (Err fault) writes = by_fault fault writes
+  where
+    by_fault : (fault : RunFault) → WritesComparison {A = Unit {0}} (keying asked depth content points) left right out.contents out_new.contents (Err fault)
+        → RunsCompare {A = Unit {0}} asked depth left right out out_new (Err fault) content points
+    by_fault (File role cause) writes = writes
+    by_fault (Input line kind) writes = writes
+    by_fault (Write written) writes = writes
+    by_fault Memory writes = absurd writes
+    by_fault (Text false cause) writes = writes
+    by_fault (Text true cause) writes = writes
+    by_fault (Open role) writes = writes
+    by_fault (Words cause) writes = writes
 
 -- ---- What has failed
 
@@ -113,22 +118,3 @@ failed_by_output table table_new properties properties_new out out_new result sa
   data_failed = same_data ∙ ap (λ b. properties.failed || b) (sym (no_file_read roles.Data result no_file));
   out_failed = same_out;
 }
-
--- by one that wrote nothing
-pub failed_before_output : {A : Type 0} (table table_new properties properties_new : SourceState) (out : SinkState) (result : Result A RunFault)
-    → table_new.failed ≡ (table.failed || false) → properties_new.failed ≡ (properties.failed || false) → is_file result ≡ false → is_write result ≡ false
-    → HaveFailed table table_new properties properties_new out out result
-failed_before_output table table_new properties properties_new out result same_table same_data no_file no_write =
-    failed_by_output table table_new properties properties_new out out result same_table same_data no_file (unchanged out.failed ∙ ap (λ b. out.failed || b) (sym no_write))
-  where
-    unchanged : (b : Bool) → b ≡ b || false
-    unchanged true = refl
-    unchanged false = refl
-
--- by one that refused a word
-pub failed_by_word : (table table_new properties properties_new : SourceState) (out : SinkState) (points : Properties) (right : Bool) (text : List ℕ) (fault : RunFault)
-    → table_new.failed ≡ (table.failed || false) → properties_new.failed ≡ (properties.failed || false) → RefusesWord points right text fault
-    → HaveFailed {A = Unit {0}} table table_new properties properties_new out out (Err fault)
-failed_by_word table table_new properties properties_new out points right text fault same_table same_data refuses =
-    subst (λ f. HaveFailed {A = Unit {0}} table table_new properties properties_new out out (Err f)) (sym refuses.1)
-    (failed_before_output {A = Unit {0}} table table_new properties properties_new out (Err (Text right refuses.0)) same_table same_data refl refl)

@@ -1,5 +1,5 @@
 -- What a run of compare answers and writes.
-use Rattle.std.specs.Prelude.{◌≡◌, ℕ, ◌+◌, List, [], ◌∷◌, Bool, true, false, Option, Result, Ok, Err, chars, ⊤}
+use Rattle.std.specs.Prelude.{◌≡◌, ℕ, ◌+◌, List, [], ◌∷◌, Bool, true, false, Option, Result, Ok, Err, chars}
 use Rattle.std.specs.declared.cmp.Ordering.{Ordering}
 use Rattle.std.specs.declared.cmp.Ordering.TheVariants.{Less, Equal, Greater}
 use Rattle.std.specs.Io.KnownBytes.{Appends}
@@ -43,9 +43,10 @@ WritesComparison c left right begun now (Ok x) = IsWithinLimits c.collation.prop
 WritesComparison c left right begun now (Err (Text false fault)) = IsCause (spelled c.collation.properties (chars left)) fault
 WritesComparison c left right begun now (Err (Text true fault)) = IsWithinLimits c.collation.properties left × IsCause (spelled c.collation.properties (chars right)) fault
 WritesComparison c left right begun now (Err (Write written)) = IsWithinLimits c.collation.properties left × IsWithinLimits c.collation.properties right × WentOut begun now (comparison_line (lines_compared c left right)) written
-WritesComparison c left right begun now (Err Memory) = ⊤
 WritesComparison c left right begun now (Err _) = ⊥
 
--- what a run of compare answers under a table and properties
+-- What a run of compare answers under a table and properties. A growth that was refused for looking up rows says nothing of
+-- the texts, and nothing was written.
 abbrev pub RunsCompare : {A : Type 0} → Option Weighting → Depth → List ℕ → List ℕ → SinkState → SinkState → Result A RunFault → TableContent → Properties → Type 0
+RunsCompare asked depth left right out out_new (Err Memory) table properties = out_new ≡ out
 RunsCompare asked depth left right out out_new result table properties = WritesComparison (keying asked depth table properties) left right out.contents out_new.contents result

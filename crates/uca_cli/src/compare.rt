@@ -1,11 +1,12 @@
 //! The run that compares two texts.
 
-ghost use Rattle.std.specs.Prelude.{◌≡◌, ◌≤◌, true, chars, IfOk, IfErr};
+ghost use Rattle.std.specs.Prelude.{◌≡◌, ◌≤◌, ◌||◌, true, false, chars, IfOk, IfErr};
 ghost use Rattle.uca_values.specs.Content.{properties_of};
 ghost use Rattle.uca_text.specs.Texts.{spelled};
 ghost use Rattle.uca_text.specs.Limits.{IsAccepted};
-ghost use Rattle.uca_cli.specs.Runs.{is_before_output, HaveFailed, RunsOver};
-ghost use Rattle.uca_cli.specs.CompareRun.{comparison_line, RefusesWord, RunsCompare};
+ghost use Rattle.uca_cli.specs.Keys.{keying_of};
+ghost use Rattle.uca_cli.specs.Runs.{is_before_output, is_file, is_write, HaveFailed, RunsOver};
+ghost use Rattle.uca_cli.specs.CompareRun.{comparison_line, RefusesWord, WritesComparison, RunsCompare};
 
 use crate::faults::RunFault;
 use crate::files::{chosen_weighting, read_files, rows_of_table};
@@ -14,10 +15,38 @@ use std::alloc::{Allocator, Global};
 use std::cmp::Ordering;
 use std::io::{Read, Write};
 use uca_key::{Compared, compare};
-use uca_match::Collator;
+use uca_match::{Collator, Lookup};
 use uca_text::{Normal, normal};
 use uca_values::Data;
 use uca_weights::{Depth, Sink, Source, Weighting};
+
+/// Compares two texts, and writes a line: `<`, `=` or `>`, one space, and the level at which they differ, 0 where none
+/// does. The texts are in `global` while they are compared; no key is made.
+///
+/// # Errors
+///
+/// `Text` where the left text, or else the right one, is refused: nothing was written. `Write` where the writer failed:
+/// the first `written` bytes of the line went out.
+pub fn compare_words<L: Lookup, A: Allocator, W: Write>(
+    global: Global,
+    collator: &Collator<L, A>,
+    weighting: Weighting,
+    depth: Depth,
+    left: &str,
+    right: &str,
+    out: &mut Sink<W>,
+) -> Result<(), RunFault>
+    ensures writes { WritesComparison (keying_of L.content collator.now weighting depth) left.now right.now out.old.contents out.new.contents result }
+    ensures of_texts { is_file result ≡ false }
+    ensures nothing_written { is_before_output result ≡ true → out.new ≡ out.old }
+    ensures out_failed { out.new.failed ≡ (out.old.failed || is_write result) }
+{
+    let left = text_of(global, left, false, collator.data)?;
+    let right = text_of(global, right, true, collator.data)?;
+    let collator = *collator;
+    let compared = compare(&collator, weighting, depth, &left, &right);
+    write_text(&line_of(compared), out)
+}
 
 /// Compares two texts under the table and the data file that are read first, by the weighting that is
 /// asked for, or else that of the table's `@variable`, or else shifted (UTS #10, section 4), and writes a
@@ -75,13 +104,12 @@ pub fn run_compare_in<A: Allocator + Copy, T: Read, D: Read, W: Write>(
 {
     let files = read_files(alloc, table, properties)?;
     let rows = rows_of_table(alloc, &files.table)?;
-    let left = text_of(global, left, false, &files.properties)?;
-    let right = text_of(global, right, true, &files.properties)?;
     let header = &files.table.header;
     let collator = Collator::new(&rows, header, &files.properties);
     let weighting = chosen_weighting(weighting, header);
-    let compared = compare(&collator, weighting, depth, &left, &right);
-    write_text(&line_of(compared), out)
+    compare_words(
+        global, &collator, weighting, depth, left, right, out,
+    )
 }
 
 // The text of a word, which is the right one of the two or the left one.

@@ -16,7 +16,7 @@ pub mod sort;
 
 pub use check::run_check;
 pub use command::{OpenFault, Opens, run_command};
-pub use compare::{run_compare, run_compare_in};
+pub use compare::{compare_words, run_compare, run_compare_in};
 pub use faults::{FileFault, InputKind, Role, RunFault};
 pub use keys::{print_keys, run_keys, run_keys_in};
 pub use laws::{

@@ -5,7 +5,8 @@ pub mod Equivalence
 pub mod WeightLemmas
 pub mod BufferLemmas
 pub mod KeyLength
-pub mod WalkLemmas
+pub mod FrontLemmas
+pub mod WalkSteps
 pub mod LevelSteps
 pub mod FetchedLemmas
 pub mod DepthOrder

@@ -5,7 +5,9 @@ pub mod Laws
 pub mod StreamedWeights
 pub mod Buffers
 pub mod LevelBuffers
-pub mod LevelWalks
+pub mod Comparisons
+pub mod Fronts
+pub mod Walks
 pub mod StoredKeys
 pub mod Lengths
 pub mod WorkedKeys

@@ -20,8 +20,7 @@ pub fn stored_keys_compare_as_elements()
 {}
 
 /// The keys of two texts compare as the texts do, at either depth: what [`compare`](crate::compare) answers of two texts
-/// is what [`compare_keys`](crate::compare_keys) answers of their keys, with [`level_count`](crate::level_count) levels,
-/// and one more at the depth `Identical`.
+/// is what [`compare_keys`](crate::compare_keys) answers of their keys, with [`level_count`](crate::level_count) levels.
 pub fn keys_compare_as_texts()
     ensures { KeysCompareAsTexts }
 {}

@@ -5,10 +5,12 @@
 
 pub mod buffers;
 pub mod comparison;
+mod fronts;
 pub mod keys;
 pub mod laws;
 mod levels;
 pub mod stored;
+mod walks;
 pub mod weighting;
 
 pub use buffers::KeyBuffer;

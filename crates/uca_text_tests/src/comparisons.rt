@@ -19,12 +19,9 @@ fn check_by_keys<L: Lookup>(
     (left, right): (&Normal, &Normal),
     wanted: &str,
 ) -> Result<(), Fail> {
-    let levels = match depth {
-        Depth::Weights => level_count(weighting),
-        Depth::Identical => level_count(weighting) + 1,
-    };
     let left = key(alloc, collator, weighting, depth, left)?;
     let right = key(alloc, collator, weighting, depth, right)?;
+    let levels = level_count(weighting, depth);
     check_order(alloc, &left, &right, levels, wanted)
 }
 

@@ -7,6 +7,7 @@ use std::cmp::Ordering;
 use std::cmp::Ordering::Greater;
 use std::test::Fail;
 use uca_key::{compare_keys, key_of, level_count};
+use uca_weights::Depth::{Identical, Weights};
 use uca_weights::Weighting;
 use uca_weights::Weighting::{NonIgnorable, Shifted};
 
@@ -83,8 +84,8 @@ fn stored_keys_and_other_slices(rt: HostRuntime) -> Result<(), Fail> {
 
 #[test]
 fn levels() -> Result<(), Fail> {
-    holds(level_count(NonIgnorable) == 3, "three levels")?;
-    holds(level_count(Shifted) == 4, "four levels")?;
+    holds(level_count(NonIgnorable, Weights) == 3, "three levels")?;
+    holds(level_count(Shifted, Identical) == 5, "five levels")?;
     let zeros = [0; 600];
     let all = compare_keys(&zeros, &zeros[..598], 255);
     holds(all == (Greater, 255), "as many levels as there can be")?;
@@ -104,7 +105,7 @@ fn check_written(
     let right = elements_of(alloc, right)?;
     let left = key_of(alloc, weighting, left.iter().copied())?;
     let right = key_of(alloc, weighting, right.iter().copied())?;
-    check_order(alloc, &left, &right, level_count(weighting), wanted)
+    check_order(alloc, &left, &right, level_count(weighting, Weights), wanted)
 }
 
 /// Two lists of elements, and how their keys compare under both weightings.

@@ -169,8 +169,7 @@ impl<'a> Library<'a> {
     ) -> Option<Vec<u8>> {
         let left = self.key(weighting, depth, left)?;
         let right = self.key(weighting, depth, right)?;
-        let more = u8::from(depth == Depth::Identical);
-        let levels = level_count(weighting).saturating_add(more);
+        let levels = level_count(weighting, depth);
         let (order, level) = compare_keys(&left, &right, levels);
         let sign = match order {
             Ordering::Less => '<',

@@ -1,0 +1,220 @@
+-- The weights of two texts from the fronts of a comparison on.
+use Rattle.std.proofs.Common.{◌≡◌, ◌≢◌, ℕ, zero, suc, ◌<◌, ◌≤◌, List, [], ◌∷◌, length, Bool, true, false, nat_eq, refl, ap, arith, sym, ◌∙◌, eq-eqb, ◌-◌, slice_index_or}
+use Rattle.std.proofs.lemmas.Bool.{eqb-true, ne_eqb}
+use Rattle.std.specs.Ordering.{nat_cmp, ordering_then}
+use Rattle.std.specs.declared.cmp.Ordering.{Ordering}
+use Rattle.std.specs.declared.cmp.Ordering.TheVariants.{Equal}
+use Rattle.std.proofs.lemmas.Cmp.{ranked, by_ranked}
+use Rattle.uca_weights.specs.declared.Weighting.{Weighting}
+use Rattle.uca_key.specs.Levels.{dictionary, weight_at}
+use Rattle.uca_key.specs.Fetched.{length_to, shared_length}
+use Rattle.uca_key.specs.Fronts.{FrontState, IsFront, weights_left, behind, counted, fetched}
+use Rattle.uca_key.specs.Walks.{non_zero, GoOn}
+use Rattle.uca_key.proofs.KeyOrder.{cmp_less, cmp_equal, cmp_greater}
+
+-- ---- Counting
+
+counted_one : (count n : ℕ) → counted count (suc n) ≡ counted (counted count 1) n
+counted_one count zero = refl
+counted_one count (suc n) = omega arith
+
+-- ---- One list of weights
+
+-- its first weight; 0 where there is none
+abbrev pub first_of : List ℕ → ℕ
+first_of [] = 0
+first_of (w ∷ ws) = w
+
+-- a count with the first
+abbrev pub with_first : List ℕ → ℕ → ℕ
+with_first [] count = count
+with_first (w ∷ ws) count = counted count 1
+
+-- the first is 0: it is not in the list of the level
+pub zero_list : (ws : List ℕ) → first_of ws ≡ 0 → non_zero ws ≡ non_zero (behind ws)
+zero_list [] none = refl
+zero_list (w ∷ ws) none = rw (eq-eqb w 0 none) refl
+
+zero_step : (place w : ℕ) (ws : List ℕ) → nat_eq w 0 ≡ true → length_to place (w ∷ ws) ≡ suc (length_to place ws)
+zero_step zero w ws none = rw none refl
+zero_step (suc place) w ws none = rw none refl
+
+pub zero_count : (place count : ℕ) (ws : List ℕ) → first_of ws ≡ 0 → counted count (length_to place ws) ≡ counted (with_first ws count) (length_to place (behind ws))
+zero_count place count [] none = refl
+zero_count place count (w ∷ ws) none = ap (counted count) (zero_step place w ws (eq-eqb w 0 none)) ∙ counted_one count (length_to place ws)
+
+-- it is not 0: it comes first
+pub some_list : (ws : List ℕ) → first_of ws ≢ 0 → non_zero ws ≡ first_of ws ∷ non_zero (behind ws)
+some_list [] some = absurd (some refl)
+some_list (w ∷ ws) some = rw (ne_eqb w 0 some) refl
+
+pub some_count : (place count : ℕ) (ws : List ℕ) → first_of ws ≢ 0 → counted count (length_to (suc place) ws) ≡ counted (with_first ws count) (length_to place (behind ws))
+some_count place count [] some = absurd (some refl)
+some_count place count (w ∷ ws) some =
+    let one : length_to (suc place) (w ∷ ws) ≡ suc (length_to place ws) = rw (ne_eqb w 0 some) refl in
+    ap (counted count) one ∙ counted_one count (length_to place ws)
+
+-- and a difference there is reached with it
+pub some_here : (count : ℕ) (ws : List ℕ) → first_of ws ≢ 0 → counted count (length_to 0 ws) ≡ with_first ws count
+some_here count [] some = absurd (some refl)
+some_here count (w ∷ ws) some = rw (ne_eqb w 0 some) refl
+
+-- ---- Two lists
+
+-- the place at which they differ first
+abbrev place_of : List ℕ → List ℕ → ℕ
+place_of vs ws = shared_length (non_zero vs) (non_zero ws)
+
+-- the left one alone goes on behind a 0
+pub left_on : (vs ws : List ℕ) (f g : ℕ) (order : Ordering) (m n : ℕ) → first_of vs ≡ 0 → GoOn vs ws f g order m n → GoOn (behind vs) ws (with_first vs f) g order m n
+left_on vs ws f g order m n none on =
+    let same = zero_list vs none in
+    let place : place_of vs ws ≡ place_of (behind vs) ws = ap (λ l. shared_length l (non_zero ws)) same in
+    record {
+      compares = ap (λ l. dictionary l (non_zero ws)) (sym same) ∙ on.compares;
+      fetches_left = sym (zero_count (place_of (behind vs) ws) f vs none) ∙ ap (λ p. counted f (length_to p vs)) (sym place) ∙ on.fetches_left;
+      fetches_right = ap (λ p. counted g (length_to p ws)) (sym place) ∙ on.fetches_right;
+    }
+
+pub right_on : (vs ws : List ℕ) (f g : ℕ) (order : Ordering) (m n : ℕ) → first_of ws ≡ 0 → GoOn vs ws f g order m n → GoOn vs (behind ws) f (with_first ws g) order m n
+right_on vs ws f g order m n none on =
+    let same = zero_list ws none in
+    let place : place_of vs ws ≡ place_of vs (behind ws) = ap (shared_length (non_zero vs)) same in
+    record {
+      compares = ap (dictionary (non_zero vs)) (sym same) ∙ on.compares;
+      fetches_left = ap (λ p. counted f (length_to p vs)) (sym place) ∙ on.fetches_left;
+      fetches_right = sym (zero_count (place_of vs (behind ws)) g ws none) ∙ ap (λ p. counted g (length_to p ws)) (sym place) ∙ on.fetches_right;
+    }
+
+-- both go on behind a weight that is not 0
+some_on : (vs ws : List ℕ) (f g : ℕ) (order : Ordering) (m n : ℕ) → first_of vs ≢ 0 → first_of vs ≡ first_of ws → GoOn vs ws f g order m n
+    → GoOn (behind vs) (behind ws) (with_first vs f) (with_first ws g) order m n
+some_on vs ws f g order m n some same on =
+    let more : first_of ws ≢ 0 = λ e. some (same ∙ e) in
+    let left = some_list vs some in
+    let right = some_list ws more in
+    let rest = place_of (behind vs) (behind ws) in
+    let is : nat_eq (first_of vs) (first_of ws) ≡ true = eq-eqb (first_of vs) (first_of ws) same in
+    let place : place_of vs ws ≡ suc rest =
+    ap (λ l. shared_length l (non_zero ws)) left ∙ ap (shared_length (first_of vs ∷ non_zero (behind vs))) right ∙ rw is refl in
+    record {
+      compares = sym (ap (λ l. dictionary l (non_zero ws)) left
+          ∙ ap (dictionary (first_of vs ∷ non_zero (behind vs))) right
+          ∙ ap (λ o. ordering_then o (dictionary (non_zero (behind vs)) (non_zero (behind ws)))) (cmp_equal (first_of vs) (first_of ws) same)) ∙ on.compares;
+      fetches_left = sym (some_count rest f vs some) ∙ ap (λ p. counted f (length_to p vs)) (sym place) ∙ on.fetches_left;
+      fetches_right = sym (some_count rest g ws more) ∙ ap (λ p. counted g (length_to p ws)) (sym place) ∙ on.fetches_right;
+    }
+
+-- both go on behind equal weights
+pub both_on : (vs ws : List ℕ) (f g : ℕ) (order : Ordering) (m n : ℕ) → first_of vs ≡ first_of ws → GoOn vs ws f g order m n
+    → GoOn (behind vs) (behind ws) (with_first vs f) (with_first ws g) order m n
+both_on vs ws f g order m n same on = at (nat_eq (first_of vs) 0) refl
+  where
+    at : (b : Bool) → nat_eq (first_of vs) 0 ≡ b → GoOn (behind vs) (behind ws) (with_first vs f) (with_first ws g) order m n
+    at true is =
+        let none = eqb-true (first_of vs) 0 is in
+        right_on (behind vs) ws (with_first vs f) g order m n (sym same ∙ none) (left_on vs ws f g order m n none on)
+    at false is = some_on vs ws f g order m n (λ e. let t : nat_eq (first_of vs) 0 ≡ true = eq-eqb (first_of vs) 0 e in cc) same on
+
+-- of two weights that differ the order is theirs
+then_apart : (v w : ℕ) (later : Ordering) → v ≢ w → ordering_then (nat_cmp v w) later ≡ nat_cmp v w
+then_apart v w later other =
+    by_ranked (v < w) (v ≡ w) (w < v) (nat_cmp v w) (ranked v w (nat_cmp v w) refl)
+    (λ e h. ap (λ o. ordering_then o later) e ∙ sym e)
+    (λ e h. absurd (other h))
+    (λ e h. ap (λ o. ordering_then o later) e ∙ sym e)
+
+-- the first weights differ, where 0 says that there is none: the order is theirs, and the lists share nothing
+record Apart (vs ws : List ℕ) : Type 0 where
+  order : dictionary (non_zero vs) (non_zero ws) ≡ nat_cmp (first_of vs) (first_of ws)
+  place : place_of vs ws ≡ 0
+
+apart : (vs ws : List ℕ) → first_of vs ≢ first_of ws → (first_of vs ≡ 0 → vs ≡ []) → (first_of ws ≡ 0 → ws ≡ []) → Apart vs ws
+apart [] [] other left right = absurd (other refl)
+apart [] (w ∷ ws) other left right =
+    let some : w ≢ 0 = λ e. other (sym e) in
+    let list = some_list (w ∷ ws) some in
+    record { order = ap (dictionary []) list ∙ sym (cmp_less 0 w (omega arith)); place = refl }
+apart (v ∷ vs) [] other left right =
+    let some : v ≢ 0 = λ e. other e in
+    let list = some_list (v ∷ vs) some in
+    record { order = ap (λ l. dictionary l []) list ∙ sym (cmp_greater v 0 (omega arith)); place = ap (λ l. shared_length l []) list }
+apart (v ∷ vs) (w ∷ ws) other left right =
+    let first : v ≢ 0 = λ e. let no : v ∷ vs ≡ [] = left e in cc in
+    let second : w ≢ 0 = λ e. let no : w ∷ ws ≡ [] = right e in cc in
+    let list = some_list (v ∷ vs) first in
+    let list_too = some_list (w ∷ ws) second in
+    let no : nat_eq v w ≡ false = ne_eqb v w other in
+    record {
+      order = ap (λ l. dictionary l (non_zero (w ∷ ws))) list ∙ ap (dictionary (v ∷ non_zero vs)) list_too ∙ then_apart v w (dictionary (non_zero vs) (non_zero ws)) other;
+      place = ap (λ l. shared_length l (non_zero (w ∷ ws))) list ∙ ap (shared_length (v ∷ non_zero vs)) list_too ∙ rw no refl;
+    }
+
+-- what a level says where it differs
+pub record Decides (vs ws : List ℕ) (f g : ℕ) (order : Ordering) (m n : ℕ) : Type 0 where
+  pub order_is : nat_cmp (first_of vs) (first_of ws) ≡ order
+  pub left_is : with_first vs f ≡ m
+  pub right_is : with_first ws g ≡ n
+
+reached : (count : ℕ) (ws : List ℕ) → (first_of ws ≡ 0 → ws ≡ []) → counted count (length_to 0 ws) ≡ with_first ws count
+reached count [] ended = refl
+reached count (w ∷ ws) ended = some_here count (w ∷ ws) (λ e. let no : w ∷ ws ≡ [] = ended e in cc)
+
+pub decides : (vs ws : List ℕ) (f g : ℕ) (order : Ordering) (m n : ℕ) → first_of vs ≢ first_of ws → (first_of vs ≡ 0 → vs ≡ []) → (first_of ws ≡ 0 → ws ≡ [])
+    → GoOn vs ws f g order m n → Decides vs ws f g order m n
+decides vs ws f g order m n other left right on =
+    let here = apart vs ws other left right in
+    record {
+      order_is = sym here.order ∙ on.compares;
+      left_is = sym (reached f vs left) ∙ ap (λ p. counted f (length_to p vs)) (sym here.place) ∙ on.fetches_left;
+      right_is = sym (reached g ws right) ∙ ap (λ p. counted g (length_to p ws)) (sym here.place) ∙ on.fetches_right;
+    }
+
+-- nothing is left
+pub nothing_on : (vs ws : List ℕ) (f g : ℕ) (order : Ordering) (m n : ℕ) → vs ≡ [] → ws ≡ [] → GoOn vs ws f g order m n → (order ≡ Equal) × (f ≡ m) × (g ≡ n)
+nothing_on vs ws f g order m n none none_too on = (
+  sym on.compares ∙ ap (λ l. dictionary (non_zero l) (non_zero ws)) none ∙ ap (λ l. dictionary [] (non_zero l)) none_too,
+  ap (λ l. counted f (length_to (shared_length (non_zero l) (non_zero ws)) l)) (sym none) ∙ on.fetches_left,
+  sym (ap (λ l. counted g (length_to (shared_length (non_zero vs) (non_zero l)) l)) none_too) ∙ on.fetches_right,
+)
+
+-- ---- A front
+
+-- the weight at a level, by its place
+pub weight_is : (level at : ℕ) (ws : List ℕ) → 1 ≤ level → at ≡ level - 1 → slice_index_or ws at 0 ≡ weight_at level ws
+weight_is zero at ws low is = absurd (omega arith)
+weight_is (suc level) at ws low is =
+    let same : at ≡ level = omega (arith, is) in
+    ap (λ n. slice_index_or ws n 0) same ∙ by_place level ws
+  where
+    by_place : (n : ℕ) (ws : List ℕ) → slice_index_or ws n 0 ≡ weight_at (suc n) ws
+    by_place n [] = refl
+    by_place zero (w ∷ ws) = refl
+    by_place (suc n) (w ∷ ws) = by_place n ws
+
+pub front_first : (weighting : Weighting) (level : ℕ) (f : FrontState) → IsFront f → (b : Bool) → f.ended ≡ b → weight_at level f.weights ≡ first_of (weights_left weighting level f)
+front_first weighting level f good true is = ap (weight_at level) (good is) ∙ no_weight level ∙ rw is refl
+  where
+    no_weight : (level : ℕ) → weight_at level (0 ∷ 0 ∷ 0 ∷ 0 ∷ []) ≡ 0
+    no_weight zero = refl
+    no_weight (suc zero) = refl
+    no_weight (suc (suc zero)) = refl
+    no_weight (suc (suc (suc zero))) = refl
+    no_weight (suc (suc (suc (suc zero)))) = refl
+    no_weight (suc (suc (suc (suc (suc level))))) = refl
+front_first weighting level f good false is = rw is refl
+
+pub front_count : (weighting : Weighting) (level : ℕ) (f : FrontState) (b : Bool) → f.ended ≡ b → fetched f ≡ with_first (weights_left weighting level f) f.passed
+front_count weighting level f true is = rw is refl
+front_count weighting level f false is = rw is refl
+
+pub front_ended : (weighting : Weighting) (level : ℕ) (f : FrontState) → f.ended ≡ true → weights_left weighting level f ≡ []
+front_ended weighting level f is = rw is refl
+
+-- fewer weights are left behind one
+pub fewer_left : (weighting : Weighting) (level : ℕ) (f : FrontState) → f.ended ≡ false → length (behind (weights_left weighting level f)) < length (weights_left weighting level f)
+fewer_left weighting level f is = rw is (omega arith)
+
+pub no_more_left : (ws : List ℕ) → length (behind ws) ≤ length ws
+no_more_left [] = omega arith
+no_more_left (w ∷ ws) = omega arith

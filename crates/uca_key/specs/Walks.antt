@@ -1,0 +1,118 @@
+-- Comparing levels of two texts in one walk over both. Private contracts alone cite this file.
+use Rattle.std.specs.Prelude.{◌≡◌, ◌≢◌, ◌<◌, ◌≤◌, ℕ, suc, ◌-◌, List, true, false, map, filter, nat_eq, nat_lt, not, if◌then◌else◌, Option, Some, None}
+use Rattle.std.specs.Ordering.{nat_cmp}
+use Rattle.std.specs.declared.cmp.Ordering.{Ordering}
+use Rattle.std.specs.declared.cmp.Ordering.TheVariants.{Equal}
+use Rattle.uca_weights.specs.declared.Element.{Element}
+use Rattle.uca_weights.specs.declared.Weighting.{Weighting as WeightingType}
+use Rattle.uca_key.specs.declared.walks.Step.{Step}
+use Rattle.uca_key.specs.declared.walks.Step.TheVariants.{Either, Both, Left, Right}
+use Rattle.uca_key.specs.declared.walks.Look.{Look}
+use Rattle.uca_key.specs.declared.walks.Look.TheVariants.{May, Differ}
+use Rattle.uca_key.specs.declared.walks.LevelsSoFar.{LevelsSoFar}
+use Rattle.uca_key.specs.declared.walks.Walked.{Walked}
+use Rattle.uca_key.specs.Levels.{Comparison, dictionary, weight_at, weighted, level_list, level_lists_from, compare_from}
+use Rattle.uca_key.specs.Fetched.{shared_length, length_to}
+use Rattle.uca_key.specs.Fronts.{FrontState, weights_left, counted, fetched}
+
+abbrev pub Weighting : Type 0
+Weighting = WeightingType
+
+-- ---- What the weights at the fronts allow
+
+-- the weight at a level of the element at the front
+abbrev pub weight_here : ℕ → FrontState → ℕ
+weight_here level f = weight_at level f.weights
+
+-- the lists of the level compare behind this step as before it
+abbrev pub Allows : Step → ℕ → FrontState → FrontState → Type 0
+Allows Either level left right = (weight_here level left ≡ 0) × (weight_here level right ≡ 0)
+Allows Both level left right = weight_here level left ≡ weight_here level right
+Allows Left level left right = (weight_here level left ≡ 0) × (left.ended ≡ false)
+Allows Right level left right = (weight_here level right ≡ 0) × (right.ended ≡ false)
+
+-- what two steps allow together
+abbrev pub together : Step → Step → Option Step
+together Either step = Some step
+together Both Either = Some Both
+together Both Both = Some Both
+together Left Either = Some Left
+together Left Left = Some Left
+together Right Either = Some Right
+together Right Right = Some Right
+together _ _ = None
+
+-- the lists of the level differ here, in this order
+pub record Differs (level : ℕ) (left right : FrontState) (order : Ordering) : Type 0 where
+  pub apart : weight_here level left ≢ weight_here level right
+  pub compared : order ≡ nat_cmp (weight_here level left) (weight_here level right)
+  pub left_ended : weight_here level left ≡ 0 → left.ended ≡ true
+  pub right_ended : weight_here level right ≡ 0 → right.ended ≡ true
+
+abbrev pub Says : ℕ → FrontState → FrontState → Look → Type 0
+Says level left right (May step) = Allows step level left right
+Says level left right (Differ order) = Differs level left right order
+
+-- ---- Where the walk stands
+
+abbrev pub non_zero : List ℕ → List ℕ
+non_zero ws = filter (λ w. not (nat_eq w 0)) ws
+
+-- the weights of elements at a level, zeros among them
+abbrev pub weights_of_level : WeightingType → ℕ → List Element → List ℕ
+weights_of_level weighting level es = map (weight_at level) (weighted weighting es)
+
+-- how two texts compare at a level
+abbrev pub order_at : WeightingType → List Element → List Element → ℕ → Ordering
+order_at weighting es fs level = dictionary (level_list level (weighted weighting es)) (level_list level (weighted weighting fs))
+
+-- the first place at which the lists of a level differ
+abbrev pub difference_at : WeightingType → List Element → List Element → ℕ → ℕ
+difference_at weighting es fs level = shared_length (level_list level (weighted weighting es)) (level_list level (weighted weighting fs))
+
+-- the weights that are left of two texts compare in this order, and with those before so many elements are fetched
+pub record GoOn (left right : List ℕ) (passed_left passed_right : ℕ) (order : Ordering) (all_left all_right : ℕ) : Type 0 where
+  pub compares : dictionary (non_zero left) (non_zero right) ≡ order
+  pub fetches_left : counted passed_left (length_to (shared_length (non_zero left) (non_zero right)) left) ≡ all_left
+  pub fetches_right : counted passed_right (length_to (shared_length (non_zero left) (non_zero right)) right) ≡ all_right
+
+-- how many elements of each text are fetched to compare a level
+abbrev pub fetched_left_at : WeightingType → List Element → List Element → ℕ → ℕ
+fetched_left_at weighting es fs level = counted 0 (length_to (difference_at weighting es fs level) (weights_of_level weighting level es))
+
+abbrev pub fetched_right_at : WeightingType → List Element → List Element → ℕ → ℕ
+fetched_right_at weighting es fs level = counted 0 (length_to (difference_at weighting es fs level) (weights_of_level weighting level fs))
+
+-- from the fronts on a level compares as the whole texts do
+abbrev pub GoesOn : WeightingType → List Element → List Element → FrontState → FrontState → ℕ → Type 0
+GoesOn weighting es fs left right level =
+    GoOn (weights_left weighting level left) (weights_left weighting level right) left.passed right.passed
+    (order_at weighting es fs level) (fetched_left_at weighting es fs level) (fetched_right_at weighting es fs level)
+
+-- The levels up to `through` go on; the one behind them decides, if there is one; and the counts are those of the first level once it
+-- decides.
+pub record Stands (weighting : WeightingType) (es fs : List Element) (left right : FrontState) (levels : LevelsSoFar) : Type 0 where
+  pub within : (levels.first ≤ suc levels.through) × (levels.through ≤ levels.last) × (levels.first ≤ levels.last) × (levels.last ≤ 4)
+  pub through : (level : ℕ) → levels.first ≤ level → level ≤ levels.through → GoesOn weighting es fs left right level
+  pub decided : levels.through < levels.last → (levels.order ≡ order_at weighting es fs (suc levels.through)) × (levels.order ≢ Equal)
+  pub equal : levels.through ≡ levels.last → levels.order ≡ Equal
+  pub counts : levels.through < levels.first
+      → (fetched left ≡ fetched_left_at weighting es fs levels.first) × (fetched right ≡ fetched_right_at weighting es fs levels.first)
+
+abbrev pub decided_level : ℕ → ℕ → ℕ
+decided_level through last = if nat_lt through last then suc through else 0
+
+-- ---- What a walk answers
+
+-- how two texts compare at so many levels
+abbrev pub compared_levels : WeightingType → List Element → List Element → ℕ → ℕ → Comparison
+compared_levels weighting es fs first count =
+    compare_from first (level_lists_from first count (weighted weighting es)) (level_lists_from first count (weighted weighting fs))
+
+-- the order and the level at the levels `first` to that of the answer, which is at most `last`, and the counts of the first one
+pub record Walks (weighting : WeightingType) (first last : ℕ) (es fs : List Element) (w : Walked) : Type 0 where
+  pub within : (first ≤ w.last) × (w.last ≤ last)
+  pub order_is : w.order ≡ (compared_levels weighting es fs first (suc w.last - first)).order
+  pub level_is : w.level ≡ (compared_levels weighting es fs first (suc w.last - first)).level
+  pub left_is : w.fetched_left ≡ fetched_left_at weighting es fs first
+  pub right_is : w.fetched_right ≡ fetched_right_at weighting es fs first

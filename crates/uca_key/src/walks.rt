@@ -1,0 +1,200 @@
+//! Comparing levels of two texts in one walk over both, side by side.
+
+ghost use Rattle.std.specs.Prelude.{◌≡◌, ◌≤◌, ◌<◌, ℕ, List, false, if◌then◌else◌};
+ghost use Rattle.uca_match.specs.Collations.{collation_of, elements_of};
+ghost use Rattle.uca_weights.specs.declared.Element.{Element};
+ghost use Rattle.uca_key.specs.Fronts.{IsFront};
+ghost use Rattle.uca_key.specs.Walks;
+ghost use Rattle.uca_key.specs.Walks.{Says, Allows, Stands, Walks, together};
+
+use crate::fronts::Front;
+use std::alloc::Allocator;
+use std::cmp::Ordering;
+use uca_match::{Collator, Lookup};
+use uca_text::Normal;
+use uca_weights::Weighting;
+
+// Which of two texts may go on, so that the lists of some levels compare from there on as before.
+#[derive(Clone, Copy)]
+enum Step {
+    // either, for neither has a weight at the levels
+    Either,
+    // both together, for their weights are equal
+    Both,
+    // the left one alone, for it has no weight
+    Left,
+    // the right one alone
+    Right,
+}
+
+impl Step {
+    // What both steps allow, if anything.
+    fn with(self, other: Step) -> Option<Step>
+        ensures { result ≡ together self other }
+    {
+        match (self, other) {
+            (Step::Either, step) | (step, Step::Either) => Some(step),
+            (Step::Both, Step::Both) => Some(Step::Both),
+            (Step::Left, Step::Left) => Some(Step::Left),
+            (Step::Right, Step::Right) => Some(Step::Right),
+            _ => None,
+        }
+    }
+}
+
+// What the weights at one level say.
+#[derive(Drop)]
+enum Look {
+    May(Step),
+    // the lists of the level differ here, and this is their order
+    Differ(Ordering),
+}
+
+fn look_at<'a, L: Lookup, A: Allocator>(
+    level: u8,
+    left: &Front<'a, L, A>,
+    right: &Front<'a, L, A>,
+) -> Look
+    requires first { 1 ≤ level }
+    requires last { level ≤ 4 }
+    ensures { Says level left.now right.now result }
+{
+    let (first, second) = (left.weight(level), right.weight(level));
+    if first == second {
+        Look::May(if first == 0 { Step::Either } else { Step::Both })
+    } else if first == 0 && !left.ended {
+        Look::May(Step::Left)
+    } else if second == 0 && !right.ended {
+        Look::May(Step::Right)
+    } else {
+        Look::Differ(first.cmp(&second))
+    }
+}
+
+// The levels `first` to `last` of two texts, of which those up to `through` have equal lists so far. Behind them one that
+// has other lists decides, where there is one: it has this order.
+#[derive(Drop)]
+struct LevelsSoFar {
+    first: u8,
+    through: u8,
+    last: u8,
+    order: Ordering,
+}
+
+impl LevelsSoFar {
+    // How the texts may go on from their fronts. A level that differs here decides, and those behind it no longer
+    // matter. Where two levels allow no step together, the second and those behind it are left for another walk.
+    fn step<'a, L: Lookup, A: Allocator>(
+        &mut self,
+        left: &Front<'a, L, A>,
+        right: &Front<'a, L, A>,
+    ) -> Step
+        requires first { 1 ≤ self.old.first }
+        requires through { self.old.through ≤ self.old.last }
+        requires last { self.old.last ≤ 4 }
+        requires left { IsFront left.now }
+        requires right { IsFront right.now }
+        ensures stands { (weighting : Walks.Weighting) (es fs : List Element) → Stands weighting es fs left.now right.now self.old → Stands weighting es fs left.now right.now self.new }
+        ensures first { self.new.first ≡ self.old.first }
+        ensures last { self.new.last ≤ self.old.last }
+        ensures step { (level : ℕ) → self.new.first ≤ level → level ≤ self.new.through → Allows result level left.now right.now }
+    {
+        if left.weights == right.weights {
+            return Step::Both;
+        }
+        let mut step = Step::Either;
+        let mut level = self.first;
+        while level <= self.through {
+            let found = match look_at(level, left, right) {
+                Look::May(found) => found,
+                Look::Differ(order) => {
+                    self.through = level - 1;
+                    self.order = order;
+                    return step;
+                }
+            };
+            let Some(both) = step.with(found) else {
+                self.through = level - 1;
+                self.last = level - 1;
+                self.order = Ordering::Equal;
+                return step;
+            };
+            step = both;
+            level += 1;
+        }
+        step
+    }
+
+    // The level that decides, or 0.
+    fn decided(&self) -> u8
+        requires { self.now.last ≤ 4 }
+        ensures { result ≡ Walks.decided_level self.now.through self.now.last }
+    {
+        if self.through < self.last {
+            self.through + 1
+        } else {
+            0
+        }
+    }
+}
+
+/// How two texts compare at some of their levels.
+#[derive(Drop)]
+pub(crate) struct Walked {
+    pub(crate) order: Ordering,
+    /// The first level at which they differ, or 0.
+    pub(crate) level: u8,
+    /// The last level that was compared.
+    pub(crate) last: u8,
+    /// How many elements of the left text there are up to the weight of the first level in which the texts differ.
+    pub(crate) fetched_left: u64,
+    /// The same of the right text.
+    pub(crate) fetched_right: u64,
+}
+
+/// How two texts compare at the levels from `first` on, of which there are at most those up to `last`: as many as one
+/// walk over both texts can compare, at least one.
+pub(crate) fn walk<'a, L: Lookup, A: Allocator>(
+    collator: &'a Collator<'a, L, A>,
+    weighting: Weighting,
+    first: u8,
+    last: u8,
+    left: &'a Normal,
+    right: &'a Normal,
+) -> Walked
+    requires first { 1 ≤ first }
+    requires some { first ≤ last }
+    requires last { last ≤ 4 }
+    ensures { let c = collation_of L.content collator.now in
+        Walks weighting first last (elements_of c left.now) (elements_of c right.now) result }
+{
+    let mut left = Front::new(collator, weighting, left);
+    let mut right = Front::new(collator, weighting, right);
+    let mut levels = LevelsSoFar {
+        first,
+        through: last,
+        last,
+        order: Ordering::Equal,
+    };
+    while !(left.ended && right.ended) {
+        let step = levels.step(&left, &right);
+        if levels.through < first {
+            break;
+        }
+        match step {
+            Step::Left => left.advance(weighting),
+            Step::Right => right.advance(weighting),
+            Step::Either | Step::Both => {
+                left.advance(weighting);
+                right.advance(weighting);
+            }
+        }
+    }
+    Walked {
+        order: levels.order,
+        level: levels.decided(),
+        last: levels.last,
+        fetched_left: left.fetched(),
+        fetched_right: right.fetched(),
+    }
+}
