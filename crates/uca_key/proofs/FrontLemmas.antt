@@ -1,14 +1,16 @@
 -- The weights of two texts from the fronts of a comparison on.
-use Rattle.std.proofs.Common.{◌≡◌, ◌≢◌, ℕ, zero, suc, ◌<◌, ◌≤◌, List, [], ◌∷◌, length, Bool, true, false, nat_eq, refl, ap, arith, sym, ◌∙◌, eq-eqb, ◌-◌, slice_index_or}
+use Rattle.std.proofs.Common.{◌≡◌, ◌≢◌, ℕ, zero, suc, ◌<◌, ◌≤◌, List, [], ◌∷◌, length, Bool, true, false, nat_eq, refl, ap, arith, sym, ◌∙◌, eq-eqb, ◌-◌, slice_index_or, map}
 use Rattle.std.proofs.lemmas.Bool.{eqb-true, ne_eqb}
 use Rattle.std.specs.Ordering.{nat_cmp, ordering_then}
 use Rattle.std.specs.declared.cmp.Ordering.{Ordering}
 use Rattle.std.specs.declared.cmp.Ordering.TheVariants.{Equal}
 use Rattle.std.proofs.lemmas.Cmp.{ranked, by_ranked}
+use Rattle.uca_weights.specs.declared.Element.{Element}
 use Rattle.uca_weights.specs.declared.Weighting.{Weighting}
 use Rattle.uca_key.specs.Levels.{dictionary, weight_at}
 use Rattle.uca_key.specs.Fetched.{length_to, shared_length}
-use Rattle.uca_key.specs.Fronts.{FrontState, IsFront, weights_left, behind, counted, fetched}
+use Rattle.uca_key.specs.StreamedWeights.{weighted_after}
+use Rattle.uca_key.specs.Fronts.{FrontState, weights_left, weight_here, front_weights, first_of, counted, count_with, fetched, is_empty, is_ended, behind_one, advanced}
 use Rattle.uca_key.specs.Walks.{non_zero, GoOn}
 use Rattle.uca_key.proofs.KeyOrder.{cmp_less, cmp_equal, cmp_greater}
 
@@ -20,10 +22,10 @@ counted_one count (suc n) = omega arith
 
 -- ---- One list of weights
 
--- its first weight; 0 where there is none
-abbrev pub first_of : List ℕ → ℕ
-first_of [] = 0
-first_of (w ∷ ws) = w
+-- without the first
+abbrev pub behind : List ℕ → List ℕ
+behind [] = []
+behind (w ∷ ws) = ws
 
 -- a count with the first
 abbrev pub with_first : List ℕ → ℕ → ℕ
@@ -181,40 +183,70 @@ nothing_on vs ws f g order m n none none_too on = (
 -- ---- A front
 
 -- the weight at a level, by its place
-pub weight_is : (level at : ℕ) (ws : List ℕ) → 1 ≤ level → at ≡ level - 1 → slice_index_or ws at 0 ≡ weight_at level ws
-weight_is zero at ws low is = absurd (omega arith)
-weight_is (suc level) at ws low is =
-    let same : at ≡ level = omega (arith, is) in
-    ap (λ n. slice_index_or ws n 0) same ∙ by_place level ws
+pub weight_is : (weighting : Weighting) (f : FrontState) (level at : ℕ) (four : List ℕ) → four ≡ front_weights weighting f → 1 ≤ level → level ≤ 4 → at ≡ level - 1
+    → slice_index_or four at 0 ≡ weight_here weighting level f
+weight_is weighting f level at four is low high place =
+    ap (λ ws. slice_index_or ws at 0) is ∙ ap (λ n. slice_index_or (front_weights weighting f) n 0) place ∙ by_level level low high
   where
-    by_place : (n : ℕ) (ws : List ℕ) → slice_index_or ws n 0 ≡ weight_at (suc n) ws
-    by_place n [] = refl
-    by_place zero (w ∷ ws) = refl
-    by_place (suc n) (w ∷ ws) = by_place n ws
+    by_level : (level : ℕ) → 1 ≤ level → level ≤ 4 → slice_index_or (front_weights weighting f) (level - 1) 0 ≡ weight_here weighting level f
+    by_level zero low high = absurd (omega arith)
+    by_level (suc zero) low high = refl
+    by_level (suc (suc zero)) low high = refl
+    by_level (suc (suc (suc zero))) low high = refl
+    by_level (suc (suc (suc (suc zero)))) low high = refl
+    by_level (suc (suc (suc (suc (suc level))))) low high = absurd (omega arith)
 
-pub front_first : (weighting : Weighting) (level : ℕ) (f : FrontState) → IsFront f → (b : Bool) → f.ended ≡ b → weight_at level f.weights ≡ first_of (weights_left weighting level f)
-front_first weighting level f good true is = ap (weight_at level) (good is) ∙ no_weight level ∙ rw is refl
-  where
-    no_weight : (level : ℕ) → weight_at level (0 ∷ 0 ∷ 0 ∷ 0 ∷ []) ≡ 0
-    no_weight zero = refl
-    no_weight (suc zero) = refl
-    no_weight (suc (suc zero)) = refl
-    no_weight (suc (suc (suc zero))) = refl
-    no_weight (suc (suc (suc (suc zero)))) = refl
-    no_weight (suc (suc (suc (suc (suc level))))) = refl
-front_first weighting level f good false is = rw is refl
+abbrev weights_of_rest : Weighting → ℕ → Bool → List Element → List ℕ
+weights_of_rest weighting level flag es = map (weight_at level) (weighted_after weighting flag es)
 
-pub front_count : (weighting : Weighting) (level : ℕ) (f : FrontState) (b : Bool) → f.ended ≡ b → fetched f ≡ with_first (weights_left weighting level f) f.passed
-front_count weighting level f true is = rw is refl
-front_count weighting level f false is = rw is refl
+count_is : (weighting : Weighting) (level passed : ℕ) (flag : Bool) (es : List Element) → count_with passed es ≡ with_first (weights_of_rest weighting level flag es) passed
+count_is weighting level passed flag [] = refl
+count_is weighting level passed flag (e ∷ es) = refl
 
-pub front_ended : (weighting : Weighting) (level : ℕ) (f : FrontState) → f.ended ≡ true → weights_left weighting level f ≡ []
-front_ended weighting level f is = rw is refl
+pub front_count : (weighting : Weighting) (level : ℕ) (f : FrontState) → fetched f ≡ with_first (weights_left weighting level f) f.passed
+front_count weighting level f = count_is weighting level f.passed f.after_variable f.elements
 
--- fewer weights are left behind one
-pub fewer_left : (weighting : Weighting) (level : ℕ) (f : FrontState) → f.ended ≡ false → length (behind (weights_left weighting level f)) < length (weights_left weighting level f)
-fewer_left weighting level f is = rw is (omega arith)
+none_left : (weighting : Weighting) (level : ℕ) (flag : Bool) (es : List Element) → is_empty es ≡ true → weights_of_rest weighting level flag es ≡ []
+none_left weighting level flag [] is = refl
+none_left weighting level flag (e ∷ es) is = absurd cc
 
-pub no_more_left : (ws : List ℕ) → length (behind ws) ≤ length ws
-no_more_left [] = omega arith
-no_more_left (w ∷ ws) = omega arith
+pub front_ended : (weighting : Weighting) (level : ℕ) (f : FrontState) → is_ended f ≡ true → weights_left weighting level f ≡ []
+front_ended weighting level f is = none_left weighting level f.after_variable f.elements is
+
+ended_count : (passed : ℕ) (es : List Element) → is_empty es ≡ true → count_with passed es ≡ passed
+ended_count passed [] is = refl
+ended_count passed (e ∷ es) is = absurd cc
+
+pub fetched_all : (f : FrontState) → is_ended f ≡ true → fetched f ≡ f.passed
+fetched_all f is = ended_count f.passed f.elements is
+
+-- behind the element at the front
+rest_behind : (weighting : Weighting) (level passed : ℕ) (flag : Bool) (es : List Element)
+    → weights_left weighting level (behind_one flag passed es) ≡ behind (weights_of_rest weighting level flag es)
+rest_behind weighting level passed flag [] = refl
+rest_behind weighting level passed flag (e ∷ es) = refl
+
+pub advanced_weights : (weighting : Weighting) (level : ℕ) (f : FrontState) → weights_left weighting level (advanced f) ≡ behind (weights_left weighting level f)
+advanced_weights weighting level f = rest_behind weighting level f.passed f.after_variable f.elements
+
+passed_behind : (passed : ℕ) (flag : Bool) (es : List Element) → (behind_one flag passed es).passed ≡ count_with passed es
+passed_behind passed flag [] = refl
+passed_behind passed flag (e ∷ es) = refl
+
+pub advanced_count : (weighting : Weighting) (level : ℕ) (f : FrontState) → (advanced f).passed ≡ with_first (weights_left weighting level f) f.passed
+advanced_count weighting level f = passed_behind f.passed f.after_variable f.elements ∙ front_count weighting level f
+
+-- fewer elements are left behind it
+fewer_behind : (passed : ℕ) (flag : Bool) (es : List Element) → is_empty es ≡ false → length (behind_one flag passed es).elements < length es
+fewer_behind passed flag [] is = absurd cc
+fewer_behind passed flag (e ∷ es) is = omega arith
+
+pub fewer_left : (f : FrontState) → is_ended f ≡ false → length (advanced f).elements < length f.elements
+fewer_left f is = fewer_behind f.passed f.after_variable f.elements is
+
+no_more_behind : (passed : ℕ) (flag : Bool) (es : List Element) → length (behind_one flag passed es).elements ≤ length es
+no_more_behind passed flag [] = omega arith
+no_more_behind passed flag (e ∷ es) = omega arith
+
+pub no_more_left : (f : FrontState) → length (advanced f).elements ≤ length f.elements
+no_more_left f = no_more_behind f.passed f.after_variable f.elements

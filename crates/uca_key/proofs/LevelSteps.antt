@@ -10,10 +10,10 @@ use Rattle.uca_weights.specs.declared.Weighting.{Weighting}
 use Rattle.uca_key.specs.declared.walks.LevelsSoFar.{LevelsSoFar}
 use Rattle.uca_key.specs.declared.walks.Walked.{Walked}
 use Rattle.uca_key.specs.Levels.{Comparison, Weights as WeightsType, level_list, level_lists_from, level_count, weighted, dictionary, decided, compare_from, compared}
-use Rattle.uca_key.specs.Fronts.{FrontState, fetched, weights_left}
+use Rattle.uca_key.specs.Fronts.{FrontState, fetched, weights_left, is_ended}
 use Rattle.uca_key.specs.Walks.{Stands, Walks, decided_level, compared_levels, order_at, fetched_left_at, fetched_right_at}
 use Rattle.uca_key.specs.Comparisons.{ComparesLevels}
-use Rattle.uca_key.proofs.FrontLemmas.{nothing_on, front_ended}
+use Rattle.uca_key.proofs.FrontLemmas.{nothing_on, front_ended, fetched_all}
 
 -- ---- Lists of levels, one behind the other
 
@@ -96,7 +96,7 @@ then_differs weighting es fs first n m order equal is differ =
 
 -- it has ended, or its first level differs
 pub record Ends (left right : FrontState) (s : LevelsSoFar) : Type 0 where
-  pub ends : (s.first ≤ s.through) → (left.ended ≡ true) × (right.ended ≡ true)
+  pub ends : (s.first ≤ s.through) → (is_ended left ≡ true) × (is_ended right ≡ true)
 
 -- all levels so far are equal
 so_far : (weighting : Weighting) (es fs : List Element) (left right : FrontState) (s : LevelsSoFar) → Stands weighting es fs left right s → Ends left right s
@@ -117,7 +117,7 @@ counts_end weighting es fs left right s stands ends false more =
     let none = nothing_on (weights_left weighting s.first left) (weights_left weighting s.first right) left.passed right.passed (order_at weighting es fs s.first)
     (fetched_left_at weighting es fs s.first) (fetched_right_at weighting es fs s.first)
     (front_ended weighting s.first left both.0) (front_ended weighting s.first right both.1) (stands.through s.first (omega arith) some) in
-    (rw both.0 none.1, rw both.1 none.2)
+    (fetched_all left both.0 ∙ none.1, fetched_all right both.1 ∙ none.2)
 
 -- the levels of the walk
 levels_end : (weighting : Weighting) (es fs : List Element) (left right : FrontState) (s : LevelsSoFar) → Stands weighting es fs left right s → Ends left right s

@@ -1,40 +1,67 @@
 -- Where a comparison stands in a text. Private contracts alone cite this file.
-use Rattle.std.specs.Prelude.{◌≡◌, ℕ, zero, suc, ◌+◌, List, [], ◌∷◌, Bool, true, map, min, if◌then◌else◌}
+use Rattle.std.specs.Prelude.{ℕ, zero, suc, ◌+◌, List, [], ◌∷◌, Bool, true, false, map, min, Option, Some, None}
 use Rattle.uca_weights.specs.declared.Element.{Element}
 use Rattle.uca_weights.specs.declared.Weighting.{Weighting}
 use Rattle.uca_key.specs.Levels.{weight_at}
-use Rattle.uca_key.specs.StreamedWeights.{weighted_after}
+use Rattle.uca_key.specs.StreamedWeights.{is_after_variable, weighted_after}
 
--- the weights of the element at the front at the levels 1 to 4, and what stands before it and behind it
+abbrev pub WeightingType : Type 0
+WeightingType = Weighting
+
+-- the elements from the front on, whether the nearest one with a primary weight before them is variable, and how many stand before them
 pub record FrontState : Type 0 where
   pub elements : List Element
   pub after_variable : Bool
   pub passed : ℕ
-  pub weights : List ℕ
-  pub ended : Bool
 
--- behind the last element there are no weights
-abbrev pub IsFront : FrontState → Type 0
-IsFront f = f.ended ≡ true → f.weights ≡ 0 ∷ 0 ∷ 0 ∷ 0 ∷ []
-
--- the weights at a level of elements before which the flag is known, zeros among them
-abbrev pub weights_from : Weighting → ℕ → Bool → List Element → List ℕ
-weights_from weighting level after_variable es = map (weight_at level) (weighted_after weighting after_variable es)
-
--- the weights at a level from the front on
-abbrev pub weights_left : Weighting → ℕ → FrontState → List ℕ
-weights_left weighting level f = if f.ended then [] else weight_at level f.weights ∷ weights_from weighting level f.after_variable f.elements
-
--- without the first
-abbrev pub behind : List ℕ → List ℕ
-behind [] = []
-behind (w ∷ ws) = ws
+abbrev pub from_front : Option Element → List Element → List Element
+from_front (Some e) es = e ∷ es
+from_front None es = []
 
 -- a count with some more, as far as 64 bits tell
 abbrev pub counted : ℕ → ℕ → ℕ
 counted count zero = count
 counted count (suc more) = min 18446744073709551615 (count + suc more)
 
+-- at the begin of a text
+abbrev pub begun : List Element → FrontState
+begun es = record { elements = es; after_variable = false; passed = 0 }
+
+-- behind the element at the front
+abbrev pub behind_one : Bool → ℕ → List Element → FrontState
+behind_one after_variable passed [] = record { elements = []; after_variable = after_variable; passed = passed }
+behind_one after_variable passed (e ∷ es) = record { elements = es; after_variable = is_after_variable after_variable e; passed = counted passed 1 }
+
+abbrev pub advanced : FrontState → FrontState
+advanced f = behind_one f.after_variable f.passed f.elements
+
+abbrev pub is_empty : List Element → Bool
+is_empty [] = true
+is_empty (e ∷ es) = false
+
+abbrev pub is_ended : FrontState → Bool
+is_ended f = is_empty f.elements
+
+-- the weights at a level from the front on, zeros among them
+abbrev pub weights_left : Weighting → ℕ → FrontState → List ℕ
+weights_left weighting level f = map (weight_at level) (weighted_after weighting f.after_variable f.elements)
+
+-- the first weight; 0 where there is none
+abbrev pub first_of : List ℕ → ℕ
+first_of [] = 0
+first_of (w ∷ ws) = w
+
+-- the weight at the front
+abbrev pub weight_here : Weighting → ℕ → FrontState → ℕ
+weight_here weighting level f = first_of (weights_left weighting level f)
+
+abbrev pub front_weights : Weighting → FrontState → List ℕ
+front_weights weighting f = weight_here weighting 1 f ∷ weight_here weighting 2 f ∷ weight_here weighting 3 f ∷ weight_here weighting 4 f ∷ []
+
 -- how many elements there are up to the front, with the one that stands there
+abbrev pub count_with : ℕ → List Element → ℕ
+count_with passed [] = passed
+count_with passed (e ∷ es) = counted passed 1
+
 abbrev pub fetched : FrontState → ℕ
-fetched f = if f.ended then f.passed else counted f.passed 1
+fetched f = count_with f.passed f.elements

@@ -1,5 +1,5 @@
 -- Comparing levels of two texts in one walk over both. Private contracts alone cite this file.
-use Rattle.std.specs.Prelude.{◌≡◌, ◌≢◌, ◌<◌, ◌≤◌, ℕ, suc, ◌-◌, List, true, false, map, filter, nat_eq, nat_lt, not, if◌then◌else◌, Option, Some, None}
+use Rattle.std.specs.Prelude.{◌≡◌, ◌≢◌, ◌<◌, ◌≤◌, ℕ, suc, ◌-◌, List, Bool, true, false, map, filter, nat_eq, nat_lt, not, if◌then◌else◌, Option, Some, None}
 use Rattle.std.specs.Ordering.{nat_cmp}
 use Rattle.std.specs.declared.cmp.Ordering.{Ordering}
 use Rattle.std.specs.declared.cmp.Ordering.TheVariants.{Equal}
@@ -13,23 +13,22 @@ use Rattle.uca_key.specs.declared.walks.LevelsSoFar.{LevelsSoFar}
 use Rattle.uca_key.specs.declared.walks.Walked.{Walked}
 use Rattle.uca_key.specs.Levels.{Comparison, dictionary, weight_at, weighted, level_list, level_lists_from, compare_from}
 use Rattle.uca_key.specs.Fetched.{shared_length, length_to}
-use Rattle.uca_key.specs.Fronts.{FrontState, weights_left, counted, fetched}
+use Rattle.uca_key.specs.Fronts.{FrontState, weights_left, weight_here, is_ended, counted, fetched}
 
 abbrev pub Weighting : Type 0
 Weighting = WeightingType
 
 -- ---- What the weights at the fronts allow
 
--- the weight at a level of the element at the front
-abbrev pub weight_here : ℕ → FrontState → ℕ
-weight_here level f = weight_at level f.weights
+-- the lists of a level compare behind this step as before it, where these are its weights at the fronts
+abbrev pub AllowsOf : Step → ℕ → ℕ → Bool → Bool → Type 0
+AllowsOf Either left right left_ended right_ended = (left ≡ 0) × (right ≡ 0)
+AllowsOf Both left right left_ended right_ended = left ≡ right
+AllowsOf Left left right left_ended right_ended = (left ≡ 0) × (left_ended ≡ false)
+AllowsOf Right left right left_ended right_ended = (right ≡ 0) × (right_ended ≡ false)
 
--- the lists of the level compare behind this step as before it
-abbrev pub Allows : Step → ℕ → FrontState → FrontState → Type 0
-Allows Either level left right = (weight_here level left ≡ 0) × (weight_here level right ≡ 0)
-Allows Both level left right = weight_here level left ≡ weight_here level right
-Allows Left level left right = (weight_here level left ≡ 0) × (left.ended ≡ false)
-Allows Right level left right = (weight_here level right ≡ 0) × (right.ended ≡ false)
+abbrev pub Allows : WeightingType → Step → ℕ → FrontState → FrontState → Type 0
+Allows weighting step level left right = AllowsOf step (weight_here weighting level left) (weight_here weighting level right) (is_ended left) (is_ended right)
 
 -- what two steps allow together
 abbrev pub together : Step → Step → Option Step
@@ -43,15 +42,15 @@ together Right Right = Some Right
 together _ _ = None
 
 -- the lists of the level differ here, in this order
-pub record Differs (level : ℕ) (left right : FrontState) (order : Ordering) : Type 0 where
-  pub apart : weight_here level left ≢ weight_here level right
-  pub compared : order ≡ nat_cmp (weight_here level left) (weight_here level right)
-  pub left_ended : weight_here level left ≡ 0 → left.ended ≡ true
-  pub right_ended : weight_here level right ≡ 0 → right.ended ≡ true
+pub record Differs (left right : ℕ) (left_ended right_ended : Bool) (order : Ordering) : Type 0 where
+  pub apart : left ≢ right
+  pub compared : order ≡ nat_cmp left right
+  pub ends_left : left ≡ 0 → left_ended ≡ true
+  pub ends_right : right ≡ 0 → right_ended ≡ true
 
-abbrev pub Says : ℕ → FrontState → FrontState → Look → Type 0
-Says level left right (May step) = Allows step level left right
-Says level left right (Differ order) = Differs level left right order
+abbrev pub Says : ℕ → ℕ → Bool → Bool → Look → Type 0
+Says left right left_ended right_ended (May step) = AllowsOf step left right left_ended right_ended
+Says left right left_ended right_ended (Differ order) = Differs left right left_ended right_ended order
 
 -- ---- Where the walk stands
 

@@ -3,7 +3,6 @@
 ghost use Rattle.std.specs.Prelude.{◌≡◌, ◌≤◌, ◌<◌, ℕ, List, false, if◌then◌else◌};
 ghost use Rattle.uca_match.specs.Collations.{collation_of, elements_of};
 ghost use Rattle.uca_weights.specs.declared.Element.{Element};
-ghost use Rattle.uca_key.specs.Fronts.{IsFront};
 ghost use Rattle.uca_key.specs.Walks;
 ghost use Rattle.uca_key.specs.Walks.{Says, Allows, Stands, Walks, together};
 
@@ -50,24 +49,17 @@ enum Look {
     Differ(Ordering),
 }
 
-fn look_at<'a, L: Lookup, A: Allocator>(
-    level: u8,
-    left: &Front<'a, L, A>,
-    right: &Front<'a, L, A>,
-) -> Look
-    requires first { 1 ≤ level }
-    requires last { level ≤ 4 }
-    ensures { Says level left.now right.now result }
+fn look_at(left: u16, right: u16, left_ended: bool, right_ended: bool) -> Look
+    ensures { Says left right left_ended right_ended result }
 {
-    let (first, second) = (left.weight(level), right.weight(level));
-    if first == second {
-        Look::May(if first == 0 { Step::Either } else { Step::Both })
-    } else if first == 0 && !left.ended {
+    if left == right {
+        Look::May(if left == 0 { Step::Either } else { Step::Both })
+    } else if left == 0 && !left_ended {
         Look::May(Step::Left)
-    } else if second == 0 && !right.ended {
+    } else if right == 0 && !right_ended {
         Look::May(Step::Right)
     } else {
-        Look::Differ(first.cmp(&second))
+        Look::Differ(left.cmp(&right))
     }
 }
 
@@ -86,26 +78,27 @@ impl LevelsSoFar {
     // matter. Where two levels allow no step together, the second and those behind it are left for another walk.
     fn step<'a, L: Lookup, A: Allocator>(
         &mut self,
+        weighting: Weighting,
         left: &Front<'a, L, A>,
         right: &Front<'a, L, A>,
     ) -> Step
         requires first { 1 ≤ self.old.first }
         requires through { self.old.through ≤ self.old.last }
         requires last { self.old.last ≤ 4 }
-        requires left { IsFront left.now }
-        requires right { IsFront right.now }
-        ensures stands { (weighting : Walks.Weighting) (es fs : List Element) → Stands weighting es fs left.now right.now self.old → Stands weighting es fs left.now right.now self.new }
+        ensures stands { (es fs : List Element) → Stands weighting es fs left.now right.now self.old → Stands weighting es fs left.now right.now self.new }
         ensures first { self.new.first ≡ self.old.first }
         ensures last { self.new.last ≤ self.old.last }
-        ensures step { (level : ℕ) → self.new.first ≤ level → level ≤ self.new.through → Allows result level left.now right.now }
+        ensures step { (level : ℕ) → self.new.first ≤ level → level ≤ self.new.through → Allows weighting result level left.now right.now }
     {
-        if left.weights == right.weights {
+        if left.agrees(right) {
             return Step::Both;
         }
+        let (first, second) = (left.weights(weighting), right.weights(weighting));
         let mut step = Step::Either;
         let mut level = self.first;
         while level <= self.through {
-            let found = match look_at(level, left, right) {
+            let at = usize::from(level - 1);
+            let found = match look_at(first[at], second[at], left.is_ended(), right.is_ended()) {
                 Look::May(found) => found,
                 Look::Differ(order) => {
                     self.through = level - 1;
@@ -168,25 +161,25 @@ pub(crate) fn walk<'a, L: Lookup, A: Allocator>(
     ensures { let c = collation_of L.content collator.now in
         Walks weighting first last (elements_of c left.now) (elements_of c right.now) result }
 {
-    let mut left = Front::new(collator, weighting, left);
-    let mut right = Front::new(collator, weighting, right);
+    let mut left = Front::new(collator, left);
+    let mut right = Front::new(collator, right);
     let mut levels = LevelsSoFar {
         first,
         through: last,
         last,
         order: Ordering::Equal,
     };
-    while !(left.ended && right.ended) {
-        let step = levels.step(&left, &right);
+    while !(left.is_ended() && right.is_ended()) {
+        let step = levels.step(weighting, &left, &right);
         if levels.through < first {
             break;
         }
         match step {
-            Step::Left => left.advance(weighting),
-            Step::Right => right.advance(weighting),
+            Step::Left => left.advance(),
+            Step::Right => right.advance(),
             Step::Either | Step::Both => {
-                left.advance(weighting);
-                right.advance(weighting);
+                left.advance();
+                right.advance();
             }
         }
     }

@@ -98,6 +98,8 @@ const PLAINLY: &str = r"0041 0061 | 0061 0062 | Less 1 | Less 1 | 2 2
 0301 0061 | 0062 | Less 1 | Less 1 | 2 1
 0061 | 0062 | Less 1 | Less 1 | 1 1
 0061 | 0061 0001 | Equal 0 | Less 4 | 1 2
+0002 0003 | 0003 0002 | Equal 0 | Less 4 | 2 2
+0002 0003 | 0003 0002 0003 | Less 2 | Less 2 | 2 3
 00E1 | 0061 0301 | Equal 0 | Equal 0 | 2 2
  |  | Equal 0 | Equal 0 | 0 0";
 
@@ -122,11 +124,14 @@ impl Check for Pairs {
     }
 }
 
-/// A code point that is completely ignorable.
-const IGNORABLE: &str = "0001 ; [.0000.0000.0000]\n";
+/// A code point that is completely ignorable, and two that have no weight at a level at which the other has one.
+const MORE: &str = r"0001 ; [.0000.0000.0000]
+0002 ; [.1000.0000.0000]
+0003 ; [.0000.0021.0003]
+";
 
 #[test]
 fn compares_texts(rt: HostRuntime) -> Result<(), Fail> {
-    let table = format!(in rt.alloc(); "{TABLE}{IGNORABLE}")?;
+    let table = format!(in rt.alloc(); "{TABLE}{MORE}")?;
     over_both(rt.alloc(), &table, DATA, &Pairs)
 }

@@ -1,67 +1,84 @@
-use Rattle.std.proofs.Common.{◌≡◌, ◌≤◌, ◌∙◌, ap, sym, subst, arith}
+use Rattle.std.proofs.Common.{◌≡◌, ◌≤◌, length, false, ◌∙◌, ap, refl, sym, subst, arith}
 use Rattle.uca_match.specs.Collations.{collation_of, elements_of}
 use Rattle.uca_key.specs.declared.walks.LevelsSoFar.{LevelsSoFar}
-use Rattle.uca_key.specs.Fronts.{FrontState}
+use Rattle.uca_key.specs.Fronts.{FrontState, advanced, is_ended}
 use Rattle.uca_key.specs.Walks.{Stands}
-use Rattle.uca_key.proofs.WalkSteps.{stands_left, stands_right, stands_both, either_both}
-use Rattle.uca_key.proofs.walks.walk.Goals as goal
-use Rattle.uca_key.proofs.walks.walk.Goals.{then-left, else-left, else-not-right, then-not-right+then-levels-first}
+use Rattle.uca_key.proofs.FrontLemmas.{fewer_left}
+use Rattle.uca_key.proofs.WalkSteps.{stands_begun, stands_left, stands_right, stands_both}
 use Rattle.uca_key.proofs.LevelSteps.{walk_answers}
+use Rattle.uca_key.proofs.walks.walk.Goals as goal
+use Rattle.uca_key.proofs.walks.walk.Goals.{then-is_ended, else-is_ended, else-not-is_ended, then-not-is_ended+then-levels-first}
 
-pub loop-left-preserved-in-Left : goal.loop-left-preserved-in-Left
-loop-left-preserved-in-Left g c =
-    let by = collation_of g.L.Lookup.content c.args.collator.now in
-    let es = elements_of by c.args.left.now in
-    let fs = elements_of by c.args.right.now in
-    let stands = c.step-step.ensures.stands c.args.weighting es fs c.loop-left.invariant.0 in
-    let first : c.step-step.new.self.first ≡ c.args.first = c.step-step.ensures.first ∙ c.loop-left.invariant.3 in
-    let some : c.args.first ≤ c.step-step.new.self.through = omega (arith, c.if-levels-first.false) in (
-      stands_left c.args.weighting es fs c.loop-left.left c.loop-left.right c.advance.new.self c.step-step.new.self c.loop-left.invariant.1 stands
-          (omega (arith, first, c.requires.first)) (omega (arith, first, some)) (record { weights = c.advance.ensures.weights; passed = c.advance.ensures.passed })
-          c.in-Left.ensures.step,
-      c.advance.ensures.front,
-      c.loop-left.invariant.2,
-      first,
-      some,
-      omega (arith, c.step-step.ensures.last, c.loop-left.invariant.5),
+pub loop-right-init : goal.loop-right-init
+loop-right-init g c =
+    let by = collation_of g.L.Lookup.content c.args.collator.now in (
+      stands_begun c.args.weighting (elements_of by c.args.left.now) (elements_of by c.args.right.now) c.args.first c.args.last c.new-left.result c.new-right.result
+          c.new-left.ensures c.new-right.ensures c.requires.some c.requires.last,
+      refl,
+      c.requires.some,
+      omega arith,
     )
 
-pub loop-left-preserved-in-Right : goal.loop-left-preserved-in-Right
-loop-left-preserved-in-Right g c =
+pub loop-right-smaller-in-Left : goal.loop-right-smaller-in-Left
+loop-right-smaller-in-Left g c =
+    let first = c.step-step.ensures.first ∙ c.loop-right.invariant.1 in
+    let ends : is_ended c.loop-right.left ≡ false = (c.in-Left.ensures.step c.args.first (omega (arith, first)) (omega (arith, c.if-levels-first.false))).1 in
+    let less = fewer_left c.loop-right.left ends in
+    let is = ap (λ (f : FrontState). length f.elements) c.advance.ensures in
+    omega (arith, less, is)
+
+pub loop-right-smaller-in-Right : goal.loop-right-smaller-in-Right
+loop-right-smaller-in-Right g c =
+    let first = c.step-step.ensures.first ∙ c.loop-right.invariant.1 in
+    let ends : is_ended c.loop-right.right ≡ false = (c.in-Right.ensures.step c.args.first (omega (arith, first)) (omega (arith, c.if-levels-first.false))).1 in
+    let less = fewer_left c.loop-right.right ends in
+    let is = ap (λ (f : FrontState). length f.elements) c.advance-in-Right.ensures in
+    omega (arith, less, is)
+
+pub loop-right-preserved-in-Left : goal.loop-right-preserved-in-Left
+loop-right-preserved-in-Left g c =
     let by = collation_of g.L.Lookup.content c.args.collator.now in
     let es = elements_of by c.args.left.now in
     let fs = elements_of by c.args.right.now in
-    let stands = c.step-step.ensures.stands c.args.weighting es fs c.loop-left.invariant.0 in
-    let first : c.step-step.new.self.first ≡ c.args.first = c.step-step.ensures.first ∙ c.loop-left.invariant.3 in
+    let first : c.step-step.new.self.first ≡ c.args.first = c.step-step.ensures.first ∙ c.loop-right.invariant.1 in
     let some : c.args.first ≤ c.step-step.new.self.through = omega (arith, c.if-levels-first.false) in (
-      stands_right c.args.weighting es fs c.loop-left.left c.loop-left.right c.advance-in-Right.new.self c.step-step.new.self c.loop-left.invariant.2 stands
-          (omega (arith, first, c.requires.first)) (omega (arith, first, some)) (record { weights = c.advance-in-Right.ensures.weights; passed = c.advance-in-Right.ensures.passed })
-          c.in-Right.ensures.step,
-      c.loop-left.invariant.1,
-      c.advance-in-Right.ensures.front,
+      subst (λ (f : FrontState). Stands c.args.weighting es fs f c.loop-right.right c.step-step.new.self) (sym c.advance.ensures)
+          (stands_left c.args.weighting es fs c.loop-right.left c.loop-right.right c.step-step.new.self
+          (c.step-step.ensures.stands es fs c.loop-right.invariant.0) (omega (arith, first, some)) c.in-Left.ensures.step),
       first,
       some,
-      omega (arith, c.step-step.ensures.last, c.loop-left.invariant.5),
+      omega (arith, c.step-step.ensures.last, c.loop-right.invariant.3),
     )
 
-pub loop-left-preserved : goal.loop-left-preserved
-loop-left-preserved g c =
+pub loop-right-preserved-in-Right : goal.loop-right-preserved-in-Right
+loop-right-preserved-in-Right g c =
     let by = collation_of g.L.Lookup.content c.args.collator.now in
     let es = elements_of by c.args.left.now in
     let fs = elements_of by c.args.right.now in
-    let stands = c.step-step.ensures.stands c.args.weighting es fs c.loop-left.invariant.0 in
-    let first : c.step-step.new.self.first ≡ c.args.first = c.step-step.ensures.first ∙ c.loop-left.invariant.3 in
+    let first : c.step-step.new.self.first ≡ c.args.first = c.step-step.ensures.first ∙ c.loop-right.invariant.1 in
     let some : c.args.first ≤ c.step-step.new.self.through = omega (arith, c.if-levels-first.false) in (
-      stands_both c.args.weighting es fs c.loop-left.left c.loop-left.right c.advance-in-Either.new.self c.advance-in-Either-2.new.self c.step-step.new.self
-          c.loop-left.invariant.1 c.loop-left.invariant.2 stands (omega (arith, first, c.requires.first)) (omega (arith, first, some))
-          (record { weights = c.advance-in-Either.ensures.weights; passed = c.advance-in-Either.ensures.passed })
-          (record { weights = c.advance-in-Either-2.ensures.weights; passed = c.advance-in-Either-2.ensures.passed })
-          (λ level low high. either_both c.step-step.result level c.loop-left.left c.loop-left.right c.in-Either.is (c.step-step.ensures.step level low high)),
-      c.advance-in-Either.ensures.front,
-      c.advance-in-Either-2.ensures.front,
+      subst (λ (f : FrontState). Stands c.args.weighting es fs c.loop-right.left f c.step-step.new.self) (sym c.advance-in-Right.ensures)
+          (stands_right c.args.weighting es fs c.loop-right.left c.loop-right.right c.step-step.new.self
+          (c.step-step.ensures.stands es fs c.loop-right.invariant.0) (omega (arith, first, some)) c.in-Right.ensures.step),
       first,
       some,
-      omega (arith, c.step-step.ensures.last, c.loop-left.invariant.5),
+      omega (arith, c.step-step.ensures.last, c.loop-right.invariant.3),
+    )
+
+pub loop-right-preserved : goal.loop-right-preserved
+loop-right-preserved g c =
+    let by = collation_of g.L.Lookup.content c.args.collator.now in
+    let es = elements_of by c.args.left.now in
+    let fs = elements_of by c.args.right.now in
+    let first : c.step-step.new.self.first ≡ c.args.first = c.step-step.ensures.first ∙ c.loop-right.invariant.1 in
+    let some : c.args.first ≤ c.step-step.new.self.through = omega (arith, c.if-levels-first.false) in
+    let stands = stands_both c.args.weighting es fs c.loop-right.left c.loop-right.right c.step-step.new.self c.step-step.result
+    (c.step-step.ensures.stands es fs c.loop-right.invariant.0) (omega (arith, first, some)) c.in-Either.is c.step-step.ensures.step in (
+      subst (λ (f : FrontState). Stands c.args.weighting es fs f c.advance-in-Either-2.new.self c.step-step.new.self) (sym c.advance-in-Either.ensures)
+          (subst (λ (f : FrontState). Stands c.args.weighting es fs (advanced c.loop-right.left) f c.step-step.new.self) (sym c.advance-in-Either-2.ensures) stands),
+      first,
+      some,
+      omega (arith, c.step-step.ensures.last, c.loop-right.invariant.3),
     )
 
 pub returns : goal.returns
@@ -69,29 +86,26 @@ returns g c =
     let by = collation_of g.L.Lookup.content c.args.collator.now in
     let es = elements_of by c.args.left.now in
     let fs = elements_of by c.args.right.now in
-    let levels = c.if-not-right.levels in
-    let stands = λ (s : LevelsSoFar). Stands c.args.weighting es fs c.loop-left.left c.loop-left.right s in
-    let answers = walk_answers c.args.weighting es fs c.loop-left.left c.loop-left.right levels c.args.first c.args.last c.decided.result c.fetched.result c.fetched-2.result in
-    elim c.if-not-right.branch [
-      | else-not-right w ↦
-          answers (subst stands (sym w.levels-is) c.loop-left.invariant.0)
+    let levels = c.if-not-is_ended.levels in
+    let stands = λ (s : LevelsSoFar). Stands c.args.weighting es fs c.loop-right.left c.loop-right.right s in
+    let answers = walk_answers c.args.weighting es fs c.loop-right.left c.loop-right.right levels c.args.first c.args.last c.decided.result c.fetched.result c.fetched-2.result in
+    elim c.if-not-is_ended.branch [
+      | else-not-is_ended w ↦
+          answers (subst stands (sym w.levels-is) c.loop-right.invariant.0)
           (record {
-            ends = λ some. elim c.if-left.branch [
-              | then-left v ↦ (
-                sym (ap (λ (f : FrontState). f.ended) c.left.view_is) ∙ v.if-left.true,
-                sym (ap (λ (f : FrontState). f.ended) c.right.view_is) ∙ sym v.value-is ∙ w.if-not-right.false,
-              )
-              | else-left v ↦ absurd cc
+            ends = λ some. elim c.if-is_ended.branch [
+              | then-is_ended v ↦ (sym c.is_ended.ensures ∙ v.if-is_ended.true, sym v.is_ended-then-is_ended.ensures ∙ sym v.value-is ∙ w.if-not-is_ended.false)
+              | else-is_ended v ↦ absurd cc
             ];
           })
-          (ap (λ (s : LevelsSoFar). s.first) w.levels-is ∙ c.loop-left.invariant.3)
-          (let last = ap (λ (s : LevelsSoFar). s.last) w.levels-is in omega (arith, last, c.loop-left.invariant.5))
+          (ap (λ (s : LevelsSoFar). s.first) w.levels-is ∙ c.loop-right.invariant.1)
+          (let last = ap (λ (s : LevelsSoFar). s.last) w.levels-is in omega (arith, last, c.loop-right.invariant.3))
           c.decided.ensures c.fetched.ensures c.fetched-2.ensures
-      | then-not-right+then-levels-first w ↦
-          let first = ap (λ (s : LevelsSoFar). s.first) w.levels-is ∙ w.step-step.ensures.first ∙ c.loop-left.invariant.3 in
-          answers (subst stands (sym w.levels-is) (w.step-step.ensures.stands c.args.weighting es fs c.loop-left.invariant.0))
+      | then-not-is_ended+then-levels-first w ↦
+          let first = ap (λ (s : LevelsSoFar). s.first) w.levels-is ∙ w.step-step.ensures.first ∙ c.loop-right.invariant.1 in
+          answers (subst stands (sym w.levels-is) (w.step-step.ensures.stands es fs c.loop-right.invariant.0))
           (record { ends = λ some. let through = ap (λ (s : LevelsSoFar). s.through) w.levels-is in absurd (omega (arith, some, first, through, w.if-levels-first.true)) })
           first
-          (let last = ap (λ (s : LevelsSoFar). s.last) w.levels-is in omega (arith, last, w.step-step.ensures.last, c.loop-left.invariant.5))
+          (let last = ap (λ (s : LevelsSoFar). s.last) w.levels-is in omega (arith, last, w.step-step.ensures.last, c.loop-right.invariant.3))
           c.decided.ensures c.fetched.ensures c.fetched-2.ensures
     ]

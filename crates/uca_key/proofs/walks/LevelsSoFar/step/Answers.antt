@@ -1,13 +1,20 @@
-use Rattle.std.proofs.Common.{ap, refl, arith}
+use Rattle.std.proofs.Common.{◌≤◌, ap, refl, arith}
 use Rattle.uca_key.specs.declared.walks.LevelsSoFar.{LevelsSoFar}
-use Rattle.uca_key.proofs.WalkSteps.{stands_decided}
+use Rattle.uca_key.proofs.FrontLemmas.{weight_is}
+use Rattle.uca_key.proofs.WalkSteps.{differs_at, stands_decided}
 use Rattle.uca_key.proofs.walks.LevelsSoFar.step.Goals as goal
 
 pub returns-in-Differ-clause-stands : goal.returns-in-Differ-clause-stands
-returns-in-Differ-clause-stands g c = λ weighting es fs stands.
+returns-in-Differ-clause-stands g c = λ es fs stands.
     let same = c.loop-level.invariant.0 in
     let first = ap (λ (s : LevelsSoFar). s.first) same in
     let through = ap (λ (s : LevelsSoFar). s.through) same in
-    stands_decided weighting es fs c.args.left.now c.args.right.now c.args.self.now _ c.loop-level.level c.requires.left c.requires.right stands
+    let low : 1 ≤ c.loop-level.level = omega (arith, first, c.requires.first, c.loop-level.invariant.1) in
+    let high : c.loop-level.level ≤ 4 = omega (arith, through, c.loop-level-test.true, c.requires.through, c.requires.last) in
+    stands_decided c.args.weighting es fs c.args.left.now c.args.right.now c.args.self.now _ c.loop-level.level stands
     (omega (arith, c.requires.first)) (omega (arith, first, c.loop-level.invariant.1)) (omega (arith, through, c.loop-level-test.true))
-    first refl (ap (λ (s : LevelsSoFar). s.last) same) c.in-Differ.ensures
+    first refl (ap (λ (s : LevelsSoFar). s.last) same)
+    (differs_at _ _ _ _ _ _ _ _ c.in-Differ.order
+    (weight_is c.args.weighting c.args.left.now c.loop-level.level c.from-at.result c.weights-first.result c.weights-first.ensures low high c.from-at.ensures)
+    (weight_is c.args.weighting c.args.right.now c.loop-level.level c.from-at.result c.weights-second.result c.weights-second.ensures low high c.from-at.ensures)
+    c.is_ended.ensures c.is_ended-in-loop-level.ensures c.in-Differ.ensures)

@@ -7,7 +7,7 @@ use Rattle.uca_key.proofs.walks.LevelsSoFar.step.Given as goal
 abbrev pub invariant-loop-level : goal.invariant-loop-level
 invariant-loop-level g l =
     (l.self ≡ l.fn.self) × (l.self.first ≤ l.level) × (l.level ≡ l.self.first → l.step ≡ Either)
-    × ((level : ℕ) → l.self.first ≤ level → level < l.level → Allows l.step level l.left l.right)
+    × ((level : ℕ) → l.self.first ≤ level → level < l.level → Allows l.fn.weighting l.step level l.left l.right)
 
 abbrev pub decreases-loop-level : goal.decreases-loop-level
 decreases-loop-level g l = l.self.through + 1 - l.level
