@@ -12,9 +12,9 @@ use Rattle.uca_key.specs.declared.walks.Step.TheVariants.{Either, Both, Left, Ri
 use Rattle.uca_key.specs.declared.walks.LevelsSoFar.{LevelsSoFar}
 use Rattle.uca_key.specs.Levels.{weight_at}
 use Rattle.uca_key.proofs.WeightLemmas.{weighted_after-follows}
-use Rattle.uca_key.specs.Fronts.{FrontState, weights_left, weight_here, first_of, is_ended, begun, advanced, fetched}
+use Rattle.uca_key.specs.Fronts.{FrontState, weights_left, weight_here, front_weights, first_of, is_ended, begun, advanced, fetched}
 use Rattle.uca_key.specs.Walks.{AllowsOf, Allows, Differs, GoOn, GoesOn, Stands, together, order_at, weights_of_level, fetched_left_at, fetched_right_at}
-use Rattle.uca_key.proofs.FrontLemmas.{behind, with_first, left_on, right_on, both_on, decides, front_count, front_ended, advanced_weights, advanced_count}
+use Rattle.uca_key.proofs.FrontLemmas.{weight_is, behind, with_first, left_on, right_on, both_on, decides, front_count, front_ended, advanced_weights, advanced_count}
 
 -- ---- Steps that levels allow together
 
@@ -230,3 +230,14 @@ stands_both weighting es fs left right s step stands some which allowed = stands
         (advanced_weights weighting level left) (advanced_weights weighting level right) (advanced_count weighting level left) (advanced_count weighting level right)
         (both_on vs ws left.passed right.passed (order_at weighting es fs level) (fetched_left_at weighting es fs level) (fetched_right_at weighting es fs level)
         (both_allowed step (first_of vs) (first_of ws) (is_ended left) (is_ended right) which (allowed level low high)) (stands.through level low high))
+
+-- where both have the same weights at all levels
+pub stands_agreed : (weighting : Weighting) (es fs : List Element) (left right : FrontState) (s : LevelsSoFar) → Stands weighting es fs left right s → 1 ≤ s.first → s.first ≤ s.through
+    → front_weights weighting left ≡ front_weights weighting right → Stands weighting es fs (advanced left) (advanced right) s
+stands_agreed weighting es fs left right s stands one some same =
+    stands_both weighting es fs left right s Both stands some (inr refl) (λ level low high.
+    let up = stands.within in
+    let from : 1 ≤ level = omega (arith, one, low) in
+    let to : level ≤ 4 = omega (arith, up, high) in
+    sym (weight_is weighting left level (level - 1) (front_weights weighting left) refl from to refl)
+    ∙ weight_is weighting right level (level - 1) (front_weights weighting left) same from to refl)

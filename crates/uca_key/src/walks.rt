@@ -90,9 +90,6 @@ impl LevelsSoFar {
         ensures last { self.new.last ≤ self.old.last }
         ensures step { (level : ℕ) → self.new.first ≤ level → level ≤ self.new.through → Allows weighting result level left.now right.now }
     {
-        if left.agrees(right) {
-            return Step::Both;
-        }
         let (first, second) = (left.weights(weighting), right.weights(weighting));
         let mut step = Step::Either;
         let mut level = self.first;
@@ -170,6 +167,11 @@ pub(crate) fn walk<'a, L: Lookup, A: Allocator>(
         order: Ordering::Equal,
     };
     while !(left.is_ended() && right.is_ended()) {
+        if left.agrees(&right) {
+            left.advance();
+            right.advance();
+            continue;
+        }
         let step = levels.step(weighting, &left, &right);
         if levels.through < first {
             break;
