@@ -1,4 +1,4 @@
-//! Parts of a text that are handed over to a buffer.
+//! Code points that are handed over to a buffer.
 
 ghost use Rattle.std.specs.Prelude.{◌≡◌, ◌-◌, length};
 ghost use Rattle.uca_canonical.specs.Canonical.{point_width, point_text};
@@ -8,18 +8,6 @@ use crate::digits::six_digits;
 use std::io::Write;
 use uca_lines::OutputBuffer;
 use uca_weights::{Sink, WriteFault};
-
-/// Hands over a text. A fault says how many bytes went out of all that was handed over.
-pub fn hand<W: Write>(
-    buffer: &mut OutputBuffer,
-    out: &mut Sink<W>,
-    text: &[u8],
-) -> Result<(), WriteFault>
-    requires { HasRoom buffer.old (length text.now) }
-    ensures { Hands text.now buffer.old buffer.new out.old out.new result }
-{
-    buffer.write(out, text)
-}
 
 /// Hands over a code point: four digits, or as many as it needs.
 pub fn hand_point<W: Write>(
@@ -31,7 +19,7 @@ pub fn hand_point<W: Write>(
     ensures { Hands (point_text point) buffer.old buffer.new out.old out.new result }
 {
     let digits = six_digits(u32::from(point));
-    hand(buffer, out, &digits[spare_digits(point)..])
+    buffer.write(out, &digits[spare_digits(point)..])
 }
 
 // How many of six digits a code point does not need: it has four at least.

@@ -8,7 +8,7 @@ ghost use Rattle.uca_lines.specs.Handing.{count_of, HasRoom, Hands};
 ghost use Rattle.uca_canonical.specs.LineTexts.{setting_text, range_lines, header_text};
 
 use crate::digits::four_digits;
-use crate::handing::{hand, hand_point};
+use crate::handing::hand_point;
 use std::alloc::Allocator;
 use std::io::Write;
 use uca_lines::OutputBuffer;
@@ -38,9 +38,9 @@ fn hand_version<W: Write>(
     requires { HasRoom buffer.old (length (ended (version_line name.now))) }
     ensures { Hands (ended (version_line name.now)) buffer.old buffer.new out.old out.new result }
 {
-    hand(buffer, out, b"@version ")?;
-    hand(buffer, out, name)?;
-    hand(buffer, out, b"\n")
+    buffer.write(out, b"@version ")?;
+    buffer.write(out, name)?;
+    buffer.write(out, b"\n")
 }
 
 fn hand_setting<W: Write>(
@@ -52,7 +52,7 @@ fn hand_setting<W: Write>(
     ensures { Hands (setting_text setting) buffer.old buffer.new out.old out.new result }
 {
     match setting {
-        Some(setting) => hand(buffer, out, setting_line(setting)),
+        Some(setting) => buffer.write(out, setting_line(setting)),
         None => Ok(()),
     }
 }
@@ -90,11 +90,11 @@ fn hand_range<W: Write>(
     requires { HasRoom buffer.old (length (ended (range_line range))) }
     ensures { Hands (ended (range_line range)) buffer.old buffer.new out.old out.new result }
 {
-    hand(buffer, out, b"@implicitweights ")?;
+    buffer.write(out, b"@implicitweights ")?;
     hand_point(buffer, out, range.first)?;
-    hand(buffer, out, b"..")?;
+    buffer.write(out, b"..")?;
     hand_point(buffer, out, range.last)?;
-    hand(buffer, out, &lead_end(range.lead))
+    buffer.write(out, &lead_end(range.lead))
 }
 
 // What ends the line of a range.

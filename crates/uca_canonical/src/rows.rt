@@ -9,7 +9,7 @@ ghost use Rattle.uca_lines.specs.Handing.{HasRoom, Hands};
 ghost use Rattle.uca_canonical.specs.LineTexts.{row_lines};
 
 use crate::digits::element_text;
-use crate::handing::{hand, hand_point};
+use crate::handing::hand_point;
 use std::alloc::Allocator;
 use std::io::Write;
 use uca_lines::OutputBuffer;
@@ -40,9 +40,9 @@ fn hand_row<A: Allocator, W: Write>(
     ensures { Hands (ended (row_line row.now)) buffer.old buffer.new out.old out.new result }
 {
     hand_key(buffer, out, &row.key)?;
-    hand(buffer, out, b"; ")?;
+    buffer.write(out, b"; ")?;
     hand_elements(buffer, out, &row.elements)?;
-    hand(buffer, out, b"\n")
+    buffer.write(out, b"\n")
 }
 
 fn hand_key<W: Write>(
@@ -69,7 +69,7 @@ fn hand_key_point<W: Write>(
     ensures { Hands (key_point_text point) buffer.old buffer.new out.old out.new result }
 {
     hand_point(buffer, out, point)?;
-    hand(buffer, out, b" ")
+    buffer.write(out, b" ")
 }
 
 fn hand_elements<W: Write>(
@@ -81,7 +81,7 @@ fn hand_elements<W: Write>(
     ensures { Hands (flat_map element_text elements.now) buffer.old buffer.new out.old out.new result }
 {
     for element in elements {
-        hand(buffer, out, &element_text(*element))?;
+        buffer.write(out, &element_text(*element))?;
     }
     Ok(())
 }

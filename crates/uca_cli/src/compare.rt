@@ -107,9 +107,7 @@ pub fn run_compare_in<A: Allocator + Copy, T: Read, D: Read, W: Write>(
     let header = &files.table.header;
     let collator = Collator::new(&rows, header, &files.properties);
     let weighting = chosen_weighting(weighting, header);
-    compare_words(
-        global, &collator, weighting, depth, left, right, out,
-    )
+    compare_words(global, &collator, weighting, depth, left, right, out)
 }
 
 // The text of a word, which is the right one of the two or the left one.

@@ -33,19 +33,7 @@ pub fn print_key<W: Write>(
 {
     hand_groups(buffer, out, key)?;
     hand_level(buffer, out, depth, points)?;
-    hand(buffer, out, b"\n")
-}
-
-// Hands over a text.
-fn hand<W: Write>(
-    buffer: &mut OutputBuffer,
-    out: &mut Sink<W>,
-    text: &[u8],
-) -> Result<(), WriteFault>
-    requires { HasRoom buffer.old (length text.now) }
-    ensures { Hands text.now buffer.old buffer.new out.old out.new result }
-{
-    buffer.write(out, text)
+    buffer.write(out, b"\n")
 }
 
 // Hands over what stands behind the weights: nothing, or the identical level.
@@ -73,7 +61,7 @@ fn hand_identical_level<W: Write>(
     requires { HasRoom buffer.old (length (identical_level points.now)) }
     ensures { Hands (identical_level points.now) buffer.old buffer.new out.old out.new result }
 {
-    hand(buffer, out, b" 0000")?;
+    buffer.write(out, b" 0000")?;
     hand_points(buffer, out, points)
 }
 
@@ -87,7 +75,7 @@ fn hand_points<W: Write>(
     ensures { Hands (flat_map Print.spaced_point points.now) buffer.old buffer.new out.old out.new result }
 {
     for point in points {
-        hand(buffer, out, &spaced_point(*point))?;
+        buffer.write(out, &spaced_point(*point))?;
     }
     Ok(())
 }
@@ -118,7 +106,7 @@ fn hand_groups<W: Write>(
     let mut begin = 1;
     for part in key.chunks(PART) {
         let text = spaced_text(&mut groups, part);
-        hand(buffer, out, &text[begin..])?;
+        buffer.write(out, &text[begin..])?;
         begin = 0;
     }
     Ok(())

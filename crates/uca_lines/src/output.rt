@@ -4,6 +4,7 @@ ghost use Rattle.std.specs.Prelude.{◌≡◌, ◌+◌, ◌^◌, ◌<◌, ◌≤
 ghost use Rattle.std.specs.Io.KnownBytes.{Appends};
 ghost use Rattle.uca_weights.specs.Writes.{WentOut};
 ghost use Rattle.uca_lines.specs.OutputBuffer.{HandedOver};
+ghost use Rattle.uca_lines.specs.Handing.{count_of, HasRoom, Hands};
 
 use std::io::Write;
 use std::marker::Model;
@@ -49,21 +50,9 @@ impl OutputBuffer {
     /// Hands over a text, which waits, or goes out after all that waits. A fault says how many bytes
     /// went out of all that was handed over.
     pub fn write<W: Write>(&mut self, out: &mut Sink<W>, text: &[u8]) -> Result<(), WriteFault>
-        requires { self.old.written + length self.old.held + length text.now < 2 ^ 64 }
-
-        // Whatever the writer held at the start, and whatever was handed over since.
-        ensures text { (start : Option (List ℕ)) (before : List ℕ) →
-            HandedOver start out.old.contents before self.old →
-            MatchResult result
-            (λ _. HandedOver start out.new.contents (before ++ text.now) self.new)
-            (λ fault. WentOut start out.new.contents (before ++ text.now) fault.written) }
-        ensures count { OnOk result (self.new.written + length self.new.held
-            ≡ self.old.written + length self.old.held + length text.now) }
-        ensures err { OnErr result (self.new.written + length self.new.held
-            ≡ self.old.written + length self.old.held) }
-        ensures not_all { IfErr result (λ fault. fault.written
-            < self.old.written + length self.old.held + length text.now) }
-        ensures failed { out.new.failed ≡ (out.old.failed || is_err result) }
+        requires { HasRoom self.old (length text.now) }
+        ensures hands { Hands text.now self.old self.new out.old out.new result }
+        ensures err { OnErr result (count_of self.new ≡ count_of self.old) }
     {
         if text.len() <= SIZE - self.len {
             self.hold(text);

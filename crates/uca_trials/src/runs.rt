@@ -1,5 +1,7 @@
 //! The runs of the command over any readers and any writer, and over files in memory.
 
+ghost use Rattle.std.specs.Prelude.{◌≡◌, ◌∷◌, []};
+
 use crate::files::{Files, joined};
 use std::alloc::{AllocError, Allocator, Global};
 use std::io::{Read, Write};
@@ -55,7 +57,9 @@ pub struct Streams<T: Read, D: Read, I: Read, W: Write> {
 
 impl<T: Read, D: Read, I: Read, W: Write> Streams<T, D, I, W> {
     /// Which of the four say that they failed.
-    pub fn failed(&self) -> [bool; 4] {
+    pub fn failed(&self) -> [bool; 4]
+        ensures { result ≡ self.now.table.failed ∷ self.now.properties.failed ∷ self.now.input.failed ∷ self.now.out.failed ∷ [] }
+    {
         [
             self.table.failed(),
             self.properties.failed(),

@@ -3,10 +3,10 @@ use Rattle.uca_fields.specs.Number.{digits}
 use Rattle.uca_canonical.proofs.DigitLaws.{point_is}
 use Rattle.uca_canonical.proofs.handing.hand_point.Goals as goal
 
-pub hand-requires : goal.hand-requires
-hand-requires g c = rw (point_is c.args.point c.spare_digits.result c.six_digits-digits.result c.spare_digits.ensures
+pub write-requires : goal.write-requires
+write-requires g c = rw (point_is c.args.point c.spare_digits.result c.six_digits-digits.result c.spare_digits.ensures
     (c.six_digits-digits.ensures ∙ ap (digits 6) c.from.ensures)) c.requires
 
 pub returns : goal.returns
 returns g c = rw (point_is c.args.point c.spare_digits.result c.six_digits-digits.result c.spare_digits.ensures
-    (c.six_digits-digits.ensures ∙ ap (digits 6) c.from.ensures)) at c.hand.ensures
+    (c.six_digits-digits.ensures ∙ ap (digits 6) c.from.ensures)) at c.write.ensures.hands

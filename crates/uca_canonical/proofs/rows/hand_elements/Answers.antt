@@ -3,17 +3,17 @@ use Rattle.uca_canonical.specs.Elements.{element_text}
 use Rattle.uca_lines.proofs.HandingLemmas.{part_fits, part_handed, returns_fault, all_handed}
 use Rattle.uca_canonical.proofs.rows.hand_elements.Goals as goal
 
-pub hand-requires : goal.hand-requires
-hand-requires g c = part_fits element_text c.args.elements.now c.loop-element.element-index _ _ _ refl c.element_text.ensures c.loop-element-test.true
+pub write-requires : goal.write-requires
+write-requires g c = part_fits element_text c.args.elements.now c.loop-element.element-index _ _ _ refl c.element_text.ensures c.loop-element-test.true
     c.loop-element.invariant c.requires
 
 pub loop-element-preserved : goal.loop-element-preserved
 loop-element-preserved g c = part_handed element_text c.args.elements.now c.loop-element.element-index _ c.element_text.ensures
-    c.loop-element-test.true c.loop-element.invariant c.in_ok-hand.ensures
+    c.loop-element-test.true c.loop-element.invariant c.in_ok-write.ensures.hands
 
-pub returns-in_err-hand : goal.returns-in_err-hand
-returns-in_err-hand g c = returns_fault element_text c.args.elements.now c.loop-element.element-index _ _ _ c.from_residual.result refl
-    c.element_text.ensures c.loop-element-test.true c.loop-element.invariant c.in_err-hand.ensures c.from_residual.ensures.1
+pub returns-in_err-write : goal.returns-in_err-write
+returns-in_err-write g c = returns_fault element_text c.args.elements.now c.loop-element.element-index _ _ _ c.from_residual.result refl
+    c.element_text.ensures c.loop-element-test.true c.loop-element.invariant c.in_err-write.ensures.hands c.from_residual.ensures.1
 
 pub returns : goal.returns
 returns g c = all_handed element_text c.args.elements.now c.loop-element.element-index _ refl c.loop-element-test.false c.loop-element.invariant

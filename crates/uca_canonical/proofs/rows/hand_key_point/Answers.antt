@@ -11,11 +11,11 @@ pub returns-in_err-hand_point : goal.returns-in_err-hand_point
 returns-in_err-hand_point g c = returns_fault part (point_parts c.args.point) 0 [] _ _ c.from_residual.result (key_point_text_is c.args.point) refl
     (omega arith) (handed_none c.args.buffer.now c.args.out.now) c.in_err-hand_point.ensures c.from_residual.ensures.1
 
-pub hand-requires : goal.hand-requires
-hand-requires g c = part_fits part (point_parts c.args.point) 1 [] _ _ (key_point_text_is c.args.point) refl (omega arith)
+pub write-requires : goal.write-requires
+write-requires g c = part_fits part (point_parts c.args.point) 1 [] _ _ (key_point_text_is c.args.point) refl (omega arith)
     (part_handed part (point_parts c.args.point) 0 [] refl (omega arith) (handed_none c.args.buffer.now c.args.out.now) c.in_ok-hand_point.ensures) c.requires
 
 pub returns : goal.returns
-returns g c = returns_last part (point_parts c.args.point) 1 [] _ _ _ _ c.hand.result (key_point_text_is c.args.point) refl (omega arith)
+returns g c = returns_last part (point_parts c.args.point) 1 [] _ _ _ _ c.write.result (key_point_text_is c.args.point) refl (omega arith)
     (part_handed part (point_parts c.args.point) 0 [] refl (omega arith) (handed_none c.args.buffer.now c.args.out.now) c.in_ok-hand_point.ensures)
-    c.hand.ensures
+    c.write.ensures.hands

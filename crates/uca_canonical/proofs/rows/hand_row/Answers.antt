@@ -16,43 +16,43 @@ returns-in_err-hand_key g c = returns_fault part (row_parts c.args.row.now) 0 []
     (ap key_text (c.deref.ensures.value ∙ ap (λ (r : Entry). r.key) c.row.view_is)) (omega arith) (handed_none c.args.buffer.now c.args.out.now)
     c.in_err-hand_key.ensures c.from_residual.ensures.1
 
-pub hand-requires : goal.hand-requires
-hand-requires g c = part_fits part (row_parts c.args.row.now) 1 [] _ _ (row_text_is c.args.row.now) refl (omega arith)
+pub write-requires : goal.write-requires
+write-requires g c = part_fits part (row_parts c.args.row.now) 1 [] _ _ (row_text_is c.args.row.now) refl (omega arith)
     (part_handed part (row_parts c.args.row.now) 0 [] (ap key_text (c.deref.ensures.value ∙ ap (λ (r : Entry). r.key) c.row.view_is)) (omega arith)
     (handed_none c.args.buffer.now c.args.out.now) c.in_ok-hand_key.ensures) c.requires
 
-pub returns-in_err-hand : goal.returns-in_err-hand
-returns-in_err-hand g c = returns_fault part (row_parts c.args.row.now) 1 [] _ _ c.from_residual-in_err-hand.result (row_text_is c.args.row.now) refl
+pub returns-in_err-write : goal.returns-in_err-write
+returns-in_err-write g c = returns_fault part (row_parts c.args.row.now) 1 [] _ _ c.from_residual-in_err-write.result (row_text_is c.args.row.now) refl
     (omega arith) (part_handed part (row_parts c.args.row.now) 0 [] (ap key_text (c.deref.ensures.value ∙ ap (λ (r : Entry). r.key) c.row.view_is))
-    (omega arith) (handed_none c.args.buffer.now c.args.out.now) c.in_ok-hand_key.ensures) c.in_err-hand.ensures c.from_residual-in_err-hand.ensures.1
+    (omega arith) (handed_none c.args.buffer.now c.args.out.now) c.in_ok-hand_key.ensures) c.in_err-write.ensures.hands c.from_residual-in_err-write.ensures.1
 
 pub hand_elements-requires : goal.hand_elements-requires
 hand_elements-requires g c = part_fits part (row_parts c.args.row.now) 2 [] _ _ (row_text_is c.args.row.now)
     (ap (flat_map element_text) (c.deref-2.ensures.value ∙ ap (λ (r : Entry). r.elements) c.row.view_is)) (omega arith)
     (part_handed part (row_parts c.args.row.now) 1 [] refl (omega arith)
     (part_handed part (row_parts c.args.row.now) 0 [] (ap key_text (c.deref.ensures.value ∙ ap (λ (r : Entry). r.key) c.row.view_is)) (omega arith)
-    (handed_none c.args.buffer.now c.args.out.now) c.in_ok-hand_key.ensures) c.in_ok-hand.ensures) c.requires
+    (handed_none c.args.buffer.now c.args.out.now) c.in_ok-hand_key.ensures) c.in_ok-write.ensures.hands) c.requires
 
 pub returns-in_err-hand_elements : goal.returns-in_err-hand_elements
 returns-in_err-hand_elements g c = returns_fault part (row_parts c.args.row.now) 2 [] _ _ c.from_residual-in_err-hand_elements.result
     (row_text_is c.args.row.now) (ap (flat_map element_text) (c.deref-2.ensures.value ∙ ap (λ (r : Entry). r.elements) c.row.view_is)) (omega arith)
     (part_handed part (row_parts c.args.row.now) 1 [] refl (omega arith)
     (part_handed part (row_parts c.args.row.now) 0 [] (ap key_text (c.deref.ensures.value ∙ ap (λ (r : Entry). r.key) c.row.view_is)) (omega arith)
-    (handed_none c.args.buffer.now c.args.out.now) c.in_ok-hand_key.ensures) c.in_ok-hand.ensures) c.in_err-hand_elements.ensures
+    (handed_none c.args.buffer.now c.args.out.now) c.in_ok-hand_key.ensures) c.in_ok-write.ensures.hands) c.in_err-hand_elements.ensures
     c.from_residual-in_err-hand_elements.ensures.1
 
-pub hand-requires-2 : goal.hand-requires-2
-hand-requires-2 g c = part_fits part (row_parts c.args.row.now) 3 [] _ _ (row_text_is c.args.row.now) refl (omega arith)
+pub write-requires-2 : goal.write-requires-2
+write-requires-2 g c = part_fits part (row_parts c.args.row.now) 3 [] _ _ (row_text_is c.args.row.now) refl (omega arith)
     (part_handed part (row_parts c.args.row.now) 2 [] (ap (flat_map element_text)
     (c.deref-2.ensures.value ∙ ap (λ (r : Entry). r.elements) c.row.view_is)) (omega arith)
     (part_handed part (row_parts c.args.row.now) 1 [] refl (omega arith)
     (part_handed part (row_parts c.args.row.now) 0 [] (ap key_text (c.deref.ensures.value ∙ ap (λ (r : Entry). r.key) c.row.view_is)) (omega arith)
-    (handed_none c.args.buffer.now c.args.out.now) c.in_ok-hand_key.ensures) c.in_ok-hand.ensures) c.in_ok-hand_elements.ensures) c.requires
+    (handed_none c.args.buffer.now c.args.out.now) c.in_ok-hand_key.ensures) c.in_ok-write.ensures.hands) c.in_ok-hand_elements.ensures) c.requires
 
 pub returns : goal.returns
-returns g c = returns_last part (row_parts c.args.row.now) 3 [] _ _ _ _ c.hand-2.result (row_text_is c.args.row.now) refl (omega arith)
+returns g c = returns_last part (row_parts c.args.row.now) 3 [] _ _ _ _ c.write-2.result (row_text_is c.args.row.now) refl (omega arith)
     (part_handed part (row_parts c.args.row.now) 2 [] (ap (flat_map element_text)
     (c.deref-2.ensures.value ∙ ap (λ (r : Entry). r.elements) c.row.view_is)) (omega arith)
     (part_handed part (row_parts c.args.row.now) 1 [] refl (omega arith)
     (part_handed part (row_parts c.args.row.now) 0 [] (ap key_text (c.deref.ensures.value ∙ ap (λ (r : Entry). r.key) c.row.view_is)) (omega arith)
-    (handed_none c.args.buffer.now c.args.out.now) c.in_ok-hand_key.ensures) c.in_ok-hand.ensures) c.in_ok-hand_elements.ensures) c.hand-2.ensures
+    (handed_none c.args.buffer.now c.args.out.now) c.in_ok-hand_key.ensures) c.in_ok-write.ensures.hands) c.in_ok-hand_elements.ensures) c.write-2.ensures.hands

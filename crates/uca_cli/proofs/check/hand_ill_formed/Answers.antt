@@ -31,13 +31,13 @@ returns-in_err-write-clause-text g c =
     let first = rw c.into.ensures at c.in_ok-hand_number.ensures.text in
     let second = c.in_ok-hand_number-2.ensures.text c.args.out.now.contents (codes "WF" ++ decimal c.args.fault.wf) (first c.args.out.now.contents [] none) in
     rw (p.1, p.2) (subst (λ text. WentOut c.args.out.now.contents c.write.new.out.contents text c.in_err-write.field-0.0.written) (line_parts (codes "WF") (decimal c.args.fault.wf) (codes " row ") (decimal c.args.fault.row))
-    (c.in_err-write.ensures.text c.args.out.now.contents ((codes "WF" ++ decimal c.args.fault.wf) ++ (codes " row " ++ decimal c.args.fault.row)) second))
+    (c.in_err-write.ensures.hands.went_out c.args.out.now.contents ((codes "WF" ++ decimal c.args.fault.wf) ++ (codes " row " ++ decimal c.args.fault.row)) second))
 
 pub returns-clause-text : goal.returns-clause-text
 returns-clause-text g c =
     let none = handed_nothing c.args.out.now.contents c.new-output.result c.new-output.ensures.held c.new-output.ensures.written in
     let first = rw c.into.ensures at c.in_ok-hand_number.ensures.text in
     let second = c.in_ok-hand_number-2.ensures.text c.args.out.now.contents (codes "WF" ++ decimal c.args.fault.wf) (first c.args.out.now.contents [] none) in
-    let third = c.in_ok-write.ensures.text c.args.out.now.contents ((codes "WF" ++ decimal c.args.fault.wf) ++ (codes " row " ++ decimal c.args.fault.row)) second in
+    let third = c.in_ok-write.ensures.hands.hands c.args.out.now.contents ((codes "WF" ++ decimal c.args.fault.wf) ++ (codes " row " ++ decimal c.args.fault.row)) second in
     subst (λ text. Writes c.args.out.now.contents c.flush.new.out.contents text c.flush.result) (line_parts (codes "WF") (decimal c.args.fault.wf) (codes " row ") (decimal c.args.fault.row))
     (c.flush.ensures.text c.args.out.now.contents (((codes "WF" ++ decimal c.args.fault.wf) ++ (codes " row " ++ decimal c.args.fault.row)) ++ 10 ∷ []) third)

@@ -21,14 +21,14 @@ returns-in_err-hand_level g c = returns_fault part (line_parts c.args.depth c.ar
     (part_handed part (line_parts c.args.depth c.args.key.now c.args.points.now) 0 [] refl (omega arith) (handed_none c.args.buffer.now c.args.out.now) c.in_ok-hand_groups.ensures)
     c.in_err-hand_level.ensures c.from_residual-in_err-hand_level.ensures.1
 
-pub hand-requires : goal.hand-requires
-hand-requires g c = part_fits part (line_parts c.args.depth c.args.key.now c.args.points.now) 2 [] _ _ (line_is c.args.depth c.args.key.now c.args.points.now) refl (omega arith)
+pub write-requires : goal.write-requires
+write-requires g c = part_fits part (line_parts c.args.depth c.args.key.now c.args.points.now) 2 [] _ _ (line_is c.args.depth c.args.key.now c.args.points.now) refl (omega arith)
     (part_handed part (line_parts c.args.depth c.args.key.now c.args.points.now) 1 [] refl (omega arith)
     (part_handed part (line_parts c.args.depth c.args.key.now c.args.points.now) 0 [] refl (omega arith) (handed_none c.args.buffer.now c.args.out.now) c.in_ok-hand_groups.ensures)
     c.in_ok-hand_level.ensures) c.requires
 
 pub returns : goal.returns
-returns g c = returns_last part (line_parts c.args.depth c.args.key.now c.args.points.now) 2 [] _ _ _ _ c.hand.result (line_is c.args.depth c.args.key.now c.args.points.now) refl (omega arith)
+returns g c = returns_last part (line_parts c.args.depth c.args.key.now c.args.points.now) 2 [] _ _ _ _ c.write.result (line_is c.args.depth c.args.key.now c.args.points.now) refl (omega arith)
     (part_handed part (line_parts c.args.depth c.args.key.now c.args.points.now) 1 [] refl (omega arith)
     (part_handed part (line_parts c.args.depth c.args.key.now c.args.points.now) 0 [] refl (omega arith) (handed_none c.args.buffer.now c.args.out.now) c.in_ok-hand_groups.ensures)
-    c.in_ok-hand_level.ensures) c.hand.ensures
+    c.in_ok-hand_level.ensures) c.write.ensures.hands
