@@ -41,7 +41,8 @@ zero_step : (place w : ℕ) (ws : List ℕ) → nat_eq w 0 ≡ true → length_t
 zero_step zero w ws none = rw none refl
 zero_step (suc place) w ws none = rw none refl
 
-pub zero_count : (place count : ℕ) (ws : List ℕ) → first_of ws ≡ 0 → counted count (length_to place ws) ≡ counted (with_first ws count) (length_to place (behind ws))
+pub zero_count : (place count : ℕ) (ws : List ℕ) → first_of ws ≡ 0
+    → counted count (length_to place ws) ≡ counted (with_first ws count) (length_to place (behind ws))
 zero_count place count [] none = refl
 zero_count place count (w ∷ ws) none = ap (counted count) (zero_step place w ws (eq-eqb w 0 none)) ∙ counted_one count (length_to place ws)
 
@@ -50,7 +51,8 @@ pub some_list : (ws : List ℕ) → first_of ws ≢ 0 → non_zero ws ≡ first_
 some_list [] some = absurd (some refl)
 some_list (w ∷ ws) some = rw (ne_eqb w 0 some) refl
 
-pub some_count : (place count : ℕ) (ws : List ℕ) → first_of ws ≢ 0 → counted count (length_to (suc place) ws) ≡ counted (with_first ws count) (length_to place (behind ws))
+pub some_count : (place count : ℕ) (ws : List ℕ) → first_of ws ≢ 0
+    → counted count (length_to (suc place) ws) ≡ counted (with_first ws count) (length_to place (behind ws))
 some_count place count [] some = absurd (some refl)
 some_count place count (w ∷ ws) some =
     let one : length_to (suc place) (w ∷ ws) ≡ suc (length_to place ws) = rw (ne_eqb w 0 some) refl in
@@ -68,7 +70,8 @@ abbrev place_of : List ℕ → List ℕ → ℕ
 place_of vs ws = shared_length (non_zero vs) (non_zero ws)
 
 -- the left one alone goes on behind a 0
-pub left_on : (vs ws : List ℕ) (f g : ℕ) (order : Ordering) (m n : ℕ) → first_of vs ≡ 0 → GoOn vs ws f g order m n → GoOn (behind vs) ws (with_first vs f) g order m n
+pub left_on : (vs ws : List ℕ) (f g : ℕ) (order : Ordering) (m n : ℕ) → first_of vs ≡ 0 → GoOn vs ws f g order m n
+    → GoOn (behind vs) ws (with_first vs f) g order m n
 left_on vs ws f g order m n none on =
     let same = zero_list vs none in
     let place : place_of vs ws ≡ place_of (behind vs) ws = ap (λ l. shared_length l (non_zero ws)) same in
@@ -78,7 +81,8 @@ left_on vs ws f g order m n none on =
       fetches_right = ap (λ p. counted g (length_to p ws)) (sym place) ∙ on.fetches_right;
     }
 
-pub right_on : (vs ws : List ℕ) (f g : ℕ) (order : Ordering) (m n : ℕ) → first_of ws ≡ 0 → GoOn vs ws f g order m n → GoOn vs (behind ws) f (with_first ws g) order m n
+pub right_on : (vs ws : List ℕ) (f g : ℕ) (order : Ordering) (m n : ℕ) → first_of ws ≡ 0 → GoOn vs ws f g order m n
+    → GoOn vs (behind ws) f (with_first ws g) order m n
 right_on vs ws f g order m n none on =
     let same = zero_list ws none in
     let place : place_of vs ws ≡ place_of vs (behind ws) = ap (shared_length (non_zero vs)) same in
@@ -162,7 +166,8 @@ reached : (count : ℕ) (ws : List ℕ) → (first_of ws ≡ 0 → ws ≡ []) �
 reached count [] ended = refl
 reached count (w ∷ ws) ended = some_here count (w ∷ ws) (λ e. let no : w ∷ ws ≡ [] = ended e in cc)
 
-pub decides : (vs ws : List ℕ) (f g : ℕ) (order : Ordering) (m n : ℕ) → first_of vs ≢ first_of ws → (first_of vs ≡ 0 → vs ≡ []) → (first_of ws ≡ 0 → ws ≡ [])
+pub decides : (vs ws : List ℕ) (f g : ℕ) (order : Ordering) (m n : ℕ) → first_of vs ≢ first_of ws → (first_of vs ≡ 0 → vs ≡ [])
+    → (first_of ws ≡ 0 → ws ≡ [])
     → GoOn vs ws f g order m n → Decides vs ws f g order m n
 decides vs ws f g order m n other left right on =
     let here = apart vs ws other left right in
@@ -173,7 +178,8 @@ decides vs ws f g order m n other left right on =
     }
 
 -- nothing is left
-pub nothing_on : (vs ws : List ℕ) (f g : ℕ) (order : Ordering) (m n : ℕ) → vs ≡ [] → ws ≡ [] → GoOn vs ws f g order m n → (order ≡ Equal) × (f ≡ m) × (g ≡ n)
+pub nothing_on : (vs ws : List ℕ) (f g : ℕ) (order : Ordering) (m n : ℕ) → vs ≡ [] → ws ≡ [] → GoOn vs ws f g order m n
+    → (order ≡ Equal) × (f ≡ m) × (g ≡ n)
 nothing_on vs ws f g order m n none none_too on = (
   sym on.compares ∙ ap (λ l. dictionary (non_zero l) (non_zero ws)) none ∙ ap (λ l. dictionary [] (non_zero l)) none_too,
   ap (λ l. counted f (length_to (shared_length (non_zero l) (non_zero ws)) l)) (sym none) ∙ on.fetches_left,
@@ -183,7 +189,8 @@ nothing_on vs ws f g order m n none none_too on = (
 -- ---- A front
 
 -- the weight at a level, by its place
-pub weight_is : (weighting : Weighting) (f : FrontState) (level at : ℕ) (four : List ℕ) → four ≡ front_weights weighting f → 1 ≤ level → level ≤ 4 → at ≡ level - 1
+pub weight_is : (weighting : Weighting) (f : FrontState) (level at : ℕ) (four : List ℕ) → four ≡ front_weights weighting f → 1 ≤ level
+    → level ≤ 4 → at ≡ level - 1
     → slice_index_or four at 0 ≡ weight_here weighting level f
 weight_is weighting f level at four is low high place =
     ap (λ ws. slice_index_or ws at 0) is ∙ ap (λ n. slice_index_or (front_weights weighting f) n 0) place ∙ by_level level low high
@@ -199,7 +206,8 @@ weight_is weighting f level at four is low high place =
 abbrev weights_of_rest : Weighting → ℕ → Bool → List Element → List ℕ
 weights_of_rest weighting level flag es = map (weight_at level) (weighted_after weighting flag es)
 
-count_is : (weighting : Weighting) (level passed : ℕ) (flag : Bool) (es : List Element) → count_with passed es ≡ with_first (weights_of_rest weighting level flag es) passed
+count_is : (weighting : Weighting) (level passed : ℕ) (flag : Bool) (es : List Element)
+    → count_with passed es ≡ with_first (weights_of_rest weighting level flag es) passed
 count_is weighting level passed flag [] = refl
 count_is weighting level passed flag (e ∷ es) = refl
 
@@ -226,7 +234,8 @@ rest_behind : (weighting : Weighting) (level passed : ℕ) (flag : Bool) (es : L
 rest_behind weighting level passed flag [] = refl
 rest_behind weighting level passed flag (e ∷ es) = refl
 
-pub advanced_weights : (weighting : Weighting) (level : ℕ) (f : FrontState) → weights_left weighting level (advanced f) ≡ behind (weights_left weighting level f)
+pub advanced_weights : (weighting : Weighting) (level : ℕ) (f : FrontState)
+    → weights_left weighting level (advanced f) ≡ behind (weights_left weighting level f)
 advanced_weights weighting level f = rest_behind weighting level f.passed f.after_variable f.elements
 
 passed_behind : (passed : ℕ) (flag : Bool) (es : List Element) → (behind_one flag passed es).passed ≡ count_with passed es

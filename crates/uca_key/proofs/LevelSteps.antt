@@ -42,7 +42,8 @@ pub length_levels : (level count : ℕ) (ws : List WeightsType) → length (leve
 length_levels level zero ws = refl
 length_levels level (suc count) ws = ap suc (length_levels (suc level) count ws)
 
-levels_append : (level m n : ℕ) (ws : List WeightsType) → level_lists_from level (m + n) ws ≡ level_lists_from level m ws ++ level_lists_from (level + m) n ws
+levels_append : (level m n : ℕ) (ws : List WeightsType)
+    → level_lists_from level (m + n) ws ≡ level_lists_from level m ws ++ level_lists_from (level + m) n ws
 levels_append level zero n ws =
     let none : level ≡ level + 0 = omega arith in
     let all : 0 + n ≡ n = omega arith in
@@ -77,7 +78,8 @@ all_equal weighting es fs first (suc n) equal =
     ∙ all_equal weighting es fs (suc first) n (λ level low high. equal level (omega (arith, low)) (omega (arith, high)))
 
 -- a level that differs decides
-decided_here : (order : Ordering) (level : ℕ) (later : Comparison) → order ≢ Equal → decided order level later ≡ record { order = order; level = level }
+decided_here : (order : Ordering) (level : ℕ) (later : Comparison) → order ≢ Equal
+    → decided order level later ≡ record { order = order; level = level }
 decided_here Less level later differ = refl
 decided_here Equal level later differ = absurd (differ refl)
 decided_here Greater level later differ = refl
@@ -99,7 +101,8 @@ pub record Ends (left right : FrontState) (s : LevelsSoFar) : Type 0 where
   pub ends : (s.first ≤ s.through) → (is_ended left ≡ true) × (is_ended right ≡ true)
 
 -- all levels so far are equal
-so_far : (weighting : Weighting) (es fs : List Element) (left right : FrontState) (s : LevelsSoFar) → Stands weighting es fs left right s → Ends left right s
+so_far : (weighting : Weighting) (es fs : List Element) (left right : FrontState) (s : LevelsSoFar) → Stands weighting es fs left right s
+    → Ends left right s
     → (level : ℕ) → s.first ≤ level → level ≤ s.through → order_at weighting es fs level ≡ Equal
 so_far weighting es fs left right s stands ends level low high =
     let both = ends.ends (omega (arith, low, high)) in
@@ -108,7 +111,8 @@ so_far weighting es fs left right s stands ends level low high =
     (front_ended weighting level left both.0) (front_ended weighting level right both.1) (stands.through level low high)).0
 
 -- the counts are those of the first level
-counts_end : (weighting : Weighting) (es fs : List Element) (left right : FrontState) (s : LevelsSoFar) → Stands weighting es fs left right s → Ends left right s
+counts_end : (weighting : Weighting) (es fs : List Element) (left right : FrontState) (s : LevelsSoFar)
+    → Stands weighting es fs left right s → Ends left right s
     → (b : Bool) → nat_lt s.through s.first ≡ b → (fetched left ≡ fetched_left_at weighting es fs s.first) × (fetched right ≡ fetched_right_at weighting es fs s.first)
 counts_end weighting es fs left right s stands ends true less = stands.counts (ltb-true s.through s.first less)
 counts_end weighting es fs left right s stands ends false more =
@@ -120,7 +124,8 @@ counts_end weighting es fs left right s stands ends false more =
     (fetched_all left both.0 ∙ none.1, fetched_all right both.1 ∙ none.2)
 
 -- the levels of the walk
-levels_end : (weighting : Weighting) (es fs : List Element) (left right : FrontState) (s : LevelsSoFar) → Stands weighting es fs left right s → Ends left right s
+levels_end : (weighting : Weighting) (es fs : List Element) (left right : FrontState) (s : LevelsSoFar)
+    → Stands weighting es fs left right s → Ends left right s
     → (b : Bool) → nat_lt s.through s.last ≡ b
     → compared_levels weighting es fs s.first (suc s.last - s.first) ≡ record { order = s.order; level = decided_level s.through s.last }
 levels_end weighting es fs left right s stands ends true less =
@@ -142,7 +147,8 @@ levels_end weighting es fs left right s stands ends false more =
     rw more (all_equal weighting es fs s.first (suc s.last - s.first) (λ level low high. so_far weighting es fs left right s stands ends level low (omega (arith, high, within)))
     ∙ ap (λ o. record { order = o; level = 0 }) (sym (stands.equal same)))
 
-pub walk_answers : (weighting : Weighting) (es fs : List Element) (left right : FrontState) (s : LevelsSoFar) (first last level f g : ℕ) → Stands weighting es fs left right s → Ends left right s
+pub walk_answers : (weighting : Weighting) (es fs : List Element) (left right : FrontState) (s : LevelsSoFar) (first last level f g : ℕ)
+    → Stands weighting es fs left right s → Ends left right s
     → s.first ≡ first → s.last ≤ last → level ≡ decided_level s.through s.last → f ≡ fetched left → g ≡ fetched right
     → Walks weighting first last es fs (record { order = s.order; level = level; last = s.last; fetched_left = f; fetched_right = g })
 walk_answers weighting es fs left right s first last level f g stands ends from to is one other =
@@ -188,7 +194,8 @@ differ_all : (c later : Comparison) → c.order ≢ Equal → then_levels c late
 differ_all c later differ = decided_here c.order c.level later differ
 
 -- some level differs, or all were walked
-pub all_levels : (weighting : Weighting) (es fs : List Element) (w : Walked) → Walks weighting 1 (level_count weighting) es fs w → (w.order ≡ Equal → level_count weighting ≤ w.last)
+pub all_levels : (weighting : Weighting) (es fs : List Element) (w : Walked) → Walks weighting 1 (level_count weighting) es fs w
+    → (w.order ≡ Equal → level_count weighting ≤ w.last)
     → ComparesLevels weighting es fs w
 all_levels weighting es fs w one ends =
     let count = level_count weighting in

@@ -13,7 +13,7 @@ use Rattle.uca_key.specs.declared.walks.LevelsSoFar.{LevelsSoFar}
 use Rattle.uca_key.specs.Levels.{weight_at}
 use Rattle.uca_key.proofs.WeightLemmas.{weighted_after-follows}
 use Rattle.uca_key.specs.Fronts.{FrontState, weights_left, weight_here, front_weights, first_of, is_ended, begun, advanced, fetched}
-use Rattle.uca_key.specs.Walks.{AllowsOf, Allows, Differs, GoOn, GoesOn, Stands, together, order_at, weights_of_level, fetched_left_at, fetched_right_at}
+use Rattle.uca_key.specs.Walks.{AllowsWith, Allows, Differs, GoOn, GoesOn, Stands, together, order_at, weights_of_level, fetched_left_at, fetched_right_at}
 use Rattle.uca_key.proofs.FrontLemmas.{weight_is, behind, with_first, left_on, right_on, both_on, decides, front_count, front_ended, advanced_weights, advanced_count}
 
 -- ---- Steps that levels allow together
@@ -21,23 +21,24 @@ use Rattle.uca_key.proofs.FrontLemmas.{weight_is, behind, with_first, left_on, r
 is_step : (t s : Step) → Some t ≡ Some s → t ≡ s
 is_step t s is = cc
 
-first_allowed : (a b s : Step) (x y v w : ℕ) (left right : Bool) → together a b ≡ Some s → AllowsOf a x y left right → AllowsOf b v w left right → AllowsOf s x y left right
-first_allowed Either Either s x y v w left right is one two = subst (λ t. AllowsOf t x y left right) (is_step Either s is) (one)
-first_allowed Either Both s x y v w left right is one two = subst (λ t. AllowsOf t x y left right) (is_step Both s is) (one.0 ∙ sym one.1)
-first_allowed Either Left s x y v w left right is one two = subst (λ t. AllowsOf t x y left right) (is_step Left s is) ((one.0, two.1))
-first_allowed Either Right s x y v w left right is one two = subst (λ t. AllowsOf t x y left right) (is_step Right s is) ((one.1, two.1))
-first_allowed Both Either s x y v w left right is one two = subst (λ t. AllowsOf t x y left right) (is_step Both s is) (one)
-first_allowed Both Both s x y v w left right is one two = subst (λ t. AllowsOf t x y left right) (is_step Both s is) (one)
+first_allowed : (a b s : Step) (x y v w : ℕ) (left right : Bool) → together a b ≡ Some s → AllowsWith a x y left right
+    → AllowsWith b v w left right → AllowsWith s x y left right
+first_allowed Either Either s x y v w left right is one two = subst (λ t. AllowsWith t x y left right) (is_step Either s is) (one)
+first_allowed Either Both s x y v w left right is one two = subst (λ t. AllowsWith t x y left right) (is_step Both s is) (one.0 ∙ sym one.1)
+first_allowed Either Left s x y v w left right is one two = subst (λ t. AllowsWith t x y left right) (is_step Left s is) ((one.0, two.1))
+first_allowed Either Right s x y v w left right is one two = subst (λ t. AllowsWith t x y left right) (is_step Right s is) ((one.1, two.1))
+first_allowed Both Either s x y v w left right is one two = subst (λ t. AllowsWith t x y left right) (is_step Both s is) (one)
+first_allowed Both Both s x y v w left right is one two = subst (λ t. AllowsWith t x y left right) (is_step Both s is) (one)
 first_allowed Both Left s x y v w left right is one two = absurd cc
 first_allowed Both Right s x y v w left right is one two = absurd cc
-first_allowed Left Either s x y v w left right is one two = subst (λ t. AllowsOf t x y left right) (is_step Left s is) (one)
+first_allowed Left Either s x y v w left right is one two = subst (λ t. AllowsWith t x y left right) (is_step Left s is) (one)
 first_allowed Left Both s x y v w left right is one two = absurd cc
-first_allowed Left Left s x y v w left right is one two = subst (λ t. AllowsOf t x y left right) (is_step Left s is) (one)
+first_allowed Left Left s x y v w left right is one two = subst (λ t. AllowsWith t x y left right) (is_step Left s is) (one)
 first_allowed Left Right s x y v w left right is one two = absurd cc
-first_allowed Right Either s x y v w left right is one two = subst (λ t. AllowsOf t x y left right) (is_step Right s is) (one)
+first_allowed Right Either s x y v w left right is one two = subst (λ t. AllowsWith t x y left right) (is_step Right s is) (one)
 first_allowed Right Both s x y v w left right is one two = absurd cc
 first_allowed Right Left s x y v w left right is one two = absurd cc
-first_allowed Right Right s x y v w left right is one two = subst (λ t. AllowsOf t x y left right) (is_step Right s is) (one)
+first_allowed Right Right s x y v w left right is one two = subst (λ t. AllowsWith t x y left right) (is_step Right s is) (one)
 
 turned : (a b : Step) → together b a ≡ together a b
 turned Either Either = refl
@@ -57,17 +58,20 @@ turned Right Both = refl
 turned Right Left = refl
 turned Right Right = refl
 
-second_allowed : (a b s : Step) (x y v w : ℕ) (left right : Bool) → together a b ≡ Some s → AllowsOf a v w left right → AllowsOf b x y left right → AllowsOf s x y left right
+second_allowed : (a b s : Step) (x y v w : ℕ) (left right : Bool) → together a b ≡ Some s → AllowsWith a v w left right
+    → AllowsWith b x y left right → AllowsWith s x y left right
 second_allowed a b s x y v w left right is one two = first_allowed b a s x y v w left right (turned a b ∙ is) two one
 
 -- either step is allowed where another is
-either_allowed : (a b s : Step) (x y : ℕ) (left right : Bool) → a ≡ Either → together a b ≡ Some s → AllowsOf b x y left right → AllowsOf s x y left right
+either_allowed : (a b s : Step) (x y : ℕ) (left right : Bool) → a ≡ Either → together a b ≡ Some s → AllowsWith b x y left right
+    → AllowsWith s x y left right
 either_allowed a b s x y left right none is here =
     let both : together Either b ≡ Some s = ap (λ t. together t b) (sym none) ∙ is in
-    subst (λ t. AllowsOf t x y left right) (is_step b s both) here
+    subst (λ t. AllowsWith t x y left right) (is_step b s both) here
 
 -- all levels before allow the first, and this one the second
-pub all_allowed : (weighting : Weighting) (a b s : Step) (first level : ℕ) (left right : FrontState) → together a b ≡ Some s → (level ≡ first → a ≡ Either) → first ≤ level
+pub all_allowed : (weighting : Weighting) (a b s : Step) (first level : ℕ) (left right : FrontState) → together a b ≡ Some s
+    → (level ≡ first → a ≡ Either) → first ≤ level
     → ((at : ℕ) → first ≤ at → at < level → Allows weighting a at left right) → Allows weighting b level left right
     → (at : ℕ) → first ≤ at → at < suc level → Allows weighting s at left right
 all_allowed weighting a b s first level left right is none more before here at low high = which (nat_eq at level) refl
@@ -156,10 +160,12 @@ rest_is weighting es fs level vs ws f g left right one other count count_too on 
     (subst (λ c. GoOn vs ws f c o m n) (sym count_too) on)))
 
 -- at the begin of both
-begun_weights : (weighting : Weighting) (level : ℕ) (es : List Element) → weights_left weighting level (begun es) ≡ weights_of_level weighting level es
+begun_weights : (weighting : Weighting) (level : ℕ) (es : List Element)
+    → weights_left weighting level (begun es) ≡ weights_of_level weighting level es
 begun_weights weighting level es = ap (map (weight_at level)) (weighted_after-follows weighting [] es)
 
-pub stands_begun : (weighting : Weighting) (es fs : List Element) (first last : ℕ) (left right : FrontState) → left ≡ begun es → right ≡ begun fs → first ≤ last → last ≤ 4
+pub stands_begun : (weighting : Weighting) (es fs : List Element) (first last : ℕ) (left right : FrontState) → left ≡ begun es
+    → right ≡ begun fs → first ≤ last → last ≤ 4
     → Stands weighting es fs left right (record { first = first; through = last; last = last; order = Equal })
 stands_begun weighting es fs first last left right one other some few = record {
   within = (omega (arith, some), omega arith, some, few);
@@ -174,7 +180,8 @@ stands_begun weighting es fs first last left right one other some few = record {
 }
 
 -- at all levels so far
-stands_on : (weighting : Weighting) (es fs : List Element) (left right left1 right1 : FrontState) (s : LevelsSoFar) → Stands weighting es fs left right s → s.first ≤ s.through
+stands_on : (weighting : Weighting) (es fs : List Element) (left right left1 right1 : FrontState) (s : LevelsSoFar)
+    → Stands weighting es fs left right s → s.first ≤ s.through
     → ((level : ℕ) → s.first ≤ level → level ≤ s.through → GoesOn weighting es fs left1 right1 level) → Stands weighting es fs left1 right1 s
 stands_on weighting es fs left right left1 right1 s stands some on = record {
   within = stands.within;
@@ -184,7 +191,8 @@ stands_on weighting es fs left right left1 right1 s stands some on = record {
   counts = λ less. absurd (omega (arith, less, some));
 }
 
-pub stands_left : (weighting : Weighting) (es fs : List Element) (left right : FrontState) (s : LevelsSoFar) → Stands weighting es fs left right s → s.first ≤ s.through
+pub stands_left : (weighting : Weighting) (es fs : List Element) (left right : FrontState) (s : LevelsSoFar)
+    → Stands weighting es fs left right s → s.first ≤ s.through
     → ((level : ℕ) → s.first ≤ level → level ≤ s.through → Allows weighting Left level left right) → Stands weighting es fs (advanced left) right s
 stands_left weighting es fs left right s stands some allowed = stands_on weighting es fs left right (advanced left) right s stands some on
   where
@@ -197,7 +205,8 @@ stands_left weighting es fs left right s stands some allowed = stands_on weighti
         (left_on vs ws left.passed right.passed (order_at weighting es fs level) (fetched_left_at weighting es fs level) (fetched_right_at weighting es fs level)
         (allowed level low high).0 (stands.through level low high))
 
-pub stands_right : (weighting : Weighting) (es fs : List Element) (left right : FrontState) (s : LevelsSoFar) → Stands weighting es fs left right s → s.first ≤ s.through
+pub stands_right : (weighting : Weighting) (es fs : List Element) (left right : FrontState) (s : LevelsSoFar)
+    → Stands weighting es fs left right s → s.first ≤ s.through
     → ((level : ℕ) → s.first ≤ level → level ≤ s.through → Allows weighting Right level left right) → Stands weighting es fs left (advanced right) s
 stands_right weighting es fs left right s stands some allowed = stands_on weighting es fs left right left (advanced right) s stands some on
   where
@@ -211,13 +220,14 @@ stands_right weighting es fs left right s stands some allowed = stands_on weight
         (allowed level low high).0 (stands.through level low high))
 
 -- where neither has a weight they may go on together
-both_allowed : (step : Step) (x y : ℕ) (left right : Bool) → step ≡ Either ⊎ step ≡ Both → AllowsOf step x y left right → x ≡ y
+both_allowed : (step : Step) (x y : ℕ) (left right : Bool) → step ≡ Either ⊎ step ≡ Both → AllowsWith step x y left right → x ≡ y
 both_allowed Either x y left right which allowed = allowed.0 ∙ sym allowed.1
 both_allowed Both x y left right which allowed = allowed
 both_allowed Left x y left right which allowed = elim which [ inl e ↦ absurd cc | inr e ↦ absurd cc ]
 both_allowed Right x y left right which allowed = elim which [ inl e ↦ absurd cc | inr e ↦ absurd cc ]
 
-pub stands_both : (weighting : Weighting) (es fs : List Element) (left right : FrontState) (s : LevelsSoFar) (step : Step) → Stands weighting es fs left right s → s.first ≤ s.through
+pub stands_both : (weighting : Weighting) (es fs : List Element) (left right : FrontState) (s : LevelsSoFar) (step : Step)
+    → Stands weighting es fs left right s → s.first ≤ s.through
     → step ≡ Either ⊎ step ≡ Both → ((level : ℕ) → s.first ≤ level → level ≤ s.through → Allows weighting step level left right)
     → Stands weighting es fs (advanced left) (advanced right) s
 stands_both weighting es fs left right s step stands some which allowed = stands_on weighting es fs left right (advanced left) (advanced right) s stands some on
@@ -232,7 +242,8 @@ stands_both weighting es fs left right s step stands some which allowed = stands
         (both_allowed step (first_of vs) (first_of ws) (is_ended left) (is_ended right) which (allowed level low high)) (stands.through level low high))
 
 -- where both have the same weights at all levels
-pub stands_agreed : (weighting : Weighting) (es fs : List Element) (left right : FrontState) (s : LevelsSoFar) → Stands weighting es fs left right s → 1 ≤ s.first → s.first ≤ s.through
+pub stands_agreed : (weighting : Weighting) (es fs : List Element) (left right : FrontState) (s : LevelsSoFar)
+    → Stands weighting es fs left right s → 1 ≤ s.first → s.first ≤ s.through
     → front_weights weighting left ≡ front_weights weighting right → Stands weighting es fs (advanced left) (advanced right) s
 stands_agreed weighting es fs left right s stands one some same =
     stands_both weighting es fs left right s Both stands some (inr refl) (λ level low high.

@@ -1,12 +1,9 @@
 -- Where a comparison stands in a text. Private contracts alone cite this file.
-use Rattle.std.specs.Prelude.{ℕ, zero, suc, ◌+◌, List, [], ◌∷◌, Bool, true, false, map, min, Option, Some, None}
+use Rattle.std.specs.Prelude.{◌≡◌, ℕ, zero, suc, ◌+◌, List, [], ◌∷◌, Bool, true, false, map, min, Option, Some, None}
 use Rattle.uca_weights.specs.declared.Element.{Element}
 use Rattle.uca_weights.specs.declared.Weighting.{Weighting}
 use Rattle.uca_key.specs.Levels.{weight_at}
 use Rattle.uca_key.specs.StreamedWeights.{is_after_variable, weighted_after}
-
-abbrev pub WeightingType : Type 0
-WeightingType = Weighting
 
 -- the elements from the front on, whether the nearest one with a primary weight before them is variable, and how many stand before them
 pub record FrontState : Type 0 where
@@ -57,6 +54,10 @@ weight_here weighting level f = first_of (weights_left weighting level f)
 
 abbrev pub front_weights : Weighting → FrontState → List ℕ
 front_weights weighting f = weight_here weighting 1 f ∷ weight_here weighting 2 f ∷ weight_here weighting 3 f ∷ weight_here weighting 4 f ∷ []
+
+-- two fronts have the same weights
+abbrev pub Agree : FrontState → FrontState → Type 0
+Agree f g = (weighting : Weighting) → front_weights weighting f ≡ front_weights weighting g
 
 -- how many elements there are up to the front, with the one that stands there
 abbrev pub count_with : ℕ → List Element → ℕ

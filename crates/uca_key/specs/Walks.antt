@@ -4,7 +4,7 @@ use Rattle.std.specs.Ordering.{nat_cmp}
 use Rattle.std.specs.declared.cmp.Ordering.{Ordering}
 use Rattle.std.specs.declared.cmp.Ordering.TheVariants.{Equal}
 use Rattle.uca_weights.specs.declared.Element.{Element}
-use Rattle.uca_weights.specs.declared.Weighting.{Weighting as WeightingType}
+use Rattle.uca_weights.specs.declared.Weighting.{Weighting}
 use Rattle.uca_key.specs.declared.walks.Step.{Step}
 use Rattle.uca_key.specs.declared.walks.Step.TheVariants.{Either, Both, Left, Right}
 use Rattle.uca_key.specs.declared.walks.Look.{Look}
@@ -15,20 +15,17 @@ use Rattle.uca_key.specs.Levels.{Comparison, dictionary, weight_at, weighted, le
 use Rattle.uca_key.specs.Fetched.{shared_length, length_to}
 use Rattle.uca_key.specs.Fronts.{FrontState, weights_left, weight_here, is_ended, counted, fetched}
 
-abbrev pub Weighting : Type 0
-Weighting = WeightingType
-
 -- ---- What the weights at the fronts allow
 
 -- the lists of a level compare behind this step as before it, where these are its weights at the fronts
-abbrev pub AllowsOf : Step → ℕ → ℕ → Bool → Bool → Type 0
-AllowsOf Either left right left_ended right_ended = (left ≡ 0) × (right ≡ 0)
-AllowsOf Both left right left_ended right_ended = left ≡ right
-AllowsOf Left left right left_ended right_ended = (left ≡ 0) × (left_ended ≡ false)
-AllowsOf Right left right left_ended right_ended = (right ≡ 0) × (right_ended ≡ false)
+abbrev pub AllowsWith : Step → ℕ → ℕ → Bool → Bool → Type 0
+AllowsWith Either left right left_ended right_ended = (left ≡ 0) × (right ≡ 0)
+AllowsWith Both left right left_ended right_ended = left ≡ right
+AllowsWith Left left right left_ended right_ended = (left ≡ 0) × (left_ended ≡ false)
+AllowsWith Right left right left_ended right_ended = (right ≡ 0) × (right_ended ≡ false)
 
-abbrev pub Allows : WeightingType → Step → ℕ → FrontState → FrontState → Type 0
-Allows weighting step level left right = AllowsOf step (weight_here weighting level left) (weight_here weighting level right) (is_ended left) (is_ended right)
+abbrev pub Allows : Weighting → Step → ℕ → FrontState → FrontState → Type 0
+Allows weighting step level left right = AllowsWith step (weight_here weighting level left) (weight_here weighting level right) (is_ended left) (is_ended right)
 
 -- what two steps allow together
 abbrev pub together : Step → Step → Option Step
@@ -49,7 +46,7 @@ pub record Differs (left right : ℕ) (left_ended right_ended : Bool) (order : O
   pub ends_right : right ≡ 0 → right_ended ≡ true
 
 abbrev pub Says : ℕ → ℕ → Bool → Bool → Look → Type 0
-Says left right left_ended right_ended (May step) = AllowsOf step left right left_ended right_ended
+Says left right left_ended right_ended (May step) = AllowsWith step left right left_ended right_ended
 Says left right left_ended right_ended (Differ order) = Differs left right left_ended right_ended order
 
 -- ---- Where the walk stands
@@ -58,15 +55,15 @@ abbrev pub non_zero : List ℕ → List ℕ
 non_zero ws = filter (λ w. not (nat_eq w 0)) ws
 
 -- the weights of elements at a level, zeros among them
-abbrev pub weights_of_level : WeightingType → ℕ → List Element → List ℕ
+abbrev pub weights_of_level : Weighting → ℕ → List Element → List ℕ
 weights_of_level weighting level es = map (weight_at level) (weighted weighting es)
 
 -- how two texts compare at a level
-abbrev pub order_at : WeightingType → List Element → List Element → ℕ → Ordering
+abbrev pub order_at : Weighting → List Element → List Element → ℕ → Ordering
 order_at weighting es fs level = dictionary (level_list level (weighted weighting es)) (level_list level (weighted weighting fs))
 
 -- the first place at which the lists of a level differ
-abbrev pub difference_at : WeightingType → List Element → List Element → ℕ → ℕ
+abbrev pub difference_at : Weighting → List Element → List Element → ℕ → ℕ
 difference_at weighting es fs level = shared_length (level_list level (weighted weighting es)) (level_list level (weighted weighting fs))
 
 -- the weights that are left of two texts compare in this order, and with those before so many elements are fetched
@@ -76,21 +73,21 @@ pub record GoOn (left right : List ℕ) (passed_left passed_right : ℕ) (order 
   pub fetches_right : counted passed_right (length_to (shared_length (non_zero left) (non_zero right)) right) ≡ all_right
 
 -- how many elements of each text are fetched to compare a level
-abbrev pub fetched_left_at : WeightingType → List Element → List Element → ℕ → ℕ
+abbrev pub fetched_left_at : Weighting → List Element → List Element → ℕ → ℕ
 fetched_left_at weighting es fs level = counted 0 (length_to (difference_at weighting es fs level) (weights_of_level weighting level es))
 
-abbrev pub fetched_right_at : WeightingType → List Element → List Element → ℕ → ℕ
+abbrev pub fetched_right_at : Weighting → List Element → List Element → ℕ → ℕ
 fetched_right_at weighting es fs level = counted 0 (length_to (difference_at weighting es fs level) (weights_of_level weighting level fs))
 
 -- from the fronts on a level compares as the whole texts do
-abbrev pub GoesOn : WeightingType → List Element → List Element → FrontState → FrontState → ℕ → Type 0
+abbrev pub GoesOn : Weighting → List Element → List Element → FrontState → FrontState → ℕ → Type 0
 GoesOn weighting es fs left right level =
     GoOn (weights_left weighting level left) (weights_left weighting level right) left.passed right.passed
     (order_at weighting es fs level) (fetched_left_at weighting es fs level) (fetched_right_at weighting es fs level)
 
 -- The levels up to `through` go on; the one behind them decides, if there is one; and the counts are those of the first level once it
 -- decides.
-pub record Stands (weighting : WeightingType) (es fs : List Element) (left right : FrontState) (levels : LevelsSoFar) : Type 0 where
+pub record Stands (weighting : Weighting) (es fs : List Element) (left right : FrontState) (levels : LevelsSoFar) : Type 0 where
   pub within : (levels.first ≤ suc levels.through) × (levels.through ≤ levels.last) × (levels.first ≤ levels.last) × (levels.last ≤ 4)
   pub through : (level : ℕ) → levels.first ≤ level → level ≤ levels.through → GoesOn weighting es fs left right level
   pub decided : levels.through < levels.last → (levels.order ≡ order_at weighting es fs (suc levels.through)) × (levels.order ≢ Equal)
@@ -104,12 +101,12 @@ decided_level through last = if nat_lt through last then suc through else 0
 -- ---- What a walk answers
 
 -- how two texts compare at so many levels
-abbrev pub compared_levels : WeightingType → List Element → List Element → ℕ → ℕ → Comparison
+abbrev pub compared_levels : Weighting → List Element → List Element → ℕ → ℕ → Comparison
 compared_levels weighting es fs first count =
     compare_from first (level_lists_from first count (weighted weighting es)) (level_lists_from first count (weighted weighting fs))
 
 -- the order and the level at the levels `first` to that of the answer, which is at most `last`, and the counts of the first one
-pub record Walks (weighting : WeightingType) (first last : ℕ) (es fs : List Element) (w : Walked) : Type 0 where
+pub record Walks (weighting : Weighting) (first last : ℕ) (es fs : List Element) (w : Walked) : Type 0 where
   pub within : (first ≤ w.last) × (w.last ≤ last)
   pub order_is : w.order ≡ (compared_levels weighting es fs first (suc w.last - first)).order
   pub level_is : w.level ≡ (compared_levels weighting es fs first (suc w.last - first)).level

@@ -4,7 +4,7 @@ ghost use Rattle.std.specs.Prelude.{◌≡◌};
 ghost use Rattle.std.specs.Bool.{OnTrue};
 ghost use Rattle.uca_match.specs.Collations.{collation_of, elements_of};
 ghost use Rattle.uca_key.specs.Fronts;
-ghost use Rattle.uca_key.specs.Fronts.{advanced, begun, front_weights};
+ghost use Rattle.uca_key.specs.Fronts.{Agree, advanced, begun, front_weights};
 
 use crate::weighting::{is_after_variable, weights_of};
 use std::alloc::Allocator;
@@ -81,9 +81,9 @@ impl<'a, L: Lookup, A: Allocator> Front<'a, L, A> {
         }
     }
 
-    /// Whether two fronts have one element with one weighting, or none.
+    /// Whether two fronts have the same element, with the same weights, or both none.
     pub(crate) fn agrees(&self, other: &Front<'a, L, A>) -> bool
-        ensures { OnTrue result ((weighting : Fronts.WeightingType) → front_weights weighting self.now ≡ front_weights weighting other.now) }
+        ensures { OnTrue result (Agree self.now other.now) }
     {
         self.element == other.element && self.after_variable == other.after_variable
     }
