@@ -105,7 +105,8 @@ fn check_written(
     let right = elements_of(alloc, right)?;
     let left = key_of(alloc, weighting, left.iter().copied())?;
     let right = key_of(alloc, weighting, right.iter().copied())?;
-    check_order(alloc, &left, &right, level_count(weighting, Weights), wanted)
+    let levels = level_count(weighting, Weights);
+    check_order(alloc, &left, &right, levels, wanted)
 }
 
 /// Two lists of elements, and how their keys compare under both weightings.
