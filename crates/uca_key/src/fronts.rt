@@ -81,7 +81,8 @@ impl<'a, L: Lookup, A: Allocator> Front<'a, L, A> {
         }
     }
 
-    /// Whether two fronts have the same element, with the same weights, or both none.
+    /// Whether two fronts have the same element, with the same weights, or both none. It is asked for speed alone, and `false`
+    /// says nothing.
     pub(crate) fn agrees(&self, other: &Front<'a, L, A>) -> bool
         ensures { OnTrue result (Agree self.now other.now) }
     {
