@@ -6,7 +6,7 @@ pub mod RowPlaces
 pub mod ExtensionSteps
 pub mod ExtensionEnd
 pub mod Portions
-pub mod Occurring
+pub mod OccurringLetters
 pub mod RelatedReading
 pub mod ReadingParts
 pub mod RowsByKey

@@ -6,7 +6,7 @@ use Rattle.std.proofs.lemmas.List.Elements.{recursion_from_All, All-contains_its
 use Rattle.uca_weights.specs.declared.Element.{Element}
 use Rattle.uca_text.specs.Texts.{Text, code_points}
 use Rattle.uca_match.specs.Rows.{Rows}
-use Rattle.uca_match.specs.Occurring.{OccursInOrder}
+use Rattle.uca_text.specs.Occurring.{OccursInOrder}
 use Rattle.uca_match.specs.Parts.{Part, Row, Implicit, part_elements, IsPartOf}
 use Rattle.uca_match.specs.Laws.{AreRelatedRows, HasSameParts}
 use Rattle.uca_match.proofs.RelatedReading.{HaveSameKeys, read_related}

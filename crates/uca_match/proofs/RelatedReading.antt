@@ -7,10 +7,10 @@ use Rattle.uca_weights.specs.declared.Element.{Element}
 use Rattle.uca_text.specs.Texts.{Letter, Text, code_points}
 use Rattle.uca_match.specs.Rows.{Rows, is_key}
 use Rattle.uca_match.specs.Reading.{is_taken, removed, members, others, longest_key, non_starters_at_front, after_non_starters, row_portion, read}
-use Rattle.uca_match.specs.Occurring.{OccursInOrder}
+use Rattle.uca_text.specs.Occurring.{OccursInOrder}
 use Rattle.uca_match.specs.Laws.{AreRelatedRows, IsKeptByAppend}
-use Rattle.uca_match.proofs.Occurring.{occurs_refl, occurs_more, occurs_front, occurs_trans, occurs_append, occurs_take, occurs_members}
-use Rattle.uca_match.proofs.Occurring.{occurs_others, occurs_code_points, each_occurring}
+use Rattle.uca_text.proofs.Occurring.{occurs_refl, occurs_more, occurs_front, occurs_trans, occurs_append, occurs_take, occurs_code_points, each_occurring}
+use Rattle.uca_match.proofs.OccurringLetters.{occurs_members, occurs_others}
 use Rattle.uca_match.proofs.MatchLemmas.{marks-append}
 use Rattle.uca_match.proofs.ReadingLemmas.{portion_of, row_portion_shorter, read_of_none, read_of_longest}
 

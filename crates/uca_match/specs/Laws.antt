@@ -6,7 +6,7 @@ use Rattle.uca_text.specs.Texts.{Text, code_points}
 use Rattle.uca_values.specs.Content.{Entry, keys_of, AreDistinct}
 use Rattle.uca_match.specs.Rows.{Rows, is_key, IsKey, rows_of}
 use Rattle.uca_match.specs.Reading.{IsReading, read}
-use Rattle.uca_match.specs.Occurring.{OccursInOrder}
+use Rattle.uca_text.specs.Occurring.{OccursInOrder}
 use Rattle.uca_match.specs.Parts.{Part, part_elements, IsPartOf}
 
 -- `read` is a reading, and the only one

@@ -8,7 +8,6 @@ pub mod Places
 pub mod Matches
 pub mod Extensions
 pub mod Rest
-pub mod Occurring
 pub mod Parts
 pub mod Laws
 pub mod WorkedTable

@@ -3,7 +3,7 @@ use Rattle.std.specs.Prelude.{ℕ, List, unwrap_or, Contains, []}
 use Rattle.uca_weights.specs.declared.Element.{Element}
 use Rattle.uca_text.specs.Texts.{Text, code_points}
 use Rattle.uca_match.specs.Rows.{Rows, IsKey}
-use Rattle.uca_match.specs.Occurring.{OccursInOrder}
+use Rattle.uca_text.specs.Occurring.{OccursInOrder}
 
 -- the row of a key, or the implicit weights of a code point
 pub data Part : Type 0 where

@@ -3,3 +3,4 @@ pub mod Limits
 pub mod Faults
 pub mod FaultText
 pub mod Laws
+pub mod Occurring

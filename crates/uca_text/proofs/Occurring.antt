@@ -1,9 +1,8 @@
 -- Lists whose members occur in order in another.
-use Rattle.std.proofs.Common.{ℕ, zero, suc, List, [], ◌∷◌, ◌++◌, take, drop, Bool, true, false, inl, inr, refl, sym, ap, subst, ◌∙◌, ⊎_elim}
+use Rattle.std.proofs.Common.{ℕ, zero, suc, List, [], ◌∷◌, ◌++◌, take, drop, inl, inr, refl, sym, ap, subst, ◌∙◌, ⊎_elim}
 use Rattle.std.specs.List.{AllByRecursion}
 use Rattle.uca_text.specs.Texts.{Text, code_points}
-use Rattle.uca_match.specs.Reading.{members, others}
-use Rattle.uca_match.specs.Occurring.{OccursInOrder}
+use Rattle.uca_text.specs.Occurring.{OccursInOrder}
 
 -- the other list may begin with more
 pub occurs_more : {A : Type 0} (xs : List A) (y : A) (ys : List A) → OccursInOrder xs ys → OccursInOrder xs (y ∷ ys)
@@ -49,19 +48,6 @@ pub occurs_drop : {A : Type 0} (n : ℕ) (xs : List A) → OccursInOrder (drop n
 occurs_drop zero xs = occurs_refl xs
 occurs_drop (suc n) [] = tt
 occurs_drop (suc n) (x ∷ xs) = occurs_more (drop n xs) x xs (occurs_drop n xs)
-
--- the letters at some places, and those at the others
-pub occurs_members : (set : List Bool) (t : Text) → OccursInOrder (members set t) t
-occurs_members [] t = tt
-occurs_members (b ∷ set) [] = tt
-occurs_members (true ∷ set) (c ∷ t) = inl (refl, occurs_members set t)
-occurs_members (false ∷ set) (c ∷ t) = occurs_more (members set t) c t (occurs_members set t)
-
-pub occurs_others : (set : List Bool) (t : Text) → OccursInOrder (others set t) t
-occurs_others [] t = occurs_refl t
-occurs_others (b ∷ set) [] = tt
-occurs_others (true ∷ set) (c ∷ t) = occurs_more (others set t) c t (occurs_others set t)
-occurs_others (false ∷ set) (c ∷ t) = inl (refl, occurs_others set t)
 
 -- where letters occur, their code points do
 pub occurs_code_points : (s t : Text) → OccursInOrder s t → OccursInOrder (code_points s) (code_points t)

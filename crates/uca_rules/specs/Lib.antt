@@ -1,0 +1,12 @@
+pub mod Characters
+pub mod Pieces
+pub mod Statements
+pub mod Relations
+pub mod Meaning
+pub mod Faults
+pub mod FaultText
+pub mod Views
+pub mod Growing
+pub mod Reading
+pub mod Laws
+pub mod Worked

@@ -1,0 +1,38 @@
+-- What the reader's values stand for. Only clauses inside this crate cite this file.
+use Rattle.std.specs.Prelude.{◌≡◌, ◌⊎◌, ℕ, Bool, List, ◌∷◌, ◌++◌, Option, Some, None, option_map}
+use denote.Bor.{Bor}
+use Rattle.uca_rules.specs.declared.characters.Character.{Character}
+use Rattle.uca_rules.specs.declared.faults.RuleFault.{RuleFault}
+use Rattle.uca_rules.specs.declared.faults.RuleFaultKind.TheVariants as kinds
+use Rattle.uca_rules.specs.declared.signs.Sign.{Sign}
+use Rattle.uca_rules.specs.Characters.{place_of}
+use Rattle.uca_rules.specs.Pieces.{Symbol, Hyphen, Piece}
+use Rattle.uca_rules.specs.Statements.{SignAt, IsNoRange}
+use Rattle.uca_rules.specs.Faults.{TextCause}
+
+abbrev pub sign_view : Sign → SignAt
+sign_view s = record { strength = s.strength; starred = s.starred; rest = s.rest.now }
+
+-- what a slice that may be there holds
+abbrev pub slice_view : Option (Bor (List Character)) → Option (List Character)
+slice_view o = option_map (λ s. s.now) o
+
+-- Of the piece at the front the symbols stand at the end of new, and the rest follows; or there is no such piece.
+abbrev pub Takes : List Symbol → List Symbol → Option (List Character) → Option Piece → Type 0
+Takes old new None piece = piece ≡ None
+Takes old new (Some rest) piece = (symbols : List Symbol) × (piece ≡ Some (record { symbols = symbols; rest = rest })) × (new ≡ old ++ symbols)
+
+-- an allocation failed while the character at the place was read
+abbrev pub IsMemoryAt : ℕ → RuleFault → Type 0
+IsMemoryAt place fault = (fault.kind ≡ kinds.Memory) × (fault.byte ≡ place)
+
+-- a fault in a text that is due
+abbrev pub IsTextFault : ℕ → Bool → List Character → RuleFault → Type 0
+IsTextFault end starred text fault = IsMemoryAt (place_of end text) fault ⊎ TextCause end starred text fault.byte fault.kind
+
+-- what stands around the `-` at the place shows that it stands for no range
+pub record ShowsWrongHyphen (symbols : List Symbol) (place : ℕ) : Type 0 where
+  pub front : List Symbol
+  pub back : List Symbol
+  pub are : symbols ≡ front ++ Hyphen place ∷ back
+  pub wrong : IsNoRange front back

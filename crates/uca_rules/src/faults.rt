@@ -1,0 +1,97 @@
+//! Why rules are refused.
+
+ghost use Rattle.std.specs.Prelude.{◌≡◌, Some};
+ghost use Rattle.uca_rules.specs.declared.faults.RuleFaultKind.{RuleFaultKind};
+ghost use Rattle.uca_rules.specs.FaultText.{kind_text, rule_fault_text};
+
+use std::alloc::{AllocError, AllocFailed};
+use std::error::Error;
+use std::fmt;
+
+/// Why rules are refused.
+#[derive(Clone, Copy, Debug, PartialEq, Eq)]
+pub enum RuleFaultKind {
+    /// A character stands where it may not; a bracket is none of the three forms; a quote has no end; four or more `<`
+    /// stand in a row; a chain has no relation; or a `-` of a starred text stands for no range.
+    Syntax,
+    /// A backslash stands at the end, or its digits are missing or give no code point.
+    Escape,
+    /// The first relation behind `[before 1]`, `[before 2]` or `[before 3]` has another strength.
+    BeforeStrength,
+    /// A text is due and the end, `&`, `<`, `=` or `/` stands there.
+    EmptyText,
+    /// There are more than 1,048,576 bytes or more than 5,000 relations, or a text has more than 16 code points in
+    /// Normalization Form D.
+    Limit,
+    /// The target is the target of an earlier relation.
+    DuplicateTarget,
+    /// The target occurs in order in an anchor or an expansion that was read before it, so that these would be read
+    /// otherwise.
+    LateTarget,
+    /// An allocation failed.
+    Memory,
+    /// The bytes are not UTF-8.
+    Utf8,
+}
+
+impl RuleFaultKind {
+    /// The name of the kind, as it stands in a fault line.
+    pub fn name(self) -> &'static str
+        ensures { result.now ≡ kind_text self }
+    {
+        match self {
+            RuleFaultKind::Syntax => "Syntax",
+            RuleFaultKind::Escape => "Escape",
+            RuleFaultKind::BeforeStrength => "BeforeStrength",
+            RuleFaultKind::EmptyText => "EmptyText",
+            RuleFaultKind::Limit => "Limit",
+            RuleFaultKind::DuplicateTarget => "DuplicateTarget",
+            RuleFaultKind::LateTarget => "LateTarget",
+            RuleFaultKind::Memory => "Memory",
+            RuleFaultKind::Utf8 => "Utf8",
+        }
+    }
+}
+
+impl fmt::Display for RuleFaultKind {
+    ghost output = { λ kind. Some (kind_text kind) };
+
+    fn fmt<W: fmt::Write>(&self, f: &mut fmt::Formatter<W>) -> fmt::Result {
+        f.write_str(self.name())
+    }
+}
+
+/// Rules are refused: at which byte, and why.
+#[derive(Clone, Copy, Debug, PartialEq, Eq)]
+pub struct RuleFault {
+    /// The byte, counted from 0; the length of the rules is their end.
+    pub byte: usize,
+    /// Why they are refused.
+    pub kind: RuleFaultKind,
+}
+
+impl fmt::Display for RuleFault {
+    ghost output = { λ fault. Some (rule_fault_text fault) };
+
+    fn fmt<W: fmt::Write>(&self, f: &mut fmt::Formatter<W>) -> fmt::Result {
+        write!(f, "byte {}: {}", self.byte, self.kind)
+    }
+}
+
+impl Error for RuleFault {}
+
+impl From<AllocError> for RuleFaultKind {
+    ghost from_gives = { λ _ kind. kind ≡ RuleFaultKind.Memory };
+
+    fn from(_error: AllocError) -> RuleFaultKind {
+        RuleFaultKind::Memory
+    }
+}
+
+impl<T: Drop> From<AllocFailed<T>> for RuleFaultKind {
+    ghost from_gives = { λ _ kind. kind ≡ RuleFaultKind.Memory };
+
+    fn from(_error: AllocFailed<T>) -> RuleFaultKind {
+        RuleFaultKind::Memory
+    }
+}

@@ -1,0 +1,91 @@
+//! Rules that grow by one relation after the other.
+
+ghost use Rattle.std.specs.Prelude.{◌≡◌, ◌<◌, ◌++◌, ◌∷◌, [], ◌⊎◌, length, IfErr, OnOk};
+ghost use Rattle.uca_rules.specs.Relations.{AreRules, HasRuleTexts};
+ghost use Rattle.uca_rules.specs.Faults.{RelationCause};
+ghost use Rattle.uca_rules.specs.Growing.{AreGrowing, Holds};
+
+use crate::faults::RuleFaultKind;
+use crate::relations::{Relation, Rules, is_target, occurs_in_order};
+use std::alloc::{AllocError, Global};
+
+/// The relations that have been read.
+#[derive(Drop)]
+pub(crate) struct GrowingRules {
+    alloc: Global,
+    relations: Vec<Relation>,
+    // the anchors and expansions that are no target of a relation before their own: no later target may occur in
+    // them in order
+    held: Vec<Vec<char>>,
+}
+
+impl GrowingRules {
+    /// No relations.
+    pub(crate) fn new(alloc: Global) -> GrowingRules
+        ensures none { result.relations.items ≡ [] }
+        ensures growing { AreGrowing result }
+    {
+        GrowingRules {
+            alloc,
+            relations: Vec::new(alloc),
+            held: Vec::new(alloc),
+        }
+    }
+
+    /// How many relations there are.
+    pub(crate) fn count(&self) -> usize
+        ensures { result ≡ length self.now.relations.items }
+    {
+        self.relations.len()
+    }
+
+    /// Adds a relation.
+    ///
+    /// # Errors
+    ///
+    /// `DuplicateTarget` where its target is the target of an earlier one; otherwise `LateTarget` where its target occurs in
+    /// order in a text that is held, its own ones included; `Memory`.
+    pub(crate) fn add(&mut self, relation: Relation) -> Result<(), RuleFaultKind>
+        requires growing { AreGrowing self.old }
+        requires few { length self.old.relations.items < 5000 }
+        requires texts { HasRuleTexts relation }
+        ensures added { OnOk result (self.new.relations.items ≡ self.old.relations.items ++ relation ∷ []) }
+        ensures growing { OnOk result (AreGrowing self.new) }
+        ensures fault { IfErr result (λ kind. (kind ≡ RuleFaultKind.Memory) ⊎ RelationCause self.old.relations.items relation kind) }
+    {
+        let target = relation.target.chars();
+        if is_target(&self.relations, target) {
+            return Err(RuleFaultKind::DuplicateTarget);
+        }
+        self.hold(relation.anchor.chars())?;
+        if let Some(expansion) = &relation.expansion {
+            self.hold(expansion.chars())?;
+        }
+        if self.held.iter().any(|text| occurs_in_order(target, text)) {
+            return Err(RuleFaultKind::LateTarget);
+        }
+        self.relations.push(relation)?;
+        Ok(())
+    }
+
+    /// Holds a text, unless it is the target of a relation.
+    fn hold(&mut self, text: &[char]) -> Result<(), AllocError>
+        ensures { OnOk result (Holds text.now self.old self.new) }
+    {
+        if !is_target(&self.relations, text) {
+            let text = Vec::from_slice(self.alloc, text)?;
+            self.held.push(text)?;
+        }
+        Ok(())
+    }
+
+    /// The rules that the relations make up.
+    pub(crate) fn finish(self) -> Rules
+        requires { AreGrowing self }
+        ensures { result ≡ self.relations.items }
+    {
+        Rules {
+            relations: self.relations,
+        }
+    }
+}

@@ -1,0 +1,16 @@
+//! Tailoring rules (UTS #35 Part 5, section 3): a reader for a profile of their syntax, the relations that they mean, and
+//! the texts that they leave as they are.
+#![tactic(auto)]
+
+mod characters;
+mod faults;
+mod growing;
+mod pieces;
+mod reader;
+mod relations;
+mod signs;
+mod texts;
+
+pub use faults::{RuleFault, RuleFaultKind};
+pub use reader::read_rules;
+pub use relations::{Relation, Rules};

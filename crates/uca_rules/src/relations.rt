@@ -1,0 +1,88 @@
+//! Relations, the rules that they make up, and which texts rules leave as they are.
+
+ghost use Rattle.std.specs.Prelude.{◌≡◌, ◌↔◌, ℕ, IsTrue, List};
+ghost use Rattle.uca_text.specs.Occurring.{OccursInOrder};
+ghost use Rattle.uca_rules.specs.Relations.{AreRules, IsTarget, IsUntouched};
+
+use std::marker::Model;
+use uca_text::Normal;
+use uca_weights::Strength;
+
+/// A relation between two texts (UTS #35 Part 5, section 3.3): the target stands behind the anchor, or before it, and
+/// differs from it at the strength.
+#[derive(Drop)]
+pub struct Relation {
+    /// The text that the target is placed by.
+    pub anchor: Normal,
+    /// Whether the target stands before the anchor.
+    pub before: bool,
+    /// How strongly the target differs from the anchor.
+    pub strength: Strength,
+    /// The text that is placed.
+    pub target: Normal,
+    /// A text whose collation elements follow those that the target has of its own.
+    pub expansion: Option<Normal>,
+}
+
+/// The relations of rules, in their order. There are at most 5,000, and each text has 1 to 16 code points in Normalization
+/// Form D. No two have the same target. No anchor and no expansion of a relation holds, in order, the relation's own target
+/// or a later one, unless it is itself the target of a relation before that one.
+#[derive(Drop)]
+pub struct Rules {
+    pub(crate) relations: Vec<Relation>,
+}
+
+impl Model for Rules {
+    ghost use Rattle.std.specs.Prelude.{List};
+    ghost use Rattle.uca_rules.specs.declared.relations.Relation.{Relation};
+    ghost use Rattle.uca_rules.specs.Relations.{AreRules};
+
+    ghost Value = { List Relation };
+
+    ghost view = { λ r. r.relations.items };
+
+    ghost invariant = { λ r. AreRules r.relations.items };
+}
+
+impl Rules {
+    /// The relations, in the order in which they are written.
+    pub fn relations(&self) -> &[Relation]
+        ensures value { result.now ≡ self.now }
+        ensures rules { AreRules self.now }
+    {
+        self.relations.as_slice()
+    }
+
+    /// Whether the rules leave a text as it is: no target's code points all occur in it, in their order. Others may stand
+    /// between.
+    pub fn untouched(&self, text: &Normal) -> bool
+        ensures { IsTrue result ↔ IsUntouched self.now text.now.points }
+    {
+        self.relations
+            .iter()
+            .all(|r| !occurs_in_order(r.target.chars(), text.chars()))
+    }
+}
+
+/// Whether the part's code points all occur in the text, in their order.
+pub(crate) fn occurs_in_order(part: &[char], text: &[char]) -> bool
+    ensures { IsTrue result ↔ OccursInOrder part.now text.now }
+{
+    let mut at = 0;
+    for c in text {
+        if at == part.len() {
+            return true;
+        }
+        if *c == part[at] {
+            at += 1;
+        }
+    }
+    at == part.len()
+}
+
+/// Whether the text is the target of a relation.
+pub(crate) fn is_target(relations: &[Relation], text: &[char]) -> bool
+    ensures { IsTrue result ↔ IsTarget relations.now text.now }
+{
+    relations.iter().any(|r| r.target.chars() == text)
+}

@@ -1,0 +1,179 @@
+//! Reading texts, starred or not.
+
+ghost use Rattle.std.specs.Prelude.{◌≡◌, ◌<◌, ◌≤◌, ◌≢◌, ◌⊎◌, ◌∷◌, ◌++◌, [], ◌↔◌, take, IsTrue, IsFalse, Some, None, length, List, IfOk, IfErr, OnOk, MatchOption, true, false};
+ghost use Rattle.unicode_normalization.specs.Forms.{nfd};
+ghost use Rattle.uca_values.specs.Content.{properties_of};
+ghost use Rattle.uca_text.specs.Texts.{spelled};
+ghost use Rattle.uca_rules.specs.Characters;
+ghost use Rattle.uca_rules.specs.Pieces.{BeginsText, EndsText, points_of};
+ghost use Rattle.uca_rules.specs.Statements.{HasRanges, HasRangesSoFar, IsRange};
+ghost use Rattle.uca_rules.specs.Relations.{IsRuleText};
+ghost use Rattle.uca_rules.specs.Faults.{TextCause};
+ghost use Rattle.uca_rules.specs.Views.{IsTextFault, ShowsWrongHyphen};
+
+use crate::characters::{Character, Symbol};
+use crate::faults::{RuleFault, RuleFaultKind};
+use crate::pieces::{begins_piece, take_piece};
+use std::alloc::{AllocError, Allocator, Global};
+use uca_text::{Normal, TextFault, normal};
+use uca_values::Data;
+
+/// How many code points a text of rules may have in Normalization Form D.
+const LONGEST_TEXT: usize = 16;
+
+/// Where the rest of the rules begins, which end at `end`.
+pub(crate) fn place_of(end: usize, characters: &[Character]) -> usize
+    ensures { result ≡ Characters.place_of end characters.now }
+{
+    match characters.first() {
+        Some(c) => c.place,
+        None => end,
+    }
+}
+
+/// Reads the text at the front, whose symbols are written over those that are there. What follows it is given back.
+///
+/// # Errors
+///
+/// `EmptyText`, `Syntax`, `Escape` or `Memory`.
+pub(crate) fn read_text<'a>(
+    symbols: &mut Vec<Symbol>,
+    text: &'a [Character],
+    starred: bool,
+    end: usize,
+) -> Result<&'a [Character], RuleFault>
+    ensures found { IfOk result (λ rest. BeginsText starred text.now symbols.new.items rest.now) }
+    ensures ranges { OnOk result (IsTrue starred → HasRanges symbols.new.items) }
+    ensures fault { IfErr result (IsTextFault end starred text.now) }
+{
+    begins_text(text, starred, end)?;
+    let place = place_of(end, text);
+    symbols.clear();
+    let mut rest = text;
+    while !ends_text(rest, starred) {
+        let count = symbols.len();
+        match take_piece(symbols, rest, starred) {
+            Err(_) => return Err(RuleFault { byte: place, kind: RuleFaultKind::Memory }),
+            Ok(None) => return Err(broken(symbols, rest, starred)),
+            Ok(Some(behind)) => rest = behind,
+        }
+        if starred {
+            test_hyphens(symbols, count)?;
+        }
+    }
+    match symbols.last() {
+        Some(Symbol::Hyphen(place)) if starred => Err(RuleFault { byte: *place, kind: RuleFaultKind::Syntax }),
+        _ => Ok(rest),
+    }
+}
+
+/// Why no piece stands where one begins, behind these symbols.
+fn broken(symbols: &[Symbol], rest: &[Character], starred: bool) -> RuleFault {
+    let first = rest[0];
+    if first.code == '\\' {
+        return RuleFault { byte: first.place, kind: RuleFaultKind::Escape };
+    }
+    let byte = match rest.get(1) {
+        Some(c) if starred && c.code != '\'' => wrong_hyphen(symbols, Symbol::Literal(*c)).unwrap_or(first.place),
+        _ => first.place,
+    };
+    RuleFault { byte, kind: RuleFaultKind::Syntax }
+}
+
+/// Tests what stands around each `-`, as far as the symbols from `count` on show it.
+fn test_hyphens(symbols: &[Symbol], count: usize) -> Result<(), RuleFault>
+    requires within { count ≤ length symbols.now }
+    requires so_far { HasRangesSoFar (take count symbols.now) }
+    ensures found { OnOk result (HasRangesSoFar symbols.now) }
+    ensures fault { IfErr result (λ fault. (fault.kind ≡ RuleFaultKind.Syntax) × ShowsWrongHyphen symbols.now fault.byte) }
+{
+    for at in count..symbols.len() {
+        if let Some(byte) = wrong_hyphen(&symbols[..at], symbols[at]) {
+            return Err(RuleFault { byte, kind: RuleFaultKind::Syntax });
+        }
+    }
+    Ok(())
+}
+
+/// The `-` that stands for no range, as the symbol behind the others shows.
+fn wrong_hyphen(before: &[Symbol], symbol: Symbol) -> Option<usize>
+    requires { HasRangesSoFar before.now }
+    ensures { MatchOption result (HasRangesSoFar (before.now ++ symbol ∷ [])) (ShowsWrongHyphen (before.now ++ symbol ∷ [])) }
+{
+    let (start, hyphen) = last_two(before);
+    match (hyphen, symbol) {
+        (None, Symbol::Hyphen(place)) => Some(place),
+        (Some(Symbol::Hyphen(place)), Symbol::Hyphen(_)) => Some(place),
+        (Some(Symbol::Hyphen(place)), Symbol::Literal(end)) => match start {
+            Some(Symbol::Literal(start)) if is_range(start.code, end.code) => None,
+            _ => Some(place),
+        },
+        (Some(Symbol::Literal(_)), Symbol::Hyphen(place)) => match start {
+            Some(Symbol::Hyphen(_)) => Some(place),
+            _ => None,
+        },
+        (_, Symbol::Literal(_)) => None,
+    }
+}
+
+/// The last two symbols.
+fn last_two(symbols: &[Symbol]) -> (Option<Symbol>, Option<Symbol>) {
+    let count = symbols.len();
+    let last = if count > 0 { Some(symbols[count - 1]) } else { None };
+    let before = if count > 1 { Some(symbols[count - 2]) } else { None };
+    (before, last)
+}
+
+/// Whether `x-y` stands for code points from x to y, of which none is a surrogate.
+fn is_range(x: char, y: char) -> bool
+    ensures { IsTrue result ↔ IsRange x y }
+{
+    x < y && (y <= '\u{D7FF}' || x >= '\u{E000}')
+}
+
+/// Tests that a text may begin there.
+fn begins_text(text: &[Character], starred: bool, end: usize) -> Result<(), RuleFault>
+    ensures found { OnOk result (¬ (EndsText starred text.now)) }
+    ensures fault { IfErr result (λ fault. TextCause end starred text.now fault.byte fault.kind) }
+{
+    let byte = place_of(end, text);
+    match text.first() {
+        Some(c) if begins_piece(starred, c.code) => Ok(()),
+        Some(c) if !matches!(c.code, '&' | '<' | '=' | '/') => Err(RuleFault { byte, kind: RuleFaultKind::Syntax }),
+        _ => Err(RuleFault { byte, kind: RuleFaultKind::EmptyText }),
+    }
+}
+
+/// Whether no piece begins there.
+fn ends_text(rest: &[Character], starred: bool) -> bool
+    ensures is { IsTrue result → EndsText starred rest.now }
+    ensures none { IsFalse result → ¬ (EndsText starred rest.now) }
+{
+    match rest.first() {
+        Some(c) => !begins_piece(starred, c.code),
+        None => true,
+    }
+}
+
+/// The text of the symbols in Normalization Form D, unless it has more than 16 code points there.
+pub(crate) fn rule_text<A: Allocator>(
+    alloc: Global,
+    letters: &mut String,
+    symbols: &[Symbol],
+    data: &Data<A>,
+) -> Result<Option<Normal>, AllocError>
+    requires { points_of symbols.now ≢ [] }
+    ensures { IfOk result (λ found. MatchOption found (16 < length (nfd (points_of symbols.now))) (λ text. (text ≡ spelled (properties_of data.now) (points_of symbols.now)) × IsRuleText text)) }
+{
+    letters.clear();
+    for symbol in symbols {
+        if let Symbol::Literal(c) = symbol {
+            letters.push(c.code)?;
+        }
+    }
+    match normal(alloc, letters, data) {
+        Ok(text) if text.chars().len() <= LONGEST_TEXT => Ok(Some(text)),
+        Err(TextFault::Memory) => Err(AllocError),
+        _ => Ok(None),
+    }
+}
