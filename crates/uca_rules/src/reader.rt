@@ -33,26 +33,26 @@ const MOST_BYTES: usize = 1_048_576;
 const MOST_RELATIONS: usize = 5000;
 
 /// Reads tailoring rules (a profile of UTS #35 Part 5, section 3; docs/FORMATS.md has its syntax). Texts are brought to
-/// Normalization Form D, with the classes that `data` gives their code points.
+/// Normalization Form D, with the classes that `properties` gives their code points.
 ///
 /// # Errors
 ///
 /// The first fault, as the rules are read from left to right: `Limit` at byte 1,048,576 where there are more bytes; otherwise `Utf8`
 /// at the first byte that is not part of a valid beginning; otherwise what [`RuleFaultKind`] says of its kinds. `Memory` may
 /// come at any byte, where an allocation fails.
-pub fn read_rules<A: Allocator>(alloc: Global, bytes: &[u8], data: &Data<A>) -> Result<Rules, RuleFault>
-    ensures found { IfOk result (λ rules. Means (properties_of data.now) bytes.now rules) }
-    ensures only { (relations : List Relation) → Means (properties_of data.now) bytes.now relations →
+pub fn read_rules<A: Allocator>(alloc: Global, bytes: &[u8], properties: &Data<A>) -> Result<Rules, RuleFault>
+    ensures found { IfOk result (λ rules. Means (properties_of properties.now) bytes.now rules) }
+    ensures only { (relations : List Relation) → Means (properties_of properties.now) bytes.now relations →
         MatchResult result (λ rules. rules ≡ relations) (λ fault. fault.kind ≡ RuleFaultKind.Memory) }
-    ensures fault { IfErr result (λ fault. IsCause (properties_of data.now) bytes.now fault.byte fault.kind) }
+    ensures fault { IfErr result (λ fault. IsCause (properties_of properties.now) bytes.now fault.byte fault.kind) }
 {
-    read_all(alloc, bytes, data)
+    read_all(alloc, bytes, properties)
 }
 
 /// Reads rules to their end or their first fault.
-fn read_all<A: Allocator>(alloc: Global, bytes: &[u8], data: &Data<A>) -> Result<Rules, RuleFault>
-    ensures found { IfOk result (λ rules. Means (properties_of data.now) bytes.now rules) }
-    ensures fault { IfErr result (λ fault. IsCause (properties_of data.now) bytes.now fault.byte fault.kind) }
+fn read_all<A: Allocator>(alloc: Global, bytes: &[u8], properties: &Data<A>) -> Result<Rules, RuleFault>
+    ensures found { IfOk result (λ rules. Means (properties_of properties.now) bytes.now rules) }
+    ensures fault { IfErr result (λ fault. IsCause (properties_of properties.now) bytes.now fault.byte fault.kind) }
 {
     if bytes.len() > MOST_BYTES {
         return Err(RuleFault { byte: MOST_BYTES, kind: RuleFaultKind::Limit });
@@ -62,7 +62,7 @@ fn read_all<A: Allocator>(alloc: Global, bytes: &[u8], data: &Data<A>) -> Result
         Err(error) => return Err(RuleFault { byte: error.valid_up_to(), kind: RuleFaultKind::Utf8 }),
     };
     let characters = characters(alloc, text)?;
-    let mut reader = Reader::new(alloc, data, bytes.len());
+    let mut reader = Reader::new(alloc, properties, bytes.len());
     reader.read_statements(&characters)?;
     Ok(reader.rules.finish())
 }
@@ -71,7 +71,7 @@ fn read_all<A: Allocator>(alloc: Global, bytes: &[u8], data: &Data<A>) -> Result
 #[derive(Drop)]
 pub(crate) struct Reader<'a, A: Allocator> {
     alloc: Global,
-    data: &'a Data<A>,
+    properties: &'a Data<A>,
     // the length of the rules
     end: usize,
     rules: GrowingRules,
@@ -86,10 +86,10 @@ pub(crate) struct Reader<'a, A: Allocator> {
 
 impl<'a, A: Allocator> Reader<'a, A> {
     /// Before the first statement.
-    fn new(alloc: Global, data: &'a Data<A>, end: usize) -> Reader<'a, A> {
+    fn new(alloc: Global, properties: &'a Data<A>, end: usize) -> Reader<'a, A> {
         Reader {
             alloc,
-            data,
+            properties,
             end,
             rules: GrowingRules::new(alloc),
             anchor: Normal::new(alloc),
@@ -184,7 +184,7 @@ impl<'a, A: Allocator> Reader<'a, A> {
     fn read_plain<'c>(&mut self, text: &'c [Character]) -> Result<(Normal, &'c [Character]), RuleFault> {
         let byte = place_of(self.end, text);
         let rest = read_text(&mut self.symbols, text, false, self.end)?;
-        match rule_text(self.alloc, &mut self.letters, &self.symbols, self.data) {
+        match rule_text(self.alloc, &mut self.letters, &self.symbols, self.properties) {
             Ok(Some(normal)) => Ok((normal, rest)),
             Ok(None) => Err(RuleFault { byte, kind: RuleFaultKind::Limit }),
             Err(_) => Err(RuleFault { byte, kind: RuleFaultKind::Memory }),
@@ -226,7 +226,7 @@ impl<'a, A: Allocator> Reader<'a, A> {
         if self.rules.count() == MOST_RELATIONS {
             return Err(RuleFault { byte, kind: RuleFaultKind::Limit });
         }
-        match rule_text(self.alloc, &mut self.letters, &[Symbol::Literal(target)], self.data) {
+        match rule_text(self.alloc, &mut self.letters, &[Symbol::Literal(target)], self.properties) {
             Ok(Some(text)) => self.add(strength, text, None, byte, here),
             Ok(None) => Err(RuleFault { byte, kind: RuleFaultKind::Limit }),
             Err(_) => Err(RuleFault { byte: here, kind: RuleFaultKind::Memory }),

@@ -58,9 +58,7 @@ impl Rules {
     pub fn untouched(&self, text: &Normal) -> bool
         ensures { IsTrue result ↔ IsUntouched self.now text.now.points }
     {
-        self.relations
-            .iter()
-            .all(|r| !occurs_in_order(r.target.chars(), text.chars()))
+        leave_untouched(&self.relations, text.chars())
     }
 }
 
@@ -80,9 +78,26 @@ pub(crate) fn occurs_in_order(part: &[char], text: &[char]) -> bool
     at == part.len()
 }
 
+/// Whether no target occurs in order in the text.
+fn leave_untouched(relations: &[Relation], text: &[char]) -> bool
+    ensures { IsTrue result ↔ IsUntouched relations.now text.now }
+{
+    for relation in relations {
+        if occurs_in_order(relation.target.chars(), text) {
+            return false;
+        }
+    }
+    true
+}
+
 /// Whether the text is the target of a relation.
 pub(crate) fn is_target(relations: &[Relation], text: &[char]) -> bool
     ensures { IsTrue result ↔ IsTarget relations.now text.now }
 {
-    relations.iter().any(|r| r.target.chars() == text)
+    for relation in relations {
+        if relation.target.chars() == text {
+            return true;
+        }
+    }
+    false
 }

@@ -160,10 +160,10 @@ pub(crate) fn rule_text<A: Allocator>(
     alloc: Global,
     letters: &mut String,
     symbols: &[Symbol],
-    data: &Data<A>,
+    properties: &Data<A>,
 ) -> Result<Option<Normal>, AllocError>
     requires { points_of symbols.now ≢ [] }
-    ensures { IfOk result (λ found. MatchOption found (16 < length (nfd (points_of symbols.now))) (λ text. (text ≡ spelled (properties_of data.now) (points_of symbols.now)) × IsRuleText text)) }
+    ensures { IfOk result (λ found. MatchOption found (16 < length (nfd (points_of symbols.now))) (λ text. (text ≡ spelled (properties_of properties.now) (points_of symbols.now)) × IsRuleText text)) }
 {
     letters.clear();
     for symbol in symbols {
@@ -171,7 +171,7 @@ pub(crate) fn rule_text<A: Allocator>(
             letters.push(c.code)?;
         }
     }
-    match normal(alloc, letters, data) {
+    match normal(alloc, letters, properties) {
         Ok(text) if text.chars().len() <= LONGEST_TEXT => Ok(Some(text)),
         Err(TextFault::Memory) => Err(AllocError),
         _ => Ok(None),
