@@ -1,8 +1,13 @@
 -- Rules that grow by one relation after the other. Only clauses inside this crate cite this file.
-use Rattle.std.specs.Prelude.{◌≡◌, ◌≢◌, ◌↔◌, ℕ, List, [], ◌∷◌, ◌++◌, map, Contains}
+use Rattle.std.specs.Prelude.{◌≡◌, ◌↔◌, ◌⊎◌, ℕ, List, map, Contains, Vec}
+use Rattle.std.specs.Global.{Global}
 use Rattle.uca_rules.specs.declared.relations.Relation.{Relation}
 use Rattle.uca_rules.specs.declared.growing.GrowingRules.{GrowingRules}
-use Rattle.uca_rules.specs.Relations.{AreRules, IsTarget, IsHeld}
+use Rattle.uca_rules.specs.Relations.{AreRules, IsTarget, IsUsedBy, IsHeld}
+
+-- a text that is held, in the memory that it has
+abbrev pub HeldText : Type 0
+HeldText = Vec ℕ Global
 
 -- the texts that are held
 abbrev pub held_texts : GrowingRules → List (List ℕ)
@@ -16,5 +21,9 @@ pub record AreGrowing (g : GrowingRules) : Type 0 where
 -- one more text is held, unless it is a target
 pub record Holds (text : List ℕ) (old new : GrowingRules) : Type 0 where
   pub same : new.relations ≡ old.relations
-  pub target : IsTarget old.relations.items text → held_texts new ≡ held_texts old
-  pub other : ¬ (IsTarget old.relations.items text) → held_texts new ≡ held_texts old ++ text ∷ []
+  pub held : (t : List ℕ) → Contains (held_texts new) t ↔ (Contains (held_texts old) t ⊎ ((t ≡ text) × ¬ (IsTarget old.relations.items text)))
+
+-- the texts of a relation are held, those that are a target aside
+pub record HoldsOwn (r : Relation) (old new : GrowingRules) : Type 0 where
+  pub same : new.relations ≡ old.relations
+  pub held : (t : List ℕ) → Contains (held_texts new) t ↔ (Contains (held_texts old) t ⊎ (IsUsedBy r t × ¬ (IsTarget old.relations.items t)))

@@ -1,9 +1,11 @@
 //! Rules that grow by one relation after the other.
 
-ghost use Rattle.std.specs.Prelude.{◌≡◌, ◌<◌, ◌++◌, ◌∷◌, [], ◌⊎◌, length, IfErr, OnOk};
+ghost use Rattle.std.specs.Prelude.{◌≡◌, ◌<◌, ◌++◌, ◌∷◌, [], ◌⊎◌, ℕ, Contains, IfErr, IsFalse, IsTrue, List, OnOk, length, map};
+ghost use Rattle.uca_text.specs.Occurring.{OccursInOrder};
+ghost use Rattle.uca_rules.specs.declared.faults.RuleFaultKind.{RuleFaultKind};
 ghost use Rattle.uca_rules.specs.Relations.{AreRules, HasRuleTexts};
 ghost use Rattle.uca_rules.specs.Faults.{RelationCause};
-ghost use Rattle.uca_rules.specs.Growing.{AreGrowing, Holds};
+ghost use Rattle.uca_rules.specs.Growing.{AreGrowing, Holds, HoldsOwn};
 
 use crate::faults::RuleFaultKind;
 use crate::relations::{Relation, Rules, is_target, occurs_in_order};
@@ -57,14 +59,22 @@ impl GrowingRules {
         if is_target(&self.relations, target) {
             return Err(RuleFaultKind::DuplicateTarget);
         }
+        self.hold_own(&relation)?;
+        if occurs_in_one(target, &self.held) {
+            return Err(RuleFaultKind::LateTarget);
+        }
+        self.relations.push(relation)?;
+        Ok(())
+    }
+
+    /// Holds the texts of a relation, unless they are targets.
+    fn hold_own(&mut self, relation: &Relation) -> Result<(), AllocError>
+        ensures { OnOk result (HoldsOwn relation.now self.old self.new) }
+    {
         self.hold(relation.anchor.chars())?;
         if let Some(expansion) = &relation.expansion {
             self.hold(expansion.chars())?;
         }
-        if self.held.iter().any(|text| occurs_in_order(target, text)) {
-            return Err(RuleFaultKind::LateTarget);
-        }
-        self.relations.push(relation)?;
         Ok(())
     }
 
@@ -88,4 +98,17 @@ impl GrowingRules {
             relations: self.relations,
         }
     }
+}
+
+/// Whether the part occurs in order in one of the texts.
+fn occurs_in_one(part: &[char], texts: &[Vec<char>]) -> bool
+    ensures found { IsTrue result → (text : List ℕ) × Contains (map (λ t. t.items) texts.now) text × OccursInOrder part.now text }
+    ensures none { IsFalse result → (text : List ℕ) → Contains (map (λ t. t.items) texts.now) text → ¬ (OccursInOrder part.now text) }
+{
+    for text in texts {
+        if occurs_in_order(part, text) {
+            return true;
+        }
+    }
+    false
 }
