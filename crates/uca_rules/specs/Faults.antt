@@ -172,19 +172,23 @@ pub record InStarred (properties : Properties) (statements : List Statement) (pl
 
 -- ---- All causes
 
--- The rules are UTF-8 and not too long. Their characters begin with whole statements in order; behind these, where
--- `rest` begins, or in what they give there is a cause.
+-- The characters of rules, which end at `end`, begin with whole statements in order. Behind these, where `rest` begins,
+-- or in what they give there is a cause.
+pub record HasCause (properties : Properties) (end : ℕ) (cs : List Character) (place : ℕ) (kind : RuleFaultKind) : Type 0 where
+  pub statements : List Statement
+  pub rest : List Character
+  pub lead : AreStatements cs statements rest
+  pub ordered : AreInOrder lasts.Nothing statements
+  pub cause : InText end (last_of lasts.Nothing statements) rest place kind
+      ⊎ StatementCause end (last_of lasts.Nothing statements) (length (taken properties statements)) rest place kind
+      ⊎ InRelation (taken properties statements) place kind
+      ⊎ InStarred properties statements place kind
+
+-- the rules are UTF-8 and not too long, and there is a cause in their characters
 pub record IsInside (properties : Properties) (bytes : List ℕ) (place : ℕ) (kind : RuleFaultKind) : Type 0 where
   pub few_bytes : length bytes ≤ 1048576
   pub utf8 : IsUtf8 bytes
-  pub statements : List Statement
-  pub rest : List Character
-  pub lead : AreStatements (characters bytes) statements rest
-  pub ordered : AreInOrder lasts.Nothing statements
-  pub cause : InText (length bytes) (last_of lasts.Nothing statements) rest place kind
-      ⊎ StatementCause (length bytes) (last_of lasts.Nothing statements) (length (taken properties statements)) rest place kind
-      ⊎ InRelation (taken properties statements) place kind
-      ⊎ InStarred properties statements place kind
+  pub has : HasCause properties (length bytes) (characters bytes) place kind
 
 -- A cause of the kind stands at the byte; any allocation may fail.
 abbrev pub IsCause : Properties → List ℕ → ℕ → RuleFaultKind → Type 0

@@ -118,8 +118,11 @@ HasRanges symbols = (front back : List Symbol) (place : ℕ) → symbols ≡ fro
 abbrev pub placed_at : ℕ → List ℕ → List Character
 placed_at place points = map (λ point. record { code = point; place = place }) points
 
--- The targets of a starred text: each character, and for the `-` of a range the code points between its ends, rising,
--- at the place of the `-`.
+-- the code points between the ends of a range, rising, each at the place of the `-`
+abbrev pub between : ℕ → ℕ → ℕ → List Character
+between place x y = placed_at place (range_with_len (x + 1) (y - (x + 1)))
+
+-- The targets of a starred text: each character, and for the `-` of a range the code points between its ends.
 abbrev pub targets_of : List Symbol → List Character
 targets_of [] = []
 targets_of (Hyphen place ∷ symbols) = targets_of symbols
@@ -128,7 +131,7 @@ targets_of (Literal x ∷ Literal y ∷ symbols) = x ∷ targets_of (Literal y �
 targets_of (Literal x ∷ Hyphen place ∷ []) = x ∷ []
 targets_of (Literal x ∷ Hyphen place ∷ Hyphen another ∷ symbols) = x ∷ targets_of symbols
 targets_of (Literal x ∷ Hyphen place ∷ Literal y ∷ symbols) =
-    x ∷ (placed_at place (range_with_len (x.code + 1) (y.code - (x.code + 1))) ++ targets_of (Literal y ∷ symbols))
+    x ∷ (between place x.code y.code ++ targets_of (Literal y ∷ symbols))
 
 -- ---- Statements
 

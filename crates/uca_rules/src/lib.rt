@@ -9,6 +9,8 @@ mod pieces;
 mod reader;
 mod relations;
 mod signs;
+mod starred;
+mod text_reader;
 mod texts;
 
 pub use faults::{RuleFault, RuleFaultKind};

@@ -1,0 +1,83 @@
+//! Reading starred texts.
+
+ghost use Rattle.std.specs.Prelude.{◌≡◌, ◌<◌, ◌∷◌, [], length, IfErr, IfOk, OnOk};
+ghost use Rattle.uca_rules.specs.Relations.{IsRuleText};
+ghost use Rattle.uca_rules.specs.Statements.{HasRanges, IsRange, Starred, between, targets_of};
+ghost use Rattle.uca_rules.specs.Reading.{Adds, AddsStarred, HasTargetFault, IsReady, IsStarredFault, properties_in, state_of};
+
+use crate::characters::{Character, Symbol};
+use crate::faults::{RuleFault, RuleFaultKind};
+use crate::reader::{MOST_RELATIONS, Reader};
+use crate::texts::{place_of, read_text};
+use std::alloc::Allocator;
+use uca_weights::Strength;
+
+impl<'a, A: Allocator> Reader<'a, A> {
+    /// Reads a starred text, and adds a relation for each of its targets.
+    pub(crate) fn read_starred<'c>(&mut self, strength: Strength, text: &'c [Character]) -> Result<&'c [Character], RuleFault>
+        requires ready { IsReady self.old }
+        requires anchored { IsRuleText self.old.anchor }
+        requires few { length self.old.rules.relations.items < 5000 }
+        ensures found { IfOk result (λ rest. AddsStarred self.old self.new strength text.now rest.now) }
+        ensures fault { IfErr result (IsStarredFault (properties_in self.old.texts) self.old.texts.end (state_of self.old) strength text.now) }
+    {
+        let mut symbols = Vec::new(self.texts.alloc);
+        let rest = read_text(&mut symbols, text, true, self.texts.end)?;
+        self.add_targets(strength, &symbols, place_of(self.texts.end, rest))?;
+        Ok(rest)
+    }
+
+    /// Adds a relation for each target of a starred text.
+    fn add_targets(&mut self, strength: Strength, symbols: &[Symbol], here: usize) -> Result<(), RuleFault>
+        requires ready { IsReady self.old }
+        requires anchored { IsRuleText self.old.anchor }
+        requires ranges { HasRanges symbols.now }
+        ensures added { OnOk result (Adds (Starred strength (targets_of symbols.now)) self.old self.new) }
+        ensures fault { IfErr result (HasTargetFault (properties_in self.old.texts) (state_of self.old) strength (targets_of symbols.now) here) }
+    {
+        for at in 0..symbols.len() {
+            let Symbol::Literal(c) = symbols[at] else {
+                continue;
+            };
+            if at >= 2 && let Symbol::Literal(start) = symbols[at - 2] && let Symbol::Hyphen(place) = symbols[at - 1] {
+                self.add_between(strength, start.code, c.code, place, here)?;
+            }
+            self.add_character(strength, c, here)?;
+        }
+        Ok(())
+    }
+
+    /// Adds relations for the code points between the ends of a range, whose `-` is at the place.
+    fn add_between(&mut self, strength: Strength, start: char, end: char, place: usize, here: usize) -> Result<(), RuleFault>
+        requires ready { IsReady self.old }
+        requires anchored { IsRuleText self.old.anchor }
+        requires range { IsRange start end }
+        ensures added { OnOk result (Adds (Starred strength (between place start end)) self.old self.new) }
+        ensures fault { IfErr result (HasTargetFault (properties_in self.old.texts) (state_of self.old) strength (between place start end) here) }
+    {
+        for point in start as u32 + 1..end as u32 {
+            if let Some(code) = char::from_u32(point) {
+                self.add_character(strength, Character { code, place }, here)?;
+            }
+        }
+        Ok(())
+    }
+
+    /// Adds the relation of one target of a starred text.
+    fn add_character(&mut self, strength: Strength, target: Character, here: usize) -> Result<(), RuleFault>
+        requires ready { IsReady self.old }
+        requires anchored { IsRuleText self.old.anchor }
+        ensures added { OnOk result (Adds (Starred strength (target ∷ [])) self.old self.new) }
+        ensures fault { IfErr result (HasTargetFault (properties_in self.old.texts) (state_of self.old) strength (target ∷ []) here) }
+    {
+        let byte = target.place;
+        if self.rules.count() == MOST_RELATIONS {
+            return Err(RuleFault { byte, kind: RuleFaultKind::Limit });
+        }
+        match self.texts.character_text(target) {
+            Ok(Some(text)) => self.add(strength, text, None, byte, here),
+            Ok(None) => Err(RuleFault { byte, kind: RuleFaultKind::Limit }),
+            Err(_) => Err(RuleFault { byte: here, kind: RuleFaultKind::Memory }),
+        }
+    }
+}

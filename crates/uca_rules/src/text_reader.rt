@@ -1,0 +1,91 @@
+//! Reading the texts of relations that are not starred.
+
+ghost use Rattle.std.specs.Prelude.{◌≡◌, ◌<◌, ◌∷◌, [], ℕ, IfErr, IfOk, List, MatchOption, Option, false, length};
+ghost use Rattle.uca_values.specs.Content.{properties_of};
+ghost use Rattle.unicode_normalization.specs.Forms.{nfd};
+ghost use Rattle.uca_rules.specs.declared.characters.Character.{Character};
+ghost use Rattle.uca_rules.specs.Pieces.{BeginsWritten, Written};
+ghost use Rattle.uca_rules.specs.Statements.{BeginsExpansion, IsExpansionDue};
+ghost use Rattle.uca_rules.specs.Views.{IsTextFault};
+ghost use Rattle.uca_rules.specs.Reading.{AreTextsOf, IsTextOf, Keeps, properties_in};
+
+use crate::characters::{Character, Symbol, behind_gaps};
+use crate::faults::{RuleFault, RuleFaultKind};
+use crate::texts::{place_of, read_text, rule_text};
+use std::alloc::{AllocError, Allocator, Global};
+use uca_text::Normal;
+use uca_values::Data;
+
+/// What reading a text takes.
+#[derive(Drop)]
+pub(crate) struct TextReader<'a, A: Allocator> {
+    pub(crate) alloc: Global,
+    pub(crate) properties: &'a Data<A>,
+    /// The length of the rules.
+    pub(crate) end: usize,
+    // memory for the symbols of a text, and for its letters
+    symbols: Vec<Symbol>,
+    letters: String,
+}
+
+impl<'a, A: Allocator> TextReader<'a, A> {
+    /// For rules of a length.
+    pub(crate) fn new(alloc: Global, properties: &'a Data<A>, end: usize) -> TextReader<'a, A>
+        ensures properties { properties_in result ≡ properties_of properties.now }
+        ensures end { result.end ≡ end }
+    {
+        TextReader {
+            alloc,
+            properties,
+            end,
+            symbols: Vec::new(alloc),
+            letters: String::new(alloc),
+        }
+    }
+
+    /// Reads a text that is not starred. What follows it is given back beside it.
+    ///
+    /// # Errors
+    ///
+    /// `EmptyText`, `Syntax`, `Escape`, `Limit` or `Memory`.
+    pub(crate) fn read_plain<'c>(&mut self, text: &'c [Character]) -> Result<(Normal, &'c [Character]), RuleFault>
+        ensures kept { Keeps self.old self.new }
+        ensures found { IfOk result (λ found. (written : Written) × BeginsWritten text.now written found.1.now × IsTextOf (properties_in self.old) written.points found.0) }
+        ensures fault { IfErr result (IsTextFault self.old.end false text.now) }
+    {
+        let byte = place_of(self.end, text);
+        let rest = read_text(&mut self.symbols, text, false, self.end)?;
+        match rule_text(self.alloc, &mut self.letters, &self.symbols, self.properties) {
+            Ok(Some(normal)) => Ok((normal, rest)),
+            Ok(None) => Err(RuleFault { byte, kind: RuleFaultKind::Limit }),
+            Err(_) => Err(RuleFault { byte, kind: RuleFaultKind::Memory }),
+        }
+    }
+
+    /// Reads `/` and an expansion behind a target, if there is a `/`.
+    pub(crate) fn read_expansion<'c>(
+        &mut self,
+        characters: &'c [Character],
+    ) -> Result<(Option<Normal>, &'c [Character]), RuleFault>
+        ensures kept { Keeps self.old self.new }
+        ensures found { IfOk result (λ found. (written : Option Written) × BeginsExpansion characters.now written found.1.now × AreTextsOf (properties_in self.old) written found.0) }
+        ensures fault { IfErr result (λ fault. (text : List Character) × IsExpansionDue characters.now text × IsTextFault self.old.end false text fault) }
+    {
+        let behind = behind_gaps(characters);
+        match behind.first() {
+            Some(c) if c.code == '/' => {
+                let (expansion, rest) = self.read_plain(behind_gaps(&behind[1..]))?;
+                Ok((Some(expansion), rest))
+            }
+            _ => Ok((None, characters)),
+        }
+    }
+
+    /// The text of one character, unless it has more than 16 code points in Normalization Form D.
+    pub(crate) fn character_text(&mut self, c: Character) -> Result<Option<Normal>, AllocError>
+        ensures kept { Keeps self.old self.new }
+        ensures found { IfOk result (λ found. MatchOption found (16 < length (nfd (c.code ∷ []))) (IsTextOf (properties_in self.old) (c.code ∷ []))) }
+    {
+        rule_text(self.alloc, &mut self.letters, &[Symbol::Literal(c)], self.properties)
+    }
+}
