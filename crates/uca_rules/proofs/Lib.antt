@@ -1,1 +1,3 @@
 pub mod Placing
+pub mod Quotes
+pub mod HexDigits
