@@ -1,2 +1,5 @@
 pub mod Searches
 pub mod HeldTexts
+pub mod Placing
+pub mod Quotes
+pub mod HexDigits

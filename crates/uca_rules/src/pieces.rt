@@ -1,6 +1,6 @@
 //! The pieces that texts are made of.
 
-ghost use Rattle.std.specs.Prelude.{◌≡◌, ◌≤◌, IfOk};
+ghost use Rattle.std.specs.Prelude.{◌≡◌, ◌≤◌, IfOk, IsSome, length};
 ghost use Rattle.uca_rules.specs.Pieces;
 ghost use Rattle.uca_rules.specs.Views.{Takes, slice_view};
 
@@ -126,7 +126,8 @@ fn behind_backslash<'a>(
 /// The code point that so many hexadecimal digits at the front give.
 fn numbered(characters: &[Character], count: usize) -> Option<char>
     requires { count ≤ 8 }
-    ensures { result ≡ Pieces.number_at count characters.now }
+    ensures number { result ≡ Pieces.number_at count characters.now }
+    ensures enough { IsSome result → count ≤ length characters.now }
 {
     if characters.len() < count {
         return None;

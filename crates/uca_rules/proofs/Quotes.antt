@@ -1,0 +1,59 @@
+-- The inside of quotes, one character further and at its end.
+use Rattle.std.proofs.Common.{◌≡◌, ◌≢◌, ℕ, ◌+◌, ◌<◌, List, [], ◌∷◌, ◌++◌, length, get_or, drop, Option, Some, None, refl, ap, sym, ◌∙◌, eq-eqb, arith}
+use Rattle.std.proofs.lemmas.Bool.{ne_eqb}
+use Rattle.std.proofs.lemmas.List.{append_assoc, append-nil, drop_more}
+use Rattle.uca_rules.specs.declared.characters.Character.{Character}
+use Rattle.uca_rules.specs.Characters.{apostrophe}
+use Rattle.uca_rules.specs.Pieces.{Symbol, Literal, Piece, with_literal, inside_quotes}
+
+-- a piece behind other symbols
+abbrev pub behind : List Symbol → Option Piece → Option Piece
+behind front None = None
+behind front (Some piece) = Some (record { symbols = front ++ piece.symbols; rest = piece.rest })
+
+behind_none : (piece : Option Piece) → piece ≡ behind [] piece
+behind_none None = refl
+behind_none (Some piece) = refl
+
+behind_one : (front : List Symbol) (c : Character) (piece : Option Piece) → behind front (with_literal c piece) ≡ behind (front ++ Literal c ∷ []) piece
+behind_one front c None = refl
+behind_one front c (Some piece) = rw append_assoc refl
+
+-- of the inside of quotes so many characters are read, and they are not its end
+pub record IsInside (old new : List Symbol) (cs : List Character) (at : ℕ) : Type 0 where
+  pub front : List Symbol
+  pub written : new ≡ old ++ front
+  pub whole : inside_quotes cs ≡ behind front (inside_quotes (drop at cs))
+
+pub inside_first : (old : List Symbol) (cs : List Character) → IsInside old old cs 0
+inside_first old cs = record { front = []; written = sym (append-nil old); whole = behind_none (inside_quotes cs) }
+
+-- a character that stands for itself
+letter : (c : Character) (cs : List Character) → c.code ≢ apostrophe → inside_quotes (c ∷ cs) ≡ with_literal c (inside_quotes cs)
+letter c [] other = rw (ne_eqb c.code apostrophe other) refl
+letter c (d ∷ cs) other = rw (ne_eqb c.code apostrophe other) refl
+
+-- two apostrophes
+double : (c d : Character) (cs : List Character) → c.code ≡ apostrophe → d.code ≡ apostrophe → inside_quotes (c ∷ d ∷ cs) ≡ with_literal c (inside_quotes cs)
+double c d cs first second = rw (eq-eqb c.code apostrophe first, eq-eqb d.code apostrophe second) refl
+
+-- one more character is read
+further : (old new new' : List Symbol) (cs : List Character) (at next : ℕ) (c : Character) → IsInside old new cs at → new' ≡ new ++ Literal c ∷ [] →
+    inside_quotes (drop at cs) ≡ with_literal c (inside_quotes (drop next cs)) → IsInside old new' cs next
+further old new new' cs at next c i more step = record {
+  front = i.front ++ Literal c ∷ [];
+  written = more ∙ (ap (λ symbols. symbols ++ Literal c ∷ []) i.written ∙ append_assoc old i.front (Literal c ∷ []));
+  whole = i.whole ∙ (ap (behind i.front) step ∙ behind_one i.front c (inside_quotes (drop next cs)));
+}
+
+pub inside_letter : (old new new' : List Symbol) (cs : List Character) (at : ℕ) (d : Character) → IsInside old new cs at → at < length cs →
+    (get_or cs at d).code ≢ apostrophe → new' ≡ new ++ Literal (get_or cs at d) ∷ [] → IsInside old new' cs (at + 1)
+inside_letter old new new' cs at d i within other more =
+    further old new new' cs at (at + 1) (get_or cs at d) i more (ap inside_quotes (drop_more cs at d within) ∙ letter (get_or cs at d) (drop (at + 1) cs) other)
+
+pub inside_double : (old new new' : List Symbol) (cs : List Character) (at next : ℕ) (d : Character) → IsInside old new cs at → at + 1 < length cs → next ≡ at + 1 + 1 →
+    (get_or cs at d).code ≡ apostrophe → (get_or cs (at + 1) d).code ≡ apostrophe → new' ≡ new ++ Literal (get_or cs at d) ∷ [] → IsInside old new' cs next
+inside_double old new new' cs at next d i within is first second more =
+    further old new new' cs at next (get_or cs at d) i more (ap inside_quotes (drop_more cs at d (omega arith)) ∙
+    (ap (λ rest. inside_quotes (get_or cs at d ∷ rest)) (drop_more cs (at + 1) d within) ∙
+    (double (get_or cs at d) (get_or cs (at + 1) d) (drop (at + 1 + 1) cs) first second ∙ ap (λ n. with_literal (get_or cs at d) (inside_quotes (drop n cs))) (sym is))))
