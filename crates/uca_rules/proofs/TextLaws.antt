@@ -1,10 +1,10 @@
 -- Texts end at one place.
-use Rattle.std.proofs.Common.{◌≡◌, ◌≢◌, ℕ, List, [], ◌∷◌, ◌++◌, Bool, true, false, ◌&&◌, ◌||◌, Option, None, Some, refl, sym, ap, ◌∙◌, subst}
+use Rattle.std.proofs.Common.{◌≡◌, List, [], ◌∷◌, ◌++◌, Bool, true, false, ◌&&◌, ◌||◌, Option, None, Some, refl, sym, ap, ◌∙◌, subst}
 use Rattle.std.specs.Prelude.{if◌then◌else◌, ◌==◌, IsFalse}
 use Rattle.std.proofs.lemmas.List.{append-nil}
 use Rattle.uca_rules.specs.declared.characters.Character.{Character}
 use Rattle.uca_rules.specs.Characters.{place_of, apostrophe, backslash, hyphen}
-use Rattle.uca_rules.specs.Pieces.{Symbol, Literal, Hyphen, Piece, is_plain, begins_piece, piece_at, behind_apostrophe, behind_backslash, ArePieces, EndsText, symbols_of, BeginsText, Written, BeginsWritten, points_of}
+use Rattle.uca_rules.specs.Pieces.{Symbol, Literal, Hyphen, Piece, is_plain, piece_at, behind_apostrophe, behind_backslash, ArePieces, EndsText, symbols_of, Written, BeginsWritten, points_of}
 use Rattle.uca_rules.specs.Laws.{OneText}
 
 -- ---- Where a text ends no piece stands
