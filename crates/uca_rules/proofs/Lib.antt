@@ -1,2 +1,3 @@
 pub mod TextLaws
 pub mod Suffixes
+pub mod SignLaws
