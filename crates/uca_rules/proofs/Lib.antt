@@ -1,3 +1,4 @@
 pub mod TextLaws
 pub mod Suffixes
 pub mod SignLaws
+pub mod StatementLaws
