@@ -2,3 +2,4 @@ pub mod TextLaws
 pub mod Suffixes
 pub mod SignLaws
 pub mod StatementLaws
+pub mod MeaningLaws
