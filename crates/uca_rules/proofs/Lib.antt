@@ -3,3 +3,4 @@ pub mod Suffixes
 pub mod SignLaws
 pub mod StatementLaws
 pub mod MeaningLaws
+pub mod TextExclusion
