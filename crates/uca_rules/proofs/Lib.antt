@@ -4,3 +4,4 @@ pub mod SignLaws
 pub mod StatementLaws
 pub mod MeaningLaws
 pub mod TextExclusion
+pub mod Exclusion
