@@ -3,3 +3,10 @@ pub mod HeldTexts
 pub mod Placing
 pub mod Quotes
 pub mod HexDigits
+pub mod TextLaws
+pub mod Suffixes
+pub mod SignLaws
+pub mod StatementLaws
+pub mod MeaningLaws
+pub mod TextExclusion
+pub mod Exclusion
