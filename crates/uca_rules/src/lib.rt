@@ -5,6 +5,7 @@
 mod characters;
 mod faults;
 mod growing;
+mod laws;
 mod pieces;
 mod reader;
 mod relations;
@@ -12,5 +13,6 @@ mod signs;
 mod texts;
 
 pub use faults::{RuleFault, RuleFaultKind};
+pub use laws::{bytes_mean_at_most_one_list_of_relations, bytes_with_a_fault_mean_nothing};
 pub use reader::read_rules;
 pub use relations::{Relation, Rules};
