@@ -5,3 +5,4 @@ pub mod StatementLaws
 pub mod MeaningLaws
 pub mod TextExclusion
 pub mod Exclusion
+pub mod WorkedLaws

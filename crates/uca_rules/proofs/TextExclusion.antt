@@ -18,7 +18,7 @@ use Rattle.uca_rules.specs.Meaning.{IsShort, HasShortTexts}
 use Rattle.uca_rules.specs.Faults.{is_part, IsEmptyText, IsNoText, IsBroken, IsLong, opened, IsWrongHyphen, TextCause, IsSlashBehind, IsTextDue}
 use Rattle.uca_rules.proofs.TextLaws.{StandBehind, pieces_prefix, no_pieces, one_text, one_written}
 use Rattle.uca_rules.proofs.StatementLaws.{one_anchor, one_target, one_expansion, no_target_at_anchor, slash_at, GoOn}
-use Rattle.uca_rules.proofs.Suffixes.{HasBehind, behind_length, anchor_behind, target_behind}
+use Rattle.uca_rules.proofs.Suffixes.{HasBehind, behind_length, anchor_due_behind, target_due_behind}
 
 -- ---- Where a text is due one stands
 
@@ -82,10 +82,10 @@ nothing_behind text behind = let less = behind_length [] text behind in omega ar
 
 no_text_due : (text : List Character) (opens : Opening) (starred : Bool) → ¬ (IsTextDue [] opens starred text)
 no_text_due text Resets true due = due
-no_text_due text Resets false due = nothing_behind text (anchor_behind [] due.0 text due.1)
-no_text_due text (Signs strength) true due = nothing_behind text (target_behind [] strength true text due)
-no_text_due text (Signs strength) false (inl due) = nothing_behind text (target_behind [] strength false text due)
-no_text_due text (Signs strength) false (inr behind) = nothing_behind behind.first (target_behind [] strength false behind.first behind.due)
+no_text_due text Resets false due = nothing_behind text (anchor_due_behind [] due.0 text due.1)
+no_text_due text (Signs strength) true due = nothing_behind text (target_due_behind [] strength true text due)
+no_text_due text (Signs strength) false (inl due) = nothing_behind text (target_due_behind [] strength false text due)
+no_text_due text (Signs strength) false (inr behind) = nothing_behind behind.first (target_due_behind [] strength false behind.first behind.due)
 
 -- where a text is due in the statement that stands there, a text stands
 pub text_stands : (cs text : List Character) (statements : List Statement) (opens : Opening) (starred : Bool) → GoOn cs statements → AllByRecursion HasShortTexts statements → IsTextDue cs opens starred text → TextStands starred text

@@ -13,6 +13,8 @@ mod signs;
 mod texts;
 
 pub use faults::{RuleFault, RuleFaultKind};
-pub use laws::{bytes_mean_at_most_one_list_of_relations, bytes_with_a_fault_mean_nothing};
+pub use laws::{
+    bytes_mean_at_most_one_list_of_relations, bytes_with_a_fault_mean_nothing, worked_rules,
+};
 pub use reader::read_rules;
 pub use relations::{Relation, Rules};
