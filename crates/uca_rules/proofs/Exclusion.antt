@@ -200,7 +200,7 @@ pieces_give starred cs rest [] some are = absurd (some refl)
 pieces_give starred cs rest (symbols ∷ pieces) some are =
     let one : 1 ≤ length symbols = subst (λ piece. IfSome piece (λ piece. 1 ≤ length piece.symbols)) are.1 (piece_gives starred cs) in
     let all : length (symbols_of (symbols ∷ pieces)) ≡ length symbols + length (symbols_of pieces) =
-        ap length (flat_map-cons (λ (symbols : List Symbol). symbols) symbols pieces) ∙ length-append symbols (symbols_of pieces) in
+    ap length (flat_map-cons (λ (symbols : List Symbol). symbols) symbols pieces) ∙ length-append symbols (symbols_of pieces) in
     omega arith
 
 -- a text gives a symbol, and a starred one a target
@@ -258,7 +258,7 @@ statement_excluded properties anchor end last count cs place kinds.Utf8 back on 
 late_excluded : (relations before after : List Relation) (r : Relation) → AreRules relations → relations ≡ before ++ r ∷ after → ¬ (IsLate before r)
 late_excluded relations before after r rules are late =
     let whole : relations ≡ late.held.before ++ late.held.r ∷ (late.held.after ++ after) =
-        are ∙ sym (append_assoc before (r ∷ []) after) ∙ ap (λ front. front ++ after) late.held.parts ∙ append_assoc late.held.before (late.held.r ∷ late.held.after) after in
+    are ∙ sym (append_assoc before (r ∷ []) after) ∙ ap (λ front. front ++ after) late.held.parts ∙ append_assoc late.held.before (late.held.r ∷ late.held.after) after in
     all_last (λ (r : Relation). ¬ (OccursInOrder r.target.points late.text)) before late.held.before late.held.after after r late.held.r late.held.parts
     (rules.none_late late.held.before (late.held.after ++ after) late.held.r late.text whole late.held.used late.held.free) late.occurs
 
@@ -297,7 +297,7 @@ starred_excluded properties statements back place kind short few cause = over ca
     over (inr long) =
         let targets = cause.front ++ cause.c ∷ cause.back in
         let texts : AllByRecursion HasShortTexts (cause.before ++ Starred cause.strength targets ∷ back) =
-            subst (AllByRecursion HasShortTexts) (ap (λ statements. statements ++ back) cause.are ∙ append_assoc cause.before (Starred cause.strength targets ∷ []) back) short in
+        subst (AllByRecursion HasShortTexts) (ap (λ statements. statements ++ back) cause.are ∙ append_assoc cause.before (Starred cause.strength targets ∷ []) back) short in
         let here : AllByRecursion (λ (c : Character). IsShort (c.code ∷ [])) targets = (all_back HasShortTexts cause.before (Starred cause.strength targets ∷ back) texts).0 in
         let one : length (nfd (cause.c.code ∷ [])) ≤ 16 = (all_back (λ (c : Character). IsShort (c.code ∷ [])) cause.front (cause.c ∷ cause.back) here).0 in
         omega arith
@@ -309,24 +309,32 @@ inside_excluded properties bytes place kind relations inside means = excluded in
   where
     front : IsFront inside.statements means.statements inside.rest
     front = front_of inside.statements means.statements (characters bytes) inside.rest inside.lead means.divides
+
     anchor : Anchor
     anchor = anchor_behind_all properties no_anchor inside.statements
+
     all : taken properties means.statements ≡ taken properties inside.statements ++ relations_from properties anchor front.back
     all = ap (taken properties) front.parts ∙ relations_append properties no_anchor inside.statements front.back
+
     rules : AreRules (relations_of (taken properties inside.statements ++ relations_from properties anchor front.back))
     rules = subst AreRules (means.give ∙ ap relations_of all) means.rules
+
     few : length (taken properties inside.statements) + length (relations_from properties anchor front.back) ≤ 5000
     few =
         let count : length (relations_of (taken properties inside.statements ++ relations_from properties anchor front.back)) ≤ 5000 = rules.few in
         let same = length-map (taken properties inside.statements ++ relations_from properties anchor front.back) (λ (t : Taken). t.relation) in
         let sum = length-append (taken properties inside.statements) (relations_from properties anchor front.back) in
         omega arith
+
     short : AllByRecursion HasShortTexts (inside.statements ++ front.back)
     short = subst (AllByRecursion HasShortTexts) front.parts means.short
+
     ordered : AreInOrder (last_of lasts.Nothing inside.statements) front.back
     ordered = ordered_back lasts.Nothing inside.statements front.back (subst (AreInOrder lasts.Nothing) front.parts means.chains.ordered)
+
     ended : MayEnd (last_of (last_of lasts.Nothing inside.statements) front.back)
     ended = ended_back lasts.Nothing inside.statements front.back (subst (λ statements. MayEnd (last_of lasts.Nothing statements)) front.parts means.chains.ended)
+
     excluded : InText (length bytes) (last_of lasts.Nothing inside.statements) inside.rest place kind
         ⊎ StatementCause (length bytes) (last_of lasts.Nothing inside.statements) (length (taken properties inside.statements)) inside.rest place kind
         ⊎ InRelation (taken properties inside.statements) place kind

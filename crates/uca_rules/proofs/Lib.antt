@@ -11,3 +11,4 @@ pub mod MeaningLaws
 pub mod TextExclusion
 pub mod Exclusion
 pub mod Progress
+pub mod WorkedLaws

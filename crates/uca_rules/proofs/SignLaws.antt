@@ -82,12 +82,12 @@ begins_square text =
     (λ strength. IfSome strength (λ strength. BeginsSquare text))
     (λ same. square_at text (codes "[before 1]") (codes "before 1]") refl same)
     (λ other. cond_both (bytes_eq text (codes "[before 2]")) (Some Secondary) (if bytes_eq text (codes "[before 3]") then Some Tertiary else None)
-        (λ strength. IfSome strength (λ strength. BeginsSquare text))
-        (λ same. square_at text (codes "[before 2]") (codes "before 2]") refl same)
-        (λ other. cond_both (bytes_eq text (codes "[before 3]")) (Some Tertiary) None
-            (λ strength. IfSome strength (λ strength. BeginsSquare text))
-            (λ same. square_at text (codes "[before 3]") (codes "before 3]") refl same)
-            (λ other. tt)))
+    (λ strength. IfSome strength (λ strength. BeginsSquare text))
+    (λ same. square_at text (codes "[before 2]") (codes "before 2]") refl same)
+    (λ other. cond_both (bytes_eq text (codes "[before 3]")) (Some Tertiary) None
+    (λ strength. IfSome strength (λ strength. BeginsSquare text))
+    (λ same. square_at text (codes "[before 3]") (codes "before 3]") refl same)
+    (λ other. tt)))
 
 -- a bracket begins with `[`
 pub bracket_begins : (cs : List Character) (strength : Strength) → bracket_at cs ≡ Some strength → ¬ (IsNotAt bracket cs)

@@ -217,35 +217,35 @@ written_behind cs text rest begins = text_behind false cs begins.symbols rest be
 
 -- ---- Statements
 
-pub anchor_behind : (cs : List Character) (before : Option Strength) (text : List Character) → IsAnchorDue cs before text → HasBehind cs text
-anchor_behind cs before text due =
+pub anchor_due_behind : (cs : List Character) (before : Option Strength) (text : List Character) → IsAnchorDue cs before text → HasBehind cs text
+anchor_due_behind cs before text due =
     subst (λ cs. HasBehind cs text) (sym due.are)
     (next_behind due.first due.behind text (ends_trans due.behind (behind_gaps due.behind) text (gaps_end due.behind) (bracket_ends (behind_gaps due.behind) before text due.perhaps)))
 
 gap_then : (cs rest : List Character) → behind_gaps cs ≡ rest → EndsWith cs rest
 gap_then cs rest gap = subst (λ rest. EndsWith cs rest) gap (gaps_end cs)
 
-pub target_behind : (cs : List Character) (strength : Strength) (starred : Bool) (text : List Character) → IsTargetDue cs strength starred text → HasBehind cs text
-target_behind cs strength starred text due =
+pub target_due_behind : (cs : List Character) (strength : Strength) (starred : Bool) (text : List Character) → IsTargetDue cs strength starred text → HasBehind cs text
+target_due_behind cs strength starred text due =
     behind_then cs due.behind text (sign_behind cs (record { strength = strength; starred = starred; rest = due.behind }) due.sign) (gap_then due.behind text due.gap)
 
-pub expansion_behind : (cs text : List Character) → IsExpansionDue cs text → HasBehind cs text
-expansion_behind cs text due =
+pub expansion_due_behind : (cs text : List Character) → IsExpansionDue cs text → HasBehind cs text
+expansion_due_behind cs text due =
     then_behind cs (behind_gaps cs) text (gaps_end cs) (subst (λ cs. HasBehind cs text) (sym due.are) (next_behind due.first due.behind text (gap_then due.behind text due.gap)))
 
 pub expands_end : (cs : List Character) (expansion : Option Written) (rest : List Character) → BeginsExpansion cs expansion rest → EndsWith cs rest
 expands_end cs None rest begins = same_ends cs rest begins.1
 expands_end cs (Some expansion) rest begins =
-    behind_ends cs rest (behind_then cs begins.0 rest (expansion_behind cs begins.0 begins.1) (behind_ends begins.0 rest (written_behind begins.0 expansion rest begins.2)))
+    behind_ends cs rest (behind_then cs begins.0 rest (expansion_due_behind cs begins.0 begins.1) (behind_ends begins.0 rest (written_behind begins.0 expansion rest begins.2)))
 
 pub statement_behind : (cs : List Character) (s : Statement) (rest : List Character) → BeginsStatement cs s rest → HasBehind cs rest
 statement_behind cs (Reset before anchor) rest begins =
-    behind_then cs begins.text rest (anchor_behind cs before begins.text begins.due) (behind_ends begins.text rest (written_behind begins.text anchor rest begins.begins))
+    behind_then cs begins.text rest (anchor_due_behind cs before begins.text begins.due) (behind_ends begins.text rest (written_behind begins.text anchor rest begins.begins))
 statement_behind cs (Plain strength target expansion) rest begins =
-    behind_then cs begins.text rest (target_behind cs strength false begins.text begins.due)
+    behind_then cs begins.text rest (target_due_behind cs strength false begins.text begins.due)
     (ends_trans begins.text begins.more rest (behind_ends begins.text begins.more (written_behind begins.text target begins.more begins.begins)) (expands_end begins.more expansion rest begins.expands))
 statement_behind cs (Starred strength targets) rest begins =
-    behind_then cs begins.text rest (target_behind cs strength true begins.text begins.due) (behind_ends begins.text rest (text_behind true begins.text begins.symbols rest begins.begins))
+    behind_then cs begins.text rest (target_due_behind cs strength true begins.text begins.due) (behind_ends begins.text rest (text_behind true begins.text begins.symbols rest begins.begins))
 
 pub statements_end : (cs : List Character) (statements : List Statement) (rest : List Character) → AreStatements cs statements rest → EndsWith cs rest
 statements_end cs [] rest are = gap_then cs rest are

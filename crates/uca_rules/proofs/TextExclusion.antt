@@ -18,7 +18,7 @@ use Rattle.uca_rules.specs.Meaning.{IsShort, HasShortTexts}
 use Rattle.uca_rules.specs.Faults.{is_part, IsEmptyText, IsNoText, IsBroken, IsLong, opened, IsWrongHyphen, TextCause, IsSlashBehind, IsTextDue}
 use Rattle.uca_rules.proofs.TextLaws.{StandBehind, pieces_prefix, no_pieces, one_text, one_written}
 use Rattle.uca_rules.proofs.StatementLaws.{one_anchor, one_target, one_expansion, no_target_at_anchor, slash_at, GoOn}
-use Rattle.uca_rules.proofs.Suffixes.{HasBehind, behind_length, anchor_behind, target_behind}
+use Rattle.uca_rules.proofs.Suffixes.{HasBehind, behind_length, anchor_due_behind, target_due_behind}
 
 -- ---- Where a text is due one stands
 
@@ -82,10 +82,10 @@ nothing_behind text behind = let less = behind_length [] text behind in omega ar
 
 no_text_due : (text : List Character) (opens : Opening) (starred : Bool) → ¬ (IsTextDue [] opens starred text)
 no_text_due text Resets true due = due
-no_text_due text Resets false due = nothing_behind text (anchor_behind [] due.0 text due.1)
-no_text_due text (Signs strength) true due = nothing_behind text (target_behind [] strength true text due)
-no_text_due text (Signs strength) false (inl due) = nothing_behind text (target_behind [] strength false text due)
-no_text_due text (Signs strength) false (inr behind) = nothing_behind behind.first (target_behind [] strength false behind.first behind.due)
+no_text_due text Resets false due = nothing_behind text (anchor_due_behind [] due.0 text due.1)
+no_text_due text (Signs strength) true due = nothing_behind text (target_due_behind [] strength true text due)
+no_text_due text (Signs strength) false (inl due) = nothing_behind text (target_due_behind [] strength false text due)
+no_text_due text (Signs strength) false (inr behind) = nothing_behind behind.first (target_due_behind [] strength false behind.first behind.due)
 
 -- where a text is due in the statement that stands there, a text stands
 pub text_stands : (cs text : List Character) (statements : List Statement) (opens : Opening) (starred : Bool) → GoOn cs statements → AllByRecursion HasShortTexts statements → IsTextDue cs opens starred text → TextStands starred text
@@ -104,23 +104,30 @@ part_ends starred code part = three (or_cases (code == ampersand || code == less
     one : (starred : Bool) → IsFalse (begins_piece starred ampersand)
     one false = refl
     one true = refl
+
     less : (starred : Bool) → IsFalse (begins_piece starred less_than)
     less false = refl
     less true = refl
+
     equal : (starred : Bool) → IsFalse (begins_piece starred equals_sign)
     equal false = refl
     equal true = refl
+
     slashed : (starred : Bool) → IsFalse (begins_piece starred slash)
     slashed false = refl
     slashed true = refl
+
     at : (sign : ℕ) → (code == sign) ≡ true → IsFalse (begins_piece starred sign) → IsFalse (begins_piece starred code)
     at sign is ends = subst (λ code. IsFalse (begins_piece starred code)) (sym (eqb-true code sign is)) ends
+
     first : (code == ampersand) ≡ true ⊎ (code == less_than) ≡ true → IsFalse (begins_piece starred code)
     first (inl is) = at ampersand is (one starred)
     first (inr is) = at less_than is (less starred)
+
     two : (code == ampersand || code == less_than) ≡ true ⊎ (code == equals_sign) ≡ true → IsFalse (begins_piece starred code)
     two (inl part) = first (or_cases (code == ampersand) (code == less_than) part)
     two (inr is) = at equals_sign is (equal starred)
+
     three : (code == ampersand || code == less_than || code == equals_sign) ≡ true ⊎ (code == slash) ≡ true → IsFalse (begins_piece starred code)
     three (inl part) = two (or_cases (code == ampersand || code == less_than) (code == equals_sign) part)
     three (inr is) = at slash is (slashed starred)
@@ -199,7 +206,7 @@ opened_front (c ∷ []) rest pieces are ends = (symbols_of pieces, refl)
 opened_front (c ∷ d ∷ cs) rest pieces are ends =
     cond_both (c.code == apostrophe) (if d.code == apostrophe then [] else Literal d ∷ []) [] (λ opened. (more : List Symbol) × (symbols_of pieces ≡ opened ++ more))
     (λ quote. cond_both (d.code == apostrophe) [] (Literal d ∷ []) (λ opened. (more : List Symbol) × (symbols_of pieces ≡ opened ++ more))
-        (λ another. (symbols_of pieces, refl)) (λ other. quote_front c d cs rest pieces quote other are ends))
+    (λ another. (symbols_of pieces, refl)) (λ other. quote_front c d cs rest pieces quote other are ends))
     (λ none. (symbols_of pieces, refl))
 
 -- none is open where a text ends
@@ -215,25 +222,27 @@ hyphen_excluded text place symbols rest begins ranges hyphen = wrong_excluded hy
   where
     behind : StandBehind true hyphen.pieces begins.pieces hyphen.rest rest
     behind = pieces_prefix true hyphen.pieces begins.pieces text hyphen.rest rest hyphen.are begins.are begins.ends
+
     all : symbols ≡ symbols_of hyphen.pieces ++ symbols_of behind.back
     all = begins.give ∙ ap symbols_of behind.parts ∙ flat_map-append (λ (symbols : List Symbol). symbols) hyphen.pieces behind.back
+
     wrong_excluded : IsNoRange hyphen.front hyphen.back ⊎ (EndsText true hyphen.rest × (hyphen.back ≡ [])) → ⊥
     wrong_excluded (inl wrong) =
         let next = opened_front hyphen.rest rest behind.back behind.are begins.ends in
         let whole : symbols ≡ hyphen.front ++ Hyphen place ∷ (hyphen.back ++ next.0) =
-            all
-            ∙ ap (λ later. symbols_of hyphen.pieces ++ later) next.1
-            ∙ sym (append_assoc (symbols_of hyphen.pieces) (opened hyphen.rest) next.0)
-            ∙ ap (λ symbols. symbols ++ next.0) hyphen.symbols
-            ∙ append_assoc hyphen.front (Hyphen place ∷ hyphen.back) next.0 in
+        all
+        ∙ ap (λ later. symbols_of hyphen.pieces ++ later) next.1
+        ∙ sym (append_assoc (symbols_of hyphen.pieces) (opened hyphen.rest) next.0)
+        ∙ ap (λ symbols. symbols ++ next.0) hyphen.symbols
+        ∙ append_assoc hyphen.front (Hyphen place ∷ hyphen.back) next.0 in
         (ranges hyphen.front (hyphen.back ++ next.0) place whole).1 (no_range_more hyphen.front hyphen.back next.0 wrong)
     wrong_excluded (inr last) =
         let none = no_pieces true hyphen.rest rest behind.back last.0 behind.are in
         let whole : symbols ≡ hyphen.front ++ Hyphen place ∷ hyphen.back =
-            all
-            ∙ ap (λ back. symbols_of hyphen.pieces ++ symbols_of back) none.0
-            ∙ ap (λ opened. symbols_of hyphen.pieces ++ opened) (sym (opened_none hyphen.rest last.0))
-            ∙ hyphen.symbols in
+        all
+        ∙ ap (λ back. symbols_of hyphen.pieces ++ symbols_of back) none.0
+        ∙ ap (λ opened. symbols_of hyphen.pieces ++ opened) (sym (opened_none hyphen.rest last.0))
+        ∙ hyphen.symbols in
         (ranges hyphen.front hyphen.back place whole).0 last.1
 
 -- ---- All causes of texts

@@ -5,6 +5,7 @@
 mod characters;
 mod faults;
 mod growing;
+mod laws;
 mod pieces;
 mod reader;
 mod relations;
@@ -14,5 +15,8 @@ mod text_reader;
 mod texts;
 
 pub use faults::{RuleFault, RuleFaultKind};
+pub use laws::{
+    bytes_mean_at_most_one_list_of_relations, bytes_with_a_fault_mean_nothing, worked_rules,
+};
 pub use reader::read_rules;
 pub use relations::{Relation, Rules};
