@@ -22,7 +22,7 @@ use Rattle.uca_rules.specs.Pieces.{Symbol, Literal, Hyphen, Piece, is_plain, wit
 use Rattle.uca_rules.specs.Statements.{SignAt, sign_at, count_less, bracket_at, BeginsBracket, No_start, HasRanges, targets_of, Statement, Reset, Plain, Starred, BeginsStatement, Resets, Signs, opening, MayFollow, MayEnd, AreInOrder, last_is, last_of}
 use Rattle.uca_rules.specs.Relations.{AreRules, IsLate}
 use Rattle.uca_rules.specs.Meaning.{Anchor, Taken, behind_target, one_letter, anchor_behind, starred_relations, relations_in, relations_from, no_anchor, taken, relations_of, IsShort, HasShortTexts, Means}
-use Rattle.uca_rules.specs.Faults.{may_begin, IsMisplaced, IsWrongBracket, IsSign, IsWrongStrength, StatementCause, RelationCause, InText, InRelation, InStarred, IsInside}
+use Rattle.uca_rules.specs.Faults.{may_begin, IsMisplaced, IsWrongBracket, IsSign, IsWrongStrength, StatementCause, RelationCause, InText, InRelation, InStarred, HasCause}
 use Rattle.uca_rules.specs.Laws.{ACauseExcludesAMeaning}
 use Rattle.uca_rules.proofs.SignLaws.{BeginsSign, sign_begins, no_sign_at_ampersand, less_begins, no_sign_at_four}
 use Rattle.uca_rules.proofs.StatementLaws.{GoOn, none_begins, IsFront, front_of}
@@ -304,7 +304,7 @@ starred_excluded properties statements back place kind short few cause = over ca
 
 -- ---- All causes
 
-inside_excluded : (properties : Properties) (bytes : List ℕ) (place : ℕ) (kind : RuleFaultKind) (relations : List Relation) → IsInside properties bytes place kind → ¬ (Means properties bytes relations)
+inside_excluded : (properties : Properties) (bytes : List ℕ) (place : ℕ) (kind : RuleFaultKind) (relations : List Relation) → HasCause properties (length bytes) (characters bytes) place kind → ¬ (Means properties bytes relations)
 inside_excluded properties bytes place kind relations inside means = excluded inside.cause
   where
     front : IsFront inside.statements means.statements inside.rest
@@ -353,10 +353,10 @@ a_cause_excludes_a_meaning properties bytes place kinds.Utf8 relations other cau
     let all : take (length bytes) bytes ≡ bytes = take-length bytes in
     cause.1.longest (length bytes) cause.1.short (subst IsUtf8 (sym all) means.utf8)
 a_cause_excludes_a_meaning properties bytes place kinds.Limit relations other (inl long) means = let few = means.few_bytes in let many = long.0 in omega arith
-a_cause_excludes_a_meaning properties bytes place kinds.Limit relations other (inr inside) means = inside_excluded properties bytes place kinds.Limit relations inside means
-a_cause_excludes_a_meaning properties bytes place kinds.Syntax relations other cause means = inside_excluded properties bytes place kinds.Syntax relations cause means
-a_cause_excludes_a_meaning properties bytes place kinds.Escape relations other cause means = inside_excluded properties bytes place kinds.Escape relations cause means
-a_cause_excludes_a_meaning properties bytes place kinds.BeforeStrength relations other cause means = inside_excluded properties bytes place kinds.BeforeStrength relations cause means
-a_cause_excludes_a_meaning properties bytes place kinds.EmptyText relations other cause means = inside_excluded properties bytes place kinds.EmptyText relations cause means
-a_cause_excludes_a_meaning properties bytes place kinds.DuplicateTarget relations other cause means = inside_excluded properties bytes place kinds.DuplicateTarget relations cause means
-a_cause_excludes_a_meaning properties bytes place kinds.LateTarget relations other cause means = inside_excluded properties bytes place kinds.LateTarget relations cause means
+a_cause_excludes_a_meaning properties bytes place kinds.Limit relations other (inr inside) means = inside_excluded properties bytes place kinds.Limit relations inside.has means
+a_cause_excludes_a_meaning properties bytes place kinds.Syntax relations other cause means = inside_excluded properties bytes place kinds.Syntax relations cause.has means
+a_cause_excludes_a_meaning properties bytes place kinds.Escape relations other cause means = inside_excluded properties bytes place kinds.Escape relations cause.has means
+a_cause_excludes_a_meaning properties bytes place kinds.BeforeStrength relations other cause means = inside_excluded properties bytes place kinds.BeforeStrength relations cause.has means
+a_cause_excludes_a_meaning properties bytes place kinds.EmptyText relations other cause means = inside_excluded properties bytes place kinds.EmptyText relations cause.has means
+a_cause_excludes_a_meaning properties bytes place kinds.DuplicateTarget relations other cause means = inside_excluded properties bytes place kinds.DuplicateTarget relations cause.has means
+a_cause_excludes_a_meaning properties bytes place kinds.LateTarget relations other cause means = inside_excluded properties bytes place kinds.LateTarget relations cause.has means

@@ -84,7 +84,7 @@ memory_behind end cs front here fault parts memory =
     record { front = ends.0; rest = memory.rest; parts = ends.1; at = memory.at }
 
 counted : (properties : Properties) (cs here : List Character) (state : State) (read : HasRead properties cs state here) → length state.relations ≡ length (taken properties read.statements)
-counted properties cs here state read = ap length read.relations ∙ length-map (λ (t : Taken). t.relation) (taken properties read.statements)
+counted properties cs here state read = ap length read.relations ∙ length-map (taken properties read.statements) (λ (t : Taken). t.relation)
 
 over_limit : (count total : ℕ) (front : List Character) (c : Character) → count ≡ total → count < 5000 → (count + length front ≡ 5000) ⊎ (16 < length (nfd (c.code ∷ [])))
     → ((total + length front ≡ 5000) × (front ≢ [])) ⊎ (16 < length (nfd (c.code ∷ [])))
