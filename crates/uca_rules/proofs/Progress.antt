@@ -3,7 +3,8 @@ use Rattle.std.proofs.Common.{◌≡◌, ◌≢◌, ◌⊎◌, ℕ, suc, ◌+◌
 use Rattle.std.specs.List.{AllByRecursion}
 use Rattle.std.proofs.lemmas.List.{append_assoc, append-nil, length-map, map-append}
 use Rattle.unicode_normalization.specs.Forms.{nfd}
-use Rattle.uca_values.specs.Content.{Properties}
+use Rattle.uca_values.specs.Content.{Properties, properties_of}
+use Rattle.uca_rules.specs.declared.text_reader.TextReader.{TextReader}
 use Rattle.uca_rules.specs.declared.characters.Character.{Character}
 use Rattle.uca_rules.specs.declared.relations.Relation.{Relation}
 use Rattle.uca_rules.specs.declared.faults.RuleFault.{RuleFault}
@@ -14,9 +15,9 @@ use Rattle.uca_rules.specs.Characters.{behind_gaps, place_of}
 use Rattle.uca_rules.specs.Statements.{Statement, Starred, AreStatements, BeginsStatement, MayFollow, MayEnd, AreInOrder, opening, last_is, last_of}
 use Rattle.uca_rules.specs.Meaning.{Anchor, Taken, HasShortTexts, no_anchor, anchor_behind, relations_in, relations_of, taken}
 use Rattle.uca_rules.specs.Faults.{RelationCause, StatementCause, InText, InRelation, InStarred, HasCause}
-use Rattle.uca_rules.specs.Reading.{State, start, BeginsNext, ReadsAll, IsMemoryIn, IsNextFault, In_memory, In_text, At_statement, In_relation, In_target, IsReadingFault}
+use Rattle.uca_rules.specs.Reading.{State, start, BeginsNext, ReadsAll, IsMemoryIn, IsNextFault, In_memory, In_text, At_statement, In_relation, In_target, IsReadingFault, Keeps, properties_in}
 use Rattle.uca_rules.proofs.MeaningLaws.{anchor_behind_all, anchor_behind_more, taken_more, relations_more}
-use Rattle.uca_rules.proofs.Suffixes.{statements_end, ends_trans}
+use Rattle.uca_rules.proofs.Suffixes.{statements_end, statement_behind, behind_length, ends_length, gaps_end, ends_trans}
 
 -- the characters begin with statements that give the state, and behind them and what stands between, the rest follows
 pub record HasRead (properties : Properties) (cs : List Character) (state : State) (rest : List Character) : Type 0 where
@@ -166,3 +167,28 @@ pub ends_behind_reset : (properties : Properties) (end : ℕ) (cs : List Charact
     → IsReadingFault properties end cs (record { byte = end; kind = kinds.Syntax })
 ends_behind_reset properties end cs state read open_chain =
     fault_behind properties end cs [] state (record { byte = end; kind = kinds.Syntax }) read (At_statement (inl (inl open_chain, refl)))
+
+-- ---- What a reader is for
+
+pub kept_properties : {A : Type 0} (old new : TextReader A) → Keeps old new → properties_in new ≡ properties_in old
+kept_properties {A} old new kept = ap (λ p. properties_of p.now) kept.properties
+
+pub keeps_both : {A : Type 0} (old middle new : TextReader A) → Keeps old middle → Keeps middle new → Keeps old new
+keeps_both {A} old middle new first second = record { properties = second.properties ∙ first.properties; end = second.end ∙ first.end }
+
+pub kept_fault : {A : Type 0} (old new : TextReader A) (state : State) (cs : List Character) (fault : RuleFault) → Keeps old new
+    → IsNextFault (properties_in new) new.end state cs fault → IsNextFault (properties_in old) old.end state cs fault
+kept_fault {A} old new state cs fault kept h =
+    subst (λ (p : Properties). IsNextFault p old.end state cs fault) (kept_properties old new kept)
+    (subst (λ (n : ℕ). IsNextFault (properties_in new) n state cs fault) kept.end h)
+
+pub kept_next : {A : Type 0} (old new : TextReader A) (before after : State) (cs rest : List Character) → Keeps old new
+    → BeginsNext (properties_in new) before after cs rest → BeginsNext (properties_in old) before after cs rest
+kept_next {A} old new before after cs rest kept h = subst (λ (p : Properties). BeginsNext p before after cs rest) (kept_properties old new kept) h
+
+-- behind a statement there are fewer characters
+pub fewer_left : (properties : Properties) (old new : State) (cs rest : List Character) → BeginsNext properties old new cs rest → length (behind_gaps rest) < length cs
+fewer_left properties old new cs rest next =
+    let fewer : length rest < length cs = behind_length cs rest (statement_behind cs next.s rest next.begins) in
+    let same : length (behind_gaps rest) ≤ length rest = ends_length rest (behind_gaps rest) (gaps_end rest) in
+    omega arith
