@@ -12,3 +12,5 @@ pub mod TextExclusion
 pub mod Exclusion
 pub mod Progress
 pub mod WorkedLaws
+pub mod Causes
+pub mod OnlyMeaning
