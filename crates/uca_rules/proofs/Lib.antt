@@ -14,3 +14,4 @@ pub mod Progress
 pub mod WorkedLaws
 pub mod Causes
 pub mod OnlyMeaning
+pub mod StatementSteps
