@@ -1,3 +1,5 @@
 pub mod Placing
 pub mod Quotes
 pub mod HexDigits
+pub mod Hyphens
+pub mod Breaking

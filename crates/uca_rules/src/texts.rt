@@ -5,11 +5,11 @@ ghost use Rattle.unicode_normalization.specs.Forms.{nfd};
 ghost use Rattle.uca_values.specs.Content.{properties_of};
 ghost use Rattle.uca_text.specs.Texts.{spelled};
 ghost use Rattle.uca_rules.specs.Characters;
-ghost use Rattle.uca_rules.specs.Pieces.{BeginsText, EndsText, points_of};
+ghost use Rattle.uca_rules.specs.Pieces.{BeginsText, EndsText, piece_at, points_of};
 ghost use Rattle.uca_rules.specs.Statements.{HasRanges, HasRangesSoFar, IsRange};
 ghost use Rattle.uca_rules.specs.Relations.{IsRuleText};
 ghost use Rattle.uca_rules.specs.Faults.{TextCause};
-ghost use Rattle.uca_rules.specs.Views.{IsTextFault, ShowsWrongHyphen};
+ghost use Rattle.uca_rules.specs.Views.{BeginsRange, BreaksOff, EndsInHyphen, IsTextFault, ShowsWrongHyphen};
 
 use crate::characters::{Character, Symbol};
 use crate::faults::{RuleFault, RuleFaultKind};
@@ -68,7 +68,12 @@ pub(crate) fn read_text<'a>(
 }
 
 /// Why no piece stands where one begins, behind these symbols.
-fn broken(symbols: &[Symbol], rest: &[Character], starred: bool) -> RuleFault {
+fn broken(symbols: &[Symbol], rest: &[Character], starred: bool) -> RuleFault
+    requires begins { ¬ (EndsText starred rest.now) }
+    requires none { piece_at starred rest.now ≡ None }
+    requires so_far { IsTrue starred → HasRangesSoFar symbols.now }
+    ensures { BreaksOff starred symbols.now rest.now result.byte result.kind }
+{
     let first = rest[0];
     if first.code == '\\' {
         return RuleFault { byte: first.place, kind: RuleFaultKind::Escape };
@@ -100,28 +105,40 @@ fn wrong_hyphen(before: &[Symbol], symbol: Symbol) -> Option<usize>
     requires { HasRangesSoFar before.now }
     ensures { MatchOption result (HasRangesSoFar (before.now ++ symbol ∷ [])) (ShowsWrongHyphen (before.now ++ symbol ∷ [])) }
 {
-    let (start, hyphen) = last_two(before);
-    match (hyphen, symbol) {
-        (None, Symbol::Hyphen(place)) => Some(place),
-        (Some(Symbol::Hyphen(place)), Symbol::Hyphen(_)) => Some(place),
-        (Some(Symbol::Hyphen(place)), Symbol::Literal(end)) => match start {
-            Some(Symbol::Literal(start)) if is_range(start.code, end.code) => None,
-            _ => Some(place),
-        },
-        (Some(Symbol::Literal(_)), Symbol::Hyphen(place)) => match start {
-            Some(Symbol::Hyphen(_)) => Some(place),
-            _ => None,
-        },
-        (_, Symbol::Literal(_)) => None,
+    let Some((last, front)) = before.split_last() else {
+        return match symbol {
+            Symbol::Hyphen(place) => Some(place),
+            Symbol::Literal(_) => None,
+        };
+    };
+    match (*last, symbol) {
+        (Symbol::Hyphen(place), _) => if begins_range(front, symbol) { None } else { Some(place) },
+        (Symbol::Literal(_), Symbol::Hyphen(place)) => if ends_in_hyphen(front) { Some(place) } else { None },
+        (Symbol::Literal(_), Symbol::Literal(_)) => None,
     }
 }
 
-/// The last two symbols.
-fn last_two(symbols: &[Symbol]) -> (Option<Symbol>, Option<Symbol>) {
-    let count = symbols.len();
-    let last = if count > 0 { Some(symbols[count - 1]) } else { None };
-    let before = if count > 1 { Some(symbols[count - 2]) } else { None };
-    (before, last)
+/// Whether the last of the symbols is a hyphen.
+fn ends_in_hyphen(symbols: &[Symbol]) -> bool
+    ensures { IsTrue result ↔ EndsInHyphen symbols.now }
+{
+    let Some((last, _)) = symbols.split_last() else {
+        return false;
+    };
+    matches!(*last, Symbol::Hyphen(_))
+}
+
+/// Whether there is a range from the last of the symbols to another one.
+fn begins_range(symbols: &[Symbol], end: Symbol) -> bool
+    ensures { IsTrue result ↔ BeginsRange symbols.now end }
+{
+    let Some((last, _)) = symbols.split_last() else {
+        return false;
+    };
+    match (*last, end) {
+        (Symbol::Literal(x), Symbol::Literal(y)) => is_range(x.code, y.code),
+        _ => false,
+    }
 }
 
 /// Whether `x-y` stands for code points from x to y, of which none is a surrogate.
