@@ -117,16 +117,16 @@ no_range_there xs front place s last is hyphen none = record {
     by_end (Literal y) e = by_front y e (last_of front)
 
 -- a hyphen behind a range
-pub behind_range : (xs front : List Symbol) (x : Character) (place : ℕ) (s last : Symbol) → xs ≡ front ++ last ∷ [] → last ≡ Literal x → s ≡ Hyphen place → EndsInHyphen front → ShowsWrongHyphen (xs ++ s ∷ []) place
-behind_range xs front x place s last is letter hyphen ends = record {
+pub behind_range : (xs front : List Symbol) (x : Character) (place : ℕ) (s last : Symbol) → xs ≡ front ++ last ∷ [] → last ≡ Literal x → s ≡ Hyphen place → (p : ℕ) → EndsInHyphen front p → ShowsWrongHyphen (xs ++ s ∷ []) place
+behind_range xs front x place s last is letter hyphen p ends = record {
   front = xs;
   back = [];
   are = ap (λ z. xs ++ z ∷ []) hyphen;
-  wrong = Range_before ends.front ends.place x (is ∙ (ap (λ z. front ++ z ∷ []) letter ∙ (ap (λ zs. zs ++ Literal x ∷ []) ends.are ∙ append_assoc ends.front (Hyphen ends.place ∷ []) (Literal x ∷ []))));
+  wrong = Range_before ends.front p x (is ∙ (ap (λ z. front ++ z ∷ []) letter ∙ (ap (λ zs. zs ++ Literal x ∷ []) ends.are ∙ append_assoc ends.front (Hyphen p ∷ []) (Literal x ∷ []))));
 }
 
 -- a hyphen behind another character
-pub hyphen_behind : (xs front : List Symbol) (x : Character) (s last : Symbol) → xs ≡ front ++ last ∷ [] → last ≡ Literal x → ¬ (EndsInHyphen front) → HasRangesSoFar xs → HasRangesSoFar (xs ++ s ∷ [])
+pub hyphen_behind : (xs front : List Symbol) (x : Character) (s last : Symbol) → xs ≡ front ++ last ∷ [] → last ≡ Literal x → ((p : ℕ) → ¬ (EndsInHyphen front p)) → HasRangesSoFar xs → HasRangesSoFar (xs ++ s ∷ [])
 hyphen_behind xs front x s last is letter none so_far = ranges_more xs s so_far first second
   where
     inside : (b : List Symbol) → b ≡ [] → ¬ (IsNoRange xs b)
@@ -134,7 +134,7 @@ hyphen_behind xs front x s last is letter none so_far = ranges_more xs s so_far 
     inside b e (Hyphen_before before p k) = let same = same_from_push front before last (Hyphen p) (sym is ∙ k) in hyphen_is_no_literal p x (sym same.1 ∙ letter)
     inside b e (Range_before before p y k) =
         let same = same_from_push front (before ++ Hyphen p ∷ []) last (Literal y) (sym is ∙ (k ∙ sym (append_assoc before (Hyphen p ∷ []) (Literal y ∷ [])))) in
-        none (record { front = before; place = p; are = same.0 })
+        none p (record { front = before; are = same.0 })
     inside b e (Hyphen_behind p more k) = let no : ⊥ = cc in no
     inside b e (Wrong_ends before more y z k l wrong) = let no : ⊥ = cc (e, l) in no
     first : (p : ℕ) → s ≡ Hyphen p → ¬ (IsNoRange xs [])

@@ -3,3 +3,4 @@ pub mod Quotes
 pub mod HexDigits
 pub mod Hyphens
 pub mod Breaking
+pub mod TextSteps

@@ -1,5 +1,5 @@
 -- What the reader's values stand for. Only clauses inside this crate cite this file.
-use Rattle.std.specs.Prelude.{◌≡◌, ◌⊎◌, ℕ, Bool, IsTrue, List, [], ◌∷◌, ◌++◌, Option, Some, None, option_map}
+use Rattle.std.specs.Prelude.{◌≡◌, ◌⊎◌, ℕ, Bool, IsTrue, List, [], ◌∷◌, length, take, ◌++◌, Option, Some, None, option_map}
 use denote.Bor.{Bor}
 use Rattle.uca_rules.specs.declared.characters.Character.{Character}
 use Rattle.uca_rules.specs.declared.faults.RuleFault.{RuleFault}
@@ -18,9 +18,10 @@ sign_view s = record { strength = s.strength; starred = s.starred; rest = s.rest
 abbrev pub slice_view : Option (Bor (List Character)) → Option (List Character)
 slice_view o = option_map (λ s. s.now) o
 
--- Of the piece at the front the symbols stand at the end of new, and the rest follows; or there is no such piece.
+-- Of the piece at the front the symbols stand at the end of new, and the rest follows; or there is no such piece, and the
+-- old symbols are still the first ones.
 abbrev pub Takes : List Symbol → List Symbol → Option (List Character) → Option Piece → Type 0
-Takes old new None piece = piece ≡ None
+Takes old new None piece = (piece ≡ None) × (take (length old) new ≡ old)
 Takes old new (Some rest) piece = (symbols : List Symbol) × (piece ≡ Some (record { symbols = symbols; rest = rest })) × (new ≡ old ++ symbols)
 
 -- an allocation failed while the character at the place was read
@@ -38,10 +39,9 @@ pub record ShowsWrongHyphen (symbols : List Symbol) (place : ℕ) : Type 0 where
   pub are : symbols ≡ front ++ Hyphen place ∷ back
   pub wrong : IsNoRange front back
 
--- the last symbol is a hyphen
-pub record EndsInHyphen (symbols : List Symbol) : Type 0 where
+-- the last symbol is a hyphen at the place
+pub record EndsInHyphen (symbols : List Symbol) (place : ℕ) : Type 0 where
   pub front : List Symbol
-  pub place : ℕ
   pub are : symbols ≡ front ++ Hyphen place ∷ []
 
 -- from the last of the symbols to this one there is a range

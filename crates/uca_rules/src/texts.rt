@@ -1,6 +1,6 @@
 //! Reading texts, starred or not.
 
-ghost use Rattle.std.specs.Prelude.{◌≡◌, ◌<◌, ◌≤◌, ◌≢◌, ◌⊎◌, ◌∷◌, ◌++◌, [], ◌↔◌, take, IsTrue, IsFalse, Some, None, length, List, IfOk, IfErr, OnOk, MatchOption, true, false};
+ghost use Rattle.std.specs.Prelude.{◌≡◌, ℕ, ◌<◌, ◌≤◌, ◌≢◌, ◌⊎◌, ◌∷◌, ◌++◌, [], ◌↔◌, take, IsTrue, IsFalse, Some, None, length, List, IfOk, IfErr, OnOk, MatchOption, true, false};
 ghost use Rattle.unicode_normalization.specs.Forms.{nfd};
 ghost use Rattle.uca_values.specs.Content.{properties_of};
 ghost use Rattle.uca_text.specs.Texts.{spelled};
@@ -54,15 +54,15 @@ pub(crate) fn read_text<'a>(
         let count = symbols.len();
         match take_piece(symbols, rest, starred) {
             Err(_) => return Err(RuleFault { byte: place, kind: RuleFaultKind::Memory }),
-            Ok(None) => return Err(broken(symbols, rest, starred)),
+            Ok(None) => return Err(broken(&symbols[..count], rest, starred)),
             Ok(Some(behind)) => rest = behind,
         }
         if starred {
             test_hyphens(symbols, count)?;
         }
     }
-    match symbols.last() {
-        Some(Symbol::Hyphen(place)) if starred => Err(RuleFault { byte: *place, kind: RuleFaultKind::Syntax }),
+    match last_hyphen(symbols) {
+        Some(byte) if starred => Err(RuleFault { byte, kind: RuleFaultKind::Syntax }),
         _ => Ok(rest),
     }
 }
@@ -113,19 +113,23 @@ fn wrong_hyphen(before: &[Symbol], symbol: Symbol) -> Option<usize>
     };
     match (*last, symbol) {
         (Symbol::Hyphen(place), _) => if begins_range(front, symbol) { None } else { Some(place) },
-        (Symbol::Literal(_), Symbol::Hyphen(place)) => if ends_in_hyphen(front) { Some(place) } else { None },
+        (Symbol::Literal(_), Symbol::Hyphen(place)) => match last_hyphen(front) {
+            Some(_) => Some(place),
+            None => None,
+        },
         (Symbol::Literal(_), Symbol::Literal(_)) => None,
     }
 }
 
-/// Whether the last of the symbols is a hyphen.
-fn ends_in_hyphen(symbols: &[Symbol]) -> bool
-    ensures { IsTrue result ↔ EndsInHyphen symbols.now }
+/// The byte of the last symbol, if it is a hyphen.
+fn last_hyphen(symbols: &[Symbol]) -> Option<usize>
+    ensures { MatchOption result ((place : ℕ) → ¬ (EndsInHyphen symbols.now place)) (EndsInHyphen symbols.now) }
 {
-    let Some((last, _)) = symbols.split_last() else {
-        return false;
-    };
-    matches!(*last, Symbol::Hyphen(_))
+    let (last, _) = symbols.split_last()?;
+    match *last {
+        Symbol::Hyphen(place) => Some(place),
+        Symbol::Literal(_) => None,
+    }
 }
 
 /// Whether there is a range from the last of the symbols to another one.

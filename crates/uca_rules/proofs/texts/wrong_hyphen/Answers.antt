@@ -12,13 +12,14 @@ pub returns-else-begins_range : goal.returns-else-begins_range
 returns-else-begins_range c =
     no_range_there c.args.before.now c.in-Some.front.now c.in-Hyphen-default.place c.args.symbol _ c.in-Some.ensures.cases.0 c.in-Hyphen-default.is-0 (λ range. false≢true (c.if-begins_range.ensures.1 range))
 
-pub returns-then-ends_in_hyphen : goal.returns-then-ends_in_hyphen
-returns-then-ends_in_hyphen c =
-    behind_range c.args.before.now c.in-Some.front.now c.in-Literal-Hyphen.field-0-0 c.in-Literal-Hyphen.place c.args.symbol _ c.in-Some.ensures.cases.0 c.in-Literal-Hyphen.is-0 c.in-Literal-Hyphen.is-1 (c.if-ends_in_hyphen.ensures.0 refl)
+pub returns-in-Some-last_hyphen : goal.returns-in-Some-last_hyphen
+returns-in-Some-last_hyphen c =
+    behind_range c.args.before.now c.in-Some.front.now c.in-Literal-Hyphen.field-0-0 c.in-Literal-Hyphen.place c.args.symbol _ c.in-Some.ensures.cases.0
+    c.in-Literal-Hyphen.is-0 c.in-Literal-Hyphen.is-1 c.in-Some-last_hyphen.field-0 c.in-Some-last_hyphen.ensures
 
-pub returns-else-ends_in_hyphen : goal.returns-else-ends_in_hyphen
-returns-else-ends_in_hyphen c =
-    hyphen_behind c.args.before.now c.in-Some.front.now c.in-Literal-Hyphen.field-0-0 c.args.symbol _ c.in-Some.ensures.cases.0 c.in-Literal-Hyphen.is-0 (λ ends. false≢true (c.if-ends_in_hyphen.ensures.1 ends)) c.requires
+pub returns-in-None : goal.returns-in-None
+returns-in-None c =
+    hyphen_behind c.args.before.now c.in-Some.front.now c.in-Literal-Hyphen.field-0-0 c.args.symbol _ c.in-Some.ensures.cases.0 c.in-Literal-Hyphen.is-0 c.in-None.ensures c.requires
 
 pub returns-in-Literal-Literal : goal.returns-in-Literal-Literal
 returns-in-Literal-Literal c =
