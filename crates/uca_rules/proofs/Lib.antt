@@ -15,3 +15,6 @@ pub mod WorkedLaws
 pub mod Causes
 pub mod OnlyMeaning
 pub mod StatementSteps
+pub mod Hyphens
+pub mod Breaking
+pub mod TextSteps

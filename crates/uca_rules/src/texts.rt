@@ -1,15 +1,15 @@
 //! Reading texts, starred or not.
 
-ghost use Rattle.std.specs.Prelude.{◌≡◌, ◌<◌, ◌≤◌, ◌≢◌, ◌⊎◌, ◌∷◌, ◌++◌, [], ◌↔◌, take, IsTrue, IsFalse, Some, None, length, List, IfOk, IfErr, OnOk, MatchOption, true, false};
+ghost use Rattle.std.specs.Prelude.{◌≡◌, ℕ, ◌<◌, ◌≤◌, ◌≢◌, ◌⊎◌, ◌∷◌, ◌++◌, [], ◌↔◌, take, IsTrue, IsFalse, Some, None, length, List, IfOk, IfErr, OnOk, MatchOption, true, false};
 ghost use Rattle.unicode_normalization.specs.Forms.{nfd};
 ghost use Rattle.uca_values.specs.Content.{properties_of};
 ghost use Rattle.uca_text.specs.Texts.{spelled};
 ghost use Rattle.uca_rules.specs.Characters;
-ghost use Rattle.uca_rules.specs.Pieces.{BeginsText, EndsText, points_of};
+ghost use Rattle.uca_rules.specs.Pieces.{BeginsText, EndsText, piece_at, points_of};
 ghost use Rattle.uca_rules.specs.Statements.{HasRanges, HasRangesSoFar, IsRange};
 ghost use Rattle.uca_rules.specs.Relations.{IsRuleText};
 ghost use Rattle.uca_rules.specs.Faults.{TextCause};
-ghost use Rattle.uca_rules.specs.Views.{IsTextFault, ShowsWrongHyphen};
+ghost use Rattle.uca_rules.specs.Views.{BeginsRange, BreaksOff, EndsInHyphen, IsTextFault, ShowsWrongHyphen};
 
 use crate::characters::{Character, Symbol};
 use crate::faults::{RuleFault, RuleFaultKind};
@@ -54,21 +54,26 @@ pub(crate) fn read_text<'a>(
         let count = symbols.len();
         match take_piece(symbols, rest, starred) {
             Err(_) => return Err(RuleFault { byte: place, kind: RuleFaultKind::Memory }),
-            Ok(None) => return Err(broken(symbols, rest, starred)),
+            Ok(None) => return Err(broken(&symbols[..count], rest, starred)),
             Ok(Some(behind)) => rest = behind,
         }
         if starred {
             test_hyphens(symbols, count)?;
         }
     }
-    match symbols.last() {
-        Some(Symbol::Hyphen(place)) if starred => Err(RuleFault { byte: *place, kind: RuleFaultKind::Syntax }),
+    match last_hyphen(symbols) {
+        Some(byte) if starred => Err(RuleFault { byte, kind: RuleFaultKind::Syntax }),
         _ => Ok(rest),
     }
 }
 
 /// Why no piece stands where one begins, behind these symbols.
-fn broken(symbols: &[Symbol], rest: &[Character], starred: bool) -> RuleFault {
+fn broken(symbols: &[Symbol], rest: &[Character], starred: bool) -> RuleFault
+    requires begins { ¬ (EndsText starred rest.now) }
+    requires none { piece_at starred rest.now ≡ None }
+    requires so_far { IsTrue starred → HasRangesSoFar symbols.now }
+    ensures { BreaksOff starred symbols.now rest.now result.byte result.kind }
+{
     let first = rest[0];
     if first.code == '\\' {
         return RuleFault { byte: first.place, kind: RuleFaultKind::Escape };
@@ -100,28 +105,44 @@ fn wrong_hyphen(before: &[Symbol], symbol: Symbol) -> Option<usize>
     requires { HasRangesSoFar before.now }
     ensures { MatchOption result (HasRangesSoFar (before.now ++ symbol ∷ [])) (ShowsWrongHyphen (before.now ++ symbol ∷ [])) }
 {
-    let (start, hyphen) = last_two(before);
-    match (hyphen, symbol) {
-        (None, Symbol::Hyphen(place)) => Some(place),
-        (Some(Symbol::Hyphen(place)), Symbol::Hyphen(_)) => Some(place),
-        (Some(Symbol::Hyphen(place)), Symbol::Literal(end)) => match start {
-            Some(Symbol::Literal(start)) if is_range(start.code, end.code) => None,
-            _ => Some(place),
+    let Some((last, front)) = before.split_last() else {
+        return match symbol {
+            Symbol::Hyphen(place) => Some(place),
+            Symbol::Literal(_) => None,
+        };
+    };
+    match (*last, symbol) {
+        (Symbol::Hyphen(place), _) => if begins_range(front, symbol) { None } else { Some(place) },
+        (Symbol::Literal(_), Symbol::Hyphen(place)) => match last_hyphen(front) {
+            Some(_) => Some(place),
+            None => None,
         },
-        (Some(Symbol::Literal(_)), Symbol::Hyphen(place)) => match start {
-            Some(Symbol::Hyphen(_)) => Some(place),
-            _ => None,
-        },
-        (_, Symbol::Literal(_)) => None,
+        (Symbol::Literal(_), Symbol::Literal(_)) => None,
     }
 }
 
-/// The last two symbols.
-fn last_two(symbols: &[Symbol]) -> (Option<Symbol>, Option<Symbol>) {
-    let count = symbols.len();
-    let last = if count > 0 { Some(symbols[count - 1]) } else { None };
-    let before = if count > 1 { Some(symbols[count - 2]) } else { None };
-    (before, last)
+/// The byte of the last symbol, if it is a hyphen.
+fn last_hyphen(symbols: &[Symbol]) -> Option<usize>
+    ensures { MatchOption result ((place : ℕ) → ¬ (EndsInHyphen symbols.now place)) (EndsInHyphen symbols.now) }
+{
+    let (last, _) = symbols.split_last()?;
+    match *last {
+        Symbol::Hyphen(place) => Some(place),
+        Symbol::Literal(_) => None,
+    }
+}
+
+/// Whether there is a range from the last of the symbols to another one.
+fn begins_range(symbols: &[Symbol], end: Symbol) -> bool
+    ensures { IsTrue result ↔ BeginsRange symbols.now end }
+{
+    let Some((last, _)) = symbols.split_last() else {
+        return false;
+    };
+    match (*last, end) {
+        (Symbol::Literal(x), Symbol::Literal(y)) => is_range(x.code, y.code),
+        _ => false,
+    }
 }
 
 /// Whether `x-y` stands for code points from x to y, of which none is a surrogate.
