@@ -18,3 +18,4 @@ pub mod StatementSteps
 pub mod Hyphens
 pub mod Breaking
 pub mod TextSteps
+pub mod StarredLemmas

@@ -1,6 +1,8 @@
 //! Reading starred texts.
 
-ghost use Rattle.std.specs.Prelude.{◌≡◌, ◌<◌, ◌∷◌, [], length, IfErr, IfOk, OnOk};
+ghost use Rattle.std.specs.Prelude.{◌≡◌, ◌≢◌, ◌<◌, ◌++◌, ◌∷◌, [], ℕ, List, length, IfErr, IfNone, IfOk, IfSome, OnOk};
+ghost use Rattle.uca_rules.specs.declared.characters.Character.{Character};
+ghost use Rattle.uca_rules.specs.declared.characters.Symbol.{Symbol};
 ghost use Rattle.uca_rules.specs.Relations.{IsRuleText};
 ghost use Rattle.uca_rules.specs.Statements.{HasRanges, IsRange, Starred, between, targets_of};
 ghost use Rattle.uca_rules.specs.Reading.{Adds, AddsStarred, HasTargetFault, IsReady, IsStarredFault, properties_in, state_of};
@@ -14,7 +16,11 @@ use uca_weights::Strength;
 
 impl<'a, A: Allocator> Reader<'a, A> {
     /// Reads a starred text, and adds a relation for each of its targets.
-    pub(crate) fn read_starred<'c>(&mut self, strength: Strength, text: &'c [Character]) -> Result<&'c [Character], RuleFault>
+    pub(crate) fn read_starred<'c>(
+        &mut self,
+        strength: Strength,
+        text: &'c [Character],
+    ) -> Result<&'c [Character], RuleFault>
         requires ready { IsReady self.old }
         requires anchored { IsRuleText self.old.anchor }
         requires few { length self.old.rules.relations.items < 5000 }
@@ -28,7 +34,12 @@ impl<'a, A: Allocator> Reader<'a, A> {
     }
 
     /// Adds a relation for each target of a starred text.
-    fn add_targets(&mut self, strength: Strength, symbols: &[Symbol], here: usize) -> Result<(), RuleFault>
+    fn add_targets(
+        &mut self,
+        strength: Strength,
+        symbols: &[Symbol],
+        here: usize,
+    ) -> Result<(), RuleFault>
         requires ready { IsReady self.old }
         requires anchored { IsRuleText self.old.anchor }
         requires ranges { HasRanges symbols.now }
@@ -39,7 +50,7 @@ impl<'a, A: Allocator> Reader<'a, A> {
             let Symbol::Literal(c) = symbols[at] else {
                 continue;
             };
-            if at >= 2 && let Symbol::Literal(start) = symbols[at - 2] && let Symbol::Hyphen(place) = symbols[at - 1] {
+            if let Some((start, place)) = open_range(&symbols[..at]) {
                 self.add_between(strength, start.code, c.code, place, here)?;
             }
             self.add_character(strength, c, here)?;
@@ -48,7 +59,14 @@ impl<'a, A: Allocator> Reader<'a, A> {
     }
 
     /// Adds relations for the code points between the ends of a range, whose `-` is at the place.
-    fn add_between(&mut self, strength: Strength, start: char, end: char, place: usize, here: usize) -> Result<(), RuleFault>
+    fn add_between(
+        &mut self,
+        strength: Strength,
+        start: char,
+        end: char,
+        place: usize,
+        here: usize,
+    ) -> Result<(), RuleFault>
         requires ready { IsReady self.old }
         requires anchored { IsRuleText self.old.anchor }
         requires range { IsRange start end }
@@ -64,7 +82,12 @@ impl<'a, A: Allocator> Reader<'a, A> {
     }
 
     /// Adds the relation of one target of a starred text.
-    fn add_character(&mut self, strength: Strength, target: Character, here: usize) -> Result<(), RuleFault>
+    fn add_character(
+        &mut self,
+        strength: Strength,
+        target: Character,
+        here: usize,
+    ) -> Result<(), RuleFault>
         requires ready { IsReady self.old }
         requires anchored { IsRuleText self.old.anchor }
         ensures added { OnOk result (Adds (Starred strength (target ∷ [])) self.old self.new) }
@@ -72,12 +95,39 @@ impl<'a, A: Allocator> Reader<'a, A> {
     {
         let byte = target.place;
         if self.rules.count() == MOST_RELATIONS {
-            return Err(RuleFault { byte, kind: RuleFaultKind::Limit });
+            return Err(RuleFault {
+                byte,
+                kind: RuleFaultKind::Limit,
+            });
         }
         match self.texts.character_text(target) {
             Ok(Some(text)) => self.add(strength, text, None, byte, here),
-            Ok(None) => Err(RuleFault { byte, kind: RuleFaultKind::Limit }),
-            Err(_) => Err(RuleFault { byte: here, kind: RuleFaultKind::Memory }),
+            Ok(None) => Err(RuleFault {
+                byte,
+                kind: RuleFaultKind::Limit,
+            }),
+            Err(_) => Err(RuleFault {
+                byte: here,
+                kind: RuleFaultKind::Memory,
+            }),
         }
     }
+}
+
+/// The character before the `-` with which the symbols end, and the place of the `-`, if they end so.
+fn open_range(symbols: &[Symbol]) -> Option<(Character, usize)>
+    ensures found { IfSome result (λ found. (front : List Symbol) × (symbols.now ≡ front ++ Symbol.Literal found.0 ∷ Symbol.Hyphen found.1 ∷ [])) }
+    ensures none { IfNone result ((front : List Symbol) (x : Character) (place : ℕ) → symbols.now ≢ front ++ Symbol.Literal x ∷ Symbol.Hyphen place ∷ []) }
+{
+    let count = symbols.len();
+    if count < 2 {
+        return None;
+    }
+    let Symbol::Literal(start) = symbols[count - 2] else {
+        return None;
+    };
+    let Symbol::Hyphen(place) = symbols[count - 1] else {
+        return None;
+    };
+    Some((start, place))
 }
