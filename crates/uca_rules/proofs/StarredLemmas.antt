@@ -21,6 +21,7 @@ use Rattle.uca_rules.specs.Meaning.{Anchor, Taken, IsShort, behind_target, behin
 use Rattle.uca_rules.specs.Faults.{RelationCause}
 use Rattle.uca_rules.specs.Relations.{IsRuleText}
 use Rattle.uca_rules.specs.Views.{IsMemoryAt}
+use Rattle.uca_rules.proofs.Suffixes.{pieces_end}
 use Rattle.uca_rules.specs.Reading.{Adds, AddsOne, HasRelationCause, HasTargetFault, IsOverLimit, IsReady, IsStarredFault, IsTextOf, Keeps, State, anchor_of, properties_in, relation_of, state_of}
 
 -- ---- The relations of targets one behind the other
@@ -431,76 +432,7 @@ pub no_literal : (s : Symbol) → ((x : Character) → s ≢ Literal x) → (p :
 no_literal (Literal x) other = absurd (other x refl)
 no_literal (Hyphen p) other = (p, refl)
 
--- ---- What follows a text
-
-abbrev Ends : List Character → Option Piece → Type 0
-Ends cs piece = IfSome piece (λ p. (front : List Character) × (cs ≡ front ++ p.rest))
-
-ends_either : (cs : List Character) (b : Bool) (x y : Option Piece) → Ends cs x → Ends cs y → Ends cs (if b then x else y)
-ends_either cs true x y first second = first
-ends_either cs false x y first second = second
-
-ends_behind : (c : Character) (cs : List Character) (piece : Option Piece) → Ends cs piece → Ends (c ∷ cs) piece
-ends_behind c cs None h = tt
-ends_behind c cs (Some piece) h = (c ∷ h.0, ap (λ (l : List Character). c ∷ l) h.1)
-
-ends_literal : (c : Character) (cs : List Character) (piece : Option Piece) → Ends cs piece → Ends cs (with_literal c piece)
-ends_literal c cs None h = tt
-ends_literal c cs (Some piece) h = h
-
-inside_ends : (cs : List Character) → Ends cs (inside_quotes cs)
-inside_ends [] = tt
-inside_ends (c ∷ []) = ends_either (c ∷ []) (c.code == apostrophe) (Some (record { symbols = []; rest = [] })) None (c ∷ [], refl) tt
-inside_ends (c ∷ d ∷ cs) =
-    let more : Option Piece = with_literal c (inside_quotes cs) in
-    let ended : Option Piece = Some (record { symbols = []; rest = d ∷ cs }) in
-    let other : Option Piece = with_literal c (inside_quotes (d ∷ cs)) in
-    ends_either (c ∷ d ∷ cs) (c.code == apostrophe) (if d.code == apostrophe then more else ended) other
-    (ends_either (c ∷ d ∷ cs) (d.code == apostrophe) more ended
-    (ends_literal c (c ∷ d ∷ cs) (inside_quotes cs) (ends_behind c (d ∷ cs) (inside_quotes cs) (ends_behind d cs (inside_quotes cs) (inside_ends cs))))
-    (c ∷ [], refl))
-    (ends_literal c (c ∷ d ∷ cs) (inside_quotes (d ∷ cs)) (ends_behind c (d ∷ cs) (inside_quotes (d ∷ cs)) (inside_ends (d ∷ cs))))
-
-apostrophe_ends : (c : Character) (cs : List Character) → Ends cs (behind_apostrophe c cs)
-apostrophe_ends c [] = tt
-apostrophe_ends c (d ∷ cs) =
-    ends_either (d ∷ cs) (d.code == apostrophe) (Some (record { symbols = Literal c ∷ []; rest = cs })) (inside_quotes (d ∷ cs)) (d ∷ [], refl) (inside_ends (d ∷ cs))
-
-number_ends : (c : Character) (n : ℕ) (cs : List Character) (code : Option ℕ)
-    → Ends cs (option_map (λ code. record { symbols = Literal (record { code = code; place = c.place }) ∷ []; rest = drop n cs }) code)
-number_ends c n cs None = tt
-number_ends c n cs (Some code) = (take n cs, sym (take-append-drop n cs))
-
-backslash_ends : (c : Character) (cs : List Character) → Ends cs (behind_backslash c cs)
-backslash_ends c [] = tt
-backslash_ends c (d ∷ cs) =
-    let itself : Option Piece = Some (record { symbols = Literal (record { code = d.code; place = c.place }) ∷ []; rest = cs }) in
-    ends_either (d ∷ cs) (d.code == byte "u") (numbered c 4 cs) (if d.code == byte "U" then numbered c 8 cs else itself)
-    (ends_behind d cs (numbered c 4 cs) (number_ends c 4 cs (number_at 4 cs)))
-    (ends_either (d ∷ cs) (d.code == byte "U") (numbered c 8 cs) itself (ends_behind d cs (numbered c 8 cs) (number_ends c 8 cs (number_at 8 cs))) (d ∷ [], refl))
-
-piece_ends : (starred : Bool) (cs : List Character) → Ends cs (piece_at starred cs)
-piece_ends starred [] = tt
-piece_ends starred (c ∷ cs) =
-    let itself : Option Piece = Some (record { symbols = Literal c ∷ []; rest = cs }) in
-    let hyphened : Option Piece = if starred && c.code == hyphen then Some (record { symbols = Hyphen c.place ∷ []; rest = cs }) else None in
-    let plain : Option Piece = if is_plain c.code then itself else hyphened in
-    ends_either (c ∷ cs) (c.code == apostrophe) (behind_apostrophe c cs) (if c.code == backslash then behind_backslash c cs else plain)
-    (ends_behind c cs (behind_apostrophe c cs) (apostrophe_ends c cs))
-    (ends_either (c ∷ cs) (c.code == backslash) (behind_backslash c cs) plain
-    (ends_behind c cs (behind_backslash c cs) (backslash_ends c cs))
-    (ends_either (c ∷ cs) (is_plain c.code) itself hyphened (c ∷ [], refl)
-    (ends_either (c ∷ cs) (starred && c.code == hyphen) (Some (record { symbols = Hyphen c.place ∷ []; rest = cs })) None (c ∷ [], refl) tt)))
-
-pieces_end : (starred : Bool) (cs : List Character) (pieces : List (List Symbol)) (rest : List Character) → ArePieces starred cs pieces rest
-    → (front : List Character) × (cs ≡ front ++ rest)
-pieces_end starred cs [] rest are = ([], are)
-pieces_end starred cs (symbols ∷ pieces) rest are =
-    let first : (front : List Character) × (cs ≡ front ++ are.0) = subst (λ (piece : Option Piece). Ends cs piece) are.1 (piece_ends starred cs) in
-    let others : (front : List Character) × (are.0 ≡ front ++ rest) = pieces_end starred are.0 pieces rest are.2 in
-    (first.0 ++ others.0, first.1 ∙ ap (λ (l : List Character). first.0 ++ l) others.1 ∙ sym (append_assoc first.0 others.0 rest))
-
--- ---- A starred text
+-- ---- Faults of starred texts
 
 -- its targets are refused
 pub starred_fault : (properties : Properties) (end : ℕ) (state : State) (strength : Strength) (text : List Character) (symbols : List Symbol) (rest : List Character) (here : ℕ) (fault : RuleFault)

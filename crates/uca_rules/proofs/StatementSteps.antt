@@ -1,5 +1,5 @@
 -- What reading a statement gives, from what reading its parts gives.
-use Rattle.std.proofs.Common.{◌≡◌, ◌≢◌, ◌⊎◌, ℕ, ◌<◌, Bool, true, false, List, [], ◌∷◌, ◌++◌, length, Option, Some, None, refl, sym, ap, subst, ◌∙◌, inl, inr}
+use Rattle.std.proofs.Common.{◌≡◌, ◌≢◌, ◌⊎◌, ℕ, ◌<◌, Bool, true, false, List, [], ◌∷◌, ◌++◌, length, drop, Option, Some, None, option_map, IfSome, if◌then◌else◌, ◌==◌, refl, sym, ap, subst, ◌∙◌, inl, inr}
 use Rattle.std.specs.Prelude.{is_some}
 use Rattle.std.proofs.lemmas.List.{append-nil}
 use Rattle.uca_weights.specs.declared.Strength.{Strength}
@@ -11,15 +11,18 @@ use Rattle.uca_rules.specs.declared.faults.RuleFault.{RuleFault}
 use Rattle.uca_rules.specs.declared.signs.Last.{Last}
 use Rattle.uca_rules.specs.declared.signs.Last.TheVariants as lasts
 use Rattle.uca_rules.specs.declared.reader.Reader.{Reader}
-use Rattle.uca_rules.specs.Characters.{place_of}
-use Rattle.uca_rules.specs.Pieces.{Written, BeginsWritten}
-use Rattle.uca_rules.specs.Statements.{Statement, Reset, Plain, Starred, Resets, Signs, IsAnchorDue, IsTargetDue, HasStrength, MayFollow, targets_of}
-use Rattle.uca_rules.specs.Meaning.{Anchor, relations_in, relations_of, anchor_behind}
-use Rattle.uca_rules.specs.Views.{IsTextFault}
+use Rattle.uca_rules.specs.Characters.{apostrophe, backslash, place_of}
+use Rattle.std.specs.Str.{byte}
+use Rattle.uca_rules.specs.Pieces.{Symbol, Literal, Hyphen, Piece, Written, ArePieces, BeginsText, BeginsWritten, behind_apostrophe, behind_backslash, inside_quotes, is_plain, number_at, numbered, piece_at, points_of, symbols_of, with_literal}
+use Rattle.uca_rules.specs.Statements.{Statement, Reset, Plain, Starred, Resets, Signs, IsAnchorDue, IsTargetDue, BeginsExpansion, BeginsStatement, IsExpansionDue, MayFollow, last_is, opening, targets_of}
+use Rattle.uca_rules.specs.Meaning.{Anchor, IsShort, Taken, relations_in, relations_of, anchor_behind}
+use Rattle.uca_rules.specs.Views.{IsMemoryAt, IsTextFault}
+use Rattle.uca_rules.specs.Relations.{IsRuleText}
+use Rattle.uca_rules.specs.Faults.{RelationCause}
 use Rattle.uca_rules.specs.Reading
-use Rattle.uca_rules.specs.Reading.{State, IsTextOf, BeginsNext, IsMemoryIn, IsPlainFault, IsStarredFault, IsNextFault, Adds, AddsPlain, AddsStarred, GoesOn, properties_in, anchor_of, state_of}
-use Rattle.uca_rules.proofs.Suffixes.{anchor_due_behind, target_due_behind, behind_ends}
-use Rattle.uca_rules.proofs.Progress.{memory_behind}
+use Rattle.uca_rules.specs.Reading.{State, IsTextOf, BeginsNext, IsMemoryIn, IsPlainFault, IsStarredFault, IsNextFault, AreTextsOf, Keeps, Adds, AddsOne, AddsPlain, AddsStarred, GoesOn, relation_of, properties_in, anchor_of, state_of}
+use Rattle.uca_rules.proofs.Suffixes.{anchor_due_behind, target_due_behind, expansion_due_behind, written_behind, expands_end, behind_ends, ends_trans}
+use Rattle.uca_rules.proofs.Progress.{memory_behind, keeps_both}
 
 -- ---- Resets
 
@@ -57,13 +60,13 @@ memory_in_target end cs text strength starred fault due memory =
     let ends = behind_ends cs text (target_due_behind cs strength starred text due) in
     memory_behind end cs ends.0 text fault ends.1 memory
 
-pub plain_fault : (properties : Properties) (end : ℕ) (state : State) (cs text : List Character) (strength : Strength) (fault : RuleFault)
+pub plain_next_fault : (properties : Properties) (end : ℕ) (state : State) (cs text : List Character) (strength : Strength) (fault : RuleFault)
     → IsTargetDue cs strength false text → MayFollow state.last (Signs strength) → IsPlainFault properties end state strength text fault → IsNextFault properties end state cs fault
-plain_fault properties end state cs text strength fault due follows (Reading.IsPlainFault.In_memory memory) =
+plain_next_fault properties end state cs text strength fault due follows (Reading.IsPlainFault.In_memory memory) =
     Reading.IsNextFault.In_memory (memory_in_target end cs text strength false fault due memory)
-plain_fault properties end state cs text strength fault due follows (Reading.IsPlainFault.In_target cause) =
+plain_next_fault properties end state cs text strength fault due follows (Reading.IsPlainFault.In_target cause) =
     Reading.IsNextFault.In_text (record { opens = Signs strength; starred = false; text = text; follows = follows; due = inl due; cause = cause })
-plain_fault properties end state cs text strength fault due follows (Reading.IsPlainFault.In_expansion target more expansion begins slashed cause) =
+plain_next_fault properties end state cs text strength fault due follows (Reading.IsPlainFault.In_expansion target more expansion begins slashed cause) =
     Reading.IsNextFault.In_text (record {
       opens = Signs strength;
       starred = false;
@@ -72,7 +75,7 @@ plain_fault properties end state cs text strength fault due follows (Reading.IsP
       due = inr (record { first = text; due = due; target = target; more = more; begins = begins; slashed = slashed });
       cause = cause;
     })
-plain_fault properties end state cs text strength fault due follows (Reading.IsPlainFault.In_relation target more expansion rest begins expands has) =
+plain_next_fault properties end state cs text strength fault due follows (Reading.IsPlainFault.In_relation target more expansion rest begins expands has) =
     Reading.IsNextFault.In_relation (record {
       s = Plain strength target expansion;
       rest = rest;
@@ -81,13 +84,13 @@ plain_fault properties end state cs text strength fault due follows (Reading.IsP
       has = has;
     })
 
-pub starred_fault : (properties : Properties) (end : ℕ) (state : State) (cs text : List Character) (strength : Strength) (fault : RuleFault)
+pub starred_next_fault : (properties : Properties) (end : ℕ) (state : State) (cs text : List Character) (strength : Strength) (fault : RuleFault)
     → IsTargetDue cs strength true text → MayFollow state.last (Signs strength) → length state.relations < 5000 → IsStarredFault properties end state strength text fault → IsNextFault properties end state cs fault
-starred_fault properties end state cs text strength fault due follows few (Reading.IsStarredFault.In_memory memory) =
+starred_next_fault properties end state cs text strength fault due follows few (Reading.IsStarredFault.In_memory memory) =
     Reading.IsNextFault.In_memory (memory_in_target end cs text strength true fault due memory)
-starred_fault properties end state cs text strength fault due follows few (Reading.IsStarredFault.In_text cause) =
+starred_next_fault properties end state cs text strength fault due follows few (Reading.IsStarredFault.In_text cause) =
     Reading.IsNextFault.In_text (record { opens = Signs strength; starred = true; text = text; follows = follows; due = due; cause = cause })
-starred_fault properties end state cs text strength fault due follows few (Reading.IsStarredFault.In_relation symbols rest begins ranges has) =
+starred_next_fault properties end state cs text strength fault due follows few (Reading.IsStarredFault.In_relation symbols rest begins ranges has) =
     Reading.IsNextFault.In_relation (record {
       s = Starred strength (targets_of symbols);
       rest = rest;
@@ -95,7 +98,7 @@ starred_fault properties end state cs text strength fault due follows few (Readi
       follows = follows;
       has = has;
     })
-starred_fault properties end state cs text strength fault due follows few (Reading.IsStarredFault.In_limit symbols rest begins ranges over) =
+starred_next_fault properties end state cs text strength fault due follows few (Reading.IsStarredFault.In_limit symbols rest begins ranges over) =
     Reading.IsNextFault.In_target (record {
       strength = strength;
       targets = targets_of symbols;
@@ -106,6 +109,188 @@ starred_fault properties end state cs text strength fault due follows few (Readi
       over = over;
     })
 
--- the relations of a statement have been added, and it is the last one
-behind_adds : {A : Type 0} (s : Statement) (old new : Reader A) → Adds s old new → Last → State
-behind_adds {A} s old new adds last = record { relations = new.rules.relations.items; anchor = anchor_of new; last = last }
+-- the relations of a statement have been added, and it stands last
+pub goes_on : {A : Type 0} (s : Statement) (old new : Reader A) (cs rest : List Character) → BeginsStatement cs s rest → MayFollow old.last (opening s) → last_is s ≡ lasts.Relation → Adds s old new
+    → GoesOn old (record { texts = new.texts; rules = new.rules; anchor = new.anchor; before = new.before; last = lasts.Relation }) cs rest
+goes_on {A} s old new cs rest begins follows is adds = record {
+    kept = adds.kept;
+    ready = record { growing = adds.growing; anchored = (λ some. adds.anchored) };
+    next = record {
+      s = s;
+      begins = begins;
+      follows = follows;
+      short = adds.short;
+      is =
+        (let at : List Relation → Anchor → Last → State = λ (l : List Relation) (a : Anchor) (t : Last). record { relations = l; anchor = a; last = t } in
+        ap (λ (l : List Relation). at l (anchor_of new) lasts.Relation) adds.relations
+        ∙ ap (λ (a : Anchor). at (old.rules.relations.items ++ relations_of (relations_in (properties_in old.texts) (anchor_of old) s)) a lasts.Relation) adds.anchor
+        ∙ ap (λ (t : Last). at (old.rules.relations.items ++ relations_of (relations_in (properties_in old.texts) (anchor_of old) s)) (anchor_behind (properties_in old.texts) (anchor_of old) s) t) (sym is));
+    };
+  }
+
+pub plain_goes_on : {A : Type 0} (old new : Reader A) (strength : Strength) (cs text rest : List Character) → IsTargetDue cs strength false text → MayFollow old.last (Signs strength) → AddsPlain old new strength text rest
+    → GoesOn old (record { texts = new.texts; rules = new.rules; anchor = new.anchor; before = new.before; last = lasts.Relation }) cs rest
+plain_goes_on {A} old new strength cs text rest due follows h =
+    goes_on (Plain strength h.target h.expansion) old new cs rest (record { text = text; due = due; more = h.more; begins = h.begins; expands = h.expands }) follows refl h.adds
+
+pub starred_goes_on : {A : Type 0} (old new : Reader A) (strength : Strength) (cs text rest : List Character) → IsTargetDue cs strength true text → MayFollow old.last (Signs strength) → AddsStarred old new strength text rest
+    → GoesOn old (record { texts = new.texts; rules = new.rules; anchor = new.anchor; before = new.before; last = lasts.Relation }) cs rest
+starred_goes_on {A} old new strength cs text rest due follows h =
+    goes_on (Starred strength (targets_of h.symbols)) old new cs rest (record { text = text; due = due; symbols = h.symbols; begins = h.begins; ranges = h.ranges; are = refl }) follows refl h.adds
+
+-- ---- A target and an expansion
+
+-- a fault in the expansion is one behind the target
+pub expansion_fault : (properties : Properties) (end : ℕ) (state : State) (strength : Strength) (text more expansion : List Character) (target : Written) (fault : RuleFault)
+    → BeginsWritten text target more → IsExpansionDue more expansion → IsTextFault end false expansion fault → IsPlainFault properties end state strength text fault
+expansion_fault properties end state strength text more expansion target fault begins due (inl memory) =
+    let ends = ends_trans text more expansion (behind_ends text more (written_behind text target more begins)) (behind_ends more expansion (expansion_due_behind more expansion due)) in
+    Reading.IsPlainFault.In_memory (record { front = ends.0; rest = expansion; parts = ends.1; at = memory })
+expansion_fault properties end state strength text more expansion target fault begins due (inr cause) =
+    Reading.IsPlainFault.In_expansion target more expansion begins due cause
+
+pub target_fault : (properties : Properties) (end : ℕ) (state : State) (strength : Strength) (text : List Character) (fault : RuleFault)
+    → IsTextFault end false text fault → IsPlainFault properties end state strength text fault
+target_fault properties end state strength text fault (inl memory) = Reading.IsPlainFault.In_memory (record { front = []; rest = text; parts = refl; at = memory })
+target_fault properties end state strength text fault (inr cause) = Reading.IsPlainFault.In_target cause
+
+-- the texts of a relation
+expansion_is : (properties : Properties) (written : Option Written) (found : Option Spelled) → AreTextsOf properties written found → found ≡ option_map (λ (w : Written). spelled properties w.points) written
+expansion_is properties None None are = refl
+expansion_is properties None (Some text) are = absurd are
+expansion_is properties (Some w) None are = absurd are
+expansion_is properties (Some w) (Some text) are = ap (λ (t : Spelled). Some t) are.is
+
+expansion_short : (properties : Properties) (written : Option Written) (found : Option Spelled) → AreTextsOf properties written found → IfSome written (λ w. IsShort w.points)
+expansion_short properties None None are = tt
+expansion_short properties None (Some text) are = absurd are
+expansion_short properties (Some w) None are = absurd are
+expansion_short properties (Some w) (Some text) are = are.short
+
+pub expansion_rule : (properties : Properties) (written : Option Written) (found : Option Spelled) → AreTextsOf properties written found → IfSome found IsRuleText
+expansion_rule properties None None are = tt
+expansion_rule properties None (Some text) are = absurd are
+expansion_rule properties (Some w) None are = absurd are
+expansion_rule properties (Some w) (Some text) are = are.rule
+
+-- the relation of a statement
+pub relation_is : (properties : Properties) (anchor : Anchor) (strength : Strength) (target : Written) (expansion : Option Written) (text : Spelled) (found : Option Spelled)
+    → IsTextOf properties target.points text → AreTextsOf properties expansion found
+    → record { relation = record { anchor = anchor.text; before = anchor.before; strength = strength; target = text; expansion = found }; place = target.place } ∷ [] ≡ relations_in properties anchor (Plain strength target expansion)
+relation_is properties anchor strength target expansion text found is are =
+    let at : Spelled → Option Spelled → List Taken = λ (t : Spelled) (e : Option Spelled). record { relation = record { anchor = anchor.text; before = anchor.before; strength = strength; target = t; expansion = e }; place = target.place } ∷ [] in
+    ap (λ (t : Spelled). at t found) is.is ∙ ap (λ (e : Option Spelled). at (spelled properties target.points) e) (expansion_is properties expansion found are)
+
+pub relation_fault : (properties : Properties) (end : ℕ) (state : State) (strength : Strength) (text more rest : List Character) (target : Written) (expansion : Option Written) (t : Spelled) (e : Option Spelled) (fault : RuleFault)
+    → BeginsWritten text target more → BeginsExpansion more expansion rest → IsTextOf properties target.points t → AreTextsOf properties expansion e
+    → IsMemoryAt (place_of end rest) fault ⊎ ((fault.byte ≡ target.place) × RelationCause state.relations (record { anchor = state.anchor.text; before = state.anchor.before; strength = strength; target = t; expansion = e }) fault.kind)
+    → IsPlainFault properties end state strength text fault
+relation_fault properties end state strength text more rest target expansion t e fault begins expands is are (inl memory) =
+    let ends = ends_trans text more rest (behind_ends text more (written_behind text target more begins)) (expands_end more expansion rest expands) in
+    Reading.IsPlainFault.In_memory (record { front = ends.0; rest = rest; parts = ends.1; at = memory })
+relation_fault properties end state strength text more rest target expansion t e fault begins expands is are (inr cause) =
+    Reading.IsPlainFault.In_relation target more expansion rest begins expands (record {
+      before = [];
+      t = record { relation = record { anchor = state.anchor.text; before = state.anchor.before; strength = strength; target = t; expansion = e }; place = target.place };
+      after = [];
+      are = sym (relation_is properties state.anchor strength target expansion t e is are);
+      at = cause.0;
+      cause = subst (λ (l : List Relation). RelationCause l (record { anchor = state.anchor.text; before = state.anchor.before; strength = strength; target = t; expansion = e }) fault.kind) (sym (append-nil state.relations)) cause.1;
+    })
+
+pub plain_adds : {A : Type 0} (old middle new : Reader A) (strength : Strength) (text more rest : List Character) (target : Written) (expansion : Option Written) (t : Spelled) (e : Option Spelled)
+    → BeginsWritten text target more → BeginsExpansion more expansion rest → IsTextOf (properties_in old.texts) target.points t → AreTextsOf (properties_in old.texts) expansion e
+    → Keeps old.texts middle.texts → middle.rules ≡ old.rules → anchor_of middle ≡ anchor_of old → middle.last ≡ old.last
+    → AddsOne (relation_of middle strength t e) middle new → AddsPlain old new strength text rest
+plain_adds {A} old middle new strength text more rest target expansion t e begins expands is are kept rules anchor last adds =
+    let of : Anchor → Relation = λ (a : Anchor). record { anchor = a.text; before = a.before; strength = strength; target = t; expansion = e } in
+    record {
+      target = target;
+      more = more;
+      begins = begins;
+      expansion = expansion;
+      expands = expands;
+      adds = record {
+        kept = keeps_both old.texts middle.texts new.texts kept adds.kept;
+        growing = adds.growing;
+        anchored = subst IsRuleText (sym adds.anchor) is.rule;
+        short = (is.short, expansion_short (properties_in old.texts) expansion e are);
+        relations = adds.relations
+          ∙ ap (λ g. g.relations.items ++ of (anchor_of middle) ∷ []) rules
+          ∙ ap (λ (a : Anchor). old.rules.relations.items ++ of a ∷ []) anchor
+          ∙ ap (λ (l : List Taken). old.rules.relations.items ++ relations_of l) (relation_is (properties_in old.texts) (anchor_of old) strength target expansion t e is are);
+        anchor =
+          (let at : Spelled → Bool → Anchor = λ (s : Spelled) (b : Bool). record { text = s; before = b } in
+          ap (λ (s : Spelled). at s new.before) (adds.anchor ∙ is.is) ∙ ap (λ (b : Bool). at (spelled (properties_in old.texts) target.points) b) adds.before);
+        last = adds.last ∙ last;
+      };
+    }
+
+-- ---- Texts have a code point
+
+abbrev HasPoints : Option Piece → Type 0
+HasPoints piece = IfSome piece (λ p. points_of p.symbols ≢ [])
+
+points_either : (b : Bool) (x y : Option Piece) → HasPoints x → HasPoints y → HasPoints (if b then x else y)
+points_either true x y first second = first
+points_either false x y first second = second
+
+literal_points : (c : Character) (piece : Option Piece) → HasPoints (with_literal c piece)
+literal_points c None = tt
+literal_points c (Some piece) = λ none. cc
+
+quoted_points : (d : Character) (cs : List Character) → (d.code == apostrophe) ≡ false → HasPoints (inside_quotes (d ∷ cs))
+quoted_points d [] other = rw other tt
+quoted_points d (e ∷ cs) other = rw other (literal_points d (inside_quotes (e ∷ cs)))
+
+apostrophe_points : (c : Character) (cs : List Character) → HasPoints (behind_apostrophe c cs)
+apostrophe_points c [] = tt
+apostrophe_points c (d ∷ cs) = by (d.code == apostrophe) refl
+  where
+    by : (b : Bool) → (d.code == apostrophe) ≡ b → HasPoints (behind_apostrophe c (d ∷ cs))
+    by true is = rw is (λ none. cc)
+    by false is = rw is (quoted_points d cs is)
+
+number_points : (c : Character) (rest : List Character) (code : Option ℕ) → HasPoints (option_map (λ code. record { symbols = Literal (record { code = code; place = c.place }) ∷ []; rest = rest }) code)
+number_points c rest None = tt
+number_points c rest (Some code) = λ none. cc
+
+backslash_points : (c : Character) (cs : List Character) → HasPoints (behind_backslash c cs)
+backslash_points c [] = tt
+backslash_points c (d ∷ cs) =
+    let itself : Option Piece = Some (record { symbols = Literal (record { code = d.code; place = c.place }) ∷ []; rest = cs }) in
+    points_either (d.code == byte "u") (numbered c 4 cs) (if d.code == byte "U" then numbered c 8 cs else itself)
+    (number_points c (drop 4 cs) (number_at 4 cs))
+    (points_either (d.code == byte "U") (numbered c 8 cs) itself (number_points c (drop 8 cs) (number_at 8 cs)) (λ none. cc))
+
+piece_points : (cs : List Character) → HasPoints (piece_at false cs)
+piece_points [] = tt
+piece_points (c ∷ cs) =
+    let itself : Option Piece = Some (record { symbols = Literal c ∷ []; rest = cs }) in
+    let plain : Option Piece = if is_plain c.code then itself else None in
+    points_either (c.code == apostrophe) (behind_apostrophe c cs) (if c.code == backslash then behind_backslash c cs else plain)
+    (apostrophe_points c cs)
+    (points_either (c.code == backslash) (behind_backslash c cs) plain (backslash_points c cs) (points_either (is_plain c.code) itself None (λ none. cc) tt))
+
+points_front : (xs ys : List Symbol) → points_of xs ≢ [] → points_of (xs ++ ys) ≢ []
+points_front [] ys some none = some refl
+points_front (Literal c ∷ xs) ys some none = cc
+points_front (Hyphen place ∷ xs) ys some none = points_front xs ys some none
+
+pieces_points : (cs : List Character) (pieces : List (List Symbol)) (rest : List Character) → pieces ≢ [] → ArePieces false cs pieces rest → points_of (symbols_of pieces) ≢ []
+pieces_points cs [] rest some are = absurd (some refl)
+pieces_points cs (symbols ∷ pieces) rest some are =
+    points_front symbols (symbols_of pieces) (subst (λ (piece : Option Piece). HasPoints piece) are.1 (piece_points cs))
+
+-- a text that is not starred has a code point
+pub text_points : (cs : List Character) (symbols : List Symbol) (rest : List Character) → BeginsText false cs symbols rest → points_of symbols ≢ []
+text_points cs symbols rest begins = subst (λ (l : List Symbol). points_of l ≢ []) (sym begins.give) (pieces_points cs begins.pieces rest begins.some begins.are)
+
+-- it is written at its first byte
+pub written_place : (end : ℕ) (cs : List Character) (text : Written) (rest : List Character) → BeginsWritten cs text rest → place_of end cs ≡ text.place
+written_place end [] text rest begins = absurd (no_text begins.begins.pieces begins.begins.some begins.begins.are)
+  where
+    no_text : (pieces : List (List Symbol)) → pieces ≢ [] → ArePieces false [] pieces rest → ⊥
+    no_text [] some are = some refl
+    no_text (symbols ∷ pieces) some are = let e : None ≡ Some (record { symbols = symbols; rest = are.0 }) = are.1 in cc
+written_place end (c ∷ cs) text rest begins = sym (ap (λ (w : Written). w.place) begins.is)
