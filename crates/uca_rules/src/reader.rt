@@ -1,23 +1,25 @@
 //! The reader of rules.
 
-ghost use Rattle.std.specs.Prelude.{◌≡◌, ◌≢◌, ◌⊎◌, ◌<◌, ◌≤◌, ◌++◌, ◌∷◌, [], List, None, length, IfOk, IfErr, IfSome, OnOk, MatchResult};
+ghost use Rattle.std.specs.Prelude.{◌≡◌, ◌≢◌, ◌⊎◌, ◌<◌, ◌≤◌, ◌++◌, ◌∷◌, [], ℕ, List, None, Some, IsFalse, IsTrue, length, IfOk, IfErr, IfSome, OnOk, MatchResult};
 ghost use Rattle.uca_values.specs.Content.{properties_of};
+ghost use Rattle.uca_weights.specs.declared.Strength.{Strength};
 ghost use Rattle.uca_rules.specs.declared.relations.Relation.{Relation};
 ghost use Rattle.uca_rules.specs.declared.signs.Last.{Last};
 ghost use Rattle.uca_rules.specs.declared.faults.RuleFaultKind.{RuleFaultKind};
 ghost use Rattle.uca_rules.specs.Characters;
 ghost use Rattle.uca_rules.specs.Relations.{IsRuleText};
 ghost use Rattle.uca_rules.specs.Meaning.{Means};
-ghost use Rattle.uca_rules.specs.Faults.{IsCause, IsWrongBracket, RelationCause};
-ghost use Rattle.uca_rules.specs.Statements.{IsAnchorDue, MayFollow, Resets};
-ghost use Rattle.uca_rules.specs.Views.{IsMemoryAt};
+ghost use Rattle.uca_rules.specs.Faults.{IsCause, IsWrongBracket, RelationCause, StatementCause};
+ghost use Rattle.uca_rules.specs.Statements;
+ghost use Rattle.uca_rules.specs.Statements.{IsAnchorDue, MayFollow, Resets, Signs};
+ghost use Rattle.uca_rules.specs.Views.{IsMemoryAt, sign_view};
 ghost use Rattle.uca_rules.specs.Reading.{AddsOne, AddsPlain, GoesOn, IsNextFault, IsPlainFault, IsReadingFault, IsReady, ReadsAll, first_code, properties_in, relation_of, start, state_of};
 
 use crate::characters::{Character, behind_gaps, characters};
 use crate::faults::{RuleFault, RuleFaultKind};
 use crate::growing::GrowingRules;
 use crate::relations::{Relation, Rules};
-use crate::signs::{BRACKET_LENGTH, Last, bracket_at, sign_at};
+use crate::signs::{BRACKET_LENGTH, Last, Sign, bracket_at, sign_at};
 use crate::text_reader::TextReader;
 use crate::texts::place_of;
 use std::alloc::{Allocator, Global};
@@ -160,16 +162,7 @@ impl<'a, A: Allocator> Reader<'a, A> {
         ensures found { IfOk result (λ rest. GoesOn self.old self.new characters.now rest.now) }
         ensures fault { IfErr result (IsNextFault (properties_in self.old.texts) self.old.texts.end (state_of self.old) characters.now) }
     {
-        let byte = characters[0].place;
-        let Some(sign) = sign_at(characters) else {
-            return Err(RuleFault { byte, kind: RuleFaultKind::Syntax });
-        };
-        if self.rules.count() == MOST_RELATIONS {
-            return Err(RuleFault { byte, kind: RuleFaultKind::Limit });
-        }
-        if let Last::Reset(Some(asked)) = self.last && asked != sign.strength {
-            return Err(RuleFault { byte, kind: RuleFaultKind::BeforeStrength });
-        }
+        let sign = sign_of_relation(self.last, self.rules.count(), characters)?;
         let text = behind_gaps(sign.rest);
         let rest = if sign.starred {
             self.read_starred(sign.strength, text)?
@@ -246,5 +239,42 @@ fn behind_ampersand<'c>(characters: &'c [Character]) -> Result<(Option<Strength>
             None => Err(RuleFault { byte: c.place, kind: RuleFaultKind::Syntax }),
         },
         _ => Ok((None, behind)),
+    }
+}
+
+/// The sign of a relation behind so many others.
+///
+/// # Errors
+///
+/// `Syntax` where four or more `<` stand in a row, then `Limit` where there are as many relations as there may be, then
+/// `BeforeStrength`.
+fn sign_of_relation<'c>(last: Last, count: usize, characters: &'c [Character]) -> Result<Sign<'c>, RuleFault>
+    requires sign { (first_code characters.now ≡ Characters.less_than) ⊎ (first_code characters.now ≡ Characters.equals_sign) }
+    requires behind { last ≢ Last.Nothing }
+    ensures found { IfOk result (λ sign. (Statements.sign_at characters.now ≡ Some (sign_view sign)) × MayFollow last (Signs sign.strength) × (count ≢ 5000)) }
+    ensures fault { IfErr result (λ fault. (end : ℕ) → StatementCause end last count characters.now fault.byte fault.kind) }
+{
+    let byte = characters[0].place;
+    let Some(sign) = sign_at(characters) else {
+        return Err(RuleFault { byte, kind: RuleFaultKind::Syntax });
+    };
+    if count == MOST_RELATIONS {
+        return Err(RuleFault { byte, kind: RuleFaultKind::Limit });
+    }
+    if !may_have(last, sign.strength) {
+        return Err(RuleFault { byte, kind: RuleFaultKind::BeforeStrength });
+    }
+    Ok(sign)
+}
+
+/// Whether a relation there may have the strength: behind a bracket only the one that it asks for.
+fn may_have(last: Last, strength: Strength) -> bool
+    requires { last ≢ Last.Nothing }
+    ensures yes { IsTrue result → MayFollow last (Signs strength) }
+    ensures no { IsFalse result → (asked : Strength) × (last ≡ Last.Reset (Some asked)) × (strength ≢ asked) }
+{
+    match last {
+        Last::Reset(Some(asked)) => strength == asked,
+        _ => true,
     }
 }

@@ -4,8 +4,9 @@ ghost use Rattle.std.specs.Prelude.{◌≡◌, ◌<◌, ◌∷◌, [], ℕ, IfEr
 ghost use Rattle.uca_values.specs.Content.{properties_of};
 ghost use Rattle.unicode_normalization.specs.Forms.{nfd};
 ghost use Rattle.uca_rules.specs.declared.characters.Character.{Character};
+ghost use Rattle.uca_rules.specs.Characters;
 ghost use Rattle.uca_rules.specs.Pieces.{BeginsWritten, Written};
-ghost use Rattle.uca_rules.specs.Statements.{BeginsExpansion, IsExpansionDue};
+ghost use Rattle.uca_rules.specs.Statements.{BeginsExpansion, IsExpansionDue, IsNotAt};
 ghost use Rattle.uca_rules.specs.Views.{IsTextFault};
 ghost use Rattle.uca_rules.specs.Reading.{AreTextsOf, IsTextOf, Keeps, properties_in};
 
@@ -71,14 +72,11 @@ impl<'a, A: Allocator> TextReader<'a, A> {
         ensures found { IfOk result (λ found. (written : Option Written) × BeginsExpansion characters.now written found.1.now × AreTextsOf (properties_in self.old) written found.0) }
         ensures fault { IfErr result (λ fault. (text : List Character) × IsExpansionDue characters.now text × IsTextFault self.old.end false text fault) }
     {
-        let behind = behind_gaps(characters);
-        match behind.first() {
-            Some(c) if c.code == '/' => {
-                let (expansion, rest) = self.read_plain(behind_gaps(&behind[1..]))?;
-                Ok((Some(expansion), rest))
-            }
-            _ => Ok((None, characters)),
-        }
+        let Some(text) = behind_slash(characters) else {
+            return Ok((None, characters));
+        };
+        let (expansion, rest) = self.read_plain(text)?;
+        Ok((Some(expansion), rest))
     }
 
     /// The text of one character, unless it has more than 16 code points in Normalization Form D.
@@ -87,5 +85,16 @@ impl<'a, A: Allocator> TextReader<'a, A> {
         ensures found { IfOk result (λ found. MatchOption found (16 < length (nfd (c.code ∷ []))) (IsTextOf (properties_in self.old) (c.code ∷ []))) }
     {
         rule_text(self.alloc, &mut self.letters, &[Symbol::Literal(c)], self.properties)
+    }
+}
+
+/// Where an expansion is due: behind a target and `/`, if there is a `/`.
+fn behind_slash(characters: &[Character]) -> Option<&[Character]>
+    ensures { MatchOption result (IsNotAt Characters.slash (Characters.behind_gaps characters.now)) (λ text. IsExpansionDue characters.now text.now) }
+{
+    let behind = behind_gaps(characters);
+    match behind.first() {
+        Some(c) if c.code == '/' => Some(behind_gaps(&behind[1..])),
+        _ => None,
     }
 }

@@ -1,4 +1,9 @@
-use Rattle.std.proofs.Common.{◌≡◌, ◌≢◌, List, [], sym, subst, refl}
+use Rattle.std.proofs.Common.{◌≡◌, ◌≢◌, ◌<◌, ◌≤◌, List, [], length, Option, Some, MatchOption, ap, ◌∙◌, sym, subst, refl}
+use Rattle.unicode_normalization.specs.Forms.{nfd}
+use Rattle.uca_text.specs.Texts.{Spelled, spelled}
+use Rattle.uca_rules.specs.Characters.{place_of}
+use Rattle.uca_rules.specs.Relations.{IsRuleText}
+use Rattle.uca_rules.specs.Reading.{properties_in}
 use Rattle.uca_rules.specs.declared.characters.Symbol.{Symbol}
 use Rattle.uca_rules.specs.Pieces.{points_of}
 use Rattle.uca_rules.proofs.StatementSteps.{text_points}
@@ -9,4 +14,13 @@ rule_text-requires g c =
     subst (λ (l : List Symbol). points_of l ≢ []) (sym c.deref.ensures.value) (text_points c.args.text.now c.read_text.new.symbols.items c.in_ok-rest.rest.now c.in_ok-rest.ensures.found)
 
 pub returns-in-Ok-Some-clause-found : goal.returns-in-Ok-Some-clause-found
-returns-in-Ok-Some-clause-found g c = ?
+returns-in-Ok-Some-clause-found g c =
+    let symbols : List Symbol = c.read_text.new.symbols.items in
+    let said : MatchOption (Some c.in-Ok-Some.normal) (16 < length (nfd (points_of c.deref.result.now))) (λ text. (text ≡ spelled (properties_in c.args.self.now) (points_of c.deref.result.now)) × IsRuleText text) =
+    subst (λ (o : Option Spelled). MatchOption o (16 < length (nfd (points_of c.deref.result.now))) (λ text. (text ≡ spelled (properties_in c.args.self.now) (points_of c.deref.result.now)) × IsRuleText text))
+      c.in-Ok-Some.field-0-is c.in-Ok-Some.ensures in
+    let is : c.in-Ok-Some.normal ≡ spelled (properties_in c.args.self.now) (points_of symbols) =
+    said.0 ∙ ap (λ (l : List Symbol). spelled (properties_in c.args.self.now) (points_of l)) c.deref.ensures.value in
+    (record { place = place_of 0 c.args.text.now; points = points_of symbols },
+      record { symbols = symbols; begins = c.in_ok-rest.ensures.found; is = refl },
+      record { is = is; short = subst (λ (t : Spelled). length t.points ≤ 16) is said.1.short; rule = said.1 })
