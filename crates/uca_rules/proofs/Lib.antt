@@ -4,3 +4,4 @@ pub mod HexDigits
 pub mod Hyphens
 pub mod Breaking
 pub mod TextSteps
+pub mod RuleTexts

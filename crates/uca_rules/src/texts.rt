@@ -193,8 +193,9 @@ pub(crate) fn rule_text<A: Allocator>(
         }
     }
     match normal(alloc, letters, data) {
-        Ok(text) if text.chars().len() <= LONGEST_TEXT => Ok(Some(text)),
+        Ok(text) => Ok(if text.chars().len() <= LONGEST_TEXT { Some(text) } else { None }),
         Err(TextFault::Memory) => Err(AllocError),
-        _ => Ok(None),
+        Err(TextFault::TooLong) => Ok(None),
+        Err(TextFault::LongRun(_)) => Ok(None),
     }
 }
