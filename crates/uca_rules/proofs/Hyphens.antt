@@ -1,9 +1,9 @@
 -- The hyphens of ranges: what one more symbol shows.
-use Rattle.std.proofs.Common.{◌≡◌, ◌≢◌, ◌⊎◌, inl, inr, ℕ, suc, ◌+◌, ◌<◌, List, [], ◌∷◌, ◌++◌, length, get_or, take, drop, Option, Some, None, refl, ap, sym, subst, ◌∙◌, add-one, arith}
+use Rattle.std.proofs.Common.{◌≡◌, ◌⊎◌, inl, inr, ℕ, ◌+◌, ◌<◌, List, [], ◌∷◌, ◌++◌, length, get_or, take, drop, refl, ap, sym, subst, ◌∙◌, arith}
 use Rattle.std.proofs.lemmas.List.{append_assoc, same_from_push, take_more, take-append-drop, length_push}
 use Rattle.uca_rules.specs.declared.characters.Character.{Character}
 use Rattle.uca_rules.specs.Pieces.{Symbol, Literal, Hyphen}
-use Rattle.uca_rules.specs.Statements.{IsRange, IsNoRange, No_start, Hyphen_before, Range_before, Hyphen_behind, Wrong_ends, HasRangesSoFar, HasRanges}
+use Rattle.uca_rules.specs.Statements.{IsNoRange, No_start, Hyphen_before, Range_before, Hyphen_behind, Wrong_ends, HasRangesSoFar}
 use Rattle.uca_rules.proofs.Placing.{no_character}
 use Rattle.uca_rules.specs.Views.{EndsInHyphen, BeginsRange, ShowsWrongHyphen}
 

@@ -1,12 +1,11 @@
 -- The text of symbols, and how long it is.
-use Rattle.std.proofs.Common.{◌≡◌, ◌≢◌, ℕ, ◌+◌, ◌<◌, ◌≤◌, List, [], ◌∷◌, ◌++◌, length, map, take, get_or, flat_map, chars, refl, ap, sym, subst, ◌∙◌, length-append, arith}
+use Rattle.std.proofs.Common.{◌≡◌, ◌≢◌, ℕ, ◌+◌, ◌<◌, ◌≤◌, List, [], ◌∷◌, ◌++◌, length, take, get_or, flat_map, chars, refl, ap, sym, ◌∙◌, length-append, arith}
 use Rattle.std.specs.Str.{IsUtf8}
 use lib.Utf8.{encode, encodes}
 use Rattle.std.proofs.lemmas.Str.{encodes-append, chars_from_encodes}
 use Rattle.std.proofs.lemmas.List.{append-nil, take_more, take_all, length-map}
 use Rattle.unicode_normalization.specs.Forms.{nfd, Nfd, normalize, decomposed}
 use Rattle.unicode_normalization.specs.Decompose.{decompose}
-use Rattle.unicode_normalization.specs.Order.{canonical_order}
 use Rattle.unicode_normalization.proofs.DecomposeLemmas.{length-from_decompose}
 use Rattle.unicode_normalization.proofs.OrderLemmas.{length-canonical_order}
 use Rattle.std.specs.List.{AllByRecursion}

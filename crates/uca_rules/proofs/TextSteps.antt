@@ -1,14 +1,14 @@
 -- Texts, a piece further: what is read of one, and why it is none.
-use Rattle.std.proofs.Common.{◌≡◌, ◌≢◌, ◌⊎◌, inl, inr, ℕ, suc, ◌+◌, ◌<◌, ◌≤◌, Bool, true, false, ◌==◌, ◌&&◌, IsTrue, IsFalse, List, [], ◌∷◌, ◌++◌, length, take, drop, Option, Some, None, IfSome, if◌then◌else◌, refl, ap, sym, subst, ◌∙◌, arith}
-use Rattle.std.proofs.lemmas.List.{append-nil, append_assoc, take_at, length-append, length-drop, flat_map_more}
+use Rattle.std.proofs.Common.{◌≡◌, ◌≢◌, inl, inr, ℕ, suc, ◌<◌, ◌≤◌, Bool, true, false, ◌==◌, ◌&&◌, IsTrue, List, [], ◌∷◌, ◌++◌, length, take, Option, Some, None, IfSome, if◌then◌else◌, refl, ap, sym, subst, ◌∙◌, arith}
+use Rattle.std.proofs.lemmas.List.{append-nil, append_assoc, take_at, length-drop, flat_map_more}
 use Rattle.std.proofs.lemmas.Bool.{false≢true}
 use Rattle.std.specs.Str.{byte}
 use Rattle.uca_rules.specs.declared.characters.Character.{Character}
 use Rattle.uca_rules.specs.declared.faults.RuleFaultKind.{RuleFaultKind}
 use Rattle.uca_rules.specs.declared.faults.RuleFaultKind.TheVariants as kinds
-use Rattle.uca_rules.specs.Characters.{apostrophe, backslash, hyphen, codes_of}
-use Rattle.uca_rules.specs.Pieces.{Symbol, Literal, Hyphen, Piece, with_literal, inside_quotes, behind_apostrophe, behind_backslash, numbered, number_at, are_digits, is_plain, piece_at, begins_piece, ArePieces, symbols_of, EndsText, BeginsText}
-use Rattle.uca_rules.specs.Statements.{IsNoRange, HasRangesSoFar, HasRanges}
+use Rattle.uca_rules.specs.Characters.{apostrophe, backslash, hyphen}
+use Rattle.uca_rules.specs.Pieces.{Symbol, Literal, Hyphen, Piece, with_literal, inside_quotes, behind_apostrophe, behind_backslash, numbered, number_at, is_plain, piece_at, ArePieces, symbols_of, EndsText, BeginsText}
+use Rattle.uca_rules.specs.Statements.{HasRangesSoFar, HasRanges}
 use Rattle.uca_rules.specs.Faults.{opened, IsBroken, IsWrongHyphen, TextCause}
 use Rattle.uca_rules.specs.Views.{Takes, BeginsAt, BreaksOff, EndsInHyphen, ShowsWrongHyphen}
 use Rattle.uca_rules.proofs.Hyphens.{shown_longer}

@@ -1,12 +1,9 @@
 -- A piece further, and why none follows.
-use Rattle.std.proofs.Common.{◌≡◌, Option, Some, None, List, inl, inr, sym, subst, ap, ◌∙◌, take, length, rules, arith}
+use Rattle.std.proofs.Common.{◌≡◌, inr, sym, subst, ◌∙◌, length, rules}
 use Rattle.std.proofs.lemmas.Result.{err_from_is_err_and}
 use Rattle.std.proofs.lemmas.Bool.{false≢true}
-use Rattle.std.proofs.lemmas.List.{length-take}
 use Rattle.uca_rules.specs.Statements.{HasRangesSoFar}
-use Rattle.uca_rules.specs.Pieces.{piece_at}
-use Rattle.uca_rules.specs.Views.{Takes, slice_view}
-use Rattle.uca_rules.proofs.TextSteps.{AreRead, read_more, takes_shorter, front_of_none, front_of_some, breaks_off, wrong_shown, hyphen_cause, ranges_end}
+use Rattle.uca_rules.proofs.TextSteps.{read_more, takes_shorter, front_of_none, front_of_some, breaks_off, hyphen_cause, ranges_end}
 use Rattle.uca_rules.proofs.texts.read_text.Goals as goal
 use Rattle.uca_rules.proofs.texts.read_text.Goals.{in_default-via-in-Some+else-starred-2, in_default-via-in_default}
 

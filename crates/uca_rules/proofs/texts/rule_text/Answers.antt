@@ -1,9 +1,6 @@
 -- The text of the symbols, and how long it is.
-use Rattle.std.proofs.Common.{◌≡◌, ◌∙◌, sym, ap, refl, chars, arith, length}
-use Rattle.std.specs.Str.{IsUtf8}
+use Rattle.std.proofs.Common.{◌∙◌, ap, arith, length}
 use Rattle.uca_values.specs.Content.{properties_of}
-use Rattle.uca_text.specs.Texts.{spelled}
-use Rattle.uca_text.specs.Faults.{IsCause}
 use Rattle.uca_rules.specs.Pieces.{points_of}
 use Rattle.uca_rules.proofs.Hyphens.{no_symbol}
 use Rattle.uca_rules.proofs.RuleTexts.{literal_more, hyphen_more, points_all, short_text, too_long, long_run}
