@@ -16,9 +16,11 @@ apostrophe_there starred c cs begins none other = by_quote (c.code == apostrophe
     by_hyphen : (b : Bool) → (starred && c.code == hyphen) ≡ b → (c.code == apostrophe) ≡ false → is_plain c.code ≡ false → c.code ≡ apostrophe
     by_hyphen true e quote plain = let k = rw (quote, ne_eqb c.code backslash other, plain, e) at none in let no : ⊥ = cc in absurd no
     by_hyphen false e quote plain = absurd (begins (rw (quote, ne_eqb c.code backslash other, plain, e) refl))
+
     by_plain : (b : Bool) → is_plain c.code ≡ b → (c.code == apostrophe) ≡ false → c.code ≡ apostrophe
     by_plain true e quote = let k = rw (quote, ne_eqb c.code backslash other, e) at none in let no : ⊥ = cc in absurd no
     by_plain false e quote = by_hyphen (starred && c.code == hyphen) refl quote e
+
     by_quote : (b : Bool) → (c.code == apostrophe) ≡ b → c.code ≡ apostrophe
     by_quote true e = eqb-true c.code apostrophe e
     by_quote false e = by_plain (is_plain c.code) refl e

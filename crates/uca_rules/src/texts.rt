@@ -53,7 +53,10 @@ pub(crate) fn read_text<'a>(
     while !ends_text(rest, starred) {
         let count = symbols.len();
         match take_piece(symbols, rest, starred) {
-            Err(_) => return Err(RuleFault { byte: place, kind: RuleFaultKind::Memory }),
+            Err(_) => return Err(RuleFault {
+                byte: place,
+                kind: RuleFaultKind::Memory,
+            }),
             Ok(None) => return Err(broken(&symbols[..count], rest, starred)),
             Ok(Some(behind)) => rest = behind,
         }
@@ -62,7 +65,10 @@ pub(crate) fn read_text<'a>(
         }
     }
     match last_hyphen(symbols) {
-        Some(byte) if starred => Err(RuleFault { byte, kind: RuleFaultKind::Syntax }),
+        Some(byte) if starred => Err(RuleFault {
+            byte,
+            kind: RuleFaultKind::Syntax,
+        }),
         _ => Ok(rest),
     }
 }
@@ -76,13 +82,22 @@ fn broken(symbols: &[Symbol], rest: &[Character], starred: bool) -> RuleFault
 {
     let first = rest[0];
     if first.code == '\\' {
-        return RuleFault { byte: first.place, kind: RuleFaultKind::Escape };
+        return RuleFault {
+            byte: first.place,
+            kind: RuleFaultKind::Escape,
+        };
     }
     let byte = match rest.get(1) {
-        Some(c) if starred && c.code != '\'' => wrong_hyphen(symbols, Symbol::Literal(*c)).unwrap_or(first.place),
+        Some(c) if starred && c.code != '\'' => wrong_hyphen(
+            symbols,
+            Symbol::Literal(*c),
+        ).unwrap_or(first.place),
         _ => first.place,
     };
-    RuleFault { byte, kind: RuleFaultKind::Syntax }
+    RuleFault {
+        byte,
+        kind: RuleFaultKind::Syntax,
+    }
 }
 
 /// Tests what stands around each `-`, as far as the symbols from `count` on show it.
@@ -94,7 +109,10 @@ fn test_hyphens(symbols: &[Symbol], count: usize) -> Result<(), RuleFault>
 {
     for at in count..symbols.len() {
         if let Some(byte) = wrong_hyphen(&symbols[..at], symbols[at]) {
-            return Err(RuleFault { byte, kind: RuleFaultKind::Syntax });
+            return Err(RuleFault {
+                byte,
+                kind: RuleFaultKind::Syntax,
+            });
         }
     }
     Ok(())
@@ -112,7 +130,11 @@ fn wrong_hyphen(before: &[Symbol], symbol: Symbol) -> Option<usize>
         };
     };
     match (*last, symbol) {
-        (Symbol::Hyphen(place), _) => if begins_range(front, symbol) { None } else { Some(place) },
+        (Symbol::Hyphen(place), _) => if begins_range(front, symbol) {
+            None
+        } else {
+            Some(place)
+        },
         (Symbol::Literal(_), Symbol::Hyphen(place)) => match last_hyphen(front) {
             Some(_) => Some(place),
             None => None,
@@ -160,8 +182,14 @@ fn begins_text(text: &[Character], starred: bool, end: usize) -> Result<(), Rule
     let byte = place_of(end, text);
     match text.first() {
         Some(c) if begins_piece(starred, c.code) => Ok(()),
-        Some(c) if !matches!(c.code, '&' | '<' | '=' | '/') => Err(RuleFault { byte, kind: RuleFaultKind::Syntax }),
-        _ => Err(RuleFault { byte, kind: RuleFaultKind::EmptyText }),
+        Some(c) if !matches!(c.code, '&' | '<' | '=' | '/') => Err(RuleFault {
+            byte,
+            kind: RuleFaultKind::Syntax,
+        }),
+        _ => Err(RuleFault {
+            byte,
+            kind: RuleFaultKind::EmptyText,
+        }),
     }
 }
 
@@ -193,7 +221,11 @@ pub(crate) fn rule_text<A: Allocator>(
         }
     }
     match normal(alloc, letters, data) {
-        Ok(text) => Ok(if text.chars().len() <= LONGEST_TEXT { Some(text) } else { None }),
+        Ok(text) => Ok(if text.chars().len() <= LONGEST_TEXT {
+            Some(text)
+        } else {
+            None
+        }),
         Err(TextFault::Memory) => Err(AllocError),
         Err(TextFault::TooLong) => Ok(None),
         Err(TextFault::LongRun(_)) => Ok(None),
