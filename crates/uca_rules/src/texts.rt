@@ -88,10 +88,10 @@ fn broken(symbols: &[Symbol], rest: &[Character], starred: bool) -> RuleFault
         };
     }
     let byte = match rest.get(1) {
-        Some(c) if starred && c.code != '\'' => wrong_hyphen(
-            symbols,
-            Symbol::Literal(*c),
-        ).unwrap_or(first.place),
+        Some(c) if starred && c.code != '\'' => {
+            let hyphen = wrong_hyphen(symbols, Symbol::Literal(*c));
+            hyphen.unwrap_or(first.place)
+        }
         _ => first.place,
     };
     RuleFault {
@@ -130,11 +130,8 @@ fn wrong_hyphen(before: &[Symbol], symbol: Symbol) -> Option<usize>
         };
     };
     match (*last, symbol) {
-        (Symbol::Hyphen(place), _) => if begins_range(front, symbol) {
-            None
-        } else {
-            Some(place)
-        },
+        (Symbol::Hyphen(_), _) if begins_range(front, symbol) => None,
+        (Symbol::Hyphen(place), _) => Some(place),
         (Symbol::Literal(_), Symbol::Hyphen(place)) => match last_hyphen(front) {
             Some(_) => Some(place),
             None => None,
