@@ -9,7 +9,7 @@ use Rattle.uca_rules.specs.Views.{EndsInHyphen, BeginsRange, ShowsWrongHyphen}
 
 -- ---- Lists by their last member
 
-pub none_of_push : {A : Type 0} (xs : List A) (x : A) → xs ++ x ∷ [] ≡ [] → ⊥
+none_of_push : {A : Type 0} (xs : List A) (x : A) → xs ++ x ∷ [] ≡ [] → ⊥
 none_of_push xs x e = omega (arith, length_push xs x, ap length e)
 
 -- a list that is not empty, by its last member

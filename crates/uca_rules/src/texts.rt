@@ -43,6 +43,7 @@ pub(crate) fn read_text<'a>(
     end: usize,
 ) -> Result<&'a [Character], RuleFault>
     ensures found { IfOk result (λ rest. BeginsText starred text.now symbols.new.items rest.now) }
+    ensures points { OnOk result (IsFalse starred → points_of symbols.new.items ≢ []) }
     ensures ranges { OnOk result (IsTrue starred → HasRanges symbols.new.items) }
     ensures fault { IfErr result (IsTextFault end starred text.now) }
 {
