@@ -1,5 +1,5 @@
 -- Where a text breaks off: a piece begins and none stands.
-use Rattle.std.proofs.Common.{◌≡◌, ◌≢◌, ◌⊎◌, inl, inr, ℕ, ◌<◌, Bool, true, false, ◌&&◌, ◌==◌, IsTrue, IsFalse, List, [], ◌∷◌, ◌++◌, length, get_or, Option, Some, None, MatchOption, refl, ap, sym, subst, ◌∙◌, eq-eqb, arith}
+use Rattle.std.proofs.Common.{◌≡◌, ◌≢◌, ◌⊎◌, inl, inr, ℕ, ◌<◌, Bool, true, false, ◌&&◌, ◌==◌, IsTrue, IsFalse, List, [], ◌∷◌, ◌++◌, length, get_or, Option, Some, None, MatchOption, refl, eq-eqb, arith}
 use Rattle.std.proofs.lemmas.Bool.{ne_eqb}
 use Rattle.std.specs.Option.{unwrap_or}
 use borrow.Author.Tests.{eqb-true}
@@ -16,9 +16,11 @@ apostrophe_there starred c cs begins none other = by_quote (c.code == apostrophe
     by_hyphen : (b : Bool) → (starred && c.code == hyphen) ≡ b → (c.code == apostrophe) ≡ false → is_plain c.code ≡ false → c.code ≡ apostrophe
     by_hyphen true e quote plain = let k = rw (quote, ne_eqb c.code backslash other, plain, e) at none in let no : ⊥ = cc in absurd no
     by_hyphen false e quote plain = absurd (begins (rw (quote, ne_eqb c.code backslash other, plain, e) refl))
+
     by_plain : (b : Bool) → is_plain c.code ≡ b → (c.code == apostrophe) ≡ false → c.code ≡ apostrophe
     by_plain true e quote = let k = rw (quote, ne_eqb c.code backslash other, e) at none in let no : ⊥ = cc in absurd no
     by_plain false e quote = by_hyphen (starred && c.code == hyphen) refl quote e
+
     by_quote : (b : Bool) → (c.code == apostrophe) ≡ b → c.code ≡ apostrophe
     by_quote true e = eqb-true c.code apostrophe e
     by_quote false e = by_plain (is_plain c.code) refl e

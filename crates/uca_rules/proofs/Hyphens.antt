@@ -1,15 +1,15 @@
 -- The hyphens of ranges: what one more symbol shows.
-use Rattle.std.proofs.Common.{◌≡◌, ◌≢◌, ◌⊎◌, inl, inr, ℕ, suc, ◌+◌, ◌<◌, List, [], ◌∷◌, ◌++◌, length, get_or, take, drop, Option, Some, None, refl, ap, sym, subst, ◌∙◌, add-one, arith}
+use Rattle.std.proofs.Common.{◌≡◌, ◌⊎◌, inl, inr, ℕ, ◌+◌, ◌<◌, List, [], ◌∷◌, ◌++◌, length, get_or, take, drop, refl, ap, sym, subst, ◌∙◌, arith}
 use Rattle.std.proofs.lemmas.List.{append_assoc, same_from_push, take_more, take-append-drop, length_push}
 use Rattle.uca_rules.specs.declared.characters.Character.{Character}
 use Rattle.uca_rules.specs.Pieces.{Symbol, Literal, Hyphen}
-use Rattle.uca_rules.specs.Statements.{IsRange, IsNoRange, No_start, Hyphen_before, Range_before, Hyphen_behind, Wrong_ends, HasRangesSoFar, HasRanges}
+use Rattle.uca_rules.specs.Statements.{IsNoRange, No_start, Hyphen_before, Range_before, Hyphen_behind, Wrong_ends, HasRangesSoFar}
 use Rattle.uca_rules.proofs.Placing.{no_character}
 use Rattle.uca_rules.specs.Views.{EndsInHyphen, BeginsRange, ShowsWrongHyphen}
 
 -- ---- Lists by their last member
 
-pub none_of_push : {A : Type 0} (xs : List A) (x : A) → xs ++ x ∷ [] ≡ [] → ⊥
+none_of_push : {A : Type 0} (xs : List A) (x : A) → xs ++ x ∷ [] ≡ [] → ⊥
 none_of_push xs x e = omega (arith, length_push xs x, ap length e)
 
 -- a list that is not empty, by its last member
@@ -38,7 +38,7 @@ split_more xs last front here [] e = let same = same_from_push xs front last her
 split_more xs last front here (b ∷ bs) e =
     let r = has_last b bs in
     let same = same_from_push xs (front ++ here ∷ r.front) last r.last
-        (e ∙ (ap (λ zs. front ++ here ∷ zs) r.is ∙ sym (append_assoc front (here ∷ r.front) (r.last ∷ [])))) in
+    (e ∙ (ap (λ zs. front ++ here ∷ zs) r.is ∙ sym (append_assoc front (here ∷ r.front) (r.last ∷ [])))) in
     inr (record { more = r.front; ends = r.is ∙ ap (λ z. r.front ++ z ∷ []) (sym same.1); are = same.0 })
 
 -- ---- What shows that a hyphen stands for no range
@@ -81,6 +81,7 @@ behind_hyphen xs front place s last is hyphen range so_far = ranges_more xs s so
   where
     first : (p : ℕ) → s ≡ Hyphen p → ¬ (IsNoRange xs [])
     first p e wrong = hyphen_is_no_literal p range.y (sym e ∙ range.is)
+
     inside : (b : List Symbol) → b ≡ s ∷ [] → ¬ (IsNoRange front b)
     inside b e (No_start k) = so_far front [] place (is ∙ ap (λ z. front ++ z ∷ []) hyphen) (No_start k)
     inside b e (Hyphen_before before p k) = so_far front [] place (is ∙ ap (λ z. front ++ z ∷ []) hyphen) (Hyphen_before before p k)
@@ -91,6 +92,7 @@ behind_hyphen xs front place s last is hyphen range so_far = ranges_more xs s so
         let e1 : x ≡ range.x = cc (start.1) in
         let e2 : y ≡ range.y = cc (range.is, l, e) in
         wrong (rw (e1, e2) range.range)
+
     second : (f : List Symbol) (p : ℕ) → xs ≡ f ++ Hyphen p ∷ [] → ¬ (IsNoRange f (s ∷ []))
     second f p e wrong = let same = same_from_push f front (Hyphen p) last (sym e ∙ is) in inside (s ∷ []) refl (rw (← same.0) wrong)
 
@@ -112,6 +114,7 @@ no_range_there xs front place s last is hyphen none = record {
         by_last (Literal x) k =
             let are : front ≡ w.front ++ Literal x ∷ [] = w.is ∙ ap (λ z. w.front ++ z ∷ []) k in
             Wrong_ends w.front [] x y are (ap (λ z. z ∷ []) e) (λ range. none (record { front = w.front; x = x; y = y; are = are; is = e; range = range }))
+
     by_end : (t : Symbol) → s ≡ t → IsNoRange front (s ∷ [])
     by_end (Hyphen p) e = Hyphen_behind p [] (ap (λ z. z ∷ []) e)
     by_end (Literal y) e = by_front y e (last_of front)
@@ -137,8 +140,10 @@ hyphen_behind xs front x s last is letter none so_far = ranges_more xs s so_far 
         none p (record { front = before; are = same.0 })
     inside b e (Hyphen_behind p more k) = let no : ⊥ = cc in no
     inside b e (Wrong_ends before more y z k l wrong) = let no : ⊥ = cc (e, l) in no
+
     first : (p : ℕ) → s ≡ Hyphen p → ¬ (IsNoRange xs [])
     first p e wrong = inside [] refl wrong
+
     second : (f : List Symbol) (p : ℕ) → xs ≡ f ++ Hyphen p ∷ [] → ¬ (IsNoRange f (s ∷ []))
     second f p e wrong = let same = same_from_push front f last (Hyphen p) (sym is ∙ e) in hyphen_is_no_literal p x (sym same.1 ∙ letter)
 
@@ -148,6 +153,7 @@ letter_behind xs front x y s last is letter end so_far = ranges_more xs s so_far
   where
     first : (p : ℕ) → s ≡ Hyphen p → ¬ (IsNoRange xs [])
     first p e wrong = hyphen_is_no_literal p y (sym e ∙ end)
+
     second : (f : List Symbol) (p : ℕ) → xs ≡ f ++ Hyphen p ∷ [] → ¬ (IsNoRange f (s ∷ []))
     second f p e wrong = let same = same_from_push front f last (Hyphen p) (sym is ∙ e) in hyphen_is_no_literal p x (sym same.1 ∙ letter)
 

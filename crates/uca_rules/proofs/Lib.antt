@@ -19,3 +19,4 @@ pub mod Hyphens
 pub mod Breaking
 pub mod TextSteps
 pub mod StarredLemmas
+pub mod RuleTexts

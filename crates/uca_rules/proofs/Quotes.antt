@@ -29,7 +29,7 @@ pub inside_first : (old : List Symbol) (cs : List Character) → IsInside old ol
 inside_first old cs = record { front = []; written = sym (append-nil old); whole = behind_none (inside_quotes cs) }
 
 -- a character that stands for itself
-letter : (c : Character) (cs : List Character) → c.code ≢ apostrophe → inside_quotes (c ∷ cs) ≡ with_literal c (inside_quotes cs)
+pub letter : (c : Character) (cs : List Character) → c.code ≢ apostrophe → inside_quotes (c ∷ cs) ≡ with_literal c (inside_quotes cs)
 letter c [] other = rw (ne_eqb c.code apostrophe other) refl
 letter c (d ∷ cs) other = rw (ne_eqb c.code apostrophe other) refl
 

@@ -11,10 +11,10 @@ use Rattle.uca_rules.specs.declared.faults.RuleFault.{RuleFault}
 use Rattle.uca_rules.specs.declared.signs.Last.{Last}
 use Rattle.uca_rules.specs.declared.signs.Last.TheVariants as lasts
 use Rattle.uca_rules.specs.declared.reader.Reader.{Reader}
-use Rattle.uca_rules.specs.Characters.{apostrophe, backslash, place_of}
+use Rattle.uca_rules.specs.Characters.{apostrophe, backslash, behind_gaps, place_of}
 use Rattle.std.specs.Str.{byte}
 use Rattle.uca_rules.specs.Pieces.{Symbol, Literal, Hyphen, Piece, Written, ArePieces, BeginsText, BeginsWritten, behind_apostrophe, behind_backslash, inside_quotes, is_plain, number_at, numbered, piece_at, points_of, symbols_of, with_literal}
-use Rattle.uca_rules.specs.Statements.{Statement, Reset, Plain, Starred, Resets, Signs, IsAnchorDue, IsTargetDue, BeginsExpansion, BeginsStatement, IsExpansionDue, MayFollow, last_is, opening, targets_of}
+use Rattle.uca_rules.specs.Statements.{Statement, Reset, Plain, Starred, Resets, Signs, IsAnchorDue, IsTargetDue, BeginsExpansion, BeginsStatement, IsExpansionDue, sign_at, MayFollow, last_is, opening, targets_of}
 use Rattle.uca_rules.specs.Meaning.{Anchor, IsShort, Taken, relations_in, relations_of, anchor_behind}
 use Rattle.uca_rules.specs.Views.{IsMemoryAt, IsTextFault}
 use Rattle.uca_rules.specs.Relations.{IsRuleText}
@@ -294,3 +294,12 @@ written_place end [] text rest begins = absurd (no_text begins.begins.pieces beg
     no_text [] some are = some refl
     no_text (symbols ∷ pieces) some are = let e : None ≡ Some (record { symbols = symbols; rest = are.0 }) = are.1 in cc
 written_place end (c ∷ cs) text rest begins = sym (ap (λ (w : Written). w.place) begins.is)
+
+-- behind the sign that was found a target is due
+pub target_due : (cs : List Character) (strength : Strength) (starred is : Bool) (behind text : List Character) → sign_at cs ≡ Some (record { strength = strength; starred = starred; rest = behind })
+    → starred ≡ is → text ≡ behind_gaps behind → IsTargetDue cs strength is text
+target_due cs strength starred is behind text sign same gap = record {
+    behind = behind;
+    sign = sign ∙ ap (λ (b : Bool). Some (record { strength = strength; starred = b; rest = behind })) same;
+    gap = sym gap;
+  }

@@ -1,17 +1,18 @@
 -- Texts, a piece further: what is read of one, and why it is none.
-use Rattle.std.proofs.Common.{◌≡◌, ◌≢◌, ◌⊎◌, inl, inr, ℕ, suc, ◌+◌, ◌<◌, ◌≤◌, Bool, true, false, ◌==◌, ◌&&◌, IsTrue, IsFalse, List, [], ◌∷◌, ◌++◌, length, take, drop, Option, Some, None, IfSome, if◌then◌else◌, refl, ap, sym, subst, ◌∙◌, arith}
-use Rattle.std.proofs.lemmas.List.{append-nil, append_assoc, take_at, length-append, length-drop, flat_map_more}
-use Rattle.std.proofs.lemmas.Bool.{false≢true}
+use Rattle.std.proofs.Common.{◌≡◌, ◌≢◌, inl, inr, ℕ, suc, ◌<◌, ◌≤◌, Bool, true, false, ◌==◌, ◌&&◌, IsTrue, IsFalse, List, [], ◌∷◌, ◌++◌, length, take, Option, Some, None, IfSome, if◌then◌else◌, refl, ap, sym, subst, ◌∙◌, arith}
+use Rattle.std.proofs.lemmas.List.{append-nil, append_assoc, take_at, length-drop, flat_map_more}
+use Rattle.std.proofs.lemmas.Bool.{false≢true, eqb-false}
 use Rattle.std.specs.Str.{byte}
 use Rattle.uca_rules.specs.declared.characters.Character.{Character}
 use Rattle.uca_rules.specs.declared.faults.RuleFaultKind.{RuleFaultKind}
 use Rattle.uca_rules.specs.declared.faults.RuleFaultKind.TheVariants as kinds
-use Rattle.uca_rules.specs.Characters.{apostrophe, backslash, hyphen, codes_of}
-use Rattle.uca_rules.specs.Pieces.{Symbol, Literal, Hyphen, Piece, with_literal, inside_quotes, behind_apostrophe, behind_backslash, numbered, number_at, are_digits, is_plain, piece_at, begins_piece, ArePieces, symbols_of, EndsText, BeginsText}
-use Rattle.uca_rules.specs.Statements.{IsNoRange, HasRangesSoFar, HasRanges}
+use Rattle.uca_rules.specs.Characters.{apostrophe, backslash, hyphen}
+use Rattle.uca_rules.specs.Pieces.{Symbol, Literal, Hyphen, Piece, with_literal, inside_quotes, behind_apostrophe, behind_backslash, numbered, number_at, is_plain, piece_at, ArePieces, symbols_of, EndsText, BeginsText, points_of}
+use Rattle.uca_rules.specs.Statements.{HasRangesSoFar, HasRanges}
 use Rattle.uca_rules.specs.Faults.{opened, IsBroken, IsWrongHyphen, TextCause}
 use Rattle.uca_rules.specs.Views.{Takes, BeginsAt, BreaksOff, EndsInHyphen, ShowsWrongHyphen}
 use Rattle.uca_rules.proofs.Hyphens.{shown_longer}
+use Rattle.uca_rules.proofs.Quotes.{letter}
 
 -- ---- A piece takes a character at least
 
@@ -132,7 +133,7 @@ none_opened (c ∷ d ∷ cs) ends = cases (c.code == apostrophe) refl
     cases true e = let k = rw e at ends in let no : ⊥ = cc in absurd no
     cases false e = rw e refl
 
-pub ends_in_hyphen : (text rest : List Character) (symbols : List Symbol) (place : ℕ) → AreRead true text rest symbols → EndsText true rest → EndsInHyphen symbols place → IsWrongHyphen text place
+ends_in_hyphen : (text rest : List Character) (symbols : List Symbol) (place : ℕ) → AreRead true text rest symbols → EndsText true rest → EndsInHyphen symbols place → IsWrongHyphen text place
 ends_in_hyphen text rest symbols place read ends hyphen = record {
   pieces = read.pieces;
   rest = rest;
@@ -143,7 +144,7 @@ ends_in_hyphen text rest symbols place read ends hyphen = record {
   wrong = inr (ends, refl);
 }
 
-pub wrong_shown : (text rest : List Character) (symbols : List Symbol) (place : ℕ) → AreRead true text rest symbols → ShowsWrongHyphen symbols place → IsWrongHyphen text place
+wrong_shown : (text rest : List Character) (symbols : List Symbol) (place : ℕ) → AreRead true text rest symbols → ShowsWrongHyphen symbols place → IsWrongHyphen text place
 wrong_shown text rest symbols place read shows = record {
   pieces = read.pieces;
   rest = rest;
@@ -190,9 +191,67 @@ pub hyphen_cause : (end : ℕ) (starred : Bool) (text rest : List Character) (sy
 hyphen_cause end false text rest symbols place kind star is read shows = absurd (false≢true star)
 hyphen_cause end true text rest symbols place kind star is read shows = rw is (inr (inr (wrong_shown text rest symbols place read shows)))
 
+pub end_cause : (end : ℕ) (starred : Bool) (text rest : List Character) (symbols : List Symbol) (place : ℕ) → IsTrue starred → AreRead starred text rest symbols → EndsText starred rest →
+    EndsInHyphen symbols place → TextCause end starred text place kinds.Syntax
+end_cause end false text rest symbols place star read ends hyphen = absurd (false≢true star)
+end_cause end true text rest symbols place star read ends hyphen = inr (inr (ends_in_hyphen text rest symbols place read ends hyphen))
+
 -- the symbols of the pieces before one that is none, or that is just read
 pub front_of_none : (old new now : List Symbol) (piece : Option Piece) (count : ℕ) → Takes old new None piece → count ≡ length old → now ≡ new → take count now ≡ old
 front_of_none old new now piece count takes is same = rw (is, same) takes.1
 
 pub front_of_some : (old new now : List Symbol) (behind : List Character) (piece : Option Piece) (count : ℕ) → Takes old new (Some behind) piece → count ≡ length old → now ≡ new → take count now ≡ old
 front_of_some old new now behind piece count takes is same = rw (is, same, takes.2) (take_at old takes.0 (length old) refl)
+
+-- ---- A text that is not starred has a character
+
+abbrev BeginsLiteral : Option Piece → Type 0
+BeginsLiteral piece = IfSome piece (λ p. (c : Character) × (more : List Symbol) × (p.symbols ≡ Literal c ∷ more))
+
+literal_if : (b : Bool) (x y : Option Piece) → BeginsLiteral x → BeginsLiteral y → BeginsLiteral (if b then x else y)
+literal_if true x y h k = h
+literal_if false x y h k = k
+
+literal_with : (c : Character) (piece : Option Piece) → BeginsLiteral (with_literal c piece)
+literal_with c None = tt
+literal_with c (Some piece) = (c, piece.symbols, refl)
+
+apostrophe_literal : (c : Character) (cs : List Character) → BeginsLiteral (behind_apostrophe c cs)
+apostrophe_literal c [] = tt
+apostrophe_literal c (d ∷ cs) = cases (d.code == apostrophe) refl
+  where
+    cases : (b : Bool) → (d.code == apostrophe) ≡ b → BeginsLiteral (behind_apostrophe c (d ∷ cs))
+    cases true e = rw e (c, [], refl)
+    cases false e = rw (e, letter d cs (eqb-false d.code apostrophe e)) (literal_with d (inside_quotes cs))
+
+numbered_literal : (c : Character) (n : ℕ) (cs : List Character) → BeginsLiteral (numbered c n cs)
+numbered_literal c n cs = cases (number_at n cs) refl
+  where
+    cases : (code : Option ℕ) → number_at n cs ≡ code → BeginsLiteral (numbered c n cs)
+    cases None e = rw e tt
+    cases (Some code) e = rw e (record { code = code; place = c.place }, [], refl)
+
+backslash_literal : (c : Character) (cs : List Character) → BeginsLiteral (behind_backslash c cs)
+backslash_literal c [] = tt
+backslash_literal c (d ∷ cs) =
+    let one : BeginsLiteral (Some (record { symbols = Literal (record { code = d.code; place = c.place }) ∷ []; rest = cs })) = (record { code = d.code; place = c.place }, [], refl) in
+    literal_if (d.code == byte "u") (numbered c 4 cs) _ (numbered_literal c 4 cs) (literal_if (d.code == byte "U") (numbered c 8 cs) _ (numbered_literal c 8 cs) one)
+
+piece_literal : (cs : List Character) → BeginsLiteral (piece_at false cs)
+piece_literal [] = tt
+piece_literal (c ∷ cs) =
+    let one : BeginsLiteral (Some (record { symbols = Literal c ∷ []; rest = cs })) = (c, [], refl) in
+    literal_if (c.code == apostrophe) (behind_apostrophe c cs) _ (apostrophe_literal c cs)
+    (literal_if (c.code == backslash) (behind_backslash c cs) _ (backslash_literal c cs) (literal_if (is_plain c.code) _ None one tt))
+
+pub some_points : (starred : Bool) (cs : List Character) (symbols : List Symbol) (rest : List Character) → IsFalse starred → BeginsText starred cs symbols rest → points_of symbols ≢ []
+some_points true cs symbols rest plain text = absurd (false≢true (sym plain))
+some_points false cs symbols rest plain text = cases text.pieces text.are text.give text.some
+  where
+    cases : (pieces : List (List Symbol)) → ArePieces false cs pieces rest → symbols ≡ symbols_of pieces → pieces ≢ [] → points_of symbols ≢ []
+    cases [] are give some none = some refl
+    cases (s ∷ pieces) are give some none =
+        let first = subst BeginsLiteral are.1 (piece_literal cs) in
+        let whole : symbols ≡ Literal first.0 ∷ (first.1 ++ symbols_of pieces) = give ∙ ap (λ zs. zs ++ symbols_of pieces) first.2 in
+        let no : ⊥ = cc (sym (ap points_of whole) ∙ none) in
+        no

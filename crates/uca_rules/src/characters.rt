@@ -32,7 +32,10 @@ pub(crate) fn characters(alloc: Global, text: &str) -> Result<Vec<Character>, Ru
     let mut characters = Vec::new(alloc);
     for (place, code) in text.char_indices() {
         if characters.push(Character { code, place }).is_err() {
-            return Err(RuleFault { byte: place, kind: RuleFaultKind::Memory });
+            return Err(RuleFault {
+                byte: place,
+                kind: RuleFaultKind::Memory,
+            });
         }
     }
     Ok(characters)

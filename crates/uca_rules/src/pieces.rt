@@ -119,7 +119,10 @@ fn behind_backslash<'a>(
         };
         code
     };
-    symbols.push(Symbol::Literal(Character { code, place: first.place }))?;
+    symbols.push(Symbol::Literal(Character {
+        code,
+        place: first.place,
+    }))?;
     Ok(Some(&behind[count..]))
 }
 

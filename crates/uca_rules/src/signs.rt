@@ -70,8 +70,16 @@ fn perhaps_starred<'a>(strength: Strength, characters: &'a [Character]) -> Sign<
     ensures { sign_view result ≡ Statements.perhaps_starred strength characters.now }
 {
     match characters.first() {
-        Some(c) if c.code == '*' => Sign { strength, starred: true, rest: &characters[1..] },
-        _ => Sign { strength, starred: false, rest: characters },
+        Some(c) if c.code == '*' => Sign {
+            strength,
+            starred: true,
+            rest: &characters[1..],
+        },
+        _ => Sign {
+            strength,
+            starred: false,
+            rest: characters,
+        },
     }
 }
 

@@ -43,6 +43,7 @@ pub(crate) fn read_text<'a>(
     end: usize,
 ) -> Result<&'a [Character], RuleFault>
     ensures found { IfOk result (λ rest. BeginsText starred text.now symbols.new.items rest.now) }
+    ensures points { OnOk result (IsFalse starred → points_of symbols.new.items ≢ []) }
     ensures ranges { OnOk result (IsTrue starred → HasRanges symbols.new.items) }
     ensures fault { IfErr result (IsTextFault end starred text.now) }
 {
@@ -53,7 +54,10 @@ pub(crate) fn read_text<'a>(
     while !ends_text(rest, starred) {
         let count = symbols.len();
         match take_piece(symbols, rest, starred) {
-            Err(_) => return Err(RuleFault { byte: place, kind: RuleFaultKind::Memory }),
+            Err(_) => return Err(RuleFault {
+                byte: place,
+                kind: RuleFaultKind::Memory,
+            }),
             Ok(None) => return Err(broken(&symbols[..count], rest, starred)),
             Ok(Some(behind)) => rest = behind,
         }
@@ -62,7 +66,10 @@ pub(crate) fn read_text<'a>(
         }
     }
     match last_hyphen(symbols) {
-        Some(byte) if starred => Err(RuleFault { byte, kind: RuleFaultKind::Syntax }),
+        Some(byte) if starred => Err(RuleFault {
+            byte,
+            kind: RuleFaultKind::Syntax,
+        }),
         _ => Ok(rest),
     }
 }
@@ -76,13 +83,22 @@ fn broken(symbols: &[Symbol], rest: &[Character], starred: bool) -> RuleFault
 {
     let first = rest[0];
     if first.code == '\\' {
-        return RuleFault { byte: first.place, kind: RuleFaultKind::Escape };
+        return RuleFault {
+            byte: first.place,
+            kind: RuleFaultKind::Escape,
+        };
     }
     let byte = match rest.get(1) {
-        Some(c) if starred && c.code != '\'' => wrong_hyphen(symbols, Symbol::Literal(*c)).unwrap_or(first.place),
+        Some(c) if starred && c.code != '\'' => {
+            let hyphen = wrong_hyphen(symbols, Symbol::Literal(*c));
+            hyphen.unwrap_or(first.place)
+        }
         _ => first.place,
     };
-    RuleFault { byte, kind: RuleFaultKind::Syntax }
+    RuleFault {
+        byte,
+        kind: RuleFaultKind::Syntax,
+    }
 }
 
 /// Tests what stands around each `-`, as far as the symbols from `count` on show it.
@@ -94,7 +110,10 @@ fn test_hyphens(symbols: &[Symbol], count: usize) -> Result<(), RuleFault>
 {
     for at in count..symbols.len() {
         if let Some(byte) = wrong_hyphen(&symbols[..at], symbols[at]) {
-            return Err(RuleFault { byte, kind: RuleFaultKind::Syntax });
+            return Err(RuleFault {
+                byte,
+                kind: RuleFaultKind::Syntax,
+            });
         }
     }
     Ok(())
@@ -112,7 +131,8 @@ fn wrong_hyphen(before: &[Symbol], symbol: Symbol) -> Option<usize>
         };
     };
     match (*last, symbol) {
-        (Symbol::Hyphen(place), _) => if begins_range(front, symbol) { None } else { Some(place) },
+        (Symbol::Hyphen(_), _) if begins_range(front, symbol) => None,
+        (Symbol::Hyphen(place), _) => Some(place),
         (Symbol::Literal(_), Symbol::Hyphen(place)) => match last_hyphen(front) {
             Some(_) => Some(place),
             None => None,
@@ -160,8 +180,14 @@ fn begins_text(text: &[Character], starred: bool, end: usize) -> Result<(), Rule
     let byte = place_of(end, text);
     match text.first() {
         Some(c) if begins_piece(starred, c.code) => Ok(()),
-        Some(c) if !matches!(c.code, '&' | '<' | '=' | '/') => Err(RuleFault { byte, kind: RuleFaultKind::Syntax }),
-        _ => Err(RuleFault { byte, kind: RuleFaultKind::EmptyText }),
+        Some(c) if !matches!(c.code, '&' | '<' | '=' | '/') => Err(RuleFault {
+            byte,
+            kind: RuleFaultKind::Syntax,
+        }),
+        _ => Err(RuleFault {
+            byte,
+            kind: RuleFaultKind::EmptyText,
+        }),
     }
 }
 
@@ -193,8 +219,13 @@ pub(crate) fn rule_text<A: Allocator>(
         }
     }
     match normal(alloc, letters, properties) {
-        Ok(text) if text.chars().len() <= LONGEST_TEXT => Ok(Some(text)),
+        Ok(text) => Ok(if text.chars().len() <= LONGEST_TEXT {
+            Some(text)
+        } else {
+            None
+        }),
         Err(TextFault::Memory) => Err(AllocError),
-        _ => Ok(None),
+        Err(TextFault::TooLong) => Ok(None),
+        Err(TextFault::LongRun(_)) => Ok(None),
     }
 }

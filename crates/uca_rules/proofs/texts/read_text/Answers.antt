@@ -1,12 +1,9 @@
 -- A piece further, and why none follows.
-use Rattle.std.proofs.Common.{◌≡◌, Option, Some, None, List, inl, inr, sym, subst, ap, ◌∙◌, take, length, rules, arith}
+use Rattle.std.proofs.Common.{refl, ◌≡◌, inr, sym, subst, ◌∙◌, length, rules}
 use Rattle.std.proofs.lemmas.Result.{err_from_is_err_and}
 use Rattle.std.proofs.lemmas.Bool.{false≢true}
-use Rattle.std.proofs.lemmas.List.{length-take}
 use Rattle.uca_rules.specs.Statements.{HasRangesSoFar}
-use Rattle.uca_rules.specs.Pieces.{piece_at}
-use Rattle.uca_rules.specs.Views.{Takes, slice_view}
-use Rattle.uca_rules.proofs.TextSteps.{AreRead, read_more, takes_shorter, front_of_none, front_of_some, breaks_off, wrong_shown, hyphen_cause, ranges_end}
+use Rattle.uca_rules.proofs.TextSteps.{read_more, takes_shorter, front_of_none, front_of_some, breaks_off, hyphen_cause, end_cause, read_none, no_ranges, begins_so, ranges_end, some_points}
 use Rattle.uca_rules.proofs.texts.read_text.Goals as goal
 use Rattle.uca_rules.proofs.texts.read_text.Goals.{in_default-via-in-Some+else-starred-2, in_default-via-in_default}
 
@@ -67,3 +64,23 @@ returns-in_default-clause-ranges c = λ star.
       | in_default-via-in_default w ↦
           ranges_end c.loop-symbols.symbols.items (c.loop-symbols.invariant.so_far star) (λ place ends. w.in_default.ensures place (rw c.deref-2.ensures.value ends))
     ]
+
+pub returns-in_default-clause-found : goal.returns-in_default-clause-found
+returns-in_default-clause-found c =
+    begins_so c.args.starred c.args.text.now c.loop-symbols.rest.now c.loop-symbols.symbols.items c.loop-symbols.invariant.read (c.in_ok-begins_text.ensures.found) (c.loop-symbols-test.ensures.is refl)
+
+pub returns-in_default-clause-points : goal.returns-in_default-clause-points
+returns-in_default-clause-points c = λ plain.
+    some_points c.args.starred c.args.text.now c.loop-symbols.symbols.items c.loop-symbols.rest.now plain
+    (begins_so c.args.starred c.args.text.now c.loop-symbols.rest.now c.loop-symbols.symbols.items c.loop-symbols.invariant.read (c.in_ok-begins_text.ensures.found) (c.loop-symbols-test.ensures.is refl))
+
+pub loop-symbols-init : goal.loop-symbols-init
+loop-symbols-init c = record {
+  read = read_none c.args.starred c.args.text.now c.clear.new.self.items c.clear.ensures.items;
+  so_far = λ star. no_ranges c.clear.new.self.items c.clear.ensures.items;
+}
+
+pub returns-in-Some-clause-fault : goal.returns-in-Some-clause-fault
+returns-in-Some-clause-fault c =
+    inr (end_cause c.args.end c.args.starred c.args.text.now c.loop-symbols.rest.now c.loop-symbols.symbols.items c.in-Some.byte c.if-starred-2.true c.loop-symbols.invariant.read
+    (c.loop-symbols-test.ensures.is refl) (rw c.deref-2.ensures.value at c.in-Some.ensures))

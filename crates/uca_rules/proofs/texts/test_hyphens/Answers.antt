@@ -1,5 +1,5 @@
 -- One more symbol, and all of them.
-use Rattle.std.proofs.Common.{refl, subst, arith, ◌≡◌, take, List}
+use Rattle.std.proofs.Common.{refl, subst, arith}
 use Rattle.std.proofs.lemmas.List.{take_all}
 use Rattle.uca_rules.specs.Statements.{HasRangesSoFar}
 use Rattle.uca_rules.proofs.Hyphens.{no_symbol, shows_in, so_far_more}

@@ -4,13 +4,15 @@ use Rattle.std.proofs.lemmas.Bool.{false≢true}
 use Rattle.uca_rules.proofs.Hyphens.{behind_hyphen, no_range_there, behind_range, hyphen_behind, letter_behind}
 use Rattle.uca_rules.proofs.texts.wrong_hyphen.Goals as goal
 
-pub returns-then-begins_range : goal.returns-then-begins_range
-returns-then-begins_range c =
-    behind_hyphen c.args.before.now c.in-Some.front.now c.in-Hyphen-default.place c.args.symbol _ c.in-Some.ensures.cases.0 c.in-Hyphen-default.is-0 (c.if-begins_range.ensures.0 refl) c.requires
+pub returns-in-Hyphen-default : goal.returns-in-Hyphen-default
+returns-in-Hyphen-default c =
+    behind_hyphen c.args.before.now c.in-Some.front.now c.in-Hyphen-default.field-0-0 c.args.symbol _ c.in-Some.ensures.cases.0 c.in-Hyphen-default.is-0
+    (c.if-begins_range.ensures.0 refl) c.requires
 
-pub returns-else-begins_range : goal.returns-else-begins_range
-returns-else-begins_range c =
-    no_range_there c.args.before.now c.in-Some.front.now c.in-Hyphen-default.place c.args.symbol _ c.in-Some.ensures.cases.0 c.in-Hyphen-default.is-0 (λ range. false≢true (c.if-begins_range.ensures.1 range))
+pub returns-in-Hyphen-default-2 : goal.returns-in-Hyphen-default-2
+returns-in-Hyphen-default-2 c =
+    no_range_there c.args.before.now c.in-Some.front.now c.in-Hyphen-default.field-0-0 c.args.symbol _ c.in-Some.ensures.cases.0 c.in-Hyphen-default.is-0
+    (λ range. false≢true (c.if-begins_range.ensures.1 range))
 
 pub returns-in-Some-last_hyphen : goal.returns-in-Some-last_hyphen
 returns-in-Some-last_hyphen c =

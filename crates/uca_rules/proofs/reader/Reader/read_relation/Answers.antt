@@ -1,31 +1,43 @@
-use Rattle.std.proofs.Common.{rules, ◌≡◌, ◌≢◌, ◌⊎◌, ◌<◌, ◌≤◌, ◌++◌, ◌∷◌, [], ℕ, List, None, Some, IsFalse, IsTrue, length, IfOk, IfErr, IfSome, OnOk, MatchResult, ◌+◌, ◌-◌, ◌*◌, ◌/◌, ◌%◌, Bool, true, false, nat_eq, nat_lt, slice_index_or, slice_set, bit_and, bit_or, Fits, w8, w32, w64, Bor, MutBor}
-use Rattle.uca_values.specs.Content.{properties_of}
-use Rattle.uca_weights.specs.declared.Strength.{Strength}
-use Rattle.uca_rules.specs.declared.relations.Relation.{Relation}
-use Rattle.uca_rules.specs.declared.signs.Last.{Last}
-use Rattle.uca_rules.specs.declared.faults.RuleFaultKind.{RuleFaultKind}
-use Rattle.uca_rules.specs.Characters
-use Rattle.uca_rules.specs.Statements
-use Rattle.uca_rules.specs.Relations.{IsRuleText}
-use Rattle.uca_rules.specs.Meaning.{Means}
-use Rattle.uca_rules.specs.Faults.{IsCause, IsWrongBracket, RelationCause, StatementCause}
-use Rattle.uca_rules.specs.Statements.{IsAnchorDue, MayFollow, Resets, Signs}
-use Rattle.uca_rules.specs.Views.{IsMemoryAt, sign_view}
-use Rattle.uca_rules.specs.Reading.{AddsOne, AddsPlain, GoesOn, IsNextFault, IsPlainFault, IsReadingFault, IsReady, ReadsAll, first_code, properties_in, relation_of, start, state_of}
+use Rattle.std.proofs.Common.{◌≡◌, ◌≢◌, ◌<◌, ◌≤◌, ℕ, List, Bool, true, false, Some, Option, length, ap, sym, subst, refl, ◌∙◌, arith}
+use Rattle.std.proofs.lemmas.Result.{err_from_is_err_and}
+use Rattle.uca_rules.specs.declared.characters.Character.{Character}
+use Rattle.uca_rules.specs.Characters.{behind_gaps}
+use Rattle.uca_rules.specs.Statements.{IsTargetDue, SignAt, sign_at}
+use Rattle.uca_rules.specs.Reading
+use Rattle.uca_rules.specs.Faults.{StatementCause}
+use Rattle.uca_rules.specs.Reading.{properties_in, state_of}
+use Rattle.uca_rules.proofs.StatementSteps.{plain_next_fault, starred_next_fault, plain_goes_on, starred_goes_on, target_due}
 use Rattle.uca_rules.proofs.reader.Reader.read_relation.Goals as goal
+use Rattle.uca_rules.proofs.reader.Reader.read_relation.Goals.{then-sign+in_ok-rest, else-sign+in_ok-rest-2}
 
--- src/reader.rt:165:20
 pub returns-in_err-sign-clause-fault : goal.returns-in_err-sign-clause-fault
-returns-in_err-sign-clause-fault g c = ?
+returns-in_err-sign-clause-fault g c =
+    let p = err_from_is_err_and c.from_residual.result c.from_residual.ensures.1 in
+    let old = c.args.self.now in
+    rw (p.1, p.2) (Reading.IsNextFault.At_statement
+      (subst (λ (n : ℕ). StatementCause old.texts.end old.last n c.args.characters.now c.in_err-sign.field-0.0.byte c.in_err-sign.field-0.0.kind) c.count.ensures
+        (c.in_err-sign.ensures.fault old.texts.end)))
 
--- src/reader.rt:168:13
 pub returns-in_err-rest-clause-fault : goal.returns-in_err-rest-clause-fault
-returns-in_err-rest-clause-fault g c = ?
+returns-in_err-rest-clause-fault g c =
+    let p = err_from_is_err_and c.from_residual-in_err-rest.result c.from_residual-in_err-rest.ensures.1 in
+    let old = c.args.self.now in
+    let sign = c.in_ok-sign.sign in
+    let found = c.in_ok-sign.ensures.found in
+    let most : length old.rules.relations.items ≤ 5000 = c.requires.ready.growing.rules.few in
+    let other : length old.rules.relations.items ≡ 5000 → ⊥ = λ e. found.2 (c.count.ensures ∙ e) in
+    let few : length old.rules.relations.items < 5000 = omega arith in
+    rw (p.1, p.2) (starred_next_fault (properties_in old.texts) old.texts.end (state_of old) c.args.characters.now c.behind_gaps-text.result.now sign.strength c.in_err-rest.field-0.0
+      (target_due c.args.characters.now sign.strength sign.starred true sign.rest.now c.behind_gaps-text.result.now found.0 c.if-sign.true c.behind_gaps-text.ensures) found.1 few c.in_err-rest.ensures.fault)
 
--- src/reader.rt:170:13
 pub returns-in_err-rest-2-clause-fault : goal.returns-in_err-rest-2-clause-fault
-returns-in_err-rest-2-clause-fault g c = ?
+returns-in_err-rest-2-clause-fault g c =
+    let p = err_from_is_err_and c.from_residual-in_err-rest-2.result c.from_residual-in_err-rest-2.ensures.1 in
+    let old = c.args.self.now in
+    let sign = c.in_ok-sign.sign in
+    let found = c.in_ok-sign.ensures.found in
+    rw (p.1, p.2) (plain_next_fault (properties_in old.texts) old.texts.end (state_of old) c.args.characters.now c.behind_gaps-text.result.now sign.strength c.in_err-rest-2.field-0.0
+      (target_due c.args.characters.now sign.strength sign.starred false sign.rest.now c.behind_gaps-text.result.now found.0 c.if-sign.false c.behind_gaps-text.ensures) found.1 c.in_err-rest-2.ensures.fault)
 
--- src/reader.rt:158:5
 pub returns-clause-found : goal.returns-clause-found
 returns-clause-found g c = ?

@@ -1,21 +1,27 @@
-use Rattle.std.proofs.Common.{rules, ◌≡◌, ◌≢◌, ◌⊎◌, ◌<◌, ◌≤◌, ◌++◌, ◌∷◌, [], List, None, length, IfOk, IfErr, IfSome, OnOk, MatchResult, ℕ, ◌+◌, ◌-◌, ◌*◌, ◌/◌, ◌%◌, Bool, true, false, nat_eq, nat_lt, slice_index_or, slice_set, bit_and, bit_or, Fits, w8, w32, w64, Bor, MutBor}
-use Rattle.uca_values.specs.Content.{properties_of}
-use Rattle.uca_rules.specs.declared.relations.Relation.{Relation}
-use Rattle.uca_rules.specs.declared.signs.Last.{Last}
-use Rattle.uca_rules.specs.declared.faults.RuleFaultKind.{RuleFaultKind}
-use Rattle.uca_rules.specs.Characters
-use Rattle.uca_rules.specs.Relations.{IsRuleText}
-use Rattle.uca_rules.specs.Meaning.{Means}
-use Rattle.uca_rules.specs.Faults.{IsCause, IsWrongBracket, RelationCause}
-use Rattle.uca_rules.specs.Statements.{IsAnchorDue, MayFollow, Resets}
-use Rattle.uca_rules.specs.Views.{IsMemoryAt}
-use Rattle.uca_rules.specs.Reading.{AddsOne, AddsPlain, GoesOn, IsNextFault, IsPlainFault, IsReadingFault, IsReady, ReadsAll, first_code, properties_in, relation_of, start, state_of}
+use Rattle.std.proofs.Common.{◌≡◌, ◌⊎◌, ℕ, List, Bool, false, ap, sym, subst, refl, ◌∙◌}
+use Rattle.std.proofs.lemmas.Result.{err_from_is_err_and}
+use Rattle.uca_values.specs.Content.{Properties}
+use Rattle.uca_rules.specs.declared.characters.Character.{Character}
+use Rattle.uca_rules.specs.Faults.{RelationCause}
+use Rattle.uca_rules.specs.Views.{IsMemoryAt, IsTextFault}
+use Rattle.uca_rules.specs.Reading.{AreTextsOf, properties_in, relation_of, state_of}
+use Rattle.uca_rules.proofs.Progress.{kept_properties}
+use Rattle.uca_rules.proofs.StatementSteps.{expansion_fault, relation_fault, written_place}
 use Rattle.uca_rules.proofs.reader.Reader.read_target.Goals as goal
 
--- src/reader.rt:192:33
 pub returns-in_err-expansion-clause-fault : goal.returns-in_err-expansion-clause-fault
-returns-in_err-expansion-clause-fault g c = ?
+returns-in_err-expansion-clause-fault g c =
+    let p = err_from_is_err_and c.from_residual-in_err-expansion.result c.from_residual-in_err-expansion.ensures.1 in
+    let old = c.args.self.now in
+    let target = c.in_ok-target.ensures.found in
+    let fault = c.in_err-expansion.ensures.fault in
+    rw (p.1, p.2) (expansion_fault (properties_in old.texts) old.texts.end (state_of old) c.args.strength c.args.text.now c.in_ok-target.behind.now fault.0 target.0 c.in_err-expansion.field-0.0
+      target.1 fault.1 (subst (λ (n : ℕ). IsTextFault n false fault.0 c.in_err-expansion.field-0.0) c.in_ok-target.ensures.kept.end fault.2))
 
--- src/reader.rt:195:9
 pub returns-in_err-add-clause-fault : goal.returns-in_err-add-clause-fault
-returns-in_err-add-clause-fault g c = ?
+returns-in_err-add-clause-fault g c =
+    let p = err_from_is_err_and c.from_residual-in_err-add.result c.from_residual-in_err-add.ensures.1 in
+    let old = c.args.self.now in
+    let target = c.in_ok-target.ensures.found in
+    let expansion = c.in_ok-expansion.ensures.found in
+    rw (p.1, p.2) ?
