@@ -23,16 +23,16 @@ returns-after-chars-le-LONGEST_TEXT g c =
     let long = ap length c.chars.ensures.value in
     elim c.if-chars-le-LONGEST_TEXT.branch [
       | then-chars-le-LONGEST_TEXT w ↦
-          rw w.result-is (found, short_text (properties_of c.args.data.now) (points_of c.args.symbols.now) c.in-Ok.text found c.in-Ok.ensures.accepted c.chars.ensures.scalars c.requires (omega (arith, long, w.if-chars-le-LONGEST_TEXT.true)))
+          rw w.result-is (found, short_text (properties_of c.args.properties.now) (points_of c.args.symbols.now) c.in-Ok.text found c.in-Ok.ensures.accepted c.chars.ensures.scalars c.requires (omega (arith, long, w.if-chars-le-LONGEST_TEXT.true)))
       | else-chars-le-LONGEST_TEXT w ↦ rw w.result-is (omega (arith, long, ap (λ s. length s.points) found, w.if-chars-le-LONGEST_TEXT.false))
     ]
 
 pub returns-in-Err-LongRun : goal.returns-in-Err-LongRun
 returns-in-Err-LongRun g c =
     let points = points_all c.args.symbols.now c.loop-symbol.symbol-index c.deref.result.now c.loop-symbol-test.false (c.deref.ensures ∙ c.loop-symbol.invariant) c.deref.utf8 in
-    long_run (properties_of c.args.data.now) (points_of c.args.symbols.now) c.in-Err-LongRun.field-0-0 (rw (points, c.in-Err-LongRun.field-0-is) at c.in-Err-LongRun.ensures.fault)
+    long_run (properties_of c.args.properties.now) (points_of c.args.symbols.now) c.in-Err-LongRun.field-0-0 (rw (points, c.in-Err-LongRun.field-0-is) at c.in-Err-LongRun.ensures.fault)
 
 pub returns-in-Err-TooLong : goal.returns-in-Err-TooLong
 returns-in-Err-TooLong g c =
     let points = points_all c.args.symbols.now c.loop-symbol.symbol-index c.deref.result.now c.loop-symbol-test.false (c.deref.ensures ∙ c.loop-symbol.invariant) c.deref.utf8 in
-    too_long (properties_of c.args.data.now) (points_of c.args.symbols.now) (rw (points, c.in-Err-TooLong.field-0-is) at c.in-Err-TooLong.ensures.fault)
+    too_long (properties_of c.args.properties.now) (points_of c.args.symbols.now) (rw (points, c.in-Err-TooLong.field-0-is) at c.in-Err-TooLong.ensures.fault)
