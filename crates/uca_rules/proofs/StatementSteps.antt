@@ -1,6 +1,6 @@
 -- What reading a statement gives, from what reading its parts gives.
-use Rattle.std.proofs.Common.{◌≡◌, ◌≢◌, ◌⊎◌, ℕ, ◌<◌, Bool, true, false, List, [], ◌∷◌, ◌++◌, length, drop, Option, Some, None, option_map, IfSome, if◌then◌else◌, ◌==◌, refl, sym, ap, subst, ◌∙◌, inl, inr}
-use Rattle.std.specs.Prelude.{is_some}
+use Rattle.std.proofs.Common.{◌≡◌, ◌≢◌, ◌⊎◌, ℕ, ◌<◌, Bool, true, false, List, [], ◌∷◌, ◌++◌, length, drop, arith, Option, Some, None, option_map, IfSome, if◌then◌else◌, ◌==◌, refl, sym, ap, subst, ◌∙◌, inl, inr}
+use Rattle.std.specs.Prelude.{is_some, slice_get}
 use Rattle.std.proofs.lemmas.List.{append-nil}
 use Rattle.uca_weights.specs.declared.Strength.{Strength}
 use Rattle.uca_values.specs.Content.{Properties}
@@ -11,16 +11,18 @@ use Rattle.uca_rules.specs.declared.faults.RuleFault.{RuleFault}
 use Rattle.uca_rules.specs.declared.signs.Last.{Last}
 use Rattle.uca_rules.specs.declared.signs.Last.TheVariants as lasts
 use Rattle.uca_rules.specs.declared.reader.Reader.{Reader}
-use Rattle.uca_rules.specs.Characters.{apostrophe, backslash, behind_gaps, place_of}
+use Rattle.uca_rules.specs.declared.text_reader.TextReader.{TextReader}
+use Rattle.uca_rules.specs.Growing.{AreGrowing}
+use Rattle.uca_rules.specs.Characters.{ampersand, apostrophe, backslash, behind_gaps, bracket, place_of}
 use Rattle.std.specs.Str.{byte}
 use Rattle.uca_rules.specs.Pieces.{Symbol, Literal, Hyphen, Piece, Written, ArePieces, BeginsText, BeginsWritten, behind_apostrophe, behind_backslash, inside_quotes, is_plain, number_at, numbered, piece_at, points_of, symbols_of, with_literal}
-use Rattle.uca_rules.specs.Statements.{Statement, Reset, Plain, Starred, Resets, Signs, IsAnchorDue, IsTargetDue, BeginsExpansion, BeginsStatement, IsExpansionDue, sign_at, MayFollow, last_is, opening, targets_of}
+use Rattle.uca_rules.specs.Statements.{Statement, Reset, Plain, Starred, Resets, Signs, IsAnchorDue, IsTargetDue, BeginsExpansion, BeginsStatement, IsExpansionDue, bracket_at, sign_at, MayFollow, last_is, opening, targets_of}
 use Rattle.uca_rules.specs.Meaning.{Anchor, IsShort, Taken, relations_in, relations_of, anchor_behind}
 use Rattle.uca_rules.specs.Views.{IsMemoryAt, IsTextFault}
 use Rattle.uca_rules.specs.Relations.{IsRuleText}
-use Rattle.uca_rules.specs.Faults.{RelationCause}
+use Rattle.uca_rules.specs.Faults.{IsWrongBracket, RelationCause}
 use Rattle.uca_rules.specs.Reading
-use Rattle.uca_rules.specs.Reading.{State, IsTextOf, BeginsNext, IsMemoryIn, IsPlainFault, IsStarredFault, IsNextFault, AreTextsOf, Keeps, Adds, AddsOne, AddsPlain, AddsStarred, GoesOn, relation_of, properties_in, anchor_of, state_of}
+use Rattle.uca_rules.specs.Reading.{State, IsTextOf, BeginsNext, IsMemoryIn, IsPlainFault, IsStarredFault, IsNextFault, AreTextsOf, Keeps, Adds, AddsOne, AddsPlain, AddsStarred, GoesOn, first_code, relation_of, properties_in, anchor_of, state_of}
 use Rattle.uca_rules.proofs.Suffixes.{anchor_due_behind, target_due_behind, expansion_due_behind, written_behind, expands_end, behind_ends, ends_trans}
 use Rattle.uca_rules.proofs.Progress.{memory_behind, keeps_both}
 
@@ -303,3 +305,36 @@ target_due cs strength starred is behind text sign same gap = record {
     sign = sign ∙ ap (λ (b : Bool). Some (record { strength = strength; starred = b; rest = behind })) same;
     gap = sym gap;
   }
+
+-- a reset has been read
+pub reset_goes_on : {A : Type 0} (old : Reader A) (texts : TextReader A) (cs text rest : List Character) (asked : Option Strength) (before : Bool) (written : Written) (anchor : Spelled)
+    → before ≡ is_some asked → AreGrowing old.rules → Keeps old.texts texts → IsAnchorDue cs asked text → MayFollow old.last Resets → BeginsWritten text written rest → IsTextOf (properties_in old.texts) written.points anchor
+    → GoesOn old (record { texts = texts; rules = old.rules; anchor = anchor; before = before; last = lasts.Reset asked }) cs rest
+reset_goes_on {A} old texts cs text rest asked before written anchor is growing kept due follows begins found = record {
+    kept = kept;
+    ready = record { growing = growing; anchored = (λ some. found.rule) };
+    next = subst
+      (λ (b : Bool). BeginsNext (properties_in old.texts) (state_of old) (record { relations = old.rules.relations.items; anchor = record { text = anchor; before = b }; last = lasts.Reset asked }) cs rest)
+      (sym is) (reset_next (properties_in old.texts) (state_of old) cs text rest asked written anchor due follows begins found);
+  }
+
+-- behind `&` a bracket stands that is none of the three
+pub wrong_bracket : (cs behind : List Character) (c : Character) → first_code cs ≡ ampersand → behind ≡ behind_gaps (drop 1 cs) → Some c ≡ slice_get behind 0 → c.code ≡ bracket → bracket_at behind ≡ None
+    → IsWrongBracket cs c.place
+wrong_bracket [] behind c is gap at square none = absurd (let e : 0 ≡ ampersand = is in omega (arith, e))
+wrong_bracket (first ∷ cs) [] c is gap at square none = absurd (let e : ◌≡◌ {A = Option Character} (Some c) None = at in cc)
+wrong_bracket (first ∷ cs) (b ∷ more) c is gap at square none =
+    let e : ◌≡◌ {A = Option Character} (Some c) (Some b) = at in
+    let same : c ≡ b = cc in
+    record {
+      first = first;
+      behind = cs;
+      are = refl;
+      is = is;
+      opens = b;
+      more = more;
+      gap = sym gap;
+      square = ap (λ (x : Character). x.code) (sym same) ∙ square;
+      none = none;
+      at = ap (λ (x : Character). x.place) same;
+    }

@@ -1,16 +1,9 @@
-use Rattle.std.proofs.Common.{◌≡◌, List, []}
+use Rattle.std.proofs.Common.{sym, ap, ◌∙◌, refl}
+use Rattle.std.proofs.lemmas.List.{take_rest}
+use Rattle.uca_rules.specs.Characters.{behind_gaps}
+use Rattle.uca_rules.proofs.StatementSteps.{wrong_bracket}
 use Rattle.uca_rules.proofs.reader.behind_ampersand.Goals as goal
 
 pub returns-in-None-clause-fault : goal.returns-in-None-clause-fault
-returns-in-None-clause-fault c = (refl, record {
-    first = ?;
-    behind = ?;
-    are = ?;
-    is = ?;
-    opens = c.in-Some.c.now;
-    more = ?;
-    gap = ?;
-    square = c.if-c-eq91.true;
-    none = ?;
-    at = refl;
-  })
+returns-in-None-clause-fault c =
+    (refl, wrong_bracket c.args.characters.now c.behind_gaps-behind.result.now c.in-Some.c.now c.requires (c.behind_gaps-behind.ensures ∙ ap behind_gaps (take_rest c.args.characters.now 1)) c.in-Some.ensures.value c.if-c-eq91.true (sym c.bracket_at.ensures ∙ c.in-None.is))

@@ -40,4 +40,17 @@ returns-in_err-rest-2-clause-fault g c =
       (target_due c.args.characters.now sign.strength sign.starred false sign.rest.now c.behind_gaps-text.result.now found.0 c.if-sign.false c.behind_gaps-text.ensures) found.1 c.in_err-rest-2.ensures.fault)
 
 pub returns-clause-found : goal.returns-clause-found
-returns-clause-found g c = ?
+returns-clause-found g c =
+    let old = c.args.self.now in
+    let sign = c.in_ok-sign.sign in
+    let found = c.in_ok-sign.ensures.found in
+    elim c.if-sign.branch [
+      then-sign+in_ok-rest w ↦
+        let due : IsTargetDue c.args.characters.now sign.strength true c.behind_gaps-text.result.now =
+        target_due c.args.characters.now sign.strength sign.starred true sign.rest.now c.behind_gaps-text.result.now found.0 w.if-sign.true c.behind_gaps-text.ensures in
+        rw (w.self-is, w.rest-is) (starred_goes_on old w.read_starred.new.self sign.strength c.args.characters.now c.behind_gaps-text.result.now w.in_ok-rest.rest.now due found.1 w.in_ok-rest.ensures.found)
+    | else-sign+in_ok-rest-2 w ↦
+        let due : IsTargetDue c.args.characters.now sign.strength false c.behind_gaps-text.result.now =
+        target_due c.args.characters.now sign.strength sign.starred false sign.rest.now c.behind_gaps-text.result.now found.0 w.if-sign.false c.behind_gaps-text.ensures in
+        rw (w.self-is, w.rest-is) (plain_goes_on old w.read_target.new.self sign.strength c.args.characters.now c.behind_gaps-text.result.now w.in_ok-rest-2.rest.now due found.1 w.in_ok-rest-2.ensures.found)
+    ]

@@ -1,21 +1,19 @@
-use Rattle.std.proofs.Common.{rules, ◌≡◌, ◌≢◌, ◌⊎◌, ◌<◌, ◌≤◌, ◌++◌, ◌∷◌, [], List, None, length, IfOk, IfErr, IfSome, OnOk, MatchResult, ℕ, ◌+◌, ◌-◌, ◌*◌, ◌/◌, ◌%◌, Bool, true, false, nat_eq, nat_lt, slice_index_or, slice_set, bit_and, bit_or, Fits, w8, w32, w64, Bor, MutBor}
-use Rattle.uca_values.specs.Content.{properties_of}
-use Rattle.uca_rules.specs.declared.relations.Relation.{Relation}
-use Rattle.uca_rules.specs.declared.signs.Last.{Last}
-use Rattle.uca_rules.specs.declared.faults.RuleFaultKind.{RuleFaultKind}
-use Rattle.uca_rules.specs.Characters
-use Rattle.uca_rules.specs.Relations.{IsRuleText}
-use Rattle.uca_rules.specs.Meaning.{Means}
-use Rattle.uca_rules.specs.Faults.{IsCause, IsWrongBracket, RelationCause}
-use Rattle.uca_rules.specs.Statements.{IsAnchorDue, MayFollow, Resets}
-use Rattle.uca_rules.specs.Views.{IsMemoryAt}
-use Rattle.uca_rules.specs.Reading.{AddsOne, AddsPlain, GoesOn, IsNextFault, IsPlainFault, IsReadingFault, IsReady, ReadsAll, first_code, properties_in, relation_of, start, state_of}
+use Rattle.std.proofs.Common.{◌≡◌, Bool, Some, List, ap, sym, subst, refl}
+use Rattle.std.proofs.lemmas.Result.{err_from_is_err_and}
+use Rattle.std.specs.Prelude.{is_some}
+use Rattle.uca_rules.specs.Reading.{properties_in, state_of}
+use Rattle.uca_rules.proofs.StatementSteps.{reset_fault, reset_goes_on}
 use Rattle.uca_rules.proofs.reader.Reader.read_reset.Goals as goal
 
--- src/reader.rt:148:30
 pub returns-in_err-anchor-clause-fault : goal.returns-in_err-anchor-clause-fault
-returns-in_err-anchor-clause-fault g c = ?
+returns-in_err-anchor-clause-fault g c =
+    let p = err_from_is_err_and c.from_residual-in_err-anchor.result c.from_residual-in_err-anchor.ensures.1 in
+    let old = c.args.self.now in
+    rw (p.1, p.2) (reset_fault (properties_in old.texts) old.texts.end (state_of old) c.args.characters.now c.in_ok-asked.text.now c.in_ok-asked.asked c.in_err-anchor.field-0.0
+      c.in_ok-asked.ensures.found c.requires.follows c.in_err-anchor.ensures.fault)
 
--- src/reader.rt:140:5
 pub returns-clause-found : goal.returns-clause-found
-returns-clause-found g c = ?
+returns-clause-found g c =
+    let anchor = c.in_ok-anchor.ensures.found in
+    reset_goes_on c.args.self.now c.read_plain.new.self c.args.characters.now c.in_ok-asked.text.now c.in_ok-anchor.rest.now c.in_ok-asked.asked c.is_some-self.result anchor.0 c.in_ok-anchor.anchor
+    c.is_some-self.ensures c.requires.ready.growing c.in_ok-anchor.ensures.kept c.in_ok-asked.ensures.found c.requires.follows anchor.1 anchor.2

@@ -2,6 +2,7 @@ use Rattle.std.proofs.Common.{◌≡◌, ◌⊎◌, ℕ, List, Bool, false, ap, 
 use Rattle.std.proofs.lemmas.Result.{err_from_is_err_and}
 use Rattle.uca_values.specs.Content.{Properties}
 use Rattle.uca_rules.specs.declared.characters.Character.{Character}
+use Rattle.uca_rules.specs.Characters.{place_of}
 use Rattle.uca_rules.specs.Faults.{RelationCause}
 use Rattle.uca_rules.specs.Views.{IsMemoryAt, IsTextFault}
 use Rattle.uca_rules.specs.Reading.{AreTextsOf, properties_in, relation_of, state_of}
@@ -24,4 +25,17 @@ returns-in_err-add-clause-fault g c =
     let old = c.args.self.now in
     let target = c.in_ok-target.ensures.found in
     let expansion = c.in_ok-expansion.ensures.found in
-    rw (p.1, p.2) ?
+    let rest : List Character = c.in_ok-expansion.rest.now in
+    let same : properties_in c.read_plain.new.self ≡ properties_in old.texts = kept_properties old.texts c.read_plain.new.self c.in_ok-target.ensures.kept in
+    let are : AreTextsOf (properties_in old.texts) expansion.0 c.in_ok-expansion.expansion =
+    subst (λ (p : Properties). AreTextsOf p expansion.0 c.in_ok-expansion.expansion) same expansion.2 in
+    let ends : c.read_expansion.new.self.end ≡ old.texts.end = c.in_ok-expansion.ensures.kept.end ∙ c.in_ok-target.ensures.kept.end in
+    let here : c.place_of-here.result ≡ place_of old.texts.end rest = c.place_of-here.ensures ∙ ap (λ (n : ℕ). place_of n rest) ends in
+    let place : c.place_of-place.result ≡ target.0.place =
+    c.place_of-place.ensures ∙ ap (λ (n : ℕ). place_of n c.args.text.now) ends ∙ written_place old.texts.end c.args.text.now target.0 c.in_ok-target.behind.now target.1 in
+    let fault : IsMemoryAt (place_of old.texts.end rest) c.in_err-add.field-0.0 ⊎ ((c.in_err-add.field-0.0.byte ≡ target.0.place) × RelationCause old.rules.relations.items (relation_of old c.args.strength c.in_ok-target.target c.in_ok-expansion.expansion) c.in_err-add.field-0.0.kind) =
+    subst (λ (n : ℕ). IsMemoryAt n c.in_err-add.field-0.0 ⊎ ((c.in_err-add.field-0.0.byte ≡ target.0.place) × RelationCause old.rules.relations.items (relation_of old c.args.strength c.in_ok-target.target c.in_ok-expansion.expansion) c.in_err-add.field-0.0.kind)) here
+    (subst (λ (n : ℕ). IsMemoryAt c.place_of-here.result c.in_err-add.field-0.0 ⊎ ((c.in_err-add.field-0.0.byte ≡ n) × RelationCause old.rules.relations.items (relation_of old c.args.strength c.in_ok-target.target c.in_ok-expansion.expansion) c.in_err-add.field-0.0.kind)) place
+      c.in_err-add.ensures.fault) in
+    rw (p.1, p.2) (relation_fault (properties_in old.texts) old.texts.end (state_of old) c.args.strength c.args.text.now c.in_ok-target.behind.now rest target.0 expansion.0
+      c.in_ok-target.target c.in_ok-expansion.expansion c.in_err-add.field-0.0 target.1 expansion.1 target.2 are fault)
