@@ -11,8 +11,8 @@ use Rattle.uca_rules.specs.declared.signs.Last.{Last}
 use Rattle.uca_rules.specs.declared.signs.Last.TheVariants as lasts
 use Rattle.uca_rules.specs.Statements.{last_of}
 use Rattle.uca_rules.specs.Meaning.{relations_of, taken}
-use Rattle.uca_rules.specs.Characters.{characters, place_of}
-use Rattle.uca_rules.specs.Faults.{TextCause, InText, StatementCause, RelationCause, InRelation, InStarred, HasCause, IsInside, IsCause}
+use Rattle.uca_rules.specs.Characters.{characters}
+use Rattle.uca_rules.specs.Faults.{TextCause, StatementCause, RelationCause, HasCause, IsInside, IsCause}
 use Rattle.uca_rules.specs.Reading.{IsReadingFault}
 use Rattle.uca_rules.proofs.Suffixes.{place_within}
 
@@ -33,28 +33,28 @@ pub record IsForeign (kind : RuleFaultKind) : Type 0 where
 
 memory_is_foreign : IsForeign kinds.Memory
 memory_is_foreign = record {
-    no_text = no_text_memory;
-    no_statement = (λ end last count cs place h. h);
-    no_relation = (λ before r h. h);
-    no_limit = (λ e. cc);
-  }
+  no_text = no_text_memory;
+  no_statement = (λ end last count cs place h. h);
+  no_relation = (λ before r h. h);
+  no_limit = (λ e. cc);
+}
 
 utf8_is_foreign : IsForeign kinds.Utf8
 utf8_is_foreign = record {
-    no_text = no_text_utf8;
-    no_statement = (λ end last count cs place h. h);
-    no_relation = (λ before r h. h);
-    no_limit = (λ e. cc);
-  }
+  no_text = no_text_utf8;
+  no_statement = (λ end last count cs place h. h);
+  no_relation = (λ before r h. h);
+  no_limit = (λ e. cc);
+}
 
 is_none : (properties : Properties) (end : ℕ) (cs : List Character) (place : ℕ) (kind : RuleFaultKind) → IsForeign kind → ¬ (HasCause properties end cs place kind)
 is_none properties end cs place kind foreign has =
     ⊎_elim
     (λ text. foreign.no_text end text.starred text.text place text.cause)
     (λ others. ⊎_elim
-      (λ cause. foreign.no_statement end (last_of lasts.Nothing has.statements) (length (taken properties has.statements)) has.rest place cause)
-      (λ more. ⊎_elim (λ relation. foreign.no_relation (relations_of relation.before) relation.t.relation relation.cause) (λ starred. foreign.no_limit starred.limit) more)
-      others)
+    (λ cause. foreign.no_statement end (last_of lasts.Nothing has.statements) (length (taken properties has.statements)) has.rest place cause)
+    (λ more. ⊎_elim (λ relation. foreign.no_relation (relations_of relation.before) relation.t.relation relation.cause) (λ starred. foreign.no_limit starred.limit) more)
+    others)
     has.cause
 
 inside : (properties : Properties) (bytes : List ℕ) (place : ℕ) (kind : RuleFaultKind) → length bytes ≤ 1048576 → IsUtf8 bytes → HasCause properties (length bytes) (characters bytes) place kind → IsInside properties bytes place kind

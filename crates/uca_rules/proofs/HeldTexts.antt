@@ -1,12 +1,12 @@
 -- One more relation behind others, and the texts that they hold.
-use Rattle.std.proofs.Common.{◌≡◌, ◌≢◌, ◌↔◌, ◌⊎◌, ℕ, suc, ◌+◌, ◌<◌, ◌≤◌, List, [], ◌∷◌, ◌++◌, length, map, take, get_or, refl, sym, ap, subst, ◌∙◌, inl, inr, ⊎_elim, arith, lit≤, append_assoc, Contains, Option, Some, None, IsSomeAnd}
+use Rattle.std.proofs.Common.{◌≡◌, ◌↔◌, ◌⊎◌, ℕ, ◌+◌, ◌<◌, List, [], ◌∷◌, ◌++◌, length, map, take, get_or, refl, sym, ap, subst, ◌∙◌, inl, inr, ⊎_elim, arith, lit≤, append_assoc, Contains, Option, Some, None, IsSomeAnd}
 use Rattle.std.specs.List.{AllByRecursion}
 use Rattle.std.proofs.lemmas.List.{length-append, map-append, take_more}
 use Rattle.std.proofs.lemmas.List.Elements.{Contains-push, Contains-push_cases, Contains-append_left}
 use Rattle.uca_text.specs.Texts.{Spelled}
 use Rattle.uca_text.specs.Occurring.{OccursInOrder}
 use Rattle.uca_rules.specs.declared.relations.Relation.{Relation}
-use Rattle.uca_rules.specs.Relations.{IsTarget, IsUsedBy, IsUntouched, HasRuleTexts, AreRules, IsHeld, IsLate}
+use Rattle.uca_rules.specs.Relations.{IsTarget, IsUsedBy, IsUntouched, HasRuleTexts, AreRules, IsHeld}
 
 -- ---- The last of relations, or an earlier one
 
@@ -22,17 +22,17 @@ pub record IsEarlier (rs : List Relation) (t : Relation) (before after : List Re
 
 pub last_or_earlier : (rs before after : List Relation) (t r : Relation) → rs ++ t ∷ [] ≡ before ++ r ∷ after → IsLastOf rs t before after r ⊎ IsEarlier rs t before after r
 last_or_earlier [] [] after t r e = inl (record {
-      front = refl;
-      is = (let e' : t ∷ [] ≡ r ∷ after = e in let same : r ≡ t = cc in same);
-      none = (let e' : t ∷ [] ≡ r ∷ after = e in let same : after ≡ [] = cc in same);
-    })
+  front = refl;
+  is = (let e' : t ∷ [] ≡ r ∷ after = e in let same : r ≡ t = cc in same);
+  none = (let e' : t ∷ [] ≡ r ∷ after = e in let same : after ≡ [] = cc in same);
+})
 last_or_earlier [] (b ∷ []) after t r e = absurd (let e' : ◌≡◌ {A = List Relation} (t ∷ []) (b ∷ r ∷ after) = e in cc)
 last_or_earlier [] (b ∷ d ∷ before) after t r e = absurd (let e' : ◌≡◌ {A = List Relation} (t ∷ []) (b ∷ d ∷ (before ++ r ∷ after)) = e in cc)
 last_or_earlier (x ∷ rs) [] after t r e = inr (record {
-      more = rs;
-      behind = (let e' : ◌≡◌ {A = List Relation} (x ∷ (rs ++ t ∷ [])) (r ∷ after) = e in let same : after ≡ rs ++ t ∷ [] = cc in same);
-      parts = (let e' : ◌≡◌ {A = List Relation} (x ∷ (rs ++ t ∷ [])) (r ∷ after) = e in let same : ◌≡◌ {A = List Relation} (x ∷ rs) (r ∷ rs) = cc in same);
-    })
+  more = rs;
+  behind = (let e' : ◌≡◌ {A = List Relation} (x ∷ (rs ++ t ∷ [])) (r ∷ after) = e in let same : after ≡ rs ++ t ∷ [] = cc in same);
+  parts = (let e' : ◌≡◌ {A = List Relation} (x ∷ (rs ++ t ∷ [])) (r ∷ after) = e in let same : ◌≡◌ {A = List Relation} (x ∷ rs) (r ∷ rs) = cc in same);
+})
 last_or_earlier (x ∷ rs) (b ∷ before) after t r e =
     let e' : ◌≡◌ {A = List Relation} (x ∷ (rs ++ t ∷ [])) (b ∷ (before ++ r ∷ after)) = e in
     let first : x ≡ b = cc in
@@ -54,15 +54,17 @@ held_more rs t text = (forth, ⊎_elim earlier own)
         (λ last. inr (subst (λ (r : Relation). IsUsedBy r text) last.is held.used, λ target. held.free (subst (λ (l : List Relation). IsTarget l text) (sym last.front) target)))
         (λ before. inl (record { before = held.before; after = before.more; r = held.r; parts = before.parts; used = held.used; free = held.free }))
         (last_or_earlier rs held.before held.after t held.r held.parts)
+
     earlier : IsHeld rs text → IsHeld (rs ++ t ∷ []) text
     earlier held = record {
-        before = held.before;
-        after = held.after ++ t ∷ [];
-        r = held.r;
-        parts = ap (λ (l : List Relation). l ++ t ∷ []) held.parts ∙ append_assoc held.before (held.r ∷ held.after) (t ∷ []);
-        used = held.used;
-        free = held.free;
-      }
+      before = held.before;
+      after = held.after ++ t ∷ [];
+      r = held.r;
+      parts = ap (λ (l : List Relation). l ++ t ∷ []) held.parts ∙ append_assoc held.before (held.r ∷ held.after) (t ∷ []);
+      used = held.used;
+      free = held.free;
+    }
+
     own : IsUsedBy t text × ¬ (IsTarget rs text) → IsHeld (rs ++ t ∷ []) text
     own h = record { before = rs; after = []; r = t; parts = refl; used = h.0; free = h.1 }
 
@@ -87,11 +89,11 @@ texts_more (r ∷ rs) t all one = (all.0, texts_more rs t all.1 one)
 pub rules_more : (rs : List Relation) (t : Relation) → AreRules rs → length rs < 5000 → HasRuleTexts t → ¬ (IsTarget rs t.target.points)
     → ((text : List ℕ) → IsHeld (rs ++ t ∷ []) text → ¬ (OccursInOrder t.target.points text)) → AreRules (rs ++ t ∷ [])
 rules_more rs t rules few texts other none = record {
-    few = (let count : length (rs ++ t ∷ []) ≡ length rs + 1 = length-append rs (t ∷ []) in omega arith);
-    texts = texts_more rs t rules.texts texts;
-    distinct = distinct;
-    none_late = none_late;
-  }
+  few = (let count : length (rs ++ t ∷ []) ≡ length rs + 1 = length-append rs (t ∷ []) in omega arith);
+  texts = texts_more rs t rules.texts texts;
+  distinct = distinct;
+  none_late = none_late;
+}
   where
     distinct : (before after : List Relation) (r : Relation) → rs ++ t ∷ [] ≡ before ++ r ∷ after → ¬ (IsTarget before r.target.points)
     distinct before after r parts =
@@ -99,22 +101,23 @@ rules_more rs t rules few texts other none = record {
         (λ last. λ target. other (subst (λ (l : List Relation). IsTarget l t.target.points) last.front (subst (λ (x : Relation). IsTarget before x.target.points) last.is target)))
         (λ earlier. rules.distinct before earlier.more r earlier.parts)
         (last_or_earlier rs before after t r parts)
+
     none_late : (before after : List Relation) (r : Relation) (text : List ℕ) → rs ++ t ∷ [] ≡ before ++ r ∷ after → IsUsedBy r text → ¬ (IsTarget before text) → IsUntouched (r ∷ after) text
     none_late before after r text parts used free =
         let own : ¬ (OccursInOrder t.target.points text) = none text (record { before = before; after = after; r = r; parts = parts; used = used; free = free }) in
         ⊎_elim
         (λ last. subst (λ (l : List Relation). IsUntouched (r ∷ l) text) (sym last.none) (subst (λ (x : Relation). IsUntouched (x ∷ []) text) (sym last.is) (own, tt)))
         (λ earlier. subst (λ (l : List Relation). IsUntouched (r ∷ l) text) (sym earlier.behind)
-          (untouched_more (r ∷ earlier.more) t text (rules.none_late before earlier.more r text earlier.parts used free) own))
+        (untouched_more (r ∷ earlier.more) t text (rules.none_late before earlier.more r text earlier.parts used free) own))
         (last_or_earlier rs before after t r parts)
 
 pub rules_none : AreRules []
 rules_none = record {
-    few = lit≤ tt;
-    texts = tt;
-    distinct = (λ before after r parts. absurd (no_split before r after parts));
-    none_late = (λ before after r text parts used free. absurd (no_split before r after parts));
-  }
+  few = lit≤ tt;
+  texts = tt;
+  distinct = (λ before after r parts. absurd (no_split before r after parts));
+  none_late = (λ before after r text parts used free. absurd (no_split before r after parts));
+}
   where
     no_split : (before : List Relation) (r : Relation) (after : List Relation) → [] ≡ before ++ r ∷ after → ⊥
     no_split [] r after e = cc
@@ -136,8 +139,9 @@ none_further {X} points part xs i x has is none before text contained =
 -- one more text is held
 pub holds_one : (held : List (List ℕ)) (text : List ℕ) (P : Type 0) → P → (t : List ℕ) → Contains (held ++ text ∷ []) t ↔ (Contains held t ⊎ ((t ≡ text) × P))
 holds_one held text P p t = (
-      (λ h. ⊎_elim (λ before. inl before) (λ last. inr (sym last, p)) (Contains-push_cases held text t h)),
-      (λ h. ⊎_elim (λ before. Contains-append_left held (text ∷ []) t before) (λ last. subst (λ (s : List ℕ). Contains (held ++ text ∷ []) s) (sym last.0) (Contains-push held text)) h))
+  (λ h. ⊎_elim (λ before. inl before) (λ last. inr (sym last, p)) (Contains-push_cases held text t h)),
+  (λ h. ⊎_elim (λ before. Contains-append_left held (text ∷ []) t before) (λ last. subst (λ (s : List ℕ). Contains (held ++ text ∷ []) s) (sym last.0) (Contains-push held text)) h),
+)
 
 -- none more
 pub holds_none : (held : List (List ℕ)) (text : List ℕ) (P : Type 0) → P → (t : List ℕ) → Contains held t ↔ (Contains held t ⊎ ((t ≡ text) × ¬ P))
@@ -154,21 +158,23 @@ both_held target old middle new r expansion is first second t = (forth, back)
   where
     with_expansion : IsSomeAnd (Some expansion) (λ e. t ≡ e.points) → IsSomeAnd r.expansion (λ e. t ≡ e.points)
     with_expansion h = subst (λ (o : Option Spelled). IsSomeAnd o (λ e. t ≡ e.points)) (sym is) h
+
     forth : Contains new t → Contains old t ⊎ (IsUsedBy r t × ¬ (target t))
     forth h =
         ⊎_elim
         (λ middle_has. ⊎_elim (λ old_has. inl old_has) (λ anchor. inr (inl anchor.0, subst (λ (s : List ℕ). ¬ (target s)) (sym anchor.0) anchor.1)) ((first t).0 middle_has))
         (λ it. inr (inr (with_expansion it.0), subst (λ (s : List ℕ). ¬ (target s)) (sym it.0) it.1))
         ((second t).0 h)
+
     back : Contains old t ⊎ (IsUsedBy r t × ¬ (target t)) → Contains new t
     back h =
         ⊎_elim
         (λ old_has. (second t).1 (inl ((first t).1 (inl old_has))))
         (λ own. ⊎_elim
-          (λ anchor. (second t).1 (inl ((first t).1 (inr (anchor, subst (λ (s : List ℕ). ¬ (target s)) anchor own.1)))))
-          (λ it. let same : t ≡ expansion.points = subst (λ (o : Option Spelled). IsSomeAnd o (λ e. t ≡ e.points)) is it in
-            (second t).1 (inr (same, subst (λ (s : List ℕ). ¬ (target s)) same own.1)))
-          own.0)
+        (λ anchor. (second t).1 (inl ((first t).1 (inr (anchor, subst (λ (s : List ℕ). ¬ (target s)) anchor own.1)))))
+        (λ it. let same : t ≡ expansion.points = subst (λ (o : Option Spelled). IsSomeAnd o (λ e. t ≡ e.points)) is it in
+        (second t).1 (inr (same, subst (λ (s : List ℕ). ¬ (target s)) same own.1)))
+        own.0)
         h
 
 -- they hold an anchor alone
@@ -179,12 +185,13 @@ anchor_held target old new r none first t = (forth, back)
   where
     forth : Contains new t → Contains old t ⊎ (IsUsedBy r t × ¬ (target t))
     forth h = ⊎_elim (λ old_has. inl old_has) (λ anchor. inr (inl anchor.0, subst (λ (s : List ℕ). ¬ (target s)) (sym anchor.0) anchor.1)) ((first t).0 h)
+
     back : Contains old t ⊎ (IsUsedBy r t × ¬ (target t)) → Contains new t
     back h =
         ⊎_elim
         (λ old_has. (first t).1 (inl old_has))
         (λ own. ⊎_elim
-          (λ anchor. (first t).1 (inr (anchor, subst (λ (s : List ℕ). ¬ (target s)) anchor own.1)))
-          (λ it. absurd (subst (λ (o : Option Spelled). IsSomeAnd o (λ e. t ≡ e.points)) none it))
-          own.0)
+        (λ anchor. (first t).1 (inr (anchor, subst (λ (s : List ℕ). ¬ (target s)) anchor own.1)))
+        (λ it. absurd (subst (λ (o : Option Spelled). IsSomeAnd o (λ e. t ≡ e.points)) none it))
+        own.0)
         h

@@ -1,7 +1,7 @@
 -- One more statement behind those that have been read, and the faults that it may have.
-use Rattle.std.proofs.Common.{◌≡◌, ◌≢◌, ◌⊎◌, ℕ, suc, ◌+◌, ◌<◌, ◌≤◌, List, [], ◌∷◌, ◌++◌, length, map, refl, sym, ap, subst, ◌∙◌, inl, inr, arith}
+use Rattle.std.proofs.Common.{◌≡◌, ◌≢◌, ◌⊎◌, ℕ, ◌+◌, ◌<◌, ◌≤◌, List, [], ◌∷◌, ◌++◌, length, refl, sym, ap, subst, ◌∙◌, inl, inr, arith}
 use Rattle.std.specs.List.{AllByRecursion}
-use Rattle.std.proofs.lemmas.List.{append_assoc, append-nil, length-map, map-append}
+use Rattle.std.proofs.lemmas.List.{append_assoc, length-map, map-append}
 use Rattle.unicode_normalization.specs.Forms.{nfd}
 use Rattle.uca_values.specs.Content.{Properties, properties_of}
 use Rattle.uca_rules.specs.declared.text_reader.TextReader.{TextReader}
@@ -11,10 +11,10 @@ use Rattle.uca_rules.specs.declared.faults.RuleFault.{RuleFault}
 use Rattle.uca_rules.specs.declared.faults.RuleFaultKind.TheVariants as kinds
 use Rattle.uca_rules.specs.declared.signs.Last.{Last}
 use Rattle.uca_rules.specs.declared.signs.Last.TheVariants as lasts
-use Rattle.uca_rules.specs.Characters.{behind_gaps, place_of}
+use Rattle.uca_rules.specs.Characters.{behind_gaps}
 use Rattle.uca_rules.specs.Statements.{Statement, Starred, AreStatements, BeginsStatement, MayFollow, MayEnd, AreInOrder, opening, last_is, last_of}
 use Rattle.uca_rules.specs.Meaning.{Anchor, Taken, HasShortTexts, no_anchor, anchor_behind, relations_in, relations_of, taken}
-use Rattle.uca_rules.specs.Faults.{RelationCause, StatementCause, InText, InRelation, InStarred, HasCause}
+use Rattle.uca_rules.specs.Faults.{RelationCause, StatementCause, InText}
 use Rattle.uca_rules.specs.Reading.{State, start, BeginsNext, ReadsAll, IsMemoryIn, IsNextFault, In_memory, In_text, At_statement, In_relation, In_target, IsReadingFault, Keeps, properties_in}
 use Rattle.uca_rules.proofs.MeaningLaws.{anchor_behind_all, anchor_behind_more, taken_more, relations_more}
 use Rattle.uca_rules.proofs.Suffixes.{statements_end, statement_behind, behind_length, ends_length, gaps_end, ends_trans}
@@ -54,28 +54,28 @@ short_more (t ∷ statements) s all one = (all.0, short_more statements s all.1 
 pub reads_more : (properties : Properties) (cs here rest : List Character) (old new : State) → HasRead properties cs old here → BeginsNext properties old new here rest
     → HasRead properties cs new (behind_gaps rest)
 reads_more properties cs here rest old new read next = record {
-    statements = read.statements ++ next.s ∷ [];
-    lead = statements_more cs here rest read.statements next.s read.lead next.begins;
-    ordered = ordered_more lasts.Nothing read.statements next.s read.ordered (subst (λ (l : Last). MayFollow l (opening next.s)) read.last next.follows);
-    short = short_more read.statements next.s read.short next.short;
-    relations = ap (λ (s : State). s.relations) next.is
+  statements = read.statements ++ next.s ∷ [];
+  lead = statements_more cs here rest read.statements next.s read.lead next.begins;
+  ordered = ordered_more lasts.Nothing read.statements next.s read.ordered (subst (λ (l : Last). MayFollow l (opening next.s)) read.last next.follows);
+  short = short_more read.statements next.s read.short next.short;
+  relations = ap (λ (s : State). s.relations) next.is
       ∙ ap (λ (l : List Relation). l ++ relations_of (relations_in properties old.anchor next.s)) read.relations
       ∙ ap (λ (a : Anchor). relations_of (taken properties read.statements) ++ relations_of (relations_in properties a next.s)) read.anchor
       ∙ sym (relations_more properties read.statements next.s);
-    anchor = ap (λ (s : State). s.anchor) next.is
+  anchor = ap (λ (s : State). s.anchor) next.is
       ∙ ap (λ (a : Anchor). anchor_behind properties a next.s) read.anchor
       ∙ sym (anchor_behind_more properties no_anchor read.statements next.s);
-    last = ap (λ (s : State). s.last) next.is ∙ sym (last_more lasts.Nothing read.statements next.s);
-  }
+  last = ap (λ (s : State). s.last) next.is ∙ sym (last_more lasts.Nothing read.statements next.s);
+}
 
 pub reads_all : (properties : Properties) (cs : List Character) (state : State) → HasRead properties cs state [] → MayEnd state.last → ReadsAll properties cs state.relations
 reads_all properties cs state read ended = record {
-    statements = read.statements;
-    divides = read.lead;
-    chains = record { ordered = read.ordered; ended = subst (λ (l : Last). MayEnd l) read.last ended };
-    short = read.short;
-    give = read.relations;
-  }
+  statements = read.statements;
+  divides = read.lead;
+  chains = record { ordered = read.ordered; ended = subst (λ (l : Last). MayEnd l) read.last ended };
+  short = read.short;
+  give = read.relations;
+}
 
 -- ---- Faults
 
@@ -115,7 +115,7 @@ fault_behind properties end cs here state fault read (At_statement cause) =
       lead = read.lead;
       ordered = read.ordered;
       cause = inr (inl (subst (λ (n : ℕ). StatementCause end (last_of lasts.Nothing read.statements) n here fault.byte fault.kind) (counted properties cs here state read)
-        (subst (λ (l : Last). StatementCause end l (length state.relations) here fault.byte fault.kind) read.last cause)));
+          (subst (λ (l : Last). StatementCause end l (length state.relations) here fault.byte fault.kind) read.last cause)));
     })
 fault_behind properties end cs here state fault read (In_relation next) =
     let before : List Taken = taken properties read.statements in

@@ -69,12 +69,13 @@ some_left part text at i over less so_far h =
 pub ended : (part text : List ℕ) (at i : ℕ) → length text ≤ i → at ≤ length part
     → (OccursInOrder part text ↔ OccursInOrder (drop at part) (drop i text)) → IsTrue (nat_eq at (length part)) ↔ OccursInOrder part text
 ended part text at i over within so_far = (
-      (λ yes.
-        let all : at ≡ length part = eqb-true at (length part) yes in
-        let count : length (drop at part) ≡ length part - at = length-drop at part in
-        let none : length (drop at part) ≡ 0 = omega arith in
-        all_found part text at i (nil_from_length (drop at part) none) so_far),
-      (λ h. ⊎_elim (λ same. eq-eqb at (length part) same) (λ less. absurd (some_left part text at i over less so_far h)) (eq-or-lt_of_le within)))
+  (λ yes.
+      let all : at ≡ length part = eqb-true at (length part) yes in
+      let count : length (drop at part) ≡ length part - at = length-drop at part in
+      let none : length (drop at part) ≡ 0 = omega arith in
+      all_found part text at i (nil_from_length (drop at part) none) so_far),
+  (λ h. ⊎_elim (λ same. eq-eqb at (length part) same) (λ less. absurd (some_left part text at i over less so_far h)) (eq-or-lt_of_le within)),
+)
 
 -- ---- Relations one after the other
 

@@ -1,8 +1,7 @@
 -- Targets of a starred text one behind the other: what they add, their faults, and the symbols that they are written with.
-use Rattle.std.proofs.Common.{◌≡◌, ◌≢◌, ◌⊎◌, ℕ, suc, ◌+◌, ◌-◌, ◌<◌, ◌≤◌, List, [], ◌∷◌, ◌++◌, length, take, drop, get_or, map, zero, Bool, true, false, Option, Some, None, option_map, IfSome, ◌==◌, ◌&&◌, if◌then◌else◌, refl, sym, ap, subst, ◌∙◌, inl, inr, ⊎_elim, arith, append_assoc}
+use Rattle.std.proofs.Common.{◌≡◌, ◌≢◌, ◌⊎◌, ℕ, suc, ◌+◌, ◌-◌, ◌<◌, ◌≤◌, List, [], ◌∷◌, ◌++◌, length, take, drop, get_or, map, zero, Bool, true, None, refl, sym, ap, subst, ◌∙◌, inl, inr, ⊎_elim, arith, append_assoc}
 use Rattle.std.specs.List.{AllByRecursion, range_with_len}
 use Rattle.std.specs.Char.{OutOfScalarRange}
-use Rattle.std.specs.Str.{byte}
 use Rattle.std.proofs.lemmas.Bool.{cases_lt}
 use Rattle.std.proofs.lemmas.List.{append-nil, drop_more, length-append, map-append, take-append-drop, take_more}
 use Rattle.std.proofs.lemmas.List.FromFn.{map-range_with_len_more}
@@ -14,8 +13,8 @@ use Rattle.uca_rules.specs.declared.relations.Relation.{Relation}
 use Rattle.uca_rules.specs.declared.faults.RuleFault.{RuleFault}
 use Rattle.uca_rules.specs.declared.text_reader.TextReader.{TextReader}
 use Rattle.uca_rules.specs.declared.reader.Reader.{Reader}
-use Rattle.uca_rules.specs.Characters.{place_of, apostrophe, backslash, hyphen}
-use Rattle.uca_rules.specs.Pieces.{Symbol, Literal, Hyphen, Piece, ArePieces, BeginsText, behind_apostrophe, behind_backslash, inside_quotes, is_plain, number_at, numbered, piece_at, with_literal}
+use Rattle.uca_rules.specs.Characters.{place_of}
+use Rattle.uca_rules.specs.Pieces.{Symbol, Literal, Hyphen, BeginsText}
 use Rattle.uca_rules.specs.Statements.{Statement, Starred, between, placed_at, targets_of, HasRanges, IsRange, IsNoRange}
 use Rattle.uca_rules.specs.Meaning.{Anchor, Taken, IsShort, behind_target, behind_targets, one_letter, relations_of, starred_relations}
 use Rattle.uca_rules.specs.Faults.{RelationCause}

@@ -40,14 +40,14 @@ pub reset_next : (properties : Properties) (old : State) (cs text rest : List Ch
     → IsAnchorDue cs before text → MayFollow old.last Resets → BeginsWritten text written rest → IsTextOf properties written.points anchor
     → BeginsNext properties old (record { relations = old.relations; anchor = record { text = anchor; before = is_some before }; last = lasts.Reset before }) cs rest
 reset_next properties old cs text rest before written anchor due follows begins found = record {
-    s = Reset before written;
-    begins = record { text = text; due = due; begins = begins };
-    follows = follows;
-    short = found.short;
-    is =
+  s = Reset before written;
+  begins = record { text = text; due = due; begins = begins };
+  follows = follows;
+  short = found.short;
+  is =
       (let at : List Relation → Spelled → State = λ (l : List Relation) (t : Spelled). record { relations = l; anchor = record { text = t; before = is_some before }; last = lasts.Reset before } in
       ap (λ (l : List Relation). at l anchor) (sym (append-nil old.relations)) ∙ ap (λ (t : Spelled). at (old.relations ++ []) t) found.is);
-  }
+}
 
 -- ---- Relations
 
@@ -115,20 +115,20 @@ starred_next_fault properties end state cs text strength fault due follows few (
 pub goes_on : {A : Type 0} (s : Statement) (old new : Reader A) (cs rest : List Character) → BeginsStatement cs s rest → MayFollow old.last (opening s) → last_is s ≡ lasts.Relation → Adds s old new
     → GoesOn old (record { texts = new.texts; rules = new.rules; anchor = new.anchor; before = new.before; last = lasts.Relation }) cs rest
 goes_on {A} s old new cs rest begins follows is adds = record {
-    kept = adds.kept;
-    ready = record { growing = adds.growing; anchored = (λ some. adds.anchored) };
-    next = record {
-      s = s;
-      begins = begins;
-      follows = follows;
-      short = adds.short;
-      is =
+  kept = adds.kept;
+  ready = record { growing = adds.growing; anchored = (λ some. adds.anchored) };
+  next = record {
+    s = s;
+    begins = begins;
+    follows = follows;
+    short = adds.short;
+    is =
         (let at : List Relation → Anchor → Last → State = λ (l : List Relation) (a : Anchor) (t : Last). record { relations = l; anchor = a; last = t } in
         ap (λ (l : List Relation). at l (anchor_of new) lasts.Relation) adds.relations
         ∙ ap (λ (a : Anchor). at (old.rules.relations.items ++ relations_of (relations_in (properties_in old.texts) (anchor_of old) s)) a lasts.Relation) adds.anchor
         ∙ ap (λ (t : Last). at (old.rules.relations.items ++ relations_of (relations_in (properties_in old.texts) (anchor_of old) s)) (anchor_behind (properties_in old.texts) (anchor_of old) s) t) (sym is));
-    };
-  }
+  };
+}
 
 pub plain_goes_on : {A : Type 0} (old new : Reader A) (strength : Strength) (cs text rest : List Character) → IsTargetDue cs strength false text → MayFollow old.last (Signs strength) → AddsPlain old new strength text rest
     → GoesOn old (record { texts = new.texts; rules = new.rules; anchor = new.anchor; before = new.before; last = lasts.Relation }) cs rest
@@ -218,12 +218,12 @@ plain_adds {A} old middle new strength text more rest target expansion t e begin
         anchored = subst IsRuleText (sym adds.anchor) is.rule;
         short = (is.short, expansion_short (properties_in old.texts) expansion e are);
         relations = adds.relations
-          ∙ ap (λ g. g.relations.items ++ of (anchor_of middle) ∷ []) rules
-          ∙ ap (λ (a : Anchor). old.rules.relations.items ++ of a ∷ []) anchor
-          ∙ ap (λ (l : List Taken). old.rules.relations.items ++ relations_of l) (relation_is (properties_in old.texts) (anchor_of old) strength target expansion t e is are);
+            ∙ ap (λ g. g.relations.items ++ of (anchor_of middle) ∷ []) rules
+            ∙ ap (λ (a : Anchor). old.rules.relations.items ++ of a ∷ []) anchor
+            ∙ ap (λ (l : List Taken). old.rules.relations.items ++ relations_of l) (relation_is (properties_in old.texts) (anchor_of old) strength target expansion t e is are);
         anchor =
-          (let at : Spelled → Bool → Anchor = λ (s : Spelled) (b : Bool). record { text = s; before = b } in
-          ap (λ (s : Spelled). at s new.before) (adds.anchor ∙ is.is) ∙ ap (λ (b : Bool). at (spelled (properties_in old.texts) target.points) b) adds.before);
+            (let at : Spelled → Bool → Anchor = λ (s : Spelled) (b : Bool). record { text = s; before = b } in
+            ap (λ (s : Spelled). at s new.before) (adds.anchor ∙ is.is) ∙ ap (λ (b : Bool). at (spelled (properties_in old.texts) target.points) b) adds.before);
         last = adds.last ∙ last;
       };
     }
@@ -301,22 +301,22 @@ written_place end (c ∷ cs) text rest begins = sym (ap (λ (w : Written). w.pla
 pub target_due : (cs : List Character) (strength : Strength) (starred is : Bool) (behind text : List Character) → sign_at cs ≡ Some (record { strength = strength; starred = starred; rest = behind })
     → starred ≡ is → text ≡ behind_gaps behind → IsTargetDue cs strength is text
 target_due cs strength starred is behind text sign same gap = record {
-    behind = behind;
-    sign = sign ∙ ap (λ (b : Bool). Some (record { strength = strength; starred = b; rest = behind })) same;
-    gap = sym gap;
-  }
+  behind = behind;
+  sign = sign ∙ ap (λ (b : Bool). Some (record { strength = strength; starred = b; rest = behind })) same;
+  gap = sym gap;
+}
 
 -- a reset has been read
 pub reset_goes_on : {A : Type 0} (old : Reader A) (texts : TextReader A) (cs text rest : List Character) (asked : Option Strength) (before : Bool) (written : Written) (anchor : Spelled)
     → before ≡ is_some asked → AreGrowing old.rules → Keeps old.texts texts → IsAnchorDue cs asked text → MayFollow old.last Resets → BeginsWritten text written rest → IsTextOf (properties_in old.texts) written.points anchor
     → GoesOn old (record { texts = texts; rules = old.rules; anchor = anchor; before = before; last = lasts.Reset asked }) cs rest
 reset_goes_on {A} old texts cs text rest asked before written anchor is growing kept due follows begins found = record {
-    kept = kept;
-    ready = record { growing = growing; anchored = (λ some. found.rule) };
-    next = subst
+  kept = kept;
+  ready = record { growing = growing; anchored = (λ some. found.rule) };
+  next = subst
       (λ (b : Bool). BeginsNext (properties_in old.texts) (state_of old) (record { relations = old.rules.relations.items; anchor = record { text = anchor; before = b }; last = lasts.Reset asked }) cs rest)
       (sym is) (reset_next (properties_in old.texts) (state_of old) cs text rest asked written anchor due follows begins found);
-  }
+}
 
 -- behind `&` a bracket stands that is none of the three
 pub wrong_bracket : (cs behind : List Character) (c : Character) → first_code cs ≡ ampersand → behind ≡ behind_gaps (drop 1 cs) → Some c ≡ slice_get behind 0 → c.code ≡ bracket → bracket_at behind ≡ None

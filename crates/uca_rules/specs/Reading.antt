@@ -59,10 +59,10 @@ start = record { relations = []; anchor = no_anchor; last = lasts.Nothing }
 -- behind one more statement
 abbrev pub behind_statement : Properties → State → Statement → State
 behind_statement properties state s = record {
-    relations = state.relations ++ relations_of (relations_in properties state.anchor s);
-    anchor = anchor_behind properties state.anchor s;
-    last = last_is s;
-  }
+  relations = state.relations ++ relations_of (relations_in properties state.anchor s);
+  anchor = anchor_behind properties state.anchor s;
+  last = last_is s;
+}
 
 -- the characters begin with a statement that may follow, and the rest stands behind it
 pub record BeginsNext (properties : Properties) (old new : State) (cs rest : List Character) : Type 0 where

@@ -65,11 +65,17 @@ fn read_all<A: Allocator>(
     ensures fault { IfErr result (λ fault. IsCause (properties_of properties.now) bytes.now fault.byte fault.kind) }
 {
     if bytes.len() > MOST_BYTES {
-        return Err(RuleFault { byte: MOST_BYTES, kind: RuleFaultKind::Limit });
+        return Err(RuleFault {
+            byte: MOST_BYTES,
+            kind: RuleFaultKind::Limit,
+        });
     }
     let text = match str::from_utf8(bytes) {
         Ok(text) => text,
-        Err(error) => return Err(RuleFault { byte: error.valid_up_to(), kind: RuleFaultKind::Utf8 }),
+        Err(error) => return Err(RuleFault {
+            byte: error.valid_up_to(),
+            kind: RuleFaultKind::Utf8,
+        }),
     };
     let characters = characters(alloc, text)?;
     let mut reader = Reader::new(alloc, properties, bytes.len());
@@ -118,13 +124,19 @@ impl<'a, A: Allocator> Reader<'a, A> {
             rest = behind_gaps(self.read_statement(rest)?);
         }
         if let Last::Reset(_) = self.last {
-            return Err(RuleFault { byte: self.texts.end, kind: RuleFaultKind::Syntax });
+            return Err(RuleFault {
+                byte: self.texts.end,
+                kind: RuleFaultKind::Syntax,
+            });
         }
         Ok(())
     }
 
     /// Reads the statement at the front. What follows it is given back.
-    fn read_statement<'c>(&mut self, characters: &'c [Character]) -> Result<&'c [Character], RuleFault>
+    fn read_statement<'c>(
+        &mut self,
+        characters: &'c [Character],
+    ) -> Result<&'c [Character], RuleFault>
         requires ready { IsReady self.old }
         requires some { characters.now ≢ [] }
         ensures found { IfOk result (λ rest. GoesOn self.old self.new characters.now rest.now) }
@@ -133,8 +145,13 @@ impl<'a, A: Allocator> Reader<'a, A> {
         let first = characters[0];
         match (first.code, self.last) {
             ('&', Last::Nothing) | ('&', Last::Relation) => self.read_reset(characters),
-            ('<' | '=', Last::Reset(_)) | ('<' | '=', Last::Relation) => self.read_relation(characters),
-            _ => Err(RuleFault { byte: first.place, kind: RuleFaultKind::Syntax }),
+            ('<' | '=', Last::Reset(_)) | ('<' | '=', Last::Relation) => self.read_relation(
+                characters,
+            ),
+            _ => Err(RuleFault {
+                byte: first.place,
+                kind: RuleFaultKind::Syntax,
+            }),
         }
     }
 
@@ -155,7 +172,10 @@ impl<'a, A: Allocator> Reader<'a, A> {
     }
 
     /// Reads a relation: a sign, a text, and perhaps `/` and a text; or a starred sign and a starred text.
-    fn read_relation<'c>(&mut self, characters: &'c [Character]) -> Result<&'c [Character], RuleFault>
+    fn read_relation<'c>(
+        &mut self,
+        characters: &'c [Character],
+    ) -> Result<&'c [Character], RuleFault>
         requires ready { IsReady self.old }
         requires sign { (first_code characters.now ≡ Characters.less_than) ⊎ (first_code characters.now ≡ Characters.equals_sign) }
         requires behind { self.old.last ≢ Last.Nothing }
@@ -174,7 +194,11 @@ impl<'a, A: Allocator> Reader<'a, A> {
     }
 
     /// Reads a target, perhaps `/` and an expansion, and adds the relation.
-    fn read_target<'c>(&mut self, strength: Strength, text: &'c [Character]) -> Result<&'c [Character], RuleFault>
+    fn read_target<'c>(
+        &mut self,
+        strength: Strength,
+        text: &'c [Character],
+    ) -> Result<&'c [Character], RuleFault>
         requires ready { IsReady self.old }
         requires anchored { IsRuleText self.old.anchor }
         requires few { length self.old.rules.relations.items < 5000 }
@@ -209,7 +233,10 @@ impl<'a, A: Allocator> Reader<'a, A> {
             ⊎ ((fault.byte ≡ byte) × RelationCause self.old.rules.relations.items (relation_of self.old strength target expansion) fault.kind)) }
     {
         let Ok(next) = target.clone() else {
-            return Err(RuleFault { byte: here, kind: RuleFaultKind::Memory });
+            return Err(RuleFault {
+                byte: here,
+                kind: RuleFaultKind::Memory,
+            });
         };
         let relation = Relation {
             anchor: mem::replace(&mut self.anchor, next),
@@ -220,14 +247,19 @@ impl<'a, A: Allocator> Reader<'a, A> {
         };
         match self.rules.add(relation) {
             Ok(()) => Ok(()),
-            Err(RuleFaultKind::Memory) => Err(RuleFault { byte: here, kind: RuleFaultKind::Memory }),
+            Err(RuleFaultKind::Memory) => Err(RuleFault {
+                byte: here,
+                kind: RuleFaultKind::Memory,
+            }),
             Err(kind) => Err(RuleFault { byte, kind }),
         }
     }
 }
 
 /// The strength that a bracket behind `&` asks for, if there is one, and where the anchor is due.
-fn behind_ampersand<'c>(characters: &'c [Character]) -> Result<(Option<Strength>, &'c [Character]), RuleFault>
+fn behind_ampersand<'c>(
+    characters: &'c [Character],
+) -> Result<(Option<Strength>, &'c [Character]), RuleFault>
     requires { first_code characters.now ≡ Characters.ampersand }
     ensures found { IfOk result (λ found. IsAnchorDue characters.now found.0 found.1.now) }
     ensures fault { IfErr result (λ fault. (fault.kind ≡ RuleFaultKind.Syntax) × IsWrongBracket characters.now fault.byte) }
@@ -236,7 +268,10 @@ fn behind_ampersand<'c>(characters: &'c [Character]) -> Result<(Option<Strength>
     match behind.first() {
         Some(c) if c.code == '[' => match bracket_at(behind) {
             Some(strength) => Ok((Some(strength), behind_gaps(&behind[BRACKET_LENGTH..]))),
-            None => Err(RuleFault { byte: c.place, kind: RuleFaultKind::Syntax }),
+            None => Err(RuleFault {
+                byte: c.place,
+                kind: RuleFaultKind::Syntax,
+            }),
         },
         _ => Ok((None, behind)),
     }
@@ -248,7 +283,11 @@ fn behind_ampersand<'c>(characters: &'c [Character]) -> Result<(Option<Strength>
 ///
 /// `Syntax` where four or more `<` stand in a row, then `Limit` where there are as many relations as there may be, then
 /// `BeforeStrength`.
-fn sign_of_relation<'c>(last: Last, count: usize, characters: &'c [Character]) -> Result<Sign<'c>, RuleFault>
+fn sign_of_relation<'c>(
+    last: Last,
+    count: usize,
+    characters: &'c [Character],
+) -> Result<Sign<'c>, RuleFault>
     requires sign { (first_code characters.now ≡ Characters.less_than) ⊎ (first_code characters.now ≡ Characters.equals_sign) }
     requires behind { last ≢ Last.Nothing }
     ensures found { IfOk result (λ sign. (Statements.sign_at characters.now ≡ Some (sign_view sign)) × MayFollow last (Signs sign.strength) × (count ≢ 5000)) }
@@ -256,13 +295,22 @@ fn sign_of_relation<'c>(last: Last, count: usize, characters: &'c [Character]) -
 {
     let byte = characters[0].place;
     let Some(sign) = sign_at(characters) else {
-        return Err(RuleFault { byte, kind: RuleFaultKind::Syntax });
+        return Err(RuleFault {
+            byte,
+            kind: RuleFaultKind::Syntax,
+        });
     };
     if count == MOST_RELATIONS {
-        return Err(RuleFault { byte, kind: RuleFaultKind::Limit });
+        return Err(RuleFault {
+            byte,
+            kind: RuleFaultKind::Limit,
+        });
     }
     if !may_have(last, sign.strength) {
-        return Err(RuleFault { byte, kind: RuleFaultKind::BeforeStrength });
+        return Err(RuleFault {
+            byte,
+            kind: RuleFaultKind::BeforeStrength,
+        });
     }
     Ok(sign)
 }

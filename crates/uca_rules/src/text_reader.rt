@@ -49,17 +49,31 @@ impl<'a, A: Allocator> TextReader<'a, A> {
     /// # Errors
     ///
     /// `EmptyText`, `Syntax`, `Escape`, `Limit` or `Memory`.
-    pub(crate) fn read_plain<'c>(&mut self, text: &'c [Character]) -> Result<(Normal, &'c [Character]), RuleFault>
+    pub(crate) fn read_plain<'c>(
+        &mut self,
+        text: &'c [Character],
+    ) -> Result<(Normal, &'c [Character]), RuleFault>
         ensures kept { Keeps self.old self.new }
         ensures found { IfOk result (λ found. (written : Written) × BeginsWritten text.now written found.1.now × IsTextOf (properties_in self.old) written.points found.0) }
         ensures fault { IfErr result (IsTextFault self.old.end false text.now) }
     {
         let byte = place_of(self.end, text);
         let rest = read_text(&mut self.symbols, text, false, self.end)?;
-        match rule_text(self.alloc, &mut self.letters, &self.symbols, self.properties) {
+        match rule_text(
+            self.alloc,
+            &mut self.letters,
+            &self.symbols,
+            self.properties,
+        ) {
             Ok(Some(normal)) => Ok((normal, rest)),
-            Ok(None) => Err(RuleFault { byte, kind: RuleFaultKind::Limit }),
-            Err(_) => Err(RuleFault { byte, kind: RuleFaultKind::Memory }),
+            Ok(None) => Err(RuleFault {
+                byte,
+                kind: RuleFaultKind::Limit,
+            }),
+            Err(_) => Err(RuleFault {
+                byte,
+                kind: RuleFaultKind::Memory,
+            }),
         }
     }
 
@@ -84,7 +98,12 @@ impl<'a, A: Allocator> TextReader<'a, A> {
         ensures kept { Keeps self.old self.new }
         ensures found { IfOk result (λ found. MatchOption found (16 < length (nfd (c.code ∷ []))) (IsTextOf (properties_in self.old) (c.code ∷ []))) }
     {
-        rule_text(self.alloc, &mut self.letters, &[Symbol::Literal(c)], self.properties)
+        rule_text(
+            self.alloc,
+            &mut self.letters,
+            &[Symbol::Literal(c)],
+            self.properties,
+        )
     }
 }
 

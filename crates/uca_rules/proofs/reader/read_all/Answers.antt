@@ -1,7 +1,6 @@
-use Rattle.std.proofs.Common.{◌≡◌, ◌≤◌, ℕ, List, length, subst, ap, ◌∙◌, arith}
+use Rattle.std.proofs.Common.{◌≡◌, ◌≤◌, ℕ, List, length, ap, ◌∙◌, arith}
 use Rattle.std.proofs.lemmas.Result.{err_from_is_err_and}
-use Rattle.uca_values.specs.Content.{Properties, properties_of}
-use Rattle.uca_rules.specs.declared.characters.Character.{Character}
+use Rattle.uca_values.specs.Content.{properties_of}
 use Rattle.uca_rules.specs.Characters.{characters}
 use Rattle.uca_rules.specs.Reading.{IsReadingFault, properties_in}
 use Rattle.uca_rules.proofs.Causes.{fault_stands, fault_of}

@@ -7,10 +7,11 @@ pub returns-then-eq : goal.returns-then-eq
 returns-then-eq c =
     let points : List ℕ = c.relation-item.result.target.points in
     let text : List ℕ = c.args.text.now in
-    let same : c.chars.result.now ≡ text = (bytes_eq-Decides c.chars.result.now text).0 (sym (c.if-eq.ensures)) in
-    (λ yes. target_here c.args.relations.now text c.loop-relation.relation-index c.relation-item.result c.loop-relation-test.true c.relation-item.is
-      (subst (λ (p : List ℕ). p ≡ text) c.chars.ensures.value same) c.loop-relation.invariant,
-      λ h. refl)
+    let same : c.chars.result.now ≡ text = (bytes_eq-Decides c.chars.result.now text).0 (sym (c.if-eq.ensures)) in (
+      λ yes. target_here c.args.relations.now text c.loop-relation.relation-index c.relation-item.result c.loop-relation-test.true c.relation-item.is
+          (subst (λ (p : List ℕ). p ≡ text) c.chars.ensures.value same) c.loop-relation.invariant,
+      λ h. refl,
+    )
 
 pub loop-relation-preserved : goal.loop-relation-preserved
 loop-relation-preserved c =

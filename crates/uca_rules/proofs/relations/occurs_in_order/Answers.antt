@@ -16,16 +16,16 @@ loop-c-preserved c =
     let other : at ≡ length part → ⊥ = c.if-at-part.false in
     let has : at < length part = omega arith in
     elim c.if-c-part.branch [
-      then-c-part w ↦
-        let further : OccursInOrder part text ↔ OccursInOrder (drop (at + 1) part) (drop (i + 1) text) =
-        both_further part text at i x y has c.loop-c-test.true c.index-part-at.is c.c-item.is (sym w.if-c-part.true) c.loop-c.invariant.1 in
-        let count : c.if-c-part.at ≡ at + 1 = w.at-is in
-        (omega arith, subst (λ (n : ℕ). OccursInOrder part text ↔ OccursInOrder (drop n part) (drop (i + 1) text)) (sym count) further)
-    | else-c-part w ↦
-        let further : OccursInOrder part text ↔ OccursInOrder (drop at part) (drop (i + 1) text) =
-        text_further part text at i x y has c.loop-c-test.true c.index-part-at.is c.c-item.is (λ e. w.if-c-part.false (sym e)) c.loop-c.invariant.1 in
-        let count : c.if-c-part.at ≡ at = w.at-is in
-        (omega arith, subst (λ (n : ℕ). OccursInOrder part text ↔ OccursInOrder (drop n part) (drop (i + 1) text)) (sym count) further)
+      | then-c-part w ↦
+          let further : OccursInOrder part text ↔ OccursInOrder (drop (at + 1) part) (drop (i + 1) text) =
+          both_further part text at i x y has c.loop-c-test.true c.index-part-at.is c.c-item.is (sym w.if-c-part.true) c.loop-c.invariant.1 in
+          let count : c.if-c-part.at ≡ at + 1 = w.at-is in
+          (omega arith, subst (λ (n : ℕ). OccursInOrder part text ↔ OccursInOrder (drop n part) (drop (i + 1) text)) (sym count) further)
+      | else-c-part w ↦
+          let further : OccursInOrder part text ↔ OccursInOrder (drop at part) (drop (i + 1) text) =
+          text_further part text at i x y has c.loop-c-test.true c.index-part-at.is c.c-item.is (λ e. w.if-c-part.false (sym e)) c.loop-c.invariant.1 in
+          let count : c.if-c-part.at ≡ at = w.at-is in
+          (omega arith, subst (λ (n : ℕ). OccursInOrder part text ↔ OccursInOrder (drop n part) (drop (i + 1) text)) (sym count) further)
     ]
 
 pub returns : goal.returns

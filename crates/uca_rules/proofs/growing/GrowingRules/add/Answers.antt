@@ -1,8 +1,8 @@
-use Rattle.std.proofs.Common.{◌≡◌, ◌↔◌, ◌⊎◌, ◌++◌, ◌∷◌, [], List, ℕ, Contains, map, ap, subst, sym, refl, ◌∙◌, inl, inr, ⊎_elim, true, false}
+use Rattle.std.proofs.Common.{◌≡◌, ◌↔◌, ◌++◌, ◌∷◌, [], List, ℕ, Contains, map, ap, subst, sym, refl, ◌∙◌, inl, inr, ⊎_elim, true, false}
 use Rattle.uca_text.specs.Occurring.{OccursInOrder}
 use Rattle.uca_rules.specs.declared.relations.Relation.{Relation}
-use Rattle.uca_rules.specs.Growing.{HeldText, held_texts, AreGrowing, HoldsOwn}
-use Rattle.uca_rules.specs.Relations.{AreRules, IsTarget, IsUsedBy, IsHeld, IsLate}
+use Rattle.uca_rules.specs.Growing.{HeldText, held_texts, HoldsOwn}
+use Rattle.uca_rules.specs.Relations.{AreRules, IsTarget, IsHeld}
 use Rattle.uca_rules.proofs.HeldTexts.{held_more, rules_more}
 use Rattle.uca_rules.proofs.growing.GrowingRules.add.Goals as goal
 
@@ -29,7 +29,8 @@ returns-clause-growing c =
     let held : (text : List ℕ) → Contains (held_texts c.hold_own.new.self) text ↔ IsHeld (rs ++ r ∷ []) text =
     λ text. (
       (λ h. (held_more rs r text).1 (⊎_elim (λ before. inl ((c.requires.growing.are_held text).0 before)) (λ it. inr it) ((own.held text).0 h))),
-      (λ h. (own.held text).1 (⊎_elim (λ before. inl ((c.requires.growing.are_held text).1 before)) (λ it. inr it) ((held_more rs r text).0 h)))) in
+      (λ h. (own.held text).1 (⊎_elim (λ before. inl ((c.requires.growing.are_held text).1 before)) (λ it. inr it) ((held_more rs r text).0 h))),
+    ) in
     let new_target : ¬ (IsTarget rs r.target.points) = λ h.
     let yes : false ≡ true = c.if-is_target.ensures.1
     (subst (λ (l : List Relation). IsTarget l c.chars-target.result.now) (sym c.deref.ensures.value) (subst (λ (p : List ℕ). IsTarget rs p) (sym c.chars-target.ensures.value) h)) in

@@ -19,5 +19,5 @@ returns-in_ok-push c =
     record {
       same = refl;
       held = (λ t. subst (λ (l : List (List ℕ)). Contains l t ↔ (Contains old t ⊎ ((t ≡ text) × ¬ (IsTarget c.args.self.now.relations.items text)))) (sym is)
-        (holds_one old text (¬ (IsTarget c.args.self.now.relations.items text)) other t));
+          (holds_one old text (¬ (IsTarget c.args.self.now.relations.items text)) other t));
     }

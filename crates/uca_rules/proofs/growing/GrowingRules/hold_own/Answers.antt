@@ -1,5 +1,4 @@
-use Rattle.std.proofs.Common.{◌≡◌, ◌↔◌, ◌⊎◌, List, ℕ, Contains, Option, Some, None, ap, subst, sym, refl, ◌∙◌}
-use Rattle.uca_text.specs.Texts.{Spelled}
+use Rattle.std.proofs.Common.{◌≡◌, ◌↔◌, ◌⊎◌, List, ℕ, Contains, ap, subst, ◌∙◌}
 use Rattle.uca_rules.specs.declared.relations.Relation.{Relation}
 use Rattle.uca_rules.specs.Growing.{held_texts, Holds}
 use Rattle.uca_rules.specs.Relations.{IsTarget}
@@ -16,7 +15,7 @@ returns-in_ok-hold-2 c =
     record {
       same = second.same ∙ first.same;
       held = both_held target (held_texts c.args.self.now) (held_texts c.hold.new.self) (held_texts c.hold-in-Some.new.self) r c.in-Some.expansion c.in-Some.is first.held
-        (λ t. subst (λ (l : List Relation). Contains (held_texts c.hold-in-Some.new.self) t ↔ (Contains (held_texts c.hold.new.self) t ⊎ ((t ≡ c.in-Some.expansion.points) × ¬ (IsTarget l c.in-Some.expansion.points))))
+          (λ t. subst (λ (l : List Relation). Contains (held_texts c.hold-in-Some.new.self) t ↔ (Contains (held_texts c.hold.new.self) t ⊎ ((t ≡ c.in-Some.expansion.points) × ¬ (IsTarget l c.in-Some.expansion.points))))
           (ap (λ v. v.items) first.same) (second.held t));
     }
 

@@ -1,6 +1,4 @@
-use Rattle.std.proofs.Common.{◌≡◌, Bool, Some, List, ap, sym, subst, refl}
 use Rattle.std.proofs.lemmas.Result.{err_from_is_err_and}
-use Rattle.std.specs.Prelude.{is_some}
 use Rattle.uca_rules.specs.Reading.{properties_in, state_of}
 use Rattle.uca_rules.proofs.StatementSteps.{reset_fault, reset_goes_on}
 use Rattle.uca_rules.proofs.reader.Reader.read_reset.Goals as goal
@@ -10,7 +8,7 @@ returns-in_err-anchor-clause-fault g c =
     let p = err_from_is_err_and c.from_residual-in_err-anchor.result c.from_residual-in_err-anchor.ensures.1 in
     let old = c.args.self.now in
     rw (p.1, p.2) (reset_fault (properties_in old.texts) old.texts.end (state_of old) c.args.characters.now c.in_ok-asked.text.now c.in_ok-asked.asked c.in_err-anchor.field-0.0
-      c.in_ok-asked.ensures.found c.requires.follows c.in_err-anchor.ensures.fault)
+    c.in_ok-asked.ensures.found c.requires.follows c.in_err-anchor.ensures.fault)
 
 pub returns-clause-found : goal.returns-clause-found
 returns-clause-found g c =

@@ -1,8 +1,8 @@
-use Rattle.std.proofs.Common.{◌≡◌, List, length, ◌<◌, subst, sym, refl}
+use Rattle.std.proofs.Common.{List, length, ◌<◌, subst, sym}
 use Rattle.std.proofs.lemmas.Result.{err_from_is_err_and}
 use Rattle.uca_rules.specs.Characters.{behind_gaps}
 use Rattle.uca_rules.specs.declared.characters.Character.{Character}
-use Rattle.uca_rules.specs.Reading.{BeginsNext, GoesOn, properties_in, state_of}
+use Rattle.uca_rules.specs.Reading.{properties_in, state_of}
 use Rattle.uca_rules.proofs.Progress.{HasRead, fault_behind, fewer_left, keeps_both, kept_fault, kept_next, reads_more}
 use Rattle.uca_rules.proofs.reader.Reader.read_statements.Goals as goal
 
@@ -12,7 +12,7 @@ returns-in_err-read_statement-clause-fault g c =
     let old = c.args.self.now in
     let here = c.loop-rest.self in
     rw (p.1, p.2) (fault_behind (properties_in old.texts) old.texts.end c.args.characters.now c.loop-rest.rest.now (state_of here) c.in_err-read_statement.field-0.0
-      c.loop-rest.invariant.2 (kept_fault old.texts here.texts (state_of here) c.loop-rest.rest.now c.in_err-read_statement.field-0.0 c.loop-rest.invariant.1 c.in_err-read_statement.ensures.fault))
+    c.loop-rest.invariant.2 (kept_fault old.texts here.texts (state_of here) c.loop-rest.rest.now c.in_err-read_statement.field-0.0 c.loop-rest.invariant.1 c.in_err-read_statement.ensures.fault))
 
 pub loop-rest-smaller : goal.loop-rest-smaller
 loop-rest-smaller g c =
@@ -32,6 +32,8 @@ loop-rest-preserved g c =
     let behind : List Character = c.in_ok-read_statement.field-0.now in
     let read : HasRead (properties_in old.texts) c.args.characters.now (state_of new) (behind_gaps behind) =
     reads_more (properties_in old.texts) c.args.characters.now c.loop-rest.rest.now behind (state_of here) (state_of new) c.loop-rest.invariant.2
-    (kept_next old.texts here.texts (state_of here) (state_of new) c.loop-rest.rest.now behind c.loop-rest.invariant.1 goes.next) in
-    (goes.ready, keeps_both old.texts here.texts new.texts c.loop-rest.invariant.1 goes.kept,
-      subst (λ (l : List Character). HasRead (properties_in old.texts) c.args.characters.now (state_of new) l) (sym c.behind_gaps-rest-in-loop-rest.ensures) read)
+    (kept_next old.texts here.texts (state_of here) (state_of new) c.loop-rest.rest.now behind c.loop-rest.invariant.1 goes.next) in (
+      goes.ready,
+      keeps_both old.texts here.texts new.texts c.loop-rest.invariant.1 goes.kept,
+      subst (λ (l : List Character). HasRead (properties_in old.texts) c.args.characters.now (state_of new) l) (sym c.behind_gaps-rest-in-loop-rest.ensures) read,
+    )

@@ -1,4 +1,4 @@
-use Rattle.std.proofs.Common.{◌≡◌, ◌⊎◌, ℕ, List, Bool, false, ap, sym, subst, refl, ◌∙◌}
+use Rattle.std.proofs.Common.{◌≡◌, ◌⊎◌, ℕ, List, false, ap, subst, ◌∙◌}
 use Rattle.std.proofs.lemmas.Result.{err_from_is_err_and}
 use Rattle.uca_values.specs.Content.{Properties}
 use Rattle.uca_rules.specs.declared.characters.Character.{Character}
@@ -17,7 +17,7 @@ returns-in_err-expansion-clause-fault g c =
     let target = c.in_ok-target.ensures.found in
     let fault = c.in_err-expansion.ensures.fault in
     rw (p.1, p.2) (expansion_fault (properties_in old.texts) old.texts.end (state_of old) c.args.strength c.args.text.now c.in_ok-target.behind.now fault.0 target.0 c.in_err-expansion.field-0.0
-      target.1 fault.1 (subst (λ (n : ℕ). IsTextFault n false fault.0 c.in_err-expansion.field-0.0) c.in_ok-target.ensures.kept.end fault.2))
+    target.1 fault.1 (subst (λ (n : ℕ). IsTextFault n false fault.0 c.in_err-expansion.field-0.0) c.in_ok-target.ensures.kept.end fault.2))
 
 pub returns-in_err-add-clause-fault : goal.returns-in_err-add-clause-fault
 returns-in_err-add-clause-fault g c =
@@ -36,6 +36,6 @@ returns-in_err-add-clause-fault g c =
     let fault : IsMemoryAt (place_of old.texts.end rest) c.in_err-add.field-0.0 ⊎ ((c.in_err-add.field-0.0.byte ≡ target.0.place) × RelationCause old.rules.relations.items (relation_of old c.args.strength c.in_ok-target.target c.in_ok-expansion.expansion) c.in_err-add.field-0.0.kind) =
     subst (λ (n : ℕ). IsMemoryAt n c.in_err-add.field-0.0 ⊎ ((c.in_err-add.field-0.0.byte ≡ target.0.place) × RelationCause old.rules.relations.items (relation_of old c.args.strength c.in_ok-target.target c.in_ok-expansion.expansion) c.in_err-add.field-0.0.kind)) here
     (subst (λ (n : ℕ). IsMemoryAt c.place_of-here.result c.in_err-add.field-0.0 ⊎ ((c.in_err-add.field-0.0.byte ≡ n) × RelationCause old.rules.relations.items (relation_of old c.args.strength c.in_ok-target.target c.in_ok-expansion.expansion) c.in_err-add.field-0.0.kind)) place
-      c.in_err-add.ensures.fault) in
+    c.in_err-add.ensures.fault) in
     rw (p.1, p.2) (relation_fault (properties_in old.texts) old.texts.end (state_of old) c.args.strength c.args.text.now c.in_ok-target.behind.now rest target.0 expansion.0
-      c.in_ok-target.target c.in_ok-expansion.expansion c.in_err-add.field-0.0 target.1 expansion.1 target.2 are fault)
+    c.in_ok-target.target c.in_ok-expansion.expansion c.in_err-add.field-0.0 target.1 expansion.1 target.2 are fault)

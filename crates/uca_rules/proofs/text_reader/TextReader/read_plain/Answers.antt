@@ -18,9 +18,10 @@ returns-in-Ok-Some-clause-found g c =
     let symbols : List Symbol = c.read_text.new.symbols.items in
     let said : MatchOption (Some c.in-Ok-Some.normal) (16 < length (nfd (points_of c.deref.result.now))) (λ text. (text ≡ spelled (properties_in c.args.self.now) (points_of c.deref.result.now)) × IsRuleText text) =
     subst (λ (o : Option Spelled). MatchOption o (16 < length (nfd (points_of c.deref.result.now))) (λ text. (text ≡ spelled (properties_in c.args.self.now) (points_of c.deref.result.now)) × IsRuleText text))
-      c.in-Ok-Some.field-0-is c.in-Ok-Some.ensures in
+    c.in-Ok-Some.field-0-is c.in-Ok-Some.ensures in
     let is : c.in-Ok-Some.normal ≡ spelled (properties_in c.args.self.now) (points_of symbols) =
-    said.0 ∙ ap (λ (l : List Symbol). spelled (properties_in c.args.self.now) (points_of l)) c.deref.ensures.value in
-    (record { place = place_of 0 c.args.text.now; points = points_of symbols },
+    said.0 ∙ ap (λ (l : List Symbol). spelled (properties_in c.args.self.now) (points_of l)) c.deref.ensures.value in (
+      record { place = place_of 0 c.args.text.now; points = points_of symbols },
       record { symbols = symbols; begins = c.in_ok-rest.ensures.found; is = refl },
-      record { is = is; short = subst (λ (t : Spelled). length t.points ≤ 16) is said.1.short; rule = said.1 })
+      record { is = is; short = subst (λ (t : Spelled). length t.points ≤ 16) is said.1.short; rule = said.1 },
+    )
