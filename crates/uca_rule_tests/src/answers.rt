@@ -1,0 +1,123 @@
+//! What is said of rules, as text.
+
+use std::alloc::{AllocError, Global};
+use std::test::Fail;
+use uca_fakes::{DATA, code_point, data_of, halves, is_remark, same};
+use uca_rules::{Relation, Rules, read_rules};
+use uca_text::Normal;
+use uca_values::Data;
+use uca_weights::{Source, Strength};
+
+/// Classes of some accents.
+pub fn classes(alloc: Global) -> Result<Data, Fail> {
+    Ok(data_of(alloc, &mut Source::new(DATA.as_bytes()))?)
+}
+
+/// The text of a field of a case: `(E9)` stands for the code point with these hexadecimal digits, and all else for itself.
+pub fn text_of(alloc: Global, field: &str) -> Result<String, Fail> {
+    let mut text = String::new(alloc);
+    for part in field.split('(') {
+        match part.split_once(')') {
+            Some((digits, rest)) => {
+                text.push(code_point(digits)?)?;
+                text.push_str(rest)?;
+            }
+            None => text.push_str(part)?,
+        }
+    }
+    Ok(text)
+}
+
+/// Adds a text: ASCII letters and digits as they stand, other code points as in a field, with the class behind a dot where
+/// it is not 0.
+fn push_text(words: &mut String, text: &Normal) -> Result<(), AllocError> {
+    let alloc = *words.allocator();
+    for (point, class) in text.chars().iter().zip(text.classes()) {
+        let code = u32::from(*point);
+        if *class > 0 {
+            words.push_str(&format!(in alloc; "({:X}.{class})", code)?)?;
+        } else if point.is_ascii_alphanumeric() {
+            words.push(*point)?;
+        } else {
+            words.push_str(&format!(in alloc; "({:X})", code)?)?;
+        }
+    }
+    Ok(())
+}
+
+/// The sign of a strength.
+fn sign(strength: Strength) -> &'static str {
+    match strength {
+        Strength::Primary => " < ",
+        Strength::Secondary => " << ",
+        Strength::Tertiary => " <<< ",
+        Strength::Identical => " = ",
+    }
+}
+
+/// Adds a relation, with its anchor.
+fn push_relation(words: &mut String, relation: &Relation) -> Result<(), AllocError> {
+    if !words.is_empty() {
+        words.push_str("; ")?;
+    }
+    if relation.before {
+        words.push_str("before ")?;
+    }
+    push_text(words, &relation.anchor)?;
+    words.push_str(sign(relation.strength))?;
+    push_text(words, &relation.target)?;
+    if let Some(expansion) = &relation.expansion {
+        words.push_str(" / ")?;
+        push_text(words, expansion)?;
+    }
+    Ok(())
+}
+
+/// The relations of rules.
+fn relations(alloc: Global, rules: &Rules) -> Result<String, AllocError> {
+    let mut words = String::new(alloc);
+    for relation in rules.relations() {
+        push_relation(&mut words, relation)?;
+    }
+    if words.is_empty() {
+        words.push_str("nothing")?;
+    }
+    Ok(words)
+}
+
+/// The relations that rules mean, or why they are refused.
+pub fn said(alloc: Global, data: &Data, rules: &[u8]) -> Result<String, AllocError> {
+    match read_rules(alloc, rules, data) {
+        Ok(rules) => relations(alloc, &rules),
+        Err(fault) => format!(in alloc; "{} at {}", fault.kind, fault.byte),
+    }
+}
+
+/// How many relations rules mean, or why they are refused.
+pub fn counted(alloc: Global, data: &Data, rules: &[u8]) -> Result<String, AllocError> {
+    match read_rules(alloc, rules, data) {
+        Ok(rules) => format!(in alloc; "{} relations", rules.relations().len()),
+        Err(fault) => format!(in alloc; "{} at {}", fault.kind, fault.byte),
+    }
+}
+
+/// Rules, and what is said of them.
+fn check(alloc: Global, data: &Data, case: &str) -> Result<(), Fail> {
+    if is_remark(case) {
+        return Ok(());
+    }
+    let (rules, wanted) = halves(case)?;
+    let rules = text_of(alloc, rules)?;
+    same(&said(alloc, data, rules.as_bytes())?, wanted, case)
+}
+
+/// Tables of rules, and what is said of them.
+pub fn check_all(alloc: Global, tables: &[&str]) -> Result<(), Fail> {
+    let data = classes(alloc)?;
+    for table in tables {
+        for case in table.lines() {
+            check(alloc, &data, case)?;
+        }
+    }
+    Ok(())
+}
