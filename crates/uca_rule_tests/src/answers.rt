@@ -2,8 +2,8 @@
 
 use std::alloc::{AllocError, Global};
 use std::test::Fail;
-use uca_fakes::{DATA, code_point, data_of, halves, is_remark, same};
-use uca_rules::{Relation, Rules, read_rules};
+use uca_fakes::{DATA, code_point, data_of, halves, holds, is_remark, same};
+use uca_rules::{Relation, RuleFault, RuleFaultKind, Rules, read_rules};
 use uca_text::Normal;
 use uca_values::Data;
 use uca_weights::{Source, Strength};
@@ -85,19 +85,29 @@ fn relations(alloc: Global, rules: &Rules) -> Result<String, AllocError> {
     Ok(words)
 }
 
+/// Why rules are refused. Where an allocation failed that is the error, and its byte is one of the rules or their end.
+fn refusal(alloc: Global, rules: &[u8], fault: RuleFault) -> Result<String, Fail> {
+    let RuleFault { byte, kind } = fault;
+    if kind == RuleFaultKind::Memory {
+        holds(byte <= rules.len(), "Memory behind the end")?;
+        return Err(Fail::from(kind));
+    }
+    Ok(format!(in alloc; "{kind} at {byte}")?)
+}
+
 /// The relations that rules mean, or why they are refused.
-pub fn said(alloc: Global, data: &Data, rules: &[u8]) -> Result<String, AllocError> {
+pub fn said(alloc: Global, data: &Data, rules: &[u8]) -> Result<String, Fail> {
     match read_rules(alloc, rules, data) {
-        Ok(rules) => relations(alloc, &rules),
-        Err(fault) => format!(in alloc; "{} at {}", fault.kind, fault.byte),
+        Ok(read) => Ok(relations(alloc, &read)?),
+        Err(fault) => refusal(alloc, rules, fault),
     }
 }
 
 /// How many relations rules mean, or why they are refused.
-pub fn counted(alloc: Global, data: &Data, rules: &[u8]) -> Result<String, AllocError> {
+pub fn counted(alloc: Global, data: &Data, rules: &[u8]) -> Result<String, Fail> {
     match read_rules(alloc, rules, data) {
-        Ok(rules) => format!(in alloc; "{} relations", rules.relations().len()),
-        Err(fault) => format!(in alloc; "{} at {}", fault.kind, fault.byte),
+        Ok(read) => Ok(format!(in alloc; "{} relations", read.relations().len())?),
+        Err(fault) => refusal(alloc, rules, fault),
     }
 }
 

@@ -6,7 +6,8 @@ use std::test::Fail;
 use uca_fakes::same;
 use uca_values::Data;
 
-const SPANISH: &str = "# Spanish, traditional order: the dictionaries of the Real Academia Española before the decision of 1994 of the
+const SPANISH: &str =
+    "# Spanish, traditional order: the dictionaries of the Real Academia Española before the decision of 1994 of the
 # Association of Academies. ch and ll are letters of their own, behind c and l; ñ is one behind n, then as now.
 #
 # For a table of all letters, as allkeys.txt. It leaves out the spellings cH and lL (a lower-case letter before an
@@ -17,10 +18,12 @@ const SPANISH: &str = "# Spanish, traditional order: the dictionaries of the Rea
 & L < ll <<< Ll <<< LL
 ";
 
-const SPANISH_MEANS: &str = "N < n(303.230); n(303.230) <<< N(303.230); C < ch; ch <<< Ch; Ch <<< CH; L < ll; ll <<< Ll; \
+const SPANISH_MEANS: &str =
+    "N < n(303.230); n(303.230) <<< N(303.230); C < ch; ch <<< Ch; Ch <<< CH; L < ll; ll <<< Ll; \
     Ll <<< LL";
 
-const SWEDISH: &str = "# Swedish: Svenska Akademiens ordlista, from its 13th edition (2006) on. å, ä and ö are letters of their own behind z, in
+const SWEDISH: &str =
+    "# Swedish: Svenska Akademiens ordlista, from its 13th edition (2006) on. å, ä and ö are letters of their own behind z, in
 # this order. æ is sorted as ä, ø as ö and ü as y: such letters differ at the second level alone.
 #
 # For a table of all letters, as allkeys.txt, which has further letters behind z, of which the click ǀ (U+01C0) begins
@@ -37,11 +40,13 @@ const SWEDISH: &str = "# Swedish: Svenska Akademiens ordlista, from its 13th edi
     < ö <<< Ö << ø <<< Ø
 ";
 
-const SWEDISH_MEANS: &str = "Y << u(308.230); u(308.230) <<< U(308.230); before (1C0) < a(30A.230); a(30A.230) <<< A(30A.230); \
+const SWEDISH_MEANS: &str =
+    "Y << u(308.230); u(308.230) <<< U(308.230); before (1C0) < a(30A.230); a(30A.230) <<< A(30A.230); \
     A(30A.230) < a(308.230); a(308.230) <<< A(308.230); A(308.230) << (E6); (E6) <<< (C6); \
     (C6) < o(308.230); o(308.230) <<< O(308.230); O(308.230) << (F8); (F8) <<< (D8)";
 
-const DANISH: &str = "# Danish and Norwegian: Retskrivningsordbogen and Bokmålsordboka. æ, ø and å are letters of their own behind z, in this
+const DANISH: &str =
+    "# Danish and Norwegian: Retskrivningsordbogen and Bokmålsordboka. æ, ø and å are letters of their own behind z, in this
 # order, and aa counts as å. ä is sorted as æ, ö as ø and ü as y.
 #
 # For a table of all letters, as allkeys.txt; the letters stand directly before the click ǀ (U+01C0), behind all others that
@@ -58,7 +63,8 @@ const DANISH: &str = "# Danish and Norwegian: Retskrivningsordbogen and Bokmåls
     < å <<< Å <<< aa <<< Aa <<< AA
 ";
 
-const DANISH_MEANS: &str = "Y << u(308.230); u(308.230) <<< U(308.230); before (1C0) < (E6); (E6) <<< (C6); (C6) << a(308.230); \
+const DANISH_MEANS: &str =
+    "Y << u(308.230); u(308.230) <<< U(308.230); before (1C0) < (E6); (E6) <<< (C6); (C6) << a(308.230); \
     a(308.230) <<< A(308.230); A(308.230) < (F8); (F8) <<< (D8); (D8) << o(308.230); \
     o(308.230) <<< O(308.230); O(308.230) < a(30A.230); a(30A.230) <<< A(30A.230); A(30A.230) <<< aa; \
     aa <<< Aa; Aa <<< AA";

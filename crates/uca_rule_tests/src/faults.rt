@@ -122,7 +122,8 @@ const ESCAPES: &str = r"-- A backslash at the end, or digits that give no code p
 &a < \uD83D\uDE00 | Escape at 5
 &a < ' '\u12 | Escape at 8";
 
-const STRENGTHS: &str = r"-- The first relation behind a bracket has its strength, starred or not. It is tested as soon as the sign is read.
+const STRENGTHS: &str =
+    r"-- The first relation behind a bracket has its strength, starred or not. It is tested as soon as the sign is read.
 &[before 2]a < x | BeforeStrength at 13
 &[before 1]a << x | BeforeStrength at 13
 &[before 1]a = x | BeforeStrength at 13

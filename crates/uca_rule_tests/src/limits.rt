@@ -7,10 +7,10 @@ use uca_fakes::{bytes_of, halves, is_remark, repeated, same};
 use uca_values::Data;
 
 /// So many relations in one chain, of 11 bytes each, behind 2 bytes.
-fn many_relations(alloc: Global, count: u32) -> Result<String, AllocError> {
+fn many_relations(alloc: Global, count: u16) -> Result<String, AllocError> {
     let mut rules = String::from_str(alloc, "&a")?;
     for number in 0..count {
-        rules.push_str(&format!(in alloc; "<\\U{:08X}", 0x20000 + number)?)?;
+        rules.push_str(&format!(in alloc; "<\\U{:08X}", 0x20000 + u32::from(number))?)?;
     }
     Ok(rules)
 }
@@ -26,7 +26,8 @@ fn check_more(alloc: Global, data: &Data, rules: &str, case: &str) -> Result<(),
 }
 
 /// What follows 4,998 relations in 54,980 bytes.
-const BEFORE_THE_LAST: &str = r"-- The 5,001st relation is refused at its sign, as soon as that is read.
+const BEFORE_THE_LAST: &str =
+    r"-- The 5,001st relation is refused at its sign, as soon as that is read.
 <x<y | 5000 relations
 <x<y<z | Limit at 54984
 <x<y< | Limit at 54984
@@ -62,7 +63,8 @@ fn at_most_5000_relations(rt: HostRuntime) -> Result<(), Fail> {
 }
 
 /// What begins rules, a part, how often it follows, what ends them, and what is said of all.
-const LONG: &str = r"-- Rules of 1,048,576 bytes are read; with one more they are refused before all else.
+const LONG: &str =
+    r"-- Rules of 1,048,576 bytes are read; with one more they are refused before all else.
  | # | 1048576 |  | 0 relations
  | # | 1048577 |  | Limit at 1048576
 \xFF | # | 1048575 |  | Utf8 at 0

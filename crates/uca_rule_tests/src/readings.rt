@@ -1,7 +1,8 @@
 //! Rules that are read, and the relations that they mean, each with its anchor.
 
-use crate::answers::check_all;
+use crate::answers::{check_all, classes, said};
 use std::test::Fail;
+use uca_fakes::same;
 
 const RELATIONS: &str = r"-- No relations.
  | nothing
@@ -37,7 +38,8 @@ const GAPS: &str = r"-- All white space is skipped between parts.
 -- A quoted or escaped number sign begins no comment.
 &a < '#'\# < b | a < (23)(23); (23)(23) < b";
 
-const TEXTS: &str = r"-- Plain are ASCII letters and digits, and from U+0080 on all that is no white space.
+const TEXTS: &str =
+    r"-- Plain are ASCII letters and digits, and from U+0080 on all that is no white space.
 &aA0zZ9 < (AA) | aA0zZ9 < (AA)
 &(FEFF) < (A0) < (80)(84)(86)(9F) < (3000) < (200B)(200D)(2010)(2027)(202A) | (FEFF) < (A0); (A0) < (80)(84)(86)(9F); (80)(84)(86)(9F) < (3000); (3000) < (200B)(200D)(2010)(2027)(202A)
 &(10FFFF) < (E000) < (D7FF) < (FFFE) | (10FFFF) < (E000); (E000) < (D7FF); (D7FF) < (FFFE)
@@ -93,4 +95,25 @@ const STARRED: &str = r"-- A starred text means the plain chain of its character
 #[test]
 fn rules_that_are_read(rt: HostRuntime) -> Result<(), Fail> {
     check_all(rt.alloc(), &[RELATIONS, GAPS, TEXTS, STARRED])
+}
+
+/// Every kind of statement and piece, with more relations than a vector first has room for.
+const EVERY_KIND: &str = r"# every kind
+&[before 1]'b c' < \u0078''y\- / 'it''z' <<* p-su = \U000000E9f/g
+&a <<< Aé#
+&k << ''ab";
+
+const EVERY_KIND_MEANS: &str =
+    "before b(20)c < x(27)y(2D) / it(27)z; x(27)y(2D) << p; p << q; q << r; r << s; s << u; \
+    u = e(301.230)f / g; a <<< Ae(301.230); k << (27)ab";
+
+/// `tools/refused_growths.sh` refuses each of its allocations in turn: then the answer is `Memory`.
+#[test]
+fn rules_of_every_kind(rt: HostRuntime) -> Result<(), Fail> {
+    let data = classes(rt.alloc())?;
+    same(
+        &said(rt.alloc(), &data, EVERY_KIND.as_bytes())?,
+        EVERY_KIND_MEANS,
+        "every kind",
+    )
 }

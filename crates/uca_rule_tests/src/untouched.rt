@@ -9,7 +9,8 @@ use uca_text::normal;
 use uca_values::Data;
 
 /// Rules, a text, and whether the rules leave it as it is.
-const TEXTS: &str = r"-- A target's code points stand in order, in Normalization Form D, and others may stand between.
+const TEXTS: &str =
+    r"-- A target's code points stand in order, in Normalization Form D, and others may stand between.
 &b < a\u0301 | a(323) | untouched
 &b < a\u0301 | a(323)(301) | touched
 &b < a\u0301 | (E1) | touched
