@@ -1,4 +1,5 @@
-//! The limits of rules, on both sides.
+//! The limits of rules, on both sides. Built and run they take a second or two; `rt try`, which checks each step as it
+//! runs, takes a thousand times as long, and gives up after its minute unless `--seconds` says otherwise.
 
 use crate::answers::{classes, counted, text_of};
 use std::alloc::{AllocError, Global};
