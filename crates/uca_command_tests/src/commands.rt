@@ -1,7 +1,9 @@
 //! Each subcommand over two files, and files that do not open.
 
-use crate::fakes::{DATA, End, Files, TABLE, check};
+use crate::fakes::{End, Files, check};
+use std::alloc::Global;
 use std::test::Fail;
+use uca_fakes::{bytes_of, halves};
 
 /// Letters, an accent and a variable space.
 const ROWS: &str = "@version 1\n\
@@ -37,122 +39,62 @@ fn fault(status: u8, err: &str, opened: u32) -> End<'_> {
     }
 }
 
+/// Checks commands over both files that end well. A case is the words, with commas between them, and what is written
+/// on standard output; `\xC3\xA1` in it is U+00E1, and `\xCC\x81` is an acute accent.
+fn check_cases(alloc: Global, input: &[u8], cases: &str) -> Result<(), Fail> {
+    for case in cases.lines() {
+        check_case(alloc, input, case)?;
+    }
+    Ok(())
+}
+
+fn check_case(alloc: Global, input: &[u8], case: &str) -> Result<(), Fail> {
+    let (words, out) = halves(case)?;
+    let words = bytes_of(alloc, words)?;
+    let out = bytes_of(alloc, out)?;
+    let end = done(str::from_utf8(&out)?);
+    check(alloc, &BOTH, str::from_utf8(&words)?, input, &end)
+}
+
+const SUBCOMMANDS: &str = r"check,allkeys.txt,data.txt | well-formed\n
+keys,allkeys.txt,data.txt | 1C60 0000 0020 0000 0002 0000 FFFF\n0000 0000 0000 0209\n1C47 0000 0020 0000 0002 0000 FFFF\n
+keys,--weighting,shifted,allkeys.txt,data.txt | 1C60 0000 0020 0000 0002 0000 FFFF\n0000 0000 0000 0209\n1C47 0000 0020 0000 0002 0000 FFFF\n
+keys,--weighting,non-ignorable,allkeys.txt,data.txt | 1C60 0000 0020 0000 0002\n0209 0000 0020 0000 0002\n1C47 0000 0020 0000 0002\n
+sort,allkeys.txt,data.txt | \x20\na\nb\n
+sort,allkeys.txt,data.txt,--weighting=non-ignorable | \x20\na\nb\n
+compare,allkeys.txt,data.txt,a b,ab | < 4\n
+compare,allkeys.txt,data.txt,ab,a b | > 4\n
+compare,--weighting=shifted,allkeys.txt,data.txt,b,a | > 1\n
+compare,--weighting=non-ignorable,allkeys.txt,data.txt,a b,ab | < 1\n
+compare,allkeys.txt,data.txt,a\xCC\x81,\xC3\xA1 | = 0\n";
+
 #[test]
 fn each_subcommand(rt: HostRuntime) -> Result<(), Fail> {
-    let cases: [(&[&str], &str); 11] = [
-        (&["uca", "check", TABLE, DATA], "well-formed\n"),
-        (
-            &["uca", "keys", TABLE, DATA],
-            "1C60 0000 0020 0000 0002 0000 FFFF\n\
-             0000 0000 0000 0209\n\
-             1C47 0000 0020 0000 0002 0000 FFFF\n",
-        ),
-        (
-            &["uca", "keys", "--weighting", "shifted", TABLE, DATA],
-            "1C60 0000 0020 0000 0002 0000 FFFF\n\
-             0000 0000 0000 0209\n\
-             1C47 0000 0020 0000 0002 0000 FFFF\n",
-        ),
-        (
-            &["uca", "keys", "--weighting", "non-ignorable", TABLE, DATA],
-            "1C60 0000 0020 0000 0002\n\
-             0209 0000 0020 0000 0002\n\
-             1C47 0000 0020 0000 0002\n",
-        ),
-        (&["uca", "sort", TABLE, DATA], " \na\nb\n"),
-        (
-            &["uca", "sort", TABLE, DATA, "--weighting=non-ignorable"],
-            " \na\nb\n",
-        ),
-        (&["uca", "compare", TABLE, DATA, "a b", "ab"], "< 4\n"),
-        (&["uca", "compare", TABLE, DATA, "ab", "a b"], "> 4\n"),
-        (
-            &[
-                "uca",
-                "compare",
-                "--weighting=shifted",
-                TABLE,
-                DATA,
-                "b",
-                "a",
-            ],
-            "> 1\n",
-        ),
-        (
-            &[
-                "uca",
-                "compare",
-                "--weighting=non-ignorable",
-                TABLE,
-                DATA,
-                "a b",
-                "ab",
-            ],
-            "< 1\n",
-        ),
-        (
-            &["uca", "compare", TABLE, DATA, "a\u{301}", "\u{E1}"],
-            "= 0\n",
-        ),
-    ];
-    for (words, out) in cases {
-        check(&rt, BOTH, words, b"b\n \na", done(out))?;
-    }
-    Ok(())
+    check_cases(rt.alloc(), b"b\n \na", SUBCOMMANDS)
 }
 
-// The space and the accent behind it weigh the same as the space.
+/// The space and the accent behind it weigh the same as the space.
+const TO_THE_IDENTICAL_LEVEL: &str =
+    r"keys,--identical,allkeys.txt,data.txt | 0000 0000 0000 0209 0000 000020 000301\n0000 0000 0000 0209 0000 000020\n
+sort,allkeys.txt,data.txt | \x20\xCC\x81\n\x20\n
+sort,--identical,allkeys.txt,data.txt | \x20\n\x20\xCC\x81\n
+compare,allkeys.txt,data.txt, \xCC\x81,\x20 | = 0\n
+compare,--identical,allkeys.txt,data.txt, \xCC\x81,\x20 | > 5\n";
+
 #[test]
 fn to_the_identical_level(rt: HostRuntime) -> Result<(), Fail> {
-    let cases: [(&[&str], &str); 5] = [
-        (
-            &["uca", "keys", "--identical", TABLE, DATA],
-            "0000 0000 0000 0209 0000 000020 000301\n\
-             0000 0000 0000 0209 0000 000020\n",
-        ),
-        (&["uca", "sort", TABLE, DATA], " \u{301}\n \n"),
-        (
-            &["uca", "sort", "--identical", TABLE, DATA],
-            " \n \u{301}\n",
-        ),
-        (&["uca", "compare", TABLE, DATA, " \u{301}", " "], "= 0\n"),
-        (
-            &[
-                "uca",
-                "compare",
-                "--identical",
-                TABLE,
-                DATA,
-                " \u{301}",
-                " ",
-            ],
-            "> 5\n",
-        ),
-    ];
-    for (words, out) in cases {
-        check(&rt, BOTH, words, " \u{301}\n \n".as_bytes(), done(out))?;
-    }
-    Ok(())
+    let input = " \u{301}\n \n".as_bytes();
+    check_cases(rt.alloc(), input, TO_THE_IDENTICAL_LEVEL)
 }
 
-// Only the weighting tells these lines' order: a space counts at the fourth level or at the first.
+/// Only the weighting tells these lines' order: a space counts at the fourth level or at the first.
+const BY_THE_WEIGHTING: &str = r"sort,allkeys.txt,data.txt | aa\na b\nab\n
+sort,--weighting,shifted,allkeys.txt,data.txt | aa\na b\nab\n
+sort,--weighting,non-ignorable,allkeys.txt,data.txt | a b\naa\nab\n";
+
 #[test]
 fn sorting_by_the_weighting(rt: HostRuntime) -> Result<(), Fail> {
-    let cases: [(&[&str], &str); 3] = [
-        (&["uca", "sort", TABLE, DATA], "aa\na b\nab\n"),
-        (
-            &["uca", "sort", "--weighting", "shifted", TABLE, DATA],
-            "aa\na b\nab\n",
-        ),
-        (
-            &["uca", "sort", "--weighting", "non-ignorable", TABLE, DATA],
-            "a b\naa\nab\n",
-        ),
-    ];
-    for (words, out) in cases {
-        check(&rt, BOTH, words, b"ab\na b\naa\n", done(out))?;
-    }
-    Ok(())
+    check_cases(rt.alloc(), b"ab\na b\naa\n", BY_THE_WEIGHTING)
 }
 
 #[test]
@@ -167,78 +109,85 @@ fn a_table_that_is_not_well_formed(rt: HostRuntime) -> Result<(), Fail> {
         err: "",
         opened: 2,
     };
-    check(&rt, files, &["uca", "check", TABLE, DATA], b"", end)
+    check(rt.alloc(), &files, "check,allkeys.txt,data.txt", b"", &end)
 }
+
+// A file does not open: this is said, and so many files are opened.
+fn check_closed(
+    alloc: Global,
+    words: &str,
+    (table, properties): (Option<&str>, Option<&str>),
+    (err, opened): (&str, u32),
+) -> Result<(), Fail> {
+    let files = Files { table, properties };
+    check(alloc, &files, words, b"a\n", &fault(3, err, opened))
+}
+
+// A table that is refused is read only once the data file is opened.
+fn check_subcommand(alloc: Global, words: &str) -> Result<(), Fail> {
+    let data = ("data: Open\n", 1);
+    check_closed(alloc, words, (Some(ROWS), None), data)?;
+    check_closed(alloc, words, (Some("?\n"), None), data)?;
+    let table = ("table: Open\n", 0);
+    check_closed(alloc, words, (None, Some(CLASSES)), table)?;
+    check_closed(alloc, words, (None, None), table)
+}
+
+const EACH: &str = "check,allkeys.txt,data.txt
+keys,allkeys.txt,data.txt
+sort,allkeys.txt,data.txt
+compare,allkeys.txt,data.txt,a,b";
 
 #[test]
 fn files_that_do_not_open(rt: HostRuntime) -> Result<(), Fail> {
-    let subcommands: [&[&str]; 4] = [
-        &["uca", "check", TABLE, DATA],
-        &["uca", "keys", TABLE, DATA],
-        &["uca", "sort", TABLE, DATA],
-        &["uca", "compare", TABLE, DATA, "a", "b"],
-    ];
-    for words in subcommands {
-        // A table that is refused is read only once the data file is opened.
-        for table in [Some(ROWS), Some("?\n")] {
-            let files = Files {
-                table,
-                properties: None,
-            };
-            check(&rt, files, words, b"a\n", fault(3, "data: Open\n", 1))?;
-        }
-        for properties in [Some(CLASSES), None] {
-            let files = Files {
-                table: None,
-                properties,
-            };
-            check(&rt, files, words, b"a\n", fault(3, "table: Open\n", 0))?;
-        }
+    for words in EACH.lines() {
+        check_subcommand(rt.alloc(), words)?;
     }
     Ok(())
 }
 
-#[test]
-fn files_and_lines_that_are_refused(rt: HostRuntime) -> Result<(), Fail> {
-    let keys: &[&str] = &["uca", "keys", TABLE, DATA];
-    let bad_table = Files {
-        table: Some("@version 1\n?\n"),
-        properties: Some("?\n"),
+// A file or a line is refused with status 1.
+fn check_refused(
+    alloc: Global,
+    (table, properties): (&str, &str),
+    (words, input): (&str, &[u8]),
+    (out, err): (&str, &str),
+) -> Result<(), Fail> {
+    let files = Files {
+        table: Some(table),
+        properties: Some(properties),
     };
-    check(
-        &rt,
-        bad_table,
-        keys,
-        b"",
-        fault(1, "table line 2: CodePoint\n", 2),
-    )?;
-    let bad_data = Files {
-        table: Some(ROWS),
-        properties: Some("@data 1\nccc 0301..0301 0\n"),
-    };
-    check(
-        &rt,
-        bad_data,
-        keys,
-        b"",
-        fault(1, "data line 2: Weight\n", 2),
-    )?;
-    // The names are those of the words: the data file as the table has no version.
-    let swapped: &[&str] = &["uca", "check", DATA, TABLE];
-    check(&rt, BOTH, swapped, b"", fault(1, "table line 1: Line\n", 2))?;
     let end = End {
         status: 1,
-        out: "1C47 0000 0020 0000 0002 0000 FFFF\n",
-        err: "input line 2: Utf8\n",
+        out,
+        err,
         opened: 2,
     };
-    check(&rt, BOTH, keys, b"a\n\xFF\n", end)?;
-    let sort: &[&str] = &["uca", "sort", TABLE, DATA];
-    check(
-        &rt,
-        BOTH,
-        sort,
-        b"a\n\xFF\n",
-        fault(1, "input line 2: Utf8\n", 2),
-    )
+    check(alloc, &files, words, input, &end)
+}
+
+const KEYS: &str = "keys,allkeys.txt,data.txt";
+
+#[test]
+fn files_that_are_refused(rt: HostRuntime) -> Result<(), Fail> {
+    let table = ("@version 1\n?\n", "?\n");
+    let said = ("", "table line 2: CodePoint\n");
+    check_refused(rt.alloc(), table, (KEYS, b""), said)?;
+    let data = (ROWS, "@data 1\nccc 0301..0301 0\n");
+    let said = ("", "data line 2: Weight\n");
+    check_refused(rt.alloc(), data, (KEYS, b""), said)?;
+    // The names are those of the words: the data file as the table has no version.
+    let swapped = "check,data.txt,allkeys.txt";
+    let said = ("", "table line 1: Line\n");
+    check_refused(rt.alloc(), (ROWS, CLASSES), (swapped, b""), said)
+}
+
+#[test]
+fn lines_that_are_refused(rt: HostRuntime) -> Result<(), Fail> {
+    let err = "input line 2: Utf8\n";
+    let key = "1C47 0000 0020 0000 0002 0000 FFFF\n";
+    let files = (ROWS, CLASSES);
+    check_refused(rt.alloc(), files, (KEYS, b"a\n\xFF\n"), (key, err))?;
+    let sort = "sort,allkeys.txt,data.txt";
+    check_refused(rt.alloc(), files, (sort, b"a\n\xFF\n"), ("", err))
 }

@@ -1,19 +1,14 @@
 //! An opener of two files in memory that sees in which order they are opened and read.
 
+use std::alloc::{AllocError, Global};
 use std::cell::Cell;
 use std::io;
 use std::io::Read;
-use std::process::Abort;
+use std::iter::once;
 use std::test::Fail;
 use uca_cli::{OpenFault, Opens, run_command};
 use uca_fakes::{Calls, FakeReader, Pace};
 use uca_weights::{Sink, Source};
-
-/// The name of the table file.
-pub const TABLE: &str = "allkeys.txt";
-
-/// The name of the data file.
-pub const DATA: &str = "data.txt";
 
 /// The files of a command: their texts, or nothing where one does not open.
 #[derive(Clone, Copy)]
@@ -109,14 +104,57 @@ pub struct End<'a> {
     pub opened: u32,
 }
 
-/// The command ends so over these files and this input: all files are opened before one is read, the
-/// first is read before the second, and the input is read only where both are opened.
-pub fn check(
-    rt: &(impl Abort + AllocGlobal),
-    files: Files,
+// What came of a command.
+#[derive(Drop)]
+struct Ended {
+    status: u8,
+    out: Vec<u8>,
+    err: Vec<u8>,
+}
+
+// A command over an opener, and a reader of the input that gives seven bytes a call.
+fn run(
+    alloc: Global,
+    opener: &mut FakeOpener,
     words: &[&str],
     input: &[u8],
-    end: End,
+    calls: &Calls,
+) -> Ended {
+    let mut input = Source::new(FakeReader::new(input, Pace::steps(7), calls));
+    let mut out = Sink::new(Vec::new(alloc));
+    let mut err = Sink::new(Vec::new(alloc));
+    let status = run_command(alloc, opener, words, &mut input, &mut out, &mut err);
+    Ended {
+        status,
+        out: out.into_inner(),
+        err: err.into_inner(),
+    }
+}
+
+/// The program's name, and the words of a line, one after each comma.
+fn words_of(alloc: Global, line: &str) -> Result<Vec<&str>, AllocError> {
+    once("uca").chain(line.split(',')).collect(alloc)
+}
+
+/// The command of some words, with commas between them, ends so over these files and this input: all files are
+/// opened before one is read, the first is read before the second, and the input is read only where both are opened.
+pub fn check(
+    alloc: Global,
+    files: &Files,
+    words: &str,
+    input: &[u8],
+    end: &End,
+) -> Result<(), Fail> {
+    check_words(alloc, files, &words_of(alloc, words)?, input, end)
+}
+
+/// The same of words that stand apart.
+pub fn check_words(
+    alloc: Global,
+    files: &Files,
+    words: &[&str],
+    input: &[u8],
+    end: &End,
 ) -> Result<(), Fail> {
     let seen = Seen {
         opened: Cell::new(0),
@@ -125,32 +163,23 @@ pub fn check(
         last: Cell::new(0),
     };
     let calls = Calls::new();
-    let mut opener = FakeOpener { files, seen: &seen };
-    let mut input = Source::new(FakeReader::new(input, Pace::steps(7), &calls));
-    let mut out = Sink::new(Vec::new(rt.alloc()));
-    let mut err = Sink::new(Vec::new(rt.alloc()));
-    let status = run_command(
-        rt.alloc(),
-        &mut opener,
-        words,
-        &mut input,
-        &mut out,
-        &mut err,
-    );
-    assert_eq!(rt;
-        out.into_inner().as_slice(),
-        end.out.as_bytes(),
-        "out of {words:?}"
-    );
-    assert_eq!(rt;
-        err.into_inner().as_slice(),
-        end.err.as_bytes(),
-        "err of {words:?}"
-    );
-    assert_eq!(rt; status, end.status, "status of {words:?}");
-    assert_eq!(rt; seen.opened.get(), end.opened, "opened by {words:?}");
-    assert_eq!(rt; seen.early.get(), 0);
-    assert_eq!(rt; seen.back.get(), 0);
-    assert!(rt; end.opened == 2 || calls.all.get() == 0);
-    Ok(())
+    let mut opener = FakeOpener {
+        files: *files,
+        seen: &seen,
+    };
+    let ended = run(alloc, &mut opener, words, input, &calls);
+    let is_written = ended.out.as_slice() == end.out.as_bytes()
+        && ended.err.as_slice() == end.err.as_bytes()
+        && ended.status == end.status;
+    let is_in_order = seen.opened.get() == end.opened
+        && seen.early.get() == 0
+        && seen.back.get() == 0
+        && (end.opened == 2 || calls.all.get() == 0);
+    if is_written && is_in_order {
+        return Ok(());
+    }
+    Err(Fail::new(format_args!(
+        "{words:?} ended with {}, and in order: {is_in_order}",
+        ended.status
+    )))
 }

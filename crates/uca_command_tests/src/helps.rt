@@ -1,6 +1,7 @@
 //! The whole text of each help and of refusals.
 
-use crate::fakes::{DATA, End, Files, TABLE, check};
+use crate::fakes::{End, Files, check, check_words};
+use std::alloc::Global;
 use std::test::Fail;
 
 const NONE: Files<'static> = Files {
@@ -127,119 +128,114 @@ const COMPARE: &str =
     \n\
     Example: uca compare --weighting shifted allkeys.txt data.txt cote côté\n";
 
-#[test]
-fn whole_help_texts(rt: HostRuntime) -> Result<(), Fail> {
-    let cases: [(&[&str], &str); 6] = [
-        (&["uca", "--help"], WHOLE),
-        (&["uca", "-h"], WHOLE),
-        (&["uca", "check", "--help"], CHECK),
-        (&["uca", "keys", "--help"], KEYS),
-        (&["uca", "sort", "--help"], SORT),
-        (&["uca", "compare", "--help"], COMPARE),
-    ];
-    for (words, out) in cases {
-        let end = End {
-            status: 0,
-            out,
-            err: "",
-            opened: 0,
-        };
-        check(&rt, NONE, words, b"", end)?;
+// No file is opened.
+fn end_of(status: u8, out: &'static str, err: &'static str) -> End<'static> {
+    End {
+        status,
+        out,
+        err,
+        opened: 0,
     }
-    Ok(())
+}
+
+// The help of some words.
+fn check_help(alloc: Global, words: &str, out: &'static str) -> Result<(), Fail> {
+    check(alloc, &NONE, words, b"", &end_of(0, out, ""))
 }
 
 #[test]
-fn whole_refusals(rt: HostRuntime) -> Result<(), Fail> {
-    let cases: [(&[&str], &str); 9] = [
-        (
-            &["uca"],
-            "error: 'uca' requires a subcommand but one was not provided\n\
-             \x20 [subcommands: check, keys, sort, compare]\n\
-             \n\
-             Usage: uca <COMMAND>\n\
-             \n\
-             For more information, try '--help'.\n",
-        ),
-        (
-            &["uca", "other", "t", "d"],
-            "error: unrecognized subcommand 'other'\n\
-             \n\
-             Usage: uca <COMMAND>\n\
-             \n\
-             For more information, try '--help'.\n",
-        ),
-        (
-            &["uca", "keys", "t"],
-            "error: the following required arguments were not provided:\n\
-             \x20 <DATA>\n\
-             \n\
-             Usage: uca keys <TABLE> <DATA>\n\
-             \n\
-             For more information, try '--help'.\n",
-        ),
-        (
-            &["uca", "keys", "--weighting"],
-            "error: a value is required for '--weighting <W>' but none was supplied\n\
-             \n\
-             For more information, try '--help'.\n",
-        ),
-        (
-            &["uca", "keys", "--other", "t", "d"],
-            "error: unexpected argument '--other' found\n\
-             \n\
-             \x20 tip: to pass '--other' as a value, use '-- --other'\n\
-             \n\
-             Usage: uca keys [OPTIONS] <TABLE> <DATA>\n\
-             \n\
-             For more information, try '--help'.\n",
-        ),
-        (
-            &["uca", "keys", "t", "d", "l"],
-            "error: unexpected argument 'l' found\n\
-             \n\
-             Usage: uca keys [OPTIONS] <TABLE> <DATA>\n\
-             \n\
-             For more information, try '--help'.\n",
-        ),
-        (
-            &[
-                "uca",
-                "sort",
-                "--weighting",
-                "x",
-                "--weighting",
-                "x",
-                "t",
-                "d",
-            ],
-            "error: the argument '--weighting <W>' cannot be used multiple times\n\
-             \n\
-             Usage: uca sort [OPTIONS] <TABLE> <DATA>\n\
-             \n\
-             For more information, try '--help'.\n",
-        ),
-        (
-            &["uca", "sort", "--identical", "--identical", "t", "d"],
-            "error: the argument '--identical' cannot be used multiple times\n\
-             \n\
-             Usage: uca sort [OPTIONS] <TABLE> <DATA>\n\
-             \n\
-             For more information, try '--help'.\n",
-        ),
-        (
-            &["uca", "keys", "--weighting", "other", TABLE, DATA],
-            "weighting: unknown\n",
-        ),
-    ];
-    for (words, err) in cases {
-        let end = End {
-            status: 2,
-            out: "",
-            err,
-            opened: 0,
-        };
-        check(&rt, NONE, words, b"", end)?;
-    }
-    Ok(())
+fn whole_help_texts(rt: HostRuntime) -> Result<(), Fail> {
+    check_help(rt.alloc(), "--help", WHOLE)?;
+    check_help(rt.alloc(), "-h", WHOLE)?;
+    check_help(rt.alloc(), "check,--help", CHECK)?;
+    check_help(rt.alloc(), "keys,--help", KEYS)?;
+    check_help(rt.alloc(), "sort,--help", SORT)?;
+    check_help(rt.alloc(), "compare,--help", COMPARE)
+}
+
+// Words that are refused, and what is said.
+fn check_refused(alloc: Global, words: &str, err: &'static str) -> Result<(), Fail> {
+    check(alloc, &NONE, words, b"", &end_of(2, "", err))
+}
+
+const NO_SUBCOMMAND: &str = "error: 'uca' requires a subcommand but one was not provided\n\
+    \x20 [subcommands: check, keys, sort, compare]\n\
+    \n\
+    Usage: uca <COMMAND>\n\
+    \n\
+    For more information, try '--help'.\n";
+
+const OTHER_SUBCOMMAND: &str = "error: unrecognized subcommand 'other'\n\
+    \n\
+    Usage: uca <COMMAND>\n\
+    \n\
+    For more information, try '--help'.\n";
+
+const NO_DATA: &str = "error: the following required arguments were not provided:\n\
+    \x20 <DATA>\n\
+    \n\
+    Usage: uca keys <TABLE> <DATA>\n\
+    \n\
+    For more information, try '--help'.\n";
+
+const NO_WEIGHTING: &str =
+    "error: a value is required for '--weighting <W>' but none was supplied\n\
+    \n\
+    For more information, try '--help'.\n";
+
+const OTHER_OPTION: &str = "error: unexpected argument '--other' found\n\
+    \n\
+    \x20 tip: to pass '--other' as a value, use '-- --other'\n\
+    \n\
+    Usage: uca keys [OPTIONS] <TABLE> <DATA>\n\
+    \n\
+    For more information, try '--help'.\n";
+
+const MORE_WORDS: &str = "error: unexpected argument 'l' found\n\
+    \n\
+    Usage: uca keys [OPTIONS] <TABLE> <DATA>\n\
+    \n\
+    For more information, try '--help'.\n";
+
+const WEIGHTING_TWICE: &str =
+    "error: the argument '--weighting <W>' cannot be used multiple times\n\
+    \n\
+    Usage: uca sort [OPTIONS] <TABLE> <DATA>\n\
+    \n\
+    For more information, try '--help'.\n";
+
+const IDENTICAL_TWICE: &str = "error: the argument '--identical' cannot be used multiple times\n\
+    \n\
+    Usage: uca sort [OPTIONS] <TABLE> <DATA>\n\
+    \n\
+    For more information, try '--help'.\n";
+
+#[test]
+fn refused_subcommands(rt: HostRuntime) -> Result<(), Fail> {
+    let end = end_of(2, "", NO_SUBCOMMAND);
+    check_words(rt.alloc(), &NONE, &["uca"], b"", &end)?;
+    check_refused(rt.alloc(), "other,t,d", OTHER_SUBCOMMAND)?;
+    check_refused(rt.alloc(), "keys,t", NO_DATA)?;
+    check_refused(rt.alloc(), "keys,t,d,l", MORE_WORDS)
+}
+
+#[test]
+fn refused_options(rt: HostRuntime) -> Result<(), Fail> {
+    check_refused(rt.alloc(), "keys,--weighting", NO_WEIGHTING)?;
+    check_refused(rt.alloc(), "keys,--other,t,d", OTHER_OPTION)?;
+    check_refused(
+        rt.alloc(),
+        "sort,--weighting,x,--weighting,x,t,d",
+        WEIGHTING_TWICE,
+    )?;
+    check_refused(
+        rt.alloc(),
+        "sort,--identical,--identical,t,d",
+        IDENTICAL_TWICE,
+    )?;
+    check_refused(
+        rt.alloc(),
+        "keys,--weighting,other,allkeys.txt,data.txt",
+        "weighting: unknown\n",
+    )
 }

@@ -1,179 +1,171 @@
 //! The line of each fault, its status, and where it goes.
 
-use std::io::ErrorKind;
-use std::process::Abort;
+use std::alloc::Global;
+use std::io::{ErrorKind, Write};
 use std::test::Fail;
 use uca_cli::{FileFault, InputKind, Role, RunFault, report};
-use uca_fakes::{Calls, Failure, FakeWriter, Pace};
+use uca_fakes::{Calls, Failure, FakeWriter, Pace, holds};
 use uca_files::{FaultKind, TableFault};
 use uca_text::TextFault;
 use uca_weights::Sink;
 use uca_words::WordFault;
 
-// The fault is reported by this line on standard error and this status, and nothing on standard output;
-// where the writer fails after nine bytes, by these and this status.
-fn check(
-    rt: &(impl Abort + AllocGlobal),
-    fault: &RunFault,
-    line: &str,
-    status: u8,
-) -> Result<(), Fail> {
-    let mut out = Sink::new(Vec::new(rt.alloc()));
-    let mut err = Sink::new(Vec::new(rt.alloc()));
-    assert_eq!(rt;
-        report(rt.alloc(), fault, &mut out, &mut err),
-        status,
-        "{line}"
-    );
-    assert!(rt; out.into_inner().is_empty());
-    assert_eq!(rt; err.into_inner().as_slice(), line.as_bytes());
-    for failure in [Failure::Nothing, Failure::Error(ErrorKind::Interrupted)] {
-        check_cut(rt, fault, line, status, failure)?;
+// The status of a fault that is reported on standard error, if nothing goes to standard output.
+fn status_of<W: Write>(alloc: Global, fault: &RunFault, err: &mut Sink<W>) -> Option<u8> {
+    let mut out = Sink::new(Vec::new(alloc));
+    let status = report(alloc, fault, &mut out, err);
+    if out.into_inner().is_empty() {
+        Some(status)
+    } else {
+        None
     }
-    Ok(())
+}
+
+// The fault is reported by this line and this status; and where the writer fails after six bytes, by these and this
+// status.
+fn check(alloc: Global, fault: &RunFault, line: &str, status: u8) -> Result<(), Fail> {
+    let mut err = Sink::new(Vec::new(alloc));
+    let found = status_of(alloc, fault, &mut err);
+    let is_line = err.into_inner().as_slice() == line.as_bytes();
+    holds(found == Some(status) && is_line, line)?;
+    check_cut(alloc, fault, line, status, Failure::Nothing)?;
+    let error = Failure::Error(ErrorKind::Interrupted);
+    check_cut(alloc, fault, line, status, error)
 }
 
 fn check_cut(
-    rt: &(impl Abort + AllocGlobal),
+    alloc: Global,
     fault: &RunFault,
     line: &str,
     status: u8,
     failure: Failure,
 ) -> Result<(), Fail> {
     let calls = Calls::new();
-    let mut out = Sink::new(Vec::new(rt.alloc()));
-    let mut err = Sink::new(FakeWriter::new(rt.alloc(), Pace::failing(4, 6, failure), &calls));
-    assert_eq!(rt; report(rt.alloc(), fault, &mut out, &mut err), status);
-    assert!(rt; err.failed());
-    assert!(rt; out.into_inner().is_empty());
-    assert_eq!(rt; calls.late.get(), 0);
-    assert_eq!(rt;
-        Some(err.into_inner().text.as_slice()),
-        line.as_bytes().get(..6)
-    );
-    Ok(())
+    let mut err = Sink::new(FakeWriter::new(alloc, Pace::failing(4, 6, failure), &calls));
+    let found = status_of(alloc, fault, &mut err);
+    let is_told = err.failed() && calls.late.get() == 0;
+    let text = err.into_inner().text;
+    let is_begun = Some(text.as_slice()) == line.as_bytes().get(..6);
+    holds(found == Some(status) && is_told && is_begun, line)
+}
+
+// A fault of a line of a file.
+fn check_file(
+    alloc: Global,
+    (role, line, kind): (Role, u32, FaultKind),
+    text: &str,
+    status: u8,
+) -> Result<(), Fail> {
+    let fault = FileFault::Lines(TableFault { line, kind });
+    check(alloc, &RunFault::File { role, fault }, text, status)
 }
 
 #[test]
-fn faults_of_files(rt: HostRuntime) -> Result<(), Fail> {
-    let cases = [
-        (Role::Table, 1, FaultKind::Line, "table line 1: Line\n", 1),
-        (Role::Data, 22, FaultKind::Order, "data line 22: Order\n", 1),
-        (
-            Role::Base,
-            3,
-            FaultKind::CodePoint,
-            "base line 3: CodePoint\n",
-            1,
-        ),
-        (
-            Role::Tailored,
-            4,
-            FaultKind::Weight,
-            "tailored line 4: Weight\n",
-            1,
-        ),
-        (Role::Data, 2, FaultKind::Range, "data line 2: Range\n", 1),
-        (
-            Role::Table,
-            1_000_001,
-            FaultKind::Limit,
-            "table line 1000001: Limit\n",
-            1,
-        ),
-        (Role::Data, 7, FaultKind::Read, "data line 7: Read\n", 3),
-        (
-            Role::Table,
-            8,
-            FaultKind::Memory,
-            "table line 8: Memory\n",
-            4,
-        ),
-        // The longest line of a file.
-        (
-            Role::Certificate,
-            4_294_967_295,
-            FaultKind::DuplicateKey,
-            "certificate line 4294967295: DuplicateKey\n",
-            1,
-        ),
-    ];
-    for (role, line, kind, text, status) in cases {
-        let fault = FileFault::Lines(TableFault { line, kind });
-        check(&rt, &RunFault::File { role, fault }, text, status)?;
-    }
-    Ok(())
+fn refused_files(rt: HostRuntime) -> Result<(), Fail> {
+    let alloc = rt.alloc();
+    let fault = (Role::Table, 1, FaultKind::Line);
+    check_file(alloc, fault, "table line 1: Line\n", 1)?;
+    let fault = (Role::Data, 22, FaultKind::Order);
+    check_file(alloc, fault, "data line 22: Order\n", 1)?;
+    let fault = (Role::Base, 3, FaultKind::CodePoint);
+    check_file(alloc, fault, "base line 3: CodePoint\n", 1)?;
+    let fault = (Role::Tailored, 4, FaultKind::Weight);
+    check_file(alloc, fault, "tailored line 4: Weight\n", 1)?;
+    let fault = (Role::Data, 2, FaultKind::Range);
+    check_file(alloc, fault, "data line 2: Range\n", 1)
+}
+
+#[test]
+fn other_faults_of_files(rt: HostRuntime) -> Result<(), Fail> {
+    let alloc = rt.alloc();
+    let fault = (Role::Table, 1_000_001, FaultKind::Limit);
+    check_file(alloc, fault, "table line 1000001: Limit\n", 1)?;
+    let fault = (Role::Data, 7, FaultKind::Read);
+    check_file(alloc, fault, "data line 7: Read\n", 3)?;
+    let fault = (Role::Table, 8, FaultKind::Memory);
+    check_file(alloc, fault, "table line 8: Memory\n", 4)?;
+    // The longest line of a file.
+    let fault = (Role::Certificate, 4_294_967_295, FaultKind::DuplicateKey);
+    check_file(
+        alloc,
+        fault,
+        "certificate line 4294967295: DuplicateKey\n",
+        1,
+    )
+}
+
+// A file that does not open.
+fn check_open(alloc: Global, role: Role, text: &str) -> Result<(), Fail> {
+    check(alloc, &RunFault::Open(role), text, 3)
 }
 
 #[test]
 fn files_that_do_not_open(rt: HostRuntime) -> Result<(), Fail> {
-    let roles = [
-        (Role::Table, "table: Open\n"),
-        (Role::Data, "data: Open\n"),
-        (Role::Rules, "rules: Open\n"),
-        (Role::Certificate, "certificate: Open\n"),
-        (Role::Base, "base: Open\n"),
-        (Role::Tailored, "tailored: Open\n"),
-    ];
-    for (role, text) in roles {
-        check(&rt, &RunFault::Open(role), text, 3)?;
-    }
-    Ok(())
+    check_open(rt.alloc(), Role::Table, "table: Open\n")?;
+    check_open(rt.alloc(), Role::Data, "data: Open\n")?;
+    check_open(rt.alloc(), Role::Rules, "rules: Open\n")?;
+    check_open(rt.alloc(), Role::Certificate, "certificate: Open\n")?;
+    check_open(rt.alloc(), Role::Base, "base: Open\n")?;
+    check_open(rt.alloc(), Role::Tailored, "tailored: Open\n")
+}
+
+// A fault of a line of the input.
+fn check_line(
+    alloc: Global,
+    (line, kind): (u32, InputKind),
+    text: &str,
+    status: u8,
+) -> Result<(), Fail> {
+    check(alloc, &RunFault::Input { line, kind }, text, status)
 }
 
 #[test]
 fn faults_of_lines(rt: HostRuntime) -> Result<(), Fail> {
-    let lines = [
-        (1, InputKind::Utf8, "input line 1: Utf8\n", 1),
-        (2, InputKind::TooLong, "input line 2: TooLong\n", 1),
-        (3, InputKind::LongRun(0), "input line 3: LongRun at 0\n", 1),
-        (4, InputKind::Read, "input line 4: Read\n", 3),
-        (
-            1_000_001,
-            InputKind::Limit,
-            "input line 1000001: Limit\n",
-            1,
-        ),
-        (6, InputKind::Memory, "input line 6: Memory\n", 4),
-        // The longest line of all.
-        (
-            4_294_967_295,
-            InputKind::LongRun(4_294_967_295),
-            "input line 4294967295: LongRun at 4294967295\n",
-            1,
-        ),
-    ];
-    for (line, kind, text, status) in lines {
-        check(&rt, &RunFault::Input { line, kind }, text, status)?;
-    }
-    Ok(())
+    let alloc = rt.alloc();
+    check_line(alloc, (1, InputKind::Utf8), "input line 1: Utf8\n", 1)?;
+    check_line(alloc, (2, InputKind::TooLong), "input line 2: TooLong\n", 1)?;
+    let run = (3, InputKind::LongRun(0));
+    check_line(alloc, run, "input line 3: LongRun at 0\n", 1)?;
+    check_line(alloc, (4, InputKind::Read), "input line 4: Read\n", 3)?;
+    let limit = (1_000_001, InputKind::Limit);
+    check_line(alloc, limit, "input line 1000001: Limit\n", 1)?;
+    check_line(alloc, (6, InputKind::Memory), "input line 6: Memory\n", 4)?;
+    // The longest line of all.
+    let longest = (4_294_967_295, InputKind::LongRun(4_294_967_295));
+    let text = "input line 4294967295: LongRun at 4294967295\n";
+    check_line(alloc, longest, text, 1)
+}
+
+// A fault of a text, which is the right one or the left one.
+fn check_text(
+    alloc: Global,
+    (right, fault): (bool, TextFault),
+    text: &str,
+    status: u8,
+) -> Result<(), Fail> {
+    check(alloc, &RunFault::Text { right, fault }, text, status)
+}
+
+#[test]
+fn faults_of_texts(rt: HostRuntime) -> Result<(), Fail> {
+    let alloc = rt.alloc();
+    check_text(alloc, (false, TextFault::TooLong), "left: TooLong\n", 1)?;
+    let run = (false, TextFault::LongRun(1));
+    check_text(alloc, run, "left: LongRun at 1\n", 1)?;
+    check_text(alloc, (false, TextFault::Memory), "left: Memory\n", 4)?;
+    check_text(alloc, (true, TextFault::TooLong), "right: TooLong\n", 1)?;
+    let run = (true, TextFault::LongRun(1_048_511));
+    check_text(alloc, run, "right: LongRun at 1048511\n", 1)?;
+    check_text(alloc, (true, TextFault::Memory), "right: Memory\n", 4)
 }
 
 #[test]
 fn other_faults(rt: HostRuntime) -> Result<(), Fail> {
-    let words = [
-        (false, TextFault::TooLong, "left: TooLong\n", 1),
-        (false, TextFault::LongRun(1), "left: LongRun at 1\n", 1),
-        (false, TextFault::Memory, "left: Memory\n", 4),
-        (true, TextFault::TooLong, "right: TooLong\n", 1),
-        (
-            true,
-            TextFault::LongRun(1_048_511),
-            "right: LongRun at 1048511\n",
-            1,
-        ),
-        (true, TextFault::Memory, "right: Memory\n", 4),
-    ];
-    for (right, fault, text, status) in words {
-        check(&rt, &RunFault::Text { right, fault }, text, status)?;
-    }
-    check(&rt, &RunFault::Write { written: 7 }, "output: Write\n", 3)?;
-    check(&rt, &RunFault::Memory, "memory\n", 4)?;
-    check(&rt, &RunFault::Words(WordFault::Memory), "memory\n", 4)?;
-    check(
-        &rt,
-        &RunFault::Words(WordFault::Weighting),
-        "weighting: unknown\n",
-        2,
-    )
+    let alloc = rt.alloc();
+    let write = RunFault::Write { written: 7 };
+    check(alloc, &write, "output: Write\n", 3)?;
+    check(alloc, &RunFault::Memory, "memory\n", 4)?;
+    check(alloc, &RunFault::Words(WordFault::Memory), "memory\n", 4)?;
+    let weighting = RunFault::Words(WordFault::Weighting);
+    check(alloc, &weighting, "weighting: unknown\n", 2)
 }

@@ -1,6 +1,6 @@
 //! Files of any lines: what the reading of files says of every kind of line holds of these.
 
-use std::alloc::Global;
+use std::alloc::{AllocError, Global};
 use std::test::Fail;
 use uca_fakes::{halves, same};
 use uca_files::laws::{ExactLines, no_meaning_with_fault, one_meaning};
@@ -57,10 +57,15 @@ impl ExactLines for AnyLines {
 const FILES: &str = " | Ok(0)
 a | Err(FileFault { line: 1, kind: Line })";
 
+/// What is said of a file.
+fn said(alloc: Global, file: &[u8]) -> Result<String, AllocError> {
+    let found = read_lines(alloc, &mut Source::new(file), &mut AnyLines);
+    format!(in alloc; "{found:?}")
+}
+
 fn check_file(alloc: Global, case: &str) -> Result<(), Fail> {
     let (file, wanted) = halves(case)?;
-    let found = read_lines(alloc, &mut Source::new(file.as_bytes()), &mut AnyLines);
-    same(&format!(in alloc; "{found:?}")?, wanted, case)
+    same(&said(alloc, file.as_bytes())?, wanted, case)
 }
 
 #[test]
@@ -68,7 +73,11 @@ fn files_of_any_lines(rt: HostRuntime) -> Result<(), Fail> {
     for case in FILES.lines() {
         check_file(rt.alloc(), case)?;
     }
+    Ok(())
+}
+
+#[test]
+fn laws_of_any_lines() {
     one_meaning::<AnyLines>();
     no_meaning_with_fault::<AnyLines>();
-    Ok(())
 }

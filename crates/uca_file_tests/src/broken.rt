@@ -1,10 +1,11 @@
 //! Files over readers and writers that fail at a chosen byte.
 
+use crate::streams::Written;
 use std::alloc::{AllocError, Global};
 use std::io::ErrorKind;
 use std::test::Fail;
 use uca_fakes::{
-    Calls, DATA, Failure, FakeReader, FakeWriter, Pace, TABLE, data_of, holds, same, table_of,
+    Calls, DATA, Failure, FakeReader, FakeWriter, Pace, TABLE, data_of, same, table_of,
 };
 use uca_table::write_table;
 use uca_values::Table;
@@ -41,22 +42,36 @@ fn said_of_table(alloc: Global, reader: FakeReader) -> Result<String, AllocError
     }
 }
 
-/// Both files over readers that give so many bytes a call, and fail after so many, if at all.
-fn check_files(alloc: Global, pace: Pace, data: &str, table: &str) -> Result<(), Fail> {
+/// The data file over a reader that gives so many bytes a call, and fails after so many, if at all. It is not
+/// called again after that.
+fn check_data(alloc: Global, pace: Pace, wanted: &str) -> Result<(), Fail> {
     let calls = Calls::new();
     let found = said_of_data(alloc, FakeReader::new(DATA.as_bytes(), pace, &calls))?;
-    same(&found, data, "the data file")?;
-    holds(calls.late.get() == 0, "tried again")?;
+    let case = if calls.late.get() == 0 {
+        wanted
+    } else {
+        "tried again"
+    };
+    same(&found, case, "the data file")
+}
+
+/// The same of the table file.
+fn check_table(alloc: Global, pace: Pace, wanted: &str) -> Result<(), Fail> {
     let calls = Calls::new();
     let found = said_of_table(alloc, FakeReader::new(TABLE.as_bytes(), pace, &calls))?;
-    same(&found, table, "the table file")?;
-    holds(calls.late.get() == 0, "tried again")
+    let case = if calls.late.get() == 0 {
+        wanted
+    } else {
+        "tried again"
+    };
+    same(&found, case, "the table file")
 }
 
 #[test]
 fn sound_readers_of_all_paces(rt: HostRuntime) -> Result<(), Fail> {
     for step in [1, 2, 3, 7, 64, usize::MAX] {
-        check_files(rt.alloc(), Pace::steps(step), "read", "read")?;
+        check_data(rt.alloc(), Pace::steps(step), "read")?;
+        check_table(rt.alloc(), Pace::steps(step), "read")?;
     }
     Ok(())
 }
@@ -73,43 +88,47 @@ fn read_fault(alloc: Global, text: &str, good: usize) -> Result<String, AllocErr
 #[test]
 fn readers_that_fail(rt: HostRuntime) -> Result<(), Fail> {
     for good in 0..TABLE.len() + 2 {
-        let data = read_fault(rt.alloc(), DATA, good)?;
-        let table = read_fault(rt.alloc(), TABLE, good)?;
         let pace = Pace::failing(1, good, Failure::Error(ErrorKind::Other));
-        check_files(rt.alloc(), pace, &data, &table)?;
+        check_data(rt.alloc(), pace, &read_fault(rt.alloc(), DATA, good)?)?;
+        check_table(rt.alloc(), pace, &read_fault(rt.alloc(), TABLE, good)?)?;
     }
     Ok(())
 }
 
-/// A table over a writer that fails after so many bytes.
-fn check_writer(alloc: Global, table: &Table, pace: Pace, good: usize) -> Result<(), Fail> {
+/// A table over a writer that fails after so many bytes, in this way.
+fn check_writer(
+    alloc: Global,
+    table: &Table,
+    (step, failure): (usize, Failure),
+    good: usize,
+) -> Result<(), Fail> {
     let calls = Calls::new();
+    let pace = Pace::failing(step, good, failure);
     let mut out = Sink::new(FakeWriter::new(alloc, pace, &calls));
-    match write_table(table, &mut out) {
-        Ok(()) => holds(good == TABLE.len(), "no fault")?,
-        Err(fault) => holds(
-            fault.written == good as u64 && out.failed(),
-            "another count",
-        )?,
+    let result = write_table(table, &mut out);
+    let written = Written::new(result, out, &calls);
+    if good == TABLE.len() {
+        return written.check(TABLE.as_bytes());
     }
-    holds(calls.late.get() == 0, "tried again")?;
-    let written = out.into_inner().text;
-    holds(
-        Some(written.as_slice()) == TABLE.as_bytes().get(..good),
-        "other bytes",
-    )
+    written.check_cut(TABLE.as_bytes(), good)
+}
+
+/// A table over writers that take some bytes a call, or all.
+fn check_writers(alloc: Global, table: &Table, failure: Failure, good: usize) -> Result<(), Fail> {
+    check_writer(alloc, table, (1, failure), good)?;
+    check_writer(alloc, table, (usize::MAX, failure), good)
+}
+
+fn check_all_writers(alloc: Global, table: &Table) -> Result<(), Fail> {
+    for good in 0..TABLE.len() + 1 {
+        check_writers(alloc, table, Failure::Error(ErrorKind::Interrupted), good)?;
+        check_writers(alloc, table, Failure::Nothing, good)?;
+    }
+    Ok(())
 }
 
 #[test]
 fn writers_that_fail(rt: HostRuntime) -> Result<(), Fail> {
     let table = table_of(rt.alloc(), &mut Source::new(TABLE.as_bytes()))?;
-    for good in 0..TABLE.len() + 1 {
-        for step in [1, usize::MAX] {
-            let pace = Pace::failing(step, good, Failure::Error(ErrorKind::Interrupted));
-            check_writer(rt.alloc(), &table, pace, good)?;
-            let pace = Pace::failing(step, good, Failure::Nothing);
-            check_writer(rt.alloc(), &table, pace, good)?;
-        }
-    }
-    Ok(())
+    check_all_writers(rt.alloc(), &table)
 }

@@ -187,15 +187,33 @@ fn properties_at_the_ends_of_ranges(rt: HostRuntime) -> Result<(), Fail> {
     Ok(())
 }
 
+/// Adds a range of each kind, of one code point.
+fn push_ranges(text: &mut String, point: &str) -> Result<(), AllocError> {
+    for part in [
+        "ccc ",
+        point,
+        "..",
+        point,
+        " 1\ncore 1",
+        point,
+        "..1",
+        point,
+        "\nother 2",
+        point,
+        "..2",
+        point,
+        "\n",
+    ] {
+        text.push_str(part)?;
+    }
+    Ok(())
+}
+
 /// 4096 ranges of each kind.
 fn many_ranges(alloc: Global) -> Result<String, AllocError> {
     let mut text = String::from_str(alloc, "@data 1\n")?;
     for number in 0x1000..0x2000u32 {
-        let lines = format!(in alloc;
-            "ccc {:04X}..{:04X} 1\ncore 1{:04X}..1{:04X}\nother 2{:04X}..2{:04X}\n",
-            number, number, number, number, number, number
-        )?;
-        text.push_str(&lines)?;
+        push_ranges(&mut text, &format!(in alloc; "{:04X}", number)?)?;
     }
     Ok(text)
 }
@@ -224,13 +242,16 @@ const LONG_LINES: &str = r"4096\n | 0 classes, 0 core, 0 other
 4096 | line 2: Line
 4097 | line 2: Limit";
 
+/// A header, and a comment of so many bytes.
+fn with_comment(alloc: Global, count: usize) -> Result<String, AllocError> {
+    let dashes = repeated(alloc, "-", count.saturating_sub(1))?;
+    format!(in alloc; "@data 1\n#{dashes}")
+}
+
 fn check_long_line(alloc: Global, case: &str) -> Result<(), Fail> {
-    let (line, wanted) = halves(case)?;
-    let (count, end) = line.split_at_checked(4).ok_or("no count")?;
-    let dashes = repeated(alloc, "-", count.parse::<usize>()?.saturating_sub(1))?;
-    let text = format!(in alloc; "@data 1\n#{dashes}")?;
-    let more = format!(in alloc; "{end} | {wanted}")?;
-    check_more(alloc, &text, &more)
+    let (count, more) = case.split_at_checked(4).ok_or("no count")?;
+    let text = with_comment(alloc, count.parse::<usize>()?)?;
+    check_more(alloc, &text, more)
 }
 
 #[test]

@@ -1,6 +1,6 @@
 //! Each function of the parts of lines on some texts.
 
-use std::alloc::Global;
+use std::alloc::{AllocError, Global};
 use std::test::Fail;
 use uca_fakes::{bytes_of, halves, holds, same};
 use uca_fields::{
@@ -18,23 +18,26 @@ a #b# |a #b# |a #b#|a|a #b# |a
  # a|# a|# a|| # a|
 a\r|a\r|a\r|a\r|a\r|a\r";
 
+/// A text, and what the functions leave of it.
+fn parts_of(alloc: Global, text: &[u8]) -> Result<Vec<u8>, AllocError> {
+    let mut parts = Vec::from_slice(alloc, text)?;
+    for part in [
+        skip_blanks(text),
+        trim(text),
+        line_text(text),
+        cut_at(text, b';').0,
+        cut_word(text).0,
+    ] {
+        parts.push(b'|')?;
+        parts.extend_from_slice(part)?;
+    }
+    Ok(parts)
+}
+
 fn check_text(alloc: Global, case: &str) -> Result<(), Fail> {
-    let fields: Vec<&str> = case.split('|').collect(alloc)?;
-    let [text, skipped, trimmed, said, cut, word] = fields.as_slice() else {
-        return Err(Fail::new(case));
-    };
-    let text = bytes_of(alloc, text)?;
-    holds(
-        skip_blanks(&text) == bytes_of(alloc, skipped)?.as_slice(),
-        case,
-    )?;
-    holds(trim(&text) == bytes_of(alloc, trimmed)?.as_slice(), case)?;
-    holds(line_text(&text) == bytes_of(alloc, said)?.as_slice(), case)?;
-    holds(
-        cut_at(&text, b';').0 == bytes_of(alloc, cut)?.as_slice(),
-        case,
-    )?;
-    holds(cut_word(&text).0 == bytes_of(alloc, word)?.as_slice(), case)
+    let (text, _parts) = case.split_once('|').ok_or("a case without its answer")?;
+    let found = parts_of(alloc, &bytes_of(alloc, text)?)?;
+    holds(found.as_slice() == bytes_of(alloc, case)?.as_slice(), case)
 }
 
 #[test]

@@ -1,7 +1,7 @@
 //! Lines of a source.
 
 use crate::streams::{LONGEST, STEPS, many_bytes};
-use std::alloc::{Allocator, Global};
+use std::alloc::{AllocError, Allocator, Global};
 use std::io::{ErrorKind, Read};
 use std::test::Fail;
 use uca_fakes::{Calls, Failure, FakeReader, Pace, bytes_of, halves, holds, same};
@@ -36,17 +36,18 @@ fn lines_of<R: Read>(
     source: &mut Source<R>,
     longest: usize,
     most: usize,
-) -> Result<String, Fail> {
+) -> Result<Vec<u8>, AllocError> {
     let mut reader = LineReader::new(longest);
     let mut line = Vec::new(alloc);
-    let mut said = String::new(alloc);
+    let mut said = Vec::new(alloc);
     for _ in 0..most {
         let name = next_in(&mut reader, source, &mut line);
-        if name == "+" || name == "-" {
-            said.push_str(str::from_utf8(&line)?)?;
+        let is_line = name == "+" || name == "-";
+        if is_line {
+            said.extend_from_slice(&line)?;
         }
-        said.push_str(name)?;
-        if name != "+" && name != "-" {
+        said.extend_from_slice(name.as_bytes())?;
+        if !is_line {
             break;
         }
     }
@@ -61,14 +62,17 @@ abc\nabc | abc+abc-$
 abc\nabcd\n | abc+TooLong
 abcd | TooLong";
 
+/// The lines of a text over a reader that gives so many bytes a call.
+fn lines_at(alloc: Global, text: &[u8], step: usize) -> Result<Vec<u8>, AllocError> {
+    let calls = Calls::new();
+    let mut source = Source::new(FakeReader::new(text, Pace::steps(step), &calls));
+    lines_of(alloc, &mut source, 3, 20)
+}
+
 fn check_lines(alloc: Global, case: &str, step: usize) -> Result<(), Fail> {
     let (text, wanted) = halves(case)?;
-    let text = bytes_of(alloc, text)?;
-    let wanted = bytes_of(alloc, wanted)?;
-    let calls = Calls::new();
-    let mut source = Source::new(FakeReader::new(&text, Pace::steps(step), &calls));
-    let said = lines_of(alloc, &mut source, 3, 20)?;
-    same(&said, str::from_utf8(&wanted)?, case)
+    let said = lines_at(alloc, &bytes_of(alloc, text)?, step)?;
+    holds(said.as_slice() == bytes_of(alloc, wanted)?.as_slice(), case)
 }
 
 #[test]
@@ -94,8 +98,8 @@ fn check_broken(alloc: Global, case: &str, kind: ErrorKind) -> Result<(), Fail> 
     let pace = Pace::failing(9, good.parse::<usize>()?, Failure::Error(kind));
     let mut source = Source::new(FakeReader::new(b"ab\nc", pace, &calls));
     let said = lines_of(alloc, &mut source, 9, 20)?;
-    same(&said, wanted, case)?;
-    holds(source.failed() && calls.late.get() == 0, case)
+    let is_told = source.failed() && calls.late.get() == 0;
+    holds(is_told && said.as_slice() == wanted.as_bytes(), case)
 }
 
 #[test]
@@ -115,13 +119,9 @@ fn check_line(alloc: Global, text: &[u8], step: usize, name: &str) -> Result<(),
     let mut reader = LineReader::new(LONGEST);
     let mut line = Vec::new(alloc);
     let found = next_in(&mut reader, &mut source, &mut line);
-    same(found, name, "one line")?;
-    holds(
-        Some(line.as_slice()) == text.get(..line.len()),
-        "another line",
-    )?;
-    same(next_in(&mut reader, &mut source, &mut line), "$", "the end")?;
-    holds(!source.failed(), "the source failed")
+    let is_line = found == name && Some(line.as_slice()) == text.get(..line.len());
+    let is_end = next_in(&mut reader, &mut source, &mut line) == "$" && !source.failed();
+    holds(is_line && is_end, "another line, or no end")
 }
 
 /// A line of so many bytes, without LF and with it.
@@ -150,22 +150,17 @@ fn lengths_of_lines_in_steps(rt: HostRuntime) -> Result<(), Fail> {
     Ok(())
 }
 
+/// A text is one byte longer than the longest line.
+fn check_too_long(alloc: Global, text: &[u8]) -> Result<(), Fail> {
+    let longest = text.len().saturating_sub(1);
+    let said = lines_of(alloc, &mut Source::new(text), longest, 3)?;
+    holds(said.as_slice() == b"TooLong".as_slice(), "a long line")
+}
+
 #[test]
 fn one_byte_more_is_too_long(rt: HostRuntime) -> Result<(), Fail> {
-    let text = many_bytes(rt.alloc(), 9)?;
-    let mut source = Source::new(text.as_slice());
-    same(
-        &lines_of(rt.alloc(), &mut source, 8, 3)?,
-        "TooLong",
-        "nine bytes",
-    )?;
-    let text = vec![in rt.alloc(); b'x'; 40_000]?;
-    let mut source = Source::new(text.as_slice());
-    same(
-        &lines_of(rt.alloc(), &mut source, 39_999, 3)?,
-        "TooLong",
-        "40,000 bytes",
-    )
+    check_too_long(rt.alloc(), &many_bytes(rt.alloc(), 9)?)?;
+    check_too_long(rt.alloc(), &vec![in rt.alloc(); b'x'; 40_000]?)
 }
 
 /// A million empty lines come, and then this.

@@ -1,6 +1,6 @@
 //! Buffered output, in pieces of all sizes.
 
-use crate::streams::{LONGEST, many_bytes};
+use crate::streams::{LONGEST, Written, many_bytes};
 use std::alloc::Global;
 use std::io::ErrorKind;
 use std::test::Fail;
@@ -31,9 +31,9 @@ fn write_in_pieces(
 fn check_pieces(alloc: Global, text: &[u8], piece: usize, most: u32) -> Result<(), Fail> {
     let calls = Calls::new();
     let mut out = Sink::new(FakeWriter::new(alloc, Pace::steps(usize::MAX), &calls));
-    write_in_pieces(&mut out, text, piece)?;
-    holds(calls.all.get() <= most && !out.failed(), "other calls")?;
-    holds(out.into_inner().text.as_slice() == text, "other bytes")
+    let result = write_in_pieces(&mut out, text, piece);
+    Written::new(result, out, &calls).check(text)?;
+    holds(calls.all.get() <= most, "more calls")
 }
 
 /// The first bytes of a text.
@@ -67,15 +67,8 @@ fn check_failed(alloc: Global, text: &[u8], failure: Failure, good: usize) -> Re
     let calls = Calls::new();
     let pace = Pace::failing(usize::MAX, good, failure);
     let mut out = Sink::new(FakeWriter::new(alloc, pace, &calls));
-    match write_in_pieces(&mut out, text, 1000) {
-        Ok(()) => return Err(Fail::new("no fault")),
-        Err(fault) => holds(fault.written == good as u64, "another count")?,
-    }
-    holds(out.failed() && calls.late.get() == 0, "tried again")?;
-    holds(
-        Some(out.into_inner().text.as_slice()) == text.get(..good),
-        "other bytes",
-    )
+    let result = write_in_pieces(&mut out, text, 1000);
+    Written::new(result, out, &calls).check_cut(text, good)
 }
 
 #[test]

@@ -4,7 +4,45 @@ use std::alloc::{AllocError, Global};
 use std::io::{ErrorKind, Read};
 use std::test::Fail;
 use uca_fakes::{Calls, Failure, FakeReader, FakeWriter, Pace, holds};
-use uca_weights::{Sink, Source};
+use uca_weights::{Sink, Source, WriteFault};
+
+/// What came of writing to a writer in memory.
+#[derive(Drop)]
+pub struct Written {
+    /// How many bytes went out before a fault, as that says, if there was one.
+    fault: Option<u64>,
+    /// Whether the sink says that it failed.
+    is_failed: bool,
+    /// Whether the writer was called again after a call that failed.
+    is_late: bool,
+    /// All that the writer took.
+    text: Vec<u8>,
+}
+
+impl Written {
+    /// What is left of a sink and of its calls.
+    pub fn new(end: Result<(), WriteFault>, sink: Sink<FakeWriter>, calls: &Calls) -> Written {
+        Written {
+            fault: end.err().map(|fault| fault.written),
+            is_failed: sink.failed(),
+            is_late: calls.late.get() > 0,
+            text: sink.into_inner().text,
+        }
+    }
+
+    /// Fails unless all of a text went out, and nothing failed.
+    pub fn check(&self, text: &[u8]) -> Result<(), Fail> {
+        let is_sound = self.fault.is_none() && !self.is_failed;
+        holds(is_sound && self.text.as_slice() == text, "not all")
+    }
+
+    /// Fails unless so many bytes of a text went out before a fault that says so, and nothing was tried again.
+    pub fn check_cut(&self, text: &[u8], good: usize) -> Result<(), Fail> {
+        let is_told = self.fault == Some(good as u64) && self.is_failed && !self.is_late;
+        let is_cut = Some(self.text.as_slice()) == text.get(..good);
+        holds(is_told && is_cut, "another fault, or other bytes")
+    }
+}
 
 /// How many bytes a call takes, of those that are swept over.
 pub const STEPS: [usize; 7] = [1, 2, 3, 7, 4095, 4096, 4097];
@@ -40,17 +78,18 @@ fn check_read(alloc: Global, text: &[u8], step: usize) -> Result<(), Fail> {
     let calls = Calls::new();
     let mut source = Source::new(FakeReader::new(text, Pace::steps(step), &calls));
     let found = read_all(alloc, &mut source, text.len().saturating_add(1))?;
-    holds(found.as_slice() == text, "another text")?;
-    holds(!source.failed(), "the source failed")
+    holds(
+        found.as_slice() == text && !source.failed(),
+        "another text, or the source failed",
+    )
 }
 
 /// A sink hands all bytes to a sound writer, and has not failed.
 fn check_write(alloc: Global, text: &[u8], step: usize) -> Result<(), Fail> {
     let calls = Calls::new();
     let mut sink = Sink::new(FakeWriter::new(alloc, Pace::steps(step), &calls));
-    sink.write_all(text)?;
-    holds(!sink.failed(), "the sink failed")?;
-    holds(sink.into_inner().text.as_slice() == text, "another text")
+    let result = sink.write_all(text);
+    Written::new(result, sink, &calls).check(text)
 }
 
 /// Both, of the first bytes of a text.
@@ -89,12 +128,14 @@ fn check_failed_read(kind: ErrorKind, good: usize) -> Result<(), Fail> {
     for _ in 0..good {
         source.read(&mut buf)?;
     }
-    holds(!source.failed(), "failed before")?;
-    holds(source.read(&mut buf).is_err(), "no fault")?;
-    holds(source.failed(), "not remembered")?;
-    holds(calls.late.get() == 0, "tried again")?;
+    let is_early = source.failed();
+    let is_told = source.read(&mut buf).is_err() && source.failed();
+    let is_late = calls.late.get() > 0;
     let _ = source.read(&mut buf);
-    holds(source.failed(), "forgotten")
+    holds(
+        !is_early && is_told && !is_late && source.failed(),
+        "failed before, no fault, tried again, or forgotten",
+    )
 }
 
 #[test]
@@ -112,16 +153,8 @@ fn check_failed_write(alloc: Global, failure: Failure, good: usize) -> Result<()
     let calls = Calls::new();
     let pace = Pace::failing(2, good, failure);
     let mut sink = Sink::new(FakeWriter::new(alloc, pace, &calls));
-    match sink.write_all(b"abcde") {
-        Ok(()) => return Err(Fail::new("no fault")),
-        Err(fault) => holds(fault.written == good as u64, "another count")?,
-    }
-    holds(sink.failed(), "not remembered")?;
-    holds(calls.late.get() == 0, "tried again")?;
-    holds(
-        Some(sink.into_inner().text.as_slice()) == b"abcde".get(..good),
-        "other bytes",
-    )
+    let result = sink.write_all(b"abcde");
+    Written::new(result, sink, &calls).check_cut(b"abcde", good)
 }
 
 #[test]

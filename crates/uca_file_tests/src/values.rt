@@ -1,18 +1,17 @@
 //! Properties and implicit weights, added range by range.
 
 use linked_list_allocator::LocalHeap;
-use std::alloc::{Allocator, Global};
+use std::alloc::{AllocError, Allocator, Global};
 use std::test::Fail;
 use uca_fakes::{DATA, code_point, data_of, halves, holds, same, table_of};
-use uca_values::{ClassRange, CodePointRange, Data, RangeFault, worked_implicit_weights};
-use uca_weights::Source;
+use uca_values::{ClassRange, CodePointRange, Data, RangeFault, Table, worked_implicit_weights};
+use uca_weights::{Element, Source};
 
 /// Adds a range with a class, or to core Han, or to other Han.
 fn add<A: Allocator>(
     properties: &mut Data<A>,
     kind: &str,
-    first: char,
-    last: char,
+    (first, last): (char, char),
 ) -> Result<(), RangeFault> {
     match kind {
         "core" => properties.add_core(CodePointRange { first, last }),
@@ -48,19 +47,25 @@ core 62 61 | Err(Empty)
 other 62 61 | Err(Empty)
 class 4E00 E000 | Ok(())";
 
+/// The kind of a range, and its two code points.
+fn range_of(text: &str) -> Result<(&str, (char, char)), Fail> {
+    let (kind, ends) = text.split_once(' ').ok_or("no range")?;
+    let (first, last) = ends.split_once(' ').ok_or("no last code point")?;
+    Ok((kind, (code_point(first)?, code_point(last)?)))
+}
+
 fn check_added<A: Allocator>(
     alloc: Global,
     properties: &mut Data<A>,
     case: &str,
 ) -> Result<(), Fail> {
     let (range, wanted) = halves(case)?;
-    let (kind, range) = range.split_once(' ').ok_or("no range")?;
-    let (first, last) = range.split_once(' ').ok_or("no last code point")?;
+    let (kind, ends) = range_of(range)?;
     let before = properties.classes().len();
-    let added = add(properties, kind, code_point(first)?, code_point(last)?);
-    same(&format!(in alloc; "{added:?}")?, wanted, case)?;
+    let added = add(properties, kind, ends);
     let is_more = properties.classes().len() > before;
-    holds(is_more == (kind == "class" && added.is_ok()), case)
+    holds(is_more == (kind == "class" && added.is_ok()), case)?;
+    same(&format!(in alloc; "{added:?}")?, wanted, case)
 }
 
 #[test]
@@ -72,33 +77,36 @@ fn ranges_are_added(rt: HostRuntime) -> Result<(), Fail> {
     Ok(())
 }
 
+const WITHOUT_MEMORY: &str = "class 61 7A | Err(Memory)
+core 61 7A | Err(Memory)
+other 61 7A | Err(Memory)";
+
+fn check_without_memory<A: Allocator>(alloc: Global, properties: &mut Data<A>) -> Result<(), Fail> {
+    for case in WITHOUT_MEMORY.lines() {
+        check_added(alloc, properties, case)?;
+    }
+    let is_han = properties.is_core('a') || properties.is_other('a');
+    holds(properties.class('a') == 0 && !is_han, "a class, or Han")
+}
+
 #[test]
 fn without_memory_nothing_is_added(rt: HostRuntime) -> Result<(), Fail> {
     let heap = LocalHeap::new(rt.alloc(), 0)?;
-    let mut properties = Data::new(&heap);
-    for case in [
-        "class 61 7A | Err(Memory)",
-        "core 61 7A | Err(Memory)",
-        "other 61 7A | Err(Memory)",
-    ] {
-        check_added(rt.alloc(), &mut properties, case)?;
-    }
-    holds(properties.class('a') == 0, "a class")?;
-    holds(!properties.is_core('a') && !properties.is_other('a'), "Han")
+    check_without_memory(rt.alloc(), &mut Data::new(&heap))
 }
 
-/// A code point, and the primary weights of its implicit elements. The ranges of FB00 are in no order, so the
-/// base of their lead is the first code point of the second one.
-const IMPLICIT: &str = "17000 | FB00 8000
-18AFF | FB00 9AFF
-18D00 | FB00 9D00
-1B171 | FB02 8001
-18B00 | FBC3 8B00
-4E00 | FB40 CE00
-9FFF | FB41 9FFF
-20000 | FB84 8000
-10FFFF | FBE1 FFFF
-61 | FBC0 8061";
+/// A code point, and its implicit elements. The ranges of FB00 are in no order, so the base of their lead is the
+/// first code point of the second one.
+const IMPLICIT: &str = "17000 | [.FB00.0020.0002][.8000.0000.0000]
+18AFF | [.FB00.0020.0002][.9AFF.0000.0000]
+18D00 | [.FB00.0020.0002][.9D00.0000.0000]
+1B171 | [.FB02.0020.0002][.8001.0000.0000]
+18B00 | [.FBC3.0020.0002][.8B00.0000.0000]
+4E00 | [.FB40.0020.0002][.CE00.0000.0000]
+9FFF | [.FB41.0020.0002][.9FFF.0000.0000]
+20000 | [.FB84.0020.0002][.8000.0000.0000]
+10FFFF | [.FBE1.0020.0002][.FFFF.0000.0000]
+61 | [.FBC0.0020.0002][.8061.0000.0000]";
 
 /// A header with the ranges.
 const HEADER: &str = "@version 1
@@ -107,31 +115,50 @@ const HEADER: &str = "@version 1
 @implicitweights 1B170..1B2FF; FB02
 ";
 
-fn check_implicit(alloc: Global, case: &str) -> Result<(), Fail> {
+/// An element as a table writes it.
+fn text_of(alloc: Global, element: Element) -> Result<String, AllocError> {
+    let mark = if element.mark { '*' } else { '.' };
+    format!(in alloc;
+        "[{mark}{:04X}.{:04X}.{:04X}]",
+        element.primary, element.secondary, element.tertiary
+    )
+}
+
+/// The implicit elements of a code point.
+fn implicit_text(
+    alloc: Global,
+    table: &Table,
+    properties: &Data,
+    point: char,
+) -> Result<String, AllocError> {
+    let mut text = String::new(alloc);
+    for element in table.header.implicit(properties, point) {
+        text.push_str(&text_of(alloc, element)?)?;
+    }
+    Ok(text)
+}
+
+fn check_implicit(alloc: Global, table: &Table, properties: &Data, case: &str) -> Result<(), Fail> {
     let (digits, wanted) = halves(case)?;
-    let table = table_of(alloc, &mut Source::new(HEADER.as_bytes()))?;
-    let properties = data_of(alloc, &mut Source::new(DATA.as_bytes()))?;
-    let [first, second] = table.header.implicit(&properties, code_point(digits)?);
+    let point = code_point(digits)?;
     same(
-        &format!(in alloc; "{:04X} {:04X}", first.primary, second.primary)?,
+        &implicit_text(alloc, table, properties, point)?,
         wanted,
-        case,
-    )?;
-    holds(
-        (first.secondary, first.tertiary, first.mark) == (0x20, 2, false),
-        case,
-    )?;
-    holds(
-        (second.secondary, second.tertiary, second.mark) == (0, 0, false),
         case,
     )
 }
 
+fn check_all_implicit(alloc: Global, table: &Table, properties: &Data) -> Result<(), Fail> {
+    for case in IMPLICIT.lines() {
+        check_implicit(alloc, table, properties, case)?;
+    }
+    Ok(())
+}
+
 #[test]
 fn implicit_weights(rt: HostRuntime) -> Result<(), Fail> {
-    for case in IMPLICIT.lines() {
-        check_implicit(rt.alloc(), case)?;
-    }
     worked_implicit_weights();
-    Ok(())
+    let table = table_of(rt.alloc(), &mut Source::new(HEADER.as_bytes()))?;
+    let properties = data_of(rt.alloc(), &mut Source::new(DATA.as_bytes()))?;
+    check_all_implicit(rt.alloc(), &table, &properties)
 }

@@ -2,78 +2,137 @@
 
 use crate::growths::line_of;
 use linked_list_allocator::LocalHeap;
-use std::alloc::Allocator;
-use std::process::Abort;
+use std::alloc::{Allocator, Global};
 use std::test::Fail;
 use uca_data::read_data;
-use uca_fakes::{Calls, FakeReader, Pace};
+use uca_fakes::{Calls, FakeReader, Pace, holds};
 use uca_key::key;
-use uca_match::{Collator, RowList, Trie};
+use uca_match::{Collator, Lookup, RowList, Trie};
 use uca_table::read_table;
-use uca_text::normal;
+use uca_text::{Normal, normal};
 use uca_trials::{A_ACUTE, A_ACUTE_GRAVE, DATA, TABLE, X_ACUTE, joined};
-use uca_values::{Data, FaultKind, Table};
+use uca_values::{Data, FaultKind, Row, Table};
 use uca_weights::Weighting::Shifted;
 use uca_weights::{Depth, Source};
 
-#[test]
-fn tables_in_little_memory(rt: HostRuntime) -> Result<(), Fail> {
-    let mut done = false;
-    let mut refused = 0;
-    for size in 0..400usize {
-        let heap = LocalHeap::new(rt.alloc(), size * 16)?;
-        let calls = Calls::new();
-        let mut source = Source::new(FakeReader::new(TABLE.as_bytes(), Pace::steps(1), &calls));
-        match read_table(&heap, &mut source) {
-            Ok(table) => {
-                done = true;
-                assert_eq!(rt; table.header.version.as_str(), "1");
-                assert_eq!(rt; table.rows.len(), 7);
-            }
-            Err(fault) => {
-                assert!(rt; !done);
-                assert_eq!(rt; fault.kind, FaultKind::Memory);
-                assert_eq!(rt; fault.line, line_of(TABLE.as_bytes(), calls.bytes.get()));
-                assert!(rt; refused <= fault.line);
-                refused = fault.line;
-            }
-        }
-        assert_eq!(rt; heap.used(), 0);
-    }
-    assert!(rt; done && refused > 2);
-    Ok(())
+/// What came of heaps of rising sizes.
+#[derive(Clone, Copy)]
+struct Count {
+    /// Whether one had room enough.
+    is_done: bool,
+    /// The greatest line at which an allocation was refused.
+    refused: u32,
 }
 
-// A collator over the trie of a table finds the elements of each row by its key.
+impl Count {
+    fn new() -> Count {
+        Count {
+            is_done: false,
+            refused: 0,
+        }
+    }
+
+    // A heap that had room, or in which an allocation was refused at this line: after one with room all have it,
+    // and with more room no line is earlier.
+    fn add(&mut self, refused: Option<u32>) -> bool {
+        let Some(line) = refused else {
+            self.is_done = true;
+            return true;
+        };
+        let is_in_order = !self.is_done && self.refused <= line;
+        self.refused = line;
+        is_in_order
+    }
+}
+
+// The line at which a heap has no room for the table, if it has none: that of the last byte that was read.
+fn refused_line(heap: &LocalHeap, calls: &Calls) -> Result<Option<u32>, Fail> {
+    let mut source = Source::new(FakeReader::new(TABLE.as_bytes(), Pace::steps(1), calls));
+    match read_table(heap, &mut source) {
+        Ok(table) => {
+            let is_whole = table.header.version.as_str() == "1" && table.rows.len() == 7;
+            holds(is_whole, "another table")?;
+            Ok(None)
+        }
+        Err(fault) => {
+            let last = line_of(TABLE.as_bytes(), calls.bytes.get());
+            let is_so = matches!(fault.kind, FaultKind::Memory) && fault.line == last;
+            holds(is_so, "another fault")?;
+            Ok(Some(fault.line))
+        }
+    }
+}
+
+fn check_table(alloc: Global, size: usize, count: &mut Count) -> Result<(), Fail> {
+    let heap = LocalHeap::new(alloc, size)?;
+    let refused = refused_line(&heap, &Calls::new())?;
+    holds(
+        count.add(refused) && heap.used() == 0,
+        "out of order, or not given back",
+    )
+}
+
+#[test]
+fn tables_in_little_memory(rt: HostRuntime) -> Result<(), Fail> {
+    let mut count = Count::new();
+    for size in 0..400usize {
+        check_table(rt.alloc(), size * 16, &mut count)?;
+    }
+    holds(
+        count.is_done && count.refused > 2,
+        "no heap had room, or all",
+    )
+}
+
+// A collator finds the elements of a row by its key.
+fn check_row<L: Lookup, A: Allocator>(
+    alloc: Global,
+    collator: &Collator<L, A>,
+    row: &Row<A>,
+) -> Result<(), Fail> {
+    let mut key = String::new(alloc);
+    for point in &row.key {
+        key.push(*point)?;
+    }
+    let text = normal(alloc, &key, collator.data)?;
+    let mut elements = Vec::new(alloc);
+    for element in collator.elements(&text) {
+        elements.push(element)?;
+    }
+    holds(elements.as_slice() == row.elements.as_slice(), &key)
+}
+
+// A collator over the trie of a table finds the elements of each row.
 fn check_rows<A: Allocator + Copy>(
-    rt: &(impl Abort + AllocGlobal),
+    alloc: Global,
     table: &Table<A>,
     rows: &Trie<A>,
     properties: &Data<A>,
 ) -> Result<(), Fail> {
     let collator = Collator::new(rows, &table.header, properties);
     for row in &table.rows {
-        let mut key = String::new(rt.alloc());
-        for point in &row.key {
-            key.push(*point)?;
-        }
-        let text = normal(rt.alloc(), &key, properties)?;
-        let mut elements = Vec::new(rt.alloc());
-        for element in collator.elements(&text) {
-            elements.push(element)?;
-        }
-        assert_eq!(rt; elements.as_slice(), row.elements.as_slice(), "{key:?}");
+        check_row(alloc, &collator, row)?;
     }
     Ok(())
 }
 
-// Whether a heap that has room for a table and a data file has room for the trie of the table too. All that
-// a trie took is given back where it has not.
-fn has_room_for_trie(
-    rt: &(impl Abort + AllocGlobal),
-    heap: &LocalHeap,
-    table: &str,
-) -> Result<Option<bool>, Fail> {
+// Whether an allocator has room for the trie of a table, which is then right.
+fn has_room<A: Allocator + Copy>(
+    alloc: Global,
+    heap: A,
+    table: &Table<A>,
+    properties: &Data<A>,
+) -> Result<bool, Fail> {
+    let Ok(rows) = Trie::new(heap, table) else {
+        return Ok(false);
+    };
+    check_rows(alloc, table, &rows, properties)?;
+    Ok(true)
+}
+
+// Whether a heap that has room for a table and a data file has room for the trie of the table too. All that a trie
+// took is given back.
+fn has_room_for_trie(alloc: Global, heap: &LocalHeap, table: &str) -> Result<Option<bool>, Fail> {
     let Ok(table) = read_table(heap, &mut Source::new(table.as_bytes())) else {
         return Ok(None);
     };
@@ -81,36 +140,81 @@ fn has_room_for_trie(
         return Ok(None);
     };
     let taken = heap.used();
-    let Ok(rows) = Trie::new(heap, &table) else {
-        assert_eq!(rt; heap.used(), taken);
-        return Ok(Some(false));
+    let has_room = has_room(alloc, heap, &table, &properties)?;
+    holds(heap.used() == taken, "not given back")?;
+    Ok(Some(has_room))
+}
+
+// The line 1 is that of the files, and 2 that of the trie.
+fn check_trie(alloc: Global, size: usize, table: &str, count: &mut Count) -> Result<(), Fail> {
+    let heap = LocalHeap::new(alloc, size)?;
+    let refused = match has_room_for_trie(alloc, &heap, table)? {
+        Some(true) => None,
+        Some(false) => Some(2),
+        None => Some(1),
     };
-    check_rows(rt, &table, &rows, &properties)?;
-    Ok(Some(true))
+    holds(
+        count.add(refused) && heap.used() == 0,
+        "out of order, or not given back",
+    )
 }
 
 #[test]
 fn tries_in_little_memory(rt: HostRuntime) -> Result<(), Fail> {
     let table = joined(rt.alloc(), &[TABLE, A_ACUTE_GRAVE, X_ACUTE, A_ACUTE])?;
-    let mut refused = false;
-    let mut done = false;
+    let mut count = Count::new();
     for round in 0..700usize {
-        let heap = LocalHeap::new(rt.alloc(), round.saturating_mul(16))?;
-        match has_room_for_trie(&rt, &heap, &table)? {
-            Some(true) => {
-                assert!(rt; refused);
-                done = true;
-            }
-            Some(false) => {
-                assert!(rt; !done);
-                refused = true;
-            }
-            None => assert!(rt; !refused),
-        }
-        assert_eq!(rt; heap.used(), 0);
+        check_trie(rt.alloc(), round.saturating_mul(16), &table, &mut count)?;
     }
-    assert!(rt; done);
-    Ok(())
+    holds(
+        count.is_done && count.refused == 2,
+        "no heap had room, or no trie was refused",
+    )
+}
+
+/// The key of `a`, a space and `b`.
+const KEY: &[u8] = b"\x1C\x47\x1C\x60\0\0\0\x20\0\x20\0\0\0\x02\0\x02\0\0\xFF\xFF\x02\x09\xFF\xFF";
+
+// Whether memory has room for the key of a text, which is then right.
+fn has_room_for_key<L: Lookup, A: Allocator + Copy>(
+    alloc: A,
+    collator: &Collator<L>,
+    text: &Normal,
+) -> Result<bool, Fail> {
+    let Ok(key) = key(alloc, collator, Shifted, Depth::Weights, text) else {
+        return Ok(false);
+    };
+    holds(key.as_slice() == KEY, "another key")?;
+    Ok(true)
+}
+
+fn check_key<L: Lookup>(
+    alloc: Global,
+    size: usize,
+    collator: &Collator<L>,
+    text: &Normal,
+    count: &mut Count,
+) -> Result<(), Fail> {
+    let heap = LocalHeap::new(alloc, size)?;
+    let has_room = has_room_for_key(&heap, collator, text)?;
+    let refused = if has_room { None } else { Some(1) };
+    holds(
+        count.add(refused) && heap.used() == 0,
+        "out of order, or not given back",
+    )
+}
+
+fn check_keys<L: Lookup>(alloc: Global, collator: &Collator<L>) -> Result<(), Fail> {
+    let text = normal(alloc, "a b", collator.data)?;
+    let is_made = has_room_for_key(alloc, collator, &text)?;
+    let mut count = Count::new();
+    for size in 0..100usize {
+        check_key(alloc, size * 16, collator, &text, &mut count)?;
+    }
+    holds(
+        is_made && count.is_done && count.refused == 1,
+        "no heap had room, or each",
+    )
 }
 
 #[test]
@@ -118,28 +222,8 @@ fn keys_in_little_memory(rt: HostRuntime) -> Result<(), Fail> {
     let table = read_table(rt.alloc(), &mut Source::new(TABLE.as_bytes()))?;
     let properties = read_data(rt.alloc(), &mut Source::new(DATA.as_bytes()))?;
     let rows = RowList::new(&table);
-    let collator = Collator::new(&rows, &table.header, &properties);
-    let text = normal(rt.alloc(), "a b", &properties)?;
-    let mut wanted = Vec::new(rt.alloc());
-    for group in [
-        0x1C47u16, 0x1C60, 0, 0x20, 0x20, 0, 2, 2, 0, 0xFFFF, 0x209, 0xFFFF,
-    ] {
-        wanted.extend_from_slice(&group.to_be_bytes())?;
-    }
-    let whole = key(rt.alloc(), &collator, Shifted, Depth::Weights, &text)?;
-    assert_eq!(rt; whole.as_slice(), wanted.as_slice());
-    let mut done = false;
-    for size in 0..100usize {
-        let heap = LocalHeap::new(rt.alloc(), size * 16)?;
-        match key(&heap, &collator, Shifted, Depth::Weights, &text) {
-            Ok(key) => {
-                done = true;
-                assert_eq!(rt; key.as_slice(), wanted.as_slice());
-            }
-            Err(_) => assert!(rt; !done),
-        }
-        assert_eq!(rt; heap.used(), 0);
-    }
-    assert!(rt; done);
-    Ok(())
+    check_keys(
+        rt.alloc(),
+        &Collator::new(&rows, &table.header, &properties),
+    )
 }

@@ -2,20 +2,13 @@
 
 use crate::trials::check;
 use std::alloc::{AllocError, Global};
-use std::process::Abort;
 use std::test::Fail;
-use uca_trials::{A_ACUTE, A_ACUTE_GRAVE, DATA, Files, Run, SMALL, TABLE};
-
-const WELL_FORMED: &str = "well-formed\n";
+use uca_fakes::{bytes_of, halves};
+use uca_trials::{A_ACUTE_GRAVE, DATA, Files, Run, TABLE};
 
 // The run prints this verdict on a table, and returns it.
-fn check_verdict(
-    rt: &(impl Abort + AllocGlobal),
-    table: &[&str],
-    data: &str,
-    verdict: &str,
-) -> Result<(), Fail> {
-    let end = if verdict == WELL_FORMED {
+fn check_verdict(alloc: Global, table: &[&str], data: &str, verdict: &str) -> Result<(), Fail> {
+    let end = if verdict == "well-formed\n" {
         "true"
     } else {
         "false"
@@ -26,7 +19,7 @@ fn check_verdict(
         data,
         input: b"\xFF",
     };
-    check(rt, files, Run::Check, verdict, end)
+    check(alloc, &files, Run::Check, verdict, end)
 }
 
 // The small table with another line in the place of a row, counted from 1.
@@ -41,56 +34,60 @@ fn with_row(alloc: Global, row: usize, line: &str) -> Result<String, AllocError>
     Ok(text)
 }
 
+/// A row, the line in its place, and the verdict.
+const OTHER_ROWS: &str = r"2 | 0061 ; [.1C47.0020.0002] | well-formed\n
+2 | 0061 ; [.1C47.0000.0002] | WF1 row 2\n
+6 | 0301 ; [.0000.0020.0002] | WF2 row 6\n
+2 | 0061 ; [.1C47.0030.0002] | WF2 row 5\n
+1 | 0020 ; [*0000.0030.0002] | WF3 row 1\n";
+
+fn check_row(alloc: Global, case: &str) -> Result<(), Fail> {
+    let (row, rest) = halves(case)?;
+    let (line, verdict) = halves(rest)?;
+    let table = with_row(alloc, row.parse::<usize>()?, line)?;
+    let verdict = bytes_of(alloc, verdict)?;
+    check_verdict(alloc, &[&table], DATA, str::from_utf8(&verdict)?)
+}
+
 #[test]
 fn other_rows(rt: HostRuntime) -> Result<(), Fail> {
-    // A row, the line in its place, and the verdict.
-    let cases = [
-        (2, "0061 ; [.1C47.0020.0002]", WELL_FORMED),
-        (2, "0061 ; [.1C47.0000.0002]", "WF1 row 2\n"),
-        (6, "0301 ; [.0000.0020.0002]", "WF2 row 6\n"),
-        (2, "0061 ; [.1C47.0030.0002]", "WF2 row 5\n"),
-        (1, "0020 ; [*0000.0030.0002]", "WF3 row 1\n"),
-    ];
-    for (row, line, verdict) in cases {
-        let table = with_row(rt.alloc(), row, line)?;
-        check_verdict(&rt, &[table.as_str()], DATA, verdict)?;
+    for case in OTHER_ROWS.lines() {
+        check_row(rt.alloc(), case)?;
     }
     Ok(())
+}
+
+/// What follows the small table, and the verdict.
+const MORE_ROWS: &str = r" | well-formed\n
+0061 0301 0300 ; [.1C58.0020.0002]\n | WF5 row 8\n
+0061 0301 ; [.1C50.0020.0002]\n | well-formed\n
+0061 0301 ; [.1C50.0020.0002]\n0061 0301 0300 ; [.1C58.0020.0002]\n | well-formed\n
+0061 0301 0300 ; [.1C58.0020.0002]\n0061 0301 ; [.1C50.0020.0002]\n | well-formed\n
+0021 ; [*1C50.0020.0002]\n | WF4 row 2\n
+4E00 ; [.FB40.0020.0002][.CE00.0000.0000]\n | well-formed\n
+4E00 ; [.FB40.0020.0002][.0000.0030.0002][.CE00.0000.0000]\n | WF1 row 8\n";
+
+fn check_more(alloc: Global, case: &str) -> Result<(), Fail> {
+    let (rows, verdict) = halves(case)?;
+    let rows = bytes_of(alloc, rows)?;
+    let verdict = bytes_of(alloc, verdict)?;
+    let table = [TABLE, str::from_utf8(&rows)?];
+    check_verdict(alloc, &table, DATA, str::from_utf8(&verdict)?)
 }
 
 #[test]
 fn more_rows(rt: HostRuntime) -> Result<(), Fail> {
-    // The table, and the verdict.
-    let cases: [(&[&str], &str); 9] = [
-        (SMALL.table, WELL_FORMED),
-        (&["@version 1\n"], WELL_FORMED),
-        (&[TABLE, A_ACUTE_GRAVE], "WF5 row 8\n"),
-        (&[TABLE, A_ACUTE], WELL_FORMED),
-        (&[TABLE, A_ACUTE, A_ACUTE_GRAVE], WELL_FORMED),
-        (&[TABLE, A_ACUTE_GRAVE, A_ACUTE], WELL_FORMED),
-        (&[TABLE, "0021 ; [*1C50.0020.0002]\n"], "WF4 row 2\n"),
-        (
-            &[TABLE, "4E00 ; [.FB40.0020.0002][.CE00.0000.0000]\n"],
-            WELL_FORMED,
-        ),
-        (
-            &[
-                TABLE,
-                "4E00 ; [.FB40.0020.0002][.0000.0030.0002][.CE00.0000.0000]\n",
-            ],
-            "WF1 row 8\n",
-        ),
-    ];
-    for (table, verdict) in cases {
-        check_verdict(&rt, table, DATA, verdict)?;
+    for case in MORE_ROWS.lines() {
+        check_more(rt.alloc(), case)?;
     }
-    Ok(())
+    check_verdict(rt.alloc(), &["@version 1\n"], DATA, "well-formed\n")
 }
 
+// A grave accent is a non-starter by its class in the data file alone.
 #[test]
 fn the_classes_of_the_data_file(rt: HostRuntime) -> Result<(), Fail> {
-    // A grave accent is a non-starter by its class in the data file alone.
     let table = [TABLE, A_ACUTE_GRAVE];
-    check_verdict(&rt, &table, "@data 1\n", WELL_FORMED)?;
-    check_verdict(&rt, &table, "@data 1\nccc 0300..0300 1\n", "WF5 row 8\n")
+    check_verdict(rt.alloc(), &table, "@data 1\n", "well-formed\n")?;
+    let data = "@data 1\nccc 0300..0300 1\n";
+    check_verdict(rt.alloc(), &table, data, "WF5 row 8\n")
 }

@@ -1,110 +1,145 @@
 //! Whole runs: how two texts compare.
 
 use crate::trials::check;
+use std::alloc::Global;
 use std::test::Fail;
+use uca_fakes::{bytes_of, halves};
 use uca_trials::Run::Compare;
-use uca_trials::{A_ACUTE, NO_WEIGHTS, SMALL, TABLE, acutes, joined};
+use uca_trials::{A_ACUTE, Files, NO_WEIGHTS, SMALL, TABLE, acutes, joined};
 use uca_weights::Depth::{Identical, Weights};
-use uca_weights::Weighting;
 use uca_weights::Weighting::{NonIgnorable, Shifted};
+use uca_weights::{Depth, Weighting};
+
+/// The weighting of a comparison, and its depth.
+type How = (Weighting, Depth);
+
+// A left text, a right text, and what is printed.
+fn check_pair(
+    alloc: Global,
+    files: &Files,
+    (weighting, depth): How,
+    case: &str,
+) -> Result<(), Fail> {
+    let (left, rest) = halves(case)?;
+    let (right, printed) = halves(rest)?;
+    let left = bytes_of(alloc, left)?;
+    let right = bytes_of(alloc, right)?;
+    let printed = joined(alloc, &[printed, "\n"])?;
+    let (left, right) = (str::from_utf8(&left)?, str::from_utf8(&right)?);
+    let run = Compare(left, right, Some(weighting), depth);
+    check(alloc, files, run, &printed, "done")
+}
+
+fn check_pairs(alloc: Global, files: &Files, how: How, cases: &str) -> Result<(), Fail> {
+    for case in cases.lines() {
+        check_pair(alloc, files, how, case)?;
+    }
+    Ok(())
+}
+
+/// `\xC3\xA1` is U+00E1, and `\xCC\x81` is an acute accent.
+const BY_THREE: &str = r"Aa | ab | < 1
+a | b | < 1
+b | a | > 1
+ | a | < 1
+a |  | > 1
+ |  | = 0
+a | a | = 0
+\xC3\xA1 | a | > 2
+a | \xC3\xA1 | < 2
+a | A | < 3
+A | a | > 3
+\xC3\xA1 | a\xCC\x81 | = 0
+\xE4\xB8\x80 | \xE4\xB8\x81 | < 1
+a b | ab | < 1
+\x20\xCC\x81 | \x20 | > 2";
+
+const BY_FOUR: &str = r"a b | ab | < 4
+ab | a b | > 4
+\x20a | b | < 1
+\x20\xCC\x81 | \x20 | = 0
+a | a | = 0";
 
 #[test]
 fn two_texts(rt: HostRuntime) -> Result<(), Fail> {
-    // Left text, right text, weighting, and what is printed.
-    let cases: [(&str, &str, Weighting, &str); 20] = [
-        ("Aa", "ab", NonIgnorable, "< 1\n"),
-        ("a", "b", NonIgnorable, "< 1\n"),
-        ("b", "a", NonIgnorable, "> 1\n"),
-        ("", "a", NonIgnorable, "< 1\n"),
-        ("a", "", NonIgnorable, "> 1\n"),
-        ("", "", NonIgnorable, "= 0\n"),
-        ("a", "a", NonIgnorable, "= 0\n"),
-        ("\u{E1}", "a", NonIgnorable, "> 2\n"),
-        ("a", "\u{E1}", NonIgnorable, "< 2\n"),
-        ("a", "A", NonIgnorable, "< 3\n"),
-        ("A", "a", NonIgnorable, "> 3\n"),
-        ("\u{E1}", "a\u{301}", NonIgnorable, "= 0\n"),
-        ("\u{4E00}", "\u{4E01}", NonIgnorable, "< 1\n"),
-        ("a b", "ab", NonIgnorable, "< 1\n"),
-        ("a b", "ab", Shifted, "< 4\n"),
-        ("ab", "a b", Shifted, "> 4\n"),
-        (" a", "b", Shifted, "< 1\n"),
-        (" \u{301}", " ", Shifted, "= 0\n"),
-        (" \u{301}", " ", NonIgnorable, "> 2\n"),
-        ("a", "a", Shifted, "= 0\n"),
-    ];
-    for (left, right, weighting, line) in cases {
-        let run = Compare(left, right, Some(weighting), Weights);
-        check(&rt, SMALL, run, line, "done")?;
-    }
-    Ok(())
+    check_pairs(rt.alloc(), &SMALL, (NonIgnorable, Weights), BY_THREE)?;
+    check_pairs(rt.alloc(), &SMALL, (Shifted, Weights), BY_FOUR)
 }
+
+/// Files with a row without weights.
+const WITH_NO_WEIGHTS: Files = Files {
+    table: &[TABLE, NO_WEIGHTS],
+    ..SMALL
+};
+
+const OF_SAME_WEIGHTS: &str = r"a | a\x01 | = 0";
+
+const IDENTICAL: &str = r"a | a\x01 | < 4
+\xC3\xA1 | a\xCC\x81 | = 0
+a | b | < 1";
+
+const IDENTICAL_BY_FOUR: &str = r"\x20\xCC\x81 | \x20 | > 5";
 
 #[test]
 fn texts_that_weigh_the_same(rt: HostRuntime) -> Result<(), Fail> {
-    // Run, and what is printed.
-    let by_three = Some(NonIgnorable);
-    let cases = [
-        (Compare("a", "a\u{1}", by_three, Weights), "= 0\n"),
-        (Compare("a", "a\u{1}", by_three, Identical), "< 4\n"),
-        (Compare("\u{E1}", "a\u{301}", by_three, Identical), "= 0\n"),
-        (Compare("a", "b", by_three, Identical), "< 1\n"),
-        (Compare(" \u{301}", " ", Some(Shifted), Identical), "> 5\n"),
-    ];
-    let files = SMALL.with_table(&[TABLE, NO_WEIGHTS]);
-    for (run, line) in cases {
-        check(&rt, files, run, line, "done")?;
-    }
-    Ok(())
+    let files = &WITH_NO_WEIGHTS;
+    check_pairs(rt.alloc(), files, (NonIgnorable, Weights), OF_SAME_WEIGHTS)?;
+    check_pairs(rt.alloc(), files, (NonIgnorable, Identical), IDENTICAL)?;
+    check_pairs(rt.alloc(), files, (Shifted, Identical), IDENTICAL_BY_FOUR)
 }
+
+/// Files with a contraction.
+const CONTRACTED: Files = Files {
+    table: &[TABLE, A_ACUTE],
+    ..SMALL
+};
+
+/// `a` and an acute accent have one element of their own, also where a dot below stands between.
+const CONTRACTIONS: &str = r"\xC3\xA1 | a | > 1
+\xC3\xA1 | b | < 1
+a\xCC\x81\xCC\xA3 | a\xCC\xA3\xCC\x81 | = 0
+a\xCC\xA3\xCC\x81 | \xC3\xA1 | > 2
+a\xCC\xA3 | a\xCC\xA3\xCC\x81 | < 1";
 
 #[test]
 fn texts_with_a_contraction(rt: HostRuntime) -> Result<(), Fail> {
-    // `a` and an acute accent have one element of their own, also where a dot below stands between.
-    let cases = [
-        ("\u{E1}", "a", "> 1\n"),
-        ("\u{E1}", "b", "< 1\n"),
-        ("a\u{301}\u{323}", "a\u{323}\u{301}", "= 0\n"),
-        ("a\u{323}\u{301}", "\u{E1}", "> 2\n"),
-        ("a\u{323}", "a\u{323}\u{301}", "< 1\n"),
-    ];
-    let files = SMALL.with_table(&[TABLE, A_ACUTE]);
-    for (left, right, line) in cases {
-        let run = Compare(left, right, Some(NonIgnorable), Weights);
-        check(&rt, files, run, line, "done")?;
-    }
-    Ok(())
+    check_pairs(
+        rt.alloc(),
+        &CONTRACTED,
+        (NonIgnorable, Weights),
+        CONTRACTIONS,
+    )
+}
+
+// What is printed of two texts by either weighting, and what is told.
+fn check_refused(
+    alloc: Global,
+    (left, right): (&str, &str),
+    printed: &str,
+    end: &str,
+) -> Result<(), Fail> {
+    let run = Compare(left, right, Some(NonIgnorable), Weights);
+    check(alloc, &SMALL, run, printed, end)?;
+    let run = Compare(left, right, Some(Shifted), Weights);
+    check(alloc, &SMALL, run, printed, end)
+}
+
+// As many accents as a text may have in a row, more of them, and so many after a letter.
+fn check_accents(alloc: Global, short: &str, long: &str, later: &str) -> Result<(), Fail> {
+    check_refused(alloc, (short, short), "= 0\n", "done")?;
+    check_refused(alloc, (long, "a"), "", "left: LongRun at 0")?;
+    check_refused(alloc, ("a", long), "", "right: LongRun at 0")?;
+    check_refused(alloc, (long, long), "", "left: LongRun at 0")?;
+    check_refused(alloc, (later, "a"), "", "left: LongRun at 1")?;
+    check_refused(alloc, (short, later), "", "right: LongRun at 1")?;
+    check_refused(alloc, (later, long), "", "left: LongRun at 1")?;
+    check_refused(alloc, (long, later), "", "left: LongRun at 0")
 }
 
 #[test]
 fn refused_texts(rt: HostRuntime) -> Result<(), Fail> {
-    let accents = acutes(rt.alloc(), 64)?;
-    let more_accents = acutes(rt.alloc(), 65)?;
-    let after_letter = joined(rt.alloc(), &["a", more_accents.as_str()])?;
-    let short = accents.as_str();
-    let long = more_accents.as_str();
-    let later = after_letter.as_str();
-    // Left text, right text, what is printed, and what is told.
-    let cases = [
-        (short, short, "= 0\n", "done"),
-        (long, "a", "", "left: LongRun at 0"),
-        ("a", long, "", "right: LongRun at 0"),
-        (long, long, "", "left: LongRun at 0"),
-        (later, "a", "", "left: LongRun at 1"),
-        (short, later, "", "right: LongRun at 1"),
-        (later, long, "", "left: LongRun at 1"),
-        (long, later, "", "left: LongRun at 0"),
-    ];
-    for (left, right, printed, end) in cases {
-        for weighting in [NonIgnorable, Shifted] {
-            check(
-                &rt,
-                SMALL,
-                Compare(left, right, Some(weighting), Weights),
-                printed,
-                end,
-            )?;
-        }
-    }
-    Ok(())
+    let short = acutes(rt.alloc(), 64)?;
+    let long = acutes(rt.alloc(), 65)?;
+    let later = joined(rt.alloc(), &["a", &long])?;
+    check_accents(rt.alloc(), &short, &long, &later)
 }

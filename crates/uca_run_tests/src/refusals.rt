@@ -1,59 +1,75 @@
 //! Tables and data files that each run refuses.
 
 use crate::trials::check;
+use std::alloc::Global;
 use std::test::Fail;
-use uca_trials::{DATA, Files, Run, TABLE, acutes};
+use uca_fakes::{bytes_of, halves};
+use uca_trials::{Files, Run, SMALL, TABLE, acutes};
 use uca_weights::Depth::{Identical, Weights};
 use uca_weights::Weighting::NonIgnorable;
-
-const SMALL: &[&str] = &[TABLE];
 
 /// The fourth line of the table, which stands in it already.
 const AGAIN: &str = "0061 ; [.1C47.0020.0002]\n";
 
-/// Table, data file, and what is told.
-const CASES: [(&[&str], &str, &str); 10] = [
-    (&["@version 1\n0061 ; [.1C"], DATA, "table line 2: Weight"),
-    (&[], DATA, "table line 1: Order"),
-    (&[TABLE, AGAIN], DATA, "table line 10: DuplicateKey"),
-    (&["@version 1\n0061 ; x\n"], DATA, "table line 2: Line"),
-    (&["@version 1"], DATA, "table line 1: Line"),
-    (SMALL, "", "data line 1: Order"),
-    (
-        SMALL,
-        "@data 1\nccc 0300..0314 255\n",
-        "data line 2: Weight",
-    ),
-    (SMALL, "@data 1\n\ncore 9FFF..4E00\n", "data line 3: Range"),
-    (
-        SMALL,
-        "@data 1\nccc D800..DFFF 1\n",
-        "data line 2: CodePoint",
-    ),
-    // The table is read first.
-    (&[], "", "table line 1: Order"),
-];
+/// A table, and what is told.
+const TABLES: &str = r"@version 1\n0061 ; [.1C | table line 2: Weight
+ | table line 1: Order
+@version 1\n0061 ; x\n | table line 2: Line
+@version 1 | table line 1: Line";
+
+/// A data file, and what is told.
+const DATA_FILES: &str = r" | data line 1: Order
+@data 1\nccc 0300..0314 255\n | data line 2: Weight
+@data 1\n\ncore 9FFF..4E00\n | data line 3: Range
+@data 1\nccc D800..DFFF 1\n | data line 2: CodePoint";
+
+// Nothing is printed by any run, also where the input or the texts have a fault.
+fn check_runs(alloc: Global, files: &Files, end: &str) -> Result<(), Fail> {
+    let files = files.with_input(b"a\n\xFF");
+    let by_three = Some(NonIgnorable);
+    check(alloc, &files, Run::Keys(by_three, Weights), "", end)?;
+    check(alloc, &files, Run::Sort(None, Identical), "", end)?;
+    check(alloc, &files, Run::Check, "", end)?;
+    check(
+        alloc,
+        &files,
+        Run::Compare("a", "b", None, Weights),
+        "",
+        end,
+    )?;
+    let long = acutes(alloc, 65)?;
+    let run = Run::Compare(&long, &long, by_three, Identical);
+    check(alloc, &files, run, "", end)
+}
+
+fn check_table(alloc: Global, case: &str) -> Result<(), Fail> {
+    let (table, end) = halves(case)?;
+    let table = bytes_of(alloc, table)?;
+    let table = [str::from_utf8(&table)?];
+    check_runs(alloc, &SMALL.with_table(&table), end)
+}
 
 #[test]
-fn refused_files(rt: HostRuntime) -> Result<(), Fail> {
-    // Nothing is printed, also where the input or the texts have a fault.
-    let long = acutes(rt.alloc(), 65)?;
-    let runs = [
-        Run::Keys(Some(NonIgnorable), Weights),
-        Run::Sort(None, Identical),
-        Run::Check,
-        Run::Compare("a", "b", None, Weights),
-        Run::Compare(long.as_str(), long.as_str(), Some(NonIgnorable), Identical),
-    ];
-    for (table, data, end) in CASES {
-        let files = Files {
-            table,
-            data,
-            input: b"a\n\xFF",
-        };
-        for run in runs {
-            check(&rt, files, run, "", end)?;
-        }
+fn refused_tables(rt: HostRuntime) -> Result<(), Fail> {
+    for case in TABLES.lines() {
+        check_table(rt.alloc(), case)?;
     }
-    Ok(())
+    let twice = SMALL.with_table(&[TABLE, AGAIN]);
+    check_runs(rt.alloc(), &twice, "table line 10: DuplicateKey")
+}
+
+fn check_data(alloc: Global, case: &str) -> Result<(), Fail> {
+    let (data, end) = halves(case)?;
+    let data = bytes_of(alloc, data)?;
+    check_runs(alloc, &SMALL.with_data(str::from_utf8(&data)?), end)
+}
+
+#[test]
+fn refused_data_files(rt: HostRuntime) -> Result<(), Fail> {
+    for case in DATA_FILES.lines() {
+        check_data(rt.alloc(), case)?;
+    }
+    // The table is read first.
+    let neither = SMALL.with_table(&[]).with_data("");
+    check_runs(rt.alloc(), &neither, "table line 1: Order")
 }

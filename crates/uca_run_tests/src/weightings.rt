@@ -1,8 +1,9 @@
 //! The weighting by which a run goes.
 
 use crate::trials::check;
-use std::process::Abort;
+use std::alloc::Global;
 use std::test::Fail;
+use uca_fakes::halves;
 use uca_trials::{Run, SMALL};
 use uca_weights::Depth::Weights;
 use uca_weights::Weighting;
@@ -40,40 +41,68 @@ const BY_SHIFTED: Printed = Printed {
 
 // Under the table each run that is asked for this weighting prints so.
 fn check_weighting(
-    rt: &(impl Abort + AllocGlobal),
+    alloc: Global,
     table: &[&str],
     asked: Option<Weighting>,
-    printed: Printed,
+    printed: &Printed,
 ) -> Result<(), Fail> {
     let files = SMALL.with_table(table);
     let spaced = files.with_input(b"a \n");
-    check(rt, spaced, Run::Keys(asked, Weights), printed.key, "done")?;
+    check(
+        alloc,
+        &spaced,
+        Run::Keys(asked, Weights),
+        printed.key,
+        "done",
+    )?;
     let mixed = files.with_input(b"ab\na b\naa\nb\n");
-    check(rt, mixed, Run::Sort(asked, Weights), printed.lines, "done")?;
+    check(
+        alloc,
+        &mixed,
+        Run::Sort(asked, Weights),
+        printed.lines,
+        "done",
+    )?;
     let compare = Run::Compare("a b", "ab", asked, Weights);
-    check(rt, files, compare, printed.comparison, "done")
+    check(alloc, &files, compare, printed.comparison, "done")
+}
+
+/// What the table says, what is asked for, if anything, and the weighting by which the runs go.
+const CASES: &str = " |  | shifted
+ | non-ignorable | non-ignorable
+ | shifted | shifted
+@variable non-ignorable |  | non-ignorable
+@variable non-ignorable | non-ignorable | non-ignorable
+@variable non-ignorable | shifted | shifted
+@variable shifted |  | shifted
+@variable shifted | non-ignorable | non-ignorable
+@variable shifted | shifted | shifted";
+
+fn check_case(alloc: Global, case: &str) -> Result<(), Fail> {
+    let (setting, rest) = halves(case)?;
+    let (asked, wanted) = halves(rest)?;
+    let asked = match asked {
+        "non-ignorable" => Some(NonIgnorable),
+        "shifted" => Some(Shifted),
+        _ => None,
+    };
+    let printed = if wanted == "shifted" {
+        &BY_SHIFTED
+    } else {
+        &BY_NON_IGNORABLE
+    };
+    check_weighting(
+        alloc,
+        &["@version 1\n", setting, "\n", ROWS],
+        asked,
+        printed,
+    )
 }
 
 #[test]
 fn the_weighting_that_holds(rt: HostRuntime) -> Result<(), Fail> {
-    // What the table says, what is asked for, and what is printed.
-    let cases: [(&str, Option<Weighting>, Printed); 9] = [
-        ("", None, BY_SHIFTED),
-        ("", Some(NonIgnorable), BY_NON_IGNORABLE),
-        ("", Some(Shifted), BY_SHIFTED),
-        ("@variable non-ignorable\n", None, BY_NON_IGNORABLE),
-        (
-            "@variable non-ignorable\n",
-            Some(NonIgnorable),
-            BY_NON_IGNORABLE,
-        ),
-        ("@variable non-ignorable\n", Some(Shifted), BY_SHIFTED),
-        ("@variable shifted\n", None, BY_SHIFTED),
-        ("@variable shifted\n", Some(NonIgnorable), BY_NON_IGNORABLE),
-        ("@variable shifted\n", Some(Shifted), BY_SHIFTED),
-    ];
-    for (setting, asked, printed) in cases {
-        check_weighting(&rt, &["@version 1\n", setting, ROWS], asked, printed)?;
+    for case in CASES.lines() {
+        check_case(rt.alloc(), case)?;
     }
     Ok(())
 }

@@ -1,23 +1,63 @@
 //! Runs over readers and a writer of chosen paces.
 
-use std::alloc::Global;
-use std::process::Abort;
+use std::alloc::{AllocError, Global};
 use std::test::Fail;
 use uca_cli::{RunFault, report};
-use uca_fakes::{Calls, FakeReader, FakeWriter, Pace};
-use uca_trials::{Files, Run, SHORT, SHORT_TABLE, Streams, joined, told};
+use uca_fakes::{Calls, FakeReader, FakeWriter, Pace, holds};
+use uca_trials::{Answer, Files, Run, SHORT, SHORT_TABLE, Streams, joined, told};
 use uca_weights::Depth::{Identical, Weights};
 use uca_weights::Weighting::NonIgnorable;
 use uca_weights::{Sink, Source};
 
-// The places of the streams of a run among its four: the table, the data file, the input and the output.
-pub const TABLE: usize = 0;
+/// A stream of a run.
+#[derive(Clone, Copy)]
+pub enum Stream {
+    Table,
+    Data,
+    Input,
+    Out,
+}
 
-pub const DATA: usize = 1;
+impl Stream {
+    /// What is said of it.
+    pub fn name(self) -> &'static str {
+        match self {
+            Stream::Table => "table",
+            Stream::Data => "data",
+            Stream::Input => "input",
+            Stream::Out => "output",
+        }
+    }
 
-pub const INPUT: usize = 2;
+    /// One pace for this stream, and another one for the three others.
+    pub fn paces(self, own: Pace, other: Pace) -> [Pace; 4] {
+        match self {
+            Stream::Table => [own, other, other, other],
+            Stream::Data => [other, own, other, other],
+            Stream::Input => [other, other, own, other],
+            Stream::Out => [other, other, other, own],
+        }
+    }
 
-pub const OUT: usize = 3;
+    /// This stream alone among the four: the table, the data file, the input and the output.
+    pub fn alone(self) -> [bool; 4] {
+        match self {
+            Stream::Table => [true, false, false, false],
+            Stream::Data => [false, true, false, false],
+            Stream::Input => [false, false, true, false],
+            Stream::Out => [false, false, false, true],
+        }
+    }
+
+    /// The streams of what is read up to this one; and the output, if this is so.
+    pub fn read_up_to(self, is_printed: bool) -> [bool; 4] {
+        match self {
+            Stream::Table => [true, false, false, is_printed],
+            Stream::Data => [true, true, false, is_printed],
+            Stream::Input | Stream::Out => [true, true, true, is_printed],
+        }
+    }
+}
 
 /// A run over files, and what comes of it where no stream fails.
 #[derive(Clone, Copy)]
@@ -28,7 +68,7 @@ pub struct Case<'a> {
     pub files: Files<'a>,
     /// What it prints.
     pub printed: &'a str,
-    /// What is told of its end.
+    /// What is told of its end, with the status of a fault.
     pub end: &'a str,
 }
 
@@ -91,27 +131,25 @@ pub const COMPARE: Case = Case {
 };
 
 /// The case with these lines, of which this is printed.
-pub fn with_input<'a>(case: Case<'a>, lines: &'a [u8], printed: &'a str) -> Case<'a> {
+pub fn with_input<'a>(case: &Case<'a>, lines: &'a [u8], printed: &'a str) -> Case<'a> {
     Case {
         files: case.files.with_input(lines),
         printed,
-        ..case
+        ..*case
     }
 }
 
-/// What came of a run.
+/// What came of a run. The four are the table, the data file, the input and the output.
 #[derive(Drop)]
 pub struct Outcome {
-    /// What is told of its end.
+    /// What is told of its end, with the status that the program ends with, if by a fault.
     pub end: String,
-    /// The status that the program ends with, if by a fault.
-    pub status: Option<u8>,
     /// What went out.
     pub printed: Vec<u8>,
-    /// Which of the streams say that they failed.
+    /// Which of the four say that they failed.
     pub failed: [bool; 4],
-    /// How many calls each of the streams made.
-    pub calls: [u32; 4],
+    /// Which of the four were called.
+    pub called: [bool; 4],
 }
 
 // The status of a fault.
@@ -121,62 +159,106 @@ fn status_of(alloc: Global, fault: &RunFault) -> u8 {
     report(alloc, fault, &mut out, &mut err)
 }
 
-/// A run over readers and a writer of these paces.
-pub fn run_at(
-    rt: &(impl Abort + AllocGlobal),
-    case: Case,
-    paces: [Pace; 4],
-) -> Result<Outcome, Fail> {
-    let Case { run, files, .. } = case;
-    let table = joined(rt.alloc(), files.table)?;
-    let texts = [table.as_bytes(), files.data.as_bytes(), files.input];
-    run_over(rt, run, texts, paces)
+// What is told of the end of a run, with the status of a fault.
+fn end_of(alloc: Global, end: &Result<Answer, RunFault>) -> Result<String, AllocError> {
+    let mut text = told(alloc, end)?;
+    if let Err(fault) = end {
+        let status = format!(in alloc; ", status {}", status_of(alloc, fault))?;
+        text.push_str(&status)?;
+    }
+    Ok(text)
 }
 
-// The same over the bytes of a table, a data file and an input. A stream says that it failed exactly where
-// a call of its reader or writer failed: so one that fails by itself is seen, and one that returns without
-// a call. None is called again after a call that failed.
+/// What a run returns, what went out, and which of the four streams say that they failed.
+#[derive(Drop)]
+struct Ended {
+    end: Result<Answer, RunFault>,
+    printed: Vec<u8>,
+    failed: [bool; 4],
+}
+
+// A run with the text of a table, over streams of these paces and with these calls.
 fn run_over(
-    rt: &(impl Abort + AllocGlobal),
-    run: Run,
-    texts: [&[u8]; 3],
+    alloc: Global,
+    case: &Case,
+    table: &[u8],
     paces: [Pace; 4],
-) -> Result<Outcome, Fail> {
-    let calls = [Calls::new(), Calls::new(), Calls::new(), Calls::new()];
-    let table = FakeReader::new(texts[TABLE], paces[TABLE], &calls[TABLE]);
-    let properties = FakeReader::new(texts[DATA], paces[DATA], &calls[DATA]);
-    let input = FakeReader::new(texts[INPUT], paces[INPUT], &calls[INPUT]);
+    calls: &[Calls; 4],
+) -> Ended {
+    let [table_pace, data_pace, input_pace, out_pace] = paces;
+    let [table_calls, data_calls, input_calls, out_calls] = calls;
+    let data = case.files.data.as_bytes();
     let mut streams = Streams {
-        table: Source::new(table),
-        properties: Source::new(properties),
-        input: Source::new(input),
-        out: Sink::new(FakeWriter::new(rt.alloc(), paces[OUT], &calls[OUT])),
+        table: Source::new(FakeReader::new(table, table_pace, table_calls)),
+        properties: Source::new(FakeReader::new(data, data_pace, data_calls)),
+        input: Source::new(FakeReader::new(case.files.input, input_pace, input_calls)),
+        out: Sink::new(FakeWriter::new(alloc, out_pace, out_calls)),
     };
-    let result = streams.run(rt.alloc(), run);
-    let failed = streams.failed();
-    for (calls, failed) in calls.iter().zip(failed) {
-        assert_eq!(rt; failed, calls.failed.get() > 0);
-        assert_eq!(rt; calls.late.get(), 0, "tried again");
-    }
-    Ok(Outcome {
-        end: told(rt.alloc(), &result)?,
-        status: match &result {
-            Ok(_) => None,
-            Err(fault) => Some(status_of(rt.alloc(), fault)),
-        },
+    let end = streams.run(alloc, case.run);
+    Ended {
+        end,
+        failed: streams.failed(),
         printed: streams.out.into_inner().text,
-        failed,
-        calls: [
-            calls[TABLE].all.get(),
-            calls[DATA].all.get(),
-            calls[INPUT].all.get(),
-            calls[OUT].all.get(),
-        ],
+    }
+}
+
+// Whether a call failed, of each of the four.
+fn failed_calls(calls: &[Calls; 4]) -> [bool; 4] {
+    let [table, data, input, out] = calls;
+    [
+        table.failed.get() > 0,
+        data.failed.get() > 0,
+        input.failed.get() > 0,
+        out.failed.get() > 0,
+    ]
+}
+
+// Whether there was a call after one that failed, of each of the four.
+fn late_calls(calls: &[Calls; 4]) -> [bool; 4] {
+    let [table, data, input, out] = calls;
+    [
+        table.late.get() > 0,
+        data.late.get() > 0,
+        input.late.get() > 0,
+        out.late.get() > 0,
+    ]
+}
+
+// Whether there was a call, of each of the four.
+fn all_calls(calls: &[Calls; 4]) -> [bool; 4] {
+    let [table, data, input, out] = calls;
+    [
+        table.all.get() > 0,
+        data.all.get() > 0,
+        input.all.get() > 0,
+        out.all.get() > 0,
+    ]
+}
+
+// A run over the text of a table. A stream says that it failed exactly where a call of its reader or writer
+// failed: so one that fails by itself is seen, and one that returns without a call. None is called again
+// after a call that failed.
+fn run_table(alloc: Global, case: &Case, table: &[u8], paces: [Pace; 4]) -> Result<Outcome, Fail> {
+    let calls = [Calls::new(), Calls::new(), Calls::new(), Calls::new()];
+    let ended = run_over(alloc, case, table, paces, &calls);
+    let is_so = ended.failed == failed_calls(&calls) && late_calls(&calls) == [false; 4];
+    holds(is_so, "failed by itself, or tried again")?;
+    Ok(Outcome {
+        end: end_of(alloc, &ended.end)?,
+        called: all_calls(&calls),
+        failed: ended.failed,
+        printed: ended.printed,
     })
 }
 
+/// A run over readers and a writer of these paces.
+pub fn run_at(alloc: Global, case: &Case, paces: [Pace; 4]) -> Result<Outcome, Fail> {
+    let table = joined(alloc, case.files.table)?;
+    run_table(alloc, case, table.as_bytes(), paces)
+}
+
 /// Whether a run was whole: it ended and printed as the case says, and no stream failed.
-pub fn is_whole(case: Case, outcome: &Outcome) -> bool {
+pub fn is_whole(case: &Case, outcome: &Outcome) -> bool {
     outcome.end.as_str() == case.end
         && outcome.printed.as_slice() == case.printed.as_bytes()
         && outcome.failed == [false; 4]

@@ -1,51 +1,49 @@
 //! Runs over readers and a writer that give or take few bytes a call. None of them fails, so no run does.
 
 use crate::paces::{
-    CHECK, COMPARE, Case, FAILED_CHECK, IDENTICAL_KEYS, INPUT, KEYS, SORT, is_whole, run_at,
-    with_input,
+    CHECK, COMPARE, Case, FAILED_CHECK, IDENTICAL_KEYS, KEYS, SORT, is_whole, run_at, with_input,
 };
 use std::alloc::{AllocError, Global};
-use std::process::Abort;
 use std::test::Fail;
-use uca_fakes::Pace;
+use uca_fakes::{Pace, holds};
 use uca_trials::{Run, push_key};
 
 /// How many bytes a call gives or takes at most. The last gives or takes all.
 const STEPS: [usize; 6] = [1, 2, 3, 7, 4096, usize::MAX];
 
-// Whether the run has a use for the stream.
-fn is_used(run: Run, stream: usize) -> bool {
+// The streams that a run has a use for, of the table, the data file, the input and the output.
+fn used_by(run: Run) -> [bool; 4] {
     match run {
-        Run::Keys(..) | Run::Sort(..) => true,
-        Run::Check | Run::Compare(..) => stream != INPUT,
+        Run::Keys(..) | Run::Sort(..) => [true; 4],
+        Run::Check | Run::Compare(..) => [true, true, false, true],
     }
 }
 
-// However many bytes a call gives or takes, the run prints all. Each stream that it has a use for is called,
-// and none fails.
-fn check_pieces(rt: &(impl Abort + AllocGlobal), case: Case) -> Result<(), Fail> {
+// Where a call gives or takes so many bytes, the run prints all. Each stream that it has a use for is called, and
+// none fails.
+fn check_step(alloc: Global, case: &Case, step: usize) -> Result<(), Fail> {
+    let outcome = run_at(alloc, case, [Pace::steps(step); 4])?;
+    let is_used = outcome.called == used_by(case.run);
+    holds(is_whole(case, &outcome) && is_used, &outcome.end)
+}
+
+// However many bytes a call gives or takes.
+fn check_pieces(alloc: Global, case: &Case) -> Result<(), Fail> {
     for step in STEPS {
-        let outcome = run_at(rt, case, [Pace::steps(step); 4])?;
-        assert!(rt;
-            is_whole(case, &outcome),
-            "{step} bytes a call: {}",
-            outcome.end.as_str()
-        );
-        for (stream, count) in outcome.calls.iter().enumerate() {
-            assert_eq!(rt; *count > 0, is_used(case.run, stream));
-        }
+        check_step(alloc, case, step)?;
     }
     Ok(())
 }
 
+// A source that ends without its reader, and a run that always says that no memory is left, do not print this.
 #[test]
 fn any_number_of_bytes_a_call(rt: HostRuntime) -> Result<(), Fail> {
-    // A source that ends without its reader, and a run that always says that no memory is left, do not
-    // print this.
-    for case in [KEYS, IDENTICAL_KEYS, SORT, CHECK, FAILED_CHECK, COMPARE] {
-        check_pieces(&rt, case)?;
-    }
-    Ok(())
+    check_pieces(rt.alloc(), &KEYS)?;
+    check_pieces(rt.alloc(), &IDENTICAL_KEYS)?;
+    check_pieces(rt.alloc(), &SORT)?;
+    check_pieces(rt.alloc(), &CHECK)?;
+    check_pieces(rt.alloc(), &FAILED_CHECK)?;
+    check_pieces(rt.alloc(), &COMPARE)
 }
 
 // A line of so many `a`.
@@ -84,12 +82,23 @@ fn lines_of(alloc: Global, counts: &[usize]) -> Result<Lines, AllocError> {
     Ok(lines)
 }
 
+// The keys of these lines.
+fn check_keys(alloc: Global, lines: &Lines) -> Result<(), Fail> {
+    let case = with_input(&KEYS, lines.falling.as_bytes(), &lines.keys);
+    check_pieces(alloc, &case)
+}
+
+// These lines sorted.
+fn check_sorted(alloc: Global, lines: &Lines) -> Result<(), Fail> {
+    let case = with_input(&SORT, lines.falling.as_bytes(), &lines.rising);
+    check_pieces(alloc, &case)
+}
+
 // The keys of lines of these numbers of `a`, and the lines sorted.
-fn check_lines(rt: &(impl Abort + AllocGlobal), counts: &[usize]) -> Result<(), Fail> {
-    let lines = lines_of(rt.alloc(), counts)?;
-    let input = lines.falling.as_bytes();
-    check_pieces(rt, with_input(KEYS, input, &lines.keys))?;
-    check_pieces(rt, with_input(SORT, input, &lines.rising))
+fn check_lines(alloc: Global, counts: &[usize]) -> Result<(), Fail> {
+    let lines = lines_of(alloc, counts)?;
+    check_keys(alloc, &lines)?;
+    check_sorted(alloc, &lines)
 }
 
 /// Numbers of letters up to 300: so many, and so far apart.
@@ -100,7 +109,7 @@ const STRIDE: usize = 7;
 #[test]
 fn a_line_of_any_length(rt: HostRuntime) -> Result<(), Fail> {
     for place in 0..LENGTHS {
-        check_lines(&rt, &[place.saturating_mul(STRIDE)])?;
+        check_lines(rt.alloc(), &[place.saturating_mul(STRIDE)])?;
     }
     Ok(())
 }
@@ -111,41 +120,39 @@ fn lines_of_many_lengths(rt: HostRuntime) -> Result<(), Fail> {
     for place in 0..LENGTHS {
         counts.push(place.saturating_mul(STRIDE))?;
     }
-    check_lines(&rt, &counts)
+    check_lines(rt.alloc(), &counts)
 }
 
 /// Sizes of a sorted line with its LF: some size, and about the size of the buffers for input and output and
 /// its multiples.
 const SIZES: [usize; 5] = [12_345, 16_383, 16_384, 16_385, 32_769];
 
+fn check_size(alloc: Global, size: usize) -> Result<(), Fail> {
+    let lines = lines_of(alloc, &[size.saturating_sub(1)])?;
+    holds(lines.rising.len() == size, "another size")?;
+    check_sorted(alloc, &lines)
+}
+
 #[test]
 fn sorted_lines_about_the_size_of_the_buffer(rt: HostRuntime) -> Result<(), Fail> {
     for size in SIZES {
-        let lines = lines_of(rt.alloc(), &[size.saturating_sub(1)])?;
-        assert_eq!(rt; lines.rising.len(), size);
-        check_pieces(
-            &rt,
-            with_input(SORT, lines.falling.as_bytes(), &lines.rising),
-        )?;
+        check_size(rt.alloc(), size)?;
     }
     Ok(())
 }
 
-/// Sizes of printed keys, about the same, and the numbers of letters of lines that have such keys. The size
-/// of a printed key is a multiple of five.
-const KEY_SIZES: [(usize, &[usize]); 4] = [
-    (12_345, &[0, 0, 821]),
-    (16_380, &[0, 0, 1090]),
-    (16_385, &[0, 1091]),
-    (32_770, &[2184]),
-];
+// Printed keys of a size, and the numbers of letters of lines that have such keys.
+fn check_key_size(alloc: Global, size: usize, counts: &[usize]) -> Result<(), Fail> {
+    let lines = lines_of(alloc, counts)?;
+    holds(lines.keys.len() == size, "another size")?;
+    check_keys(alloc, &lines)
+}
 
+// Sizes about the same. That of a printed key is a multiple of five.
 #[test]
 fn keys_about_the_size_of_the_buffer(rt: HostRuntime) -> Result<(), Fail> {
-    for (size, counts) in KEY_SIZES {
-        let lines = lines_of(rt.alloc(), counts)?;
-        assert_eq!(rt; lines.keys.len(), size);
-        check_pieces(&rt, with_input(KEYS, lines.falling.as_bytes(), &lines.keys))?;
-    }
-    Ok(())
+    check_key_size(rt.alloc(), 12_345, &[0, 0, 821])?;
+    check_key_size(rt.alloc(), 16_380, &[0, 0, 1090])?;
+    check_key_size(rt.alloc(), 16_385, &[0, 1091])?;
+    check_key_size(rt.alloc(), 32_770, &[2184])
 }

@@ -1,14 +1,13 @@
 //! Runs over readers and writers that fail at a chosen byte.
 
 use crate::paces::{
-    CHECK, COMPARE, Case, DATA, FAILED_CHECK, IDENTICAL_KEYS, INPUT, KEYS, LINES, OUT, SORT, TABLE,
+    CHECK, COMPARE, Case, FAILED_CHECK, IDENTICAL_KEYS, KEYS, LINES, SORT, Stream, is_whole,
     run_at, with_input,
 };
-use std::alloc::AllocError;
+use std::alloc::{AllocError, Global};
 use std::io::ErrorKind;
-use std::process::Abort;
 use std::test::Fail;
-use uca_fakes::{Failure, Pace};
+use uca_fakes::{Failure, Pace, bytes_of, halves, holds, repeated, same};
 use uca_trials::{KEY_OF_A, joined};
 
 /// Each way in which a call fails. A reader that gives nothing has not failed.
@@ -18,82 +17,121 @@ const FAILURES: [Failure; 3] = [
     Failure::Nothing,
 ];
 
-const KEY_OF_A_ACUTE: &str = "1C47 0000 0020 0024 0000 0002 0002\n";
+/// Streams that give or take all at once.
+const WHOLE: Pace = Pace {
+    step: usize::MAX,
+    good: None,
+    failure: Failure::Nothing,
+};
 
-// A run where one reader fails after so many bytes: this is told, and this was printed. The streams that
-// it comes to later are not called.
-fn check_read_fault(
-    rt: &(impl Abort + AllocGlobal),
-    case: Case,
-    (which, good): (usize, usize),
-    end: &str,
-    printed: &str,
+/// A reader that fails after two bytes.
+const BROKEN: Pace = Pace {
+    step: 1,
+    good: Some(2),
+    failure: Failure::Error(ErrorKind::Other),
+};
+
+// A run where one reader fails: this is told, and this was printed. The streams that it comes to later are not
+// called.
+fn check_read_at(
+    alloc: Global,
+    case: &Case,
+    which: Stream,
+    paces: [Pace; 4],
+    (end, printed): (&str, &[u8]),
 ) -> Result<(), Fail> {
-    assert!(rt; which < OUT);
-    for kind in [ErrorKind::Interrupted, ErrorKind::Other] {
-        for step in [1, 9, usize::MAX] {
-            let mut paces = [Pace::steps(step); 4];
-            paces[which] = Pace::failing(step, good, Failure::Error(kind));
-            let outcome = run_at(rt, case, paces)?;
-            assert_eq!(rt; outcome.end.as_str(), end, "{step} bytes a call");
-            assert_eq!(rt; outcome.status, Some(3));
-            assert_eq!(rt; outcome.printed.as_slice(), printed.as_bytes(), "{end}");
-            for (stream, failed) in outcome.failed.iter().enumerate() {
-                assert_eq!(rt; *failed, stream == which);
-            }
-            for (stream, count) in outcome.calls.iter().enumerate() {
-                if stream > which && (stream != OUT || printed.is_empty()) {
-                    assert_eq!(rt; *count, 0);
-                }
-            }
-        }
+    let outcome = run_at(alloc, case, paces)?;
+    let called = which.read_up_to(!printed.is_empty());
+    let is_so = outcome.failed == which.alone() && outcome.called == called;
+    holds(is_so && outcome.printed.as_slice() == printed, end)?;
+    same(&outcome.end, end, "the end")
+}
+
+// A run where one reader fails after so many bytes, in this way.
+fn check_read_kind(
+    alloc: Global,
+    case: &Case,
+    (which, good): (Stream, usize),
+    kind: ErrorKind,
+    ended: (&str, &[u8]),
+) -> Result<(), Fail> {
+    for step in [1, 9, usize::MAX] {
+        let own = Pace::failing(step, good, Failure::Error(kind));
+        let paces = which.paces(own, Pace::steps(step));
+        check_read_at(alloc, case, which, paces, ended)?;
     }
     Ok(())
+}
+
+// The same in each way. What is told comes without the status.
+fn check_read_fault(
+    alloc: Global,
+    case: &Case,
+    from: (Stream, usize),
+    end: &str,
+    printed: &[u8],
+) -> Result<(), Fail> {
+    let end = joined(alloc, &[end, ", status 3"])?;
+    check_read_kind(alloc, case, from, ErrorKind::Interrupted, (&end, printed))?;
+    check_read_kind(alloc, case, from, ErrorKind::Other, (&end, printed))
+}
+
+/// After how many bytes a reader of the run of keys fails, which is that of a table, a data file or an input; what
+/// was printed; and what is told.
+const READ_FAULTS: &str = r"0 |  | table line 1: Read
+10 |  | table line 1: Read
+11 |  | table line 2: Read
+35 |  | table line 2: Read
+36 |  | table line 3: Read
+60 |  | table line 3: Read
+61 |  | table line 4: Read
+0 |  | data line 1: Read
+7 |  | data line 1: Read
+8 |  | data line 2: Read
+26 |  | data line 2: Read
+27 |  | data line 3: Read
+0 |  | input line 1: Read
+1 |  | input line 1: Read
+2 | 1C47 0000 0020 0000 0002\n | input line 2: Read
+4 | 1C47 0000 0020 0000 0002\n | input line 2: Read
+5 | 1C47 0000 0020 0000 0002\n1C47 0000 0020 0024 0000 0002 0002\n | input line 3: Read
+6 | 1C47 0000 0020 0000 0002\n1C47 0000 0020 0024 0000 0002 0002\n | input line 3: Read";
+
+// The stream that a fault names.
+fn stream_of(end: &str) -> Stream {
+    match end.split(' ').next() {
+        Some("table") => Stream::Table,
+        Some("data") => Stream::Data,
+        _ => Stream::Input,
+    }
+}
+
+fn check_keys_fault(alloc: Global, case: &str) -> Result<(), Fail> {
+    let (good, rest) = halves(case)?;
+    let (printed, end) = halves(rest)?;
+    let from = (stream_of(end), good.parse::<usize>()?);
+    check_read_fault(alloc, &KEYS, from, end, &bytes_of(alloc, printed)?)
 }
 
 #[test]
 fn readers_of_keys_that_fail(rt: HostRuntime) -> Result<(), Fail> {
-    let two_keys = joined(rt.alloc(), &[KEY_OF_A, KEY_OF_A_ACUTE])?;
-    // Which reader fails, after how many bytes, what is told, and what was printed.
-    let cases = [
-        (TABLE, 0, "table line 1: Read", ""),
-        (TABLE, 10, "table line 1: Read", ""),
-        (TABLE, 11, "table line 2: Read", ""),
-        (TABLE, 35, "table line 2: Read", ""),
-        (TABLE, 36, "table line 3: Read", ""),
-        (TABLE, 60, "table line 3: Read", ""),
-        (TABLE, 61, "table line 4: Read", ""),
-        (DATA, 0, "data line 1: Read", ""),
-        (DATA, 7, "data line 1: Read", ""),
-        (DATA, 8, "data line 2: Read", ""),
-        (DATA, 26, "data line 2: Read", ""),
-        (DATA, 27, "data line 3: Read", ""),
-        (INPUT, 0, "input line 1: Read", ""),
-        (INPUT, 1, "input line 1: Read", ""),
-        (INPUT, 2, "input line 2: Read", KEY_OF_A),
-        (INPUT, 4, "input line 2: Read", KEY_OF_A),
-        (INPUT, 5, "input line 3: Read", two_keys.as_str()),
-        (INPUT, 6, "input line 3: Read", two_keys.as_str()),
-    ];
-    for (which, good, end, printed) in cases {
-        check_read_fault(&rt, KEYS, (which, good), end, printed)?;
+    for case in READ_FAULTS.lines() {
+        check_keys_fault(rt.alloc(), case)?;
     }
     Ok(())
 }
 
-// Runs that print nothing where a reader fails after any number of the bytes of a text. The line of the
-// next byte is told.
-fn check_read_faults(
-    rt: &(impl Abort + AllocGlobal),
-    case: Case,
-    which: usize,
-    role: &str,
-    text: &[u8],
-) -> Result<(), Fail> {
+// A run that prints nothing where a reader fails after so many bytes of a text. The line of the next byte is told.
+fn check_byte(alloc: Global, case: &Case, from: (Stream, usize), line: u32) -> Result<(), Fail> {
+    let end = format!(in alloc; "{} line {line}: Read", from.0.name())?;
+    check_read_fault(alloc, case, from, &end, b"")
+}
+
+// The same after any number of the bytes of a text.
+fn check_bytes(alloc: Global, case: &Case, which: Stream, text: &[u8]) -> Result<(), Fail> {
     let mut line = 1;
     for good in 0..text.len() + 1 {
-        let end = format!(in rt.alloc(); "{role} line {line}: Read")?;
-        check_read_fault(rt, case, (which, good), end.as_str(), "")?;
+        check_byte(alloc, case, (which, good), line)?;
         if text.get(good) == Some(&b'\n') {
             line = 1u32.saturating_add(line);
         }
@@ -101,154 +139,169 @@ fn check_read_faults(
     Ok(())
 }
 
-#[test]
-fn readers_of_other_runs_that_fail(rt: HostRuntime) -> Result<(), Fail> {
-    for case in [SORT, CHECK, FAILED_CHECK, COMPARE] {
-        check_read_fault(&rt, case, (TABLE, 10), "table line 1: Read", "")?;
-        check_read_fault(&rt, case, (TABLE, 11), "table line 2: Read", "")?;
-        let rows = joined(rt.alloc(), case.files.table)?;
-        check_read_faults(&rt, case, TABLE, "table", rows.as_bytes())?;
-        check_read_faults(&rt, case, DATA, "data", case.files.data.as_bytes())?;
-    }
-    check_read_faults(&rt, SORT, INPUT, "input", LINES.input)
+// Both files of a run that prints nothing.
+fn check_files(alloc: Global, case: &Case) -> Result<(), Fail> {
+    check_byte(alloc, case, (Stream::Table, 10), 1)?;
+    check_byte(alloc, case, (Stream::Table, 11), 2)?;
+    let rows = joined(alloc, case.files.table)?;
+    check_bytes(alloc, case, Stream::Table, rows.as_bytes())?;
+    check_bytes(alloc, case, Stream::Data, case.files.data.as_bytes())
 }
 
-// A run over a writer that takes so many bytes and then fails in each way: this is told, and these bytes
-// of the whole output went out.
-fn check_write_fault(
-    rt: &(impl Abort + AllocGlobal),
-    case: Case,
+#[test]
+fn readers_of_other_runs_that_fail(rt: HostRuntime) -> Result<(), Fail> {
+    check_files(rt.alloc(), &SORT)?;
+    check_files(rt.alloc(), &CHECK)?;
+    check_files(rt.alloc(), &FAILED_CHECK)?;
+    check_files(rt.alloc(), &COMPARE)?;
+    check_bytes(rt.alloc(), &SORT, Stream::Input, LINES.input)
+}
+
+// A run over such an input and a writer that fails after so many bytes: this is told, and these bytes of the whole
+// output went out.
+fn check_write_at(
+    alloc: Global,
+    case: &Case,
     good: usize,
-    input: Pace,
+    (input, out): (Pace, Pace),
+    end: &str,
 ) -> Result<(), Fail> {
-    let end = format!(in rt.alloc(); "output: Write after {good}")?;
+    let outcome = run_at(alloc, case, [WHOLE, WHOLE, input, out])?;
+    let [_, _, _, is_told] = outcome.failed;
+    let is_begun = Some(outcome.printed.as_slice()) == case.printed.as_bytes().get(..good);
+    holds(is_told && is_begun, end)?;
+    same(&outcome.end, end, "the end")
+}
+
+// A run over a writer that takes so many bytes and then fails in each way.
+fn check_write_fault(alloc: Global, case: &Case, good: usize, input: Pace) -> Result<(), Fail> {
+    let end = format!(in alloc; "output: Write after {good}, status 3")?;
     for failure in FAILURES {
         for step in [1, 4, usize::MAX] {
-            let whole = Pace::steps(usize::MAX);
             let out = Pace::failing(step, good, failure);
-            let outcome = run_at(rt, case, [whole, whole, input, out])?;
-            assert_eq!(rt; outcome.end.as_str(), end.as_str());
-            assert_eq!(rt; outcome.status, Some(3));
-            let begun = case.printed.as_bytes().get(..good);
-            assert_eq!(rt; Some(outcome.printed.as_slice()), begun);
-            assert!(rt; outcome.failed[OUT]);
+            check_write_at(alloc, case, good, (input, out), &end)?;
         }
+    }
+    Ok(())
+}
+
+// The same after any number of the bytes of the output.
+fn check_write_faults(alloc: Global, case: &Case, input: Pace) -> Result<(), Fail> {
+    for good in 0..case.printed.len() {
+        check_write_fault(alloc, case, good, input)?;
     }
     Ok(())
 }
 
 #[test]
 fn writers_of_keys_that_fail(rt: HostRuntime) -> Result<(), Fail> {
-    let whole = Pace::steps(usize::MAX);
-    let broken = Pace::failing(1, 2, Failure::Error(ErrorKind::Other));
-    let line = with_input(KEYS, b"a\n", KEY_OF_A);
+    let begun = with_input(&KEYS, b"a\n", "1C47 00");
+    check_write_fault(rt.alloc(), &begun, 7, WHOLE)?;
+    let line = with_input(&KEYS, b"a\n", KEY_OF_A);
+    check_write_faults(rt.alloc(), &line, WHOLE)?;
     // A later line is faulty, or cannot be read: the earlier lines go out first.
-    let faulty = with_input(KEYS, b"a\n\xFF\n", KEY_OF_A);
-    let unread = with_input(KEYS, b"a\nb\n", KEY_OF_A);
-    check_write_fault(&rt, with_input(KEYS, b"a\n", "1C47 00"), 7, whole)?;
-    for good in 0..KEY_OF_A.len() {
-        check_write_fault(&rt, line, good, whole)?;
-        check_write_fault(&rt, faulty, good, whole)?;
-        check_write_fault(&rt, unread, good, broken)?;
-    }
-    Ok(())
+    let faulty = with_input(&KEYS, b"a\n\xFF\n", KEY_OF_A);
+    check_write_faults(rt.alloc(), &faulty, WHOLE)?;
+    let unread = with_input(&KEYS, b"a\nb\n", KEY_OF_A);
+    check_write_faults(rt.alloc(), &unread, BROKEN)
+}
+
+#[test]
+fn writers_of_sorted_lines_that_fail(rt: HostRuntime) -> Result<(), Fail> {
+    let begun = with_input(&SORT, b"b\na\n", "a\nb");
+    check_write_fault(rt.alloc(), &begun, 3, WHOLE)?;
+    let two_lines = with_input(&SORT, b"b\na\n", "a\nb\n");
+    check_write_faults(rt.alloc(), &two_lines, WHOLE)?;
+    check_write_faults(rt.alloc(), &SORT, WHOLE)
 }
 
 #[test]
 fn writers_of_other_runs_that_fail(rt: HostRuntime) -> Result<(), Fail> {
-    let whole = Pace::steps(usize::MAX);
-    let two_lines = with_input(SORT, b"b\na\n", "a\nb\n");
-    check_write_fault(&rt, with_input(SORT, b"b\na\n", "a\nb"), 3, whole)?;
-    for case in [
-        IDENTICAL_KEYS,
-        SORT,
-        two_lines,
-        CHECK,
-        FAILED_CHECK,
-        COMPARE,
-    ] {
-        for good in 0..case.printed.len() {
-            check_write_fault(&rt, case, good, whole)?;
-        }
+    check_write_faults(rt.alloc(), &IDENTICAL_KEYS, WHOLE)?;
+    check_write_faults(rt.alloc(), &CHECK, WHOLE)?;
+    check_write_faults(rt.alloc(), &FAILED_CHECK, WHOLE)?;
+    check_write_faults(rt.alloc(), &COMPARE, WHOLE)
+}
+
+// Lines of which one is faulty, or cannot be read: a writer that would fail at once is not called.
+fn check_unsorted(alloc: Global, lines: &[u8], input: Pace, end: &str) -> Result<(), Fail> {
+    let case = with_input(&SORT, lines, "");
+    for failure in FAILURES {
+        let out = Pace::failing(1, 0, failure);
+        let outcome = run_at(alloc, &case, [WHOLE, WHOLE, input, out])?;
+        let [_, _, _, is_called] = outcome.called;
+        holds(!is_called && outcome.end.as_str() == end, end)?;
     }
     Ok(())
 }
 
 #[test]
 fn lines_are_sorted_before_any_is_written(rt: HostRuntime) -> Result<(), Fail> {
-    // A line is faulty, or cannot be read: a writer that would fail at once is not called.
-    let whole = Pace::steps(usize::MAX);
-    let broken = Pace::failing(1, 2, Failure::Error(ErrorKind::Other));
-    let cases: [(&[u8], Pace, &str); 2] = [
-        (b"a\n\xFF\n", whole, "input line 2: Utf8"),
-        (b"a\nbb\n", broken, "input line 2: Read"),
-    ];
-    for (lines, input, end) in cases {
-        for failure in FAILURES {
-            let out = Pace::failing(1, 0, failure);
-            let case = with_input(SORT, lines, "");
-            let outcome = run_at(&rt, case, [whole, whole, input, out])?;
-            assert_eq!(rt; outcome.end.as_str(), end);
-            assert_eq!(rt; outcome.calls[OUT], 0);
-        }
+    let utf8 = "input line 2: Utf8, status 1";
+    check_unsorted(rt.alloc(), b"a\n\xFF\n", WHOLE, utf8)?;
+    let read = "input line 2: Read, status 3";
+    check_unsorted(rt.alloc(), b"a\nbb\n", BROKEN, read)
+}
+
+// A writer that would fail in each way takes all that there is, and is not called again.
+fn check_late_writer(alloc: Global, case: &Case) -> Result<(), Fail> {
+    for failure in FAILURES {
+        let out = Pace::failing(5, case.printed.len(), failure);
+        let outcome = run_at(alloc, case, [WHOLE, WHOLE, WHOLE, out])?;
+        holds(is_whole(case, &outcome), &outcome.end)?;
     }
     Ok(())
 }
 
 #[test]
 fn a_writer_that_fails_too_late(rt: HostRuntime) -> Result<(), Fail> {
-    // It takes all that there is, and is not called again.
-    let whole = Pace::steps(usize::MAX);
     let faulty = Case {
-        end: "input line 2: Utf8",
-        ..with_input(KEYS, b"a\n\xFF\n", KEY_OF_A)
+        end: "input line 2: Utf8, status 1",
+        ..with_input(&KEYS, b"a\n\xFF\n", KEY_OF_A)
     };
-    for case in [KEYS, faulty, SORT, CHECK, FAILED_CHECK, COMPARE] {
-        for failure in FAILURES {
-            let out = Pace::failing(5, case.printed.len(), failure);
-            let outcome = run_at(&rt, case, [whole, whole, whole, out])?;
-            assert_eq!(rt; outcome.end.as_str(), case.end);
-            assert_eq!(rt; outcome.printed.as_slice(), case.printed.as_bytes());
-            assert_eq!(rt; outcome.failed, [false; 4]);
-        }
-    }
-    Ok(())
+    check_late_writer(rt.alloc(), &faulty)?;
+    check_late_writer(rt.alloc(), &KEYS)?;
+    check_late_writer(rt.alloc(), &SORT)?;
+    check_late_writer(rt.alloc(), &CHECK)?;
+    check_late_writer(rt.alloc(), &FAILED_CHECK)?;
+    check_late_writer(rt.alloc(), &COMPARE)
 }
 
 // A run whose output is longer than what is handed over at once. What is written is counted from the
 // first line on, and not from the last call.
-fn check_long_output(rt: &(impl Abort + AllocGlobal), case: Case) -> Result<(), Fail> {
-    let whole = Pace::steps(usize::MAX);
+fn check_long_output(alloc: Global, case: &Case) -> Result<(), Fail> {
     let length = case.printed.len();
-    assert!(rt; length > 40_000);
-    check_write_fault(rt, case, length - 1, whole)?;
-    check_write_fault(rt, case, length - 20_000, whole)?;
-    let outcome = run_at(rt, case, [whole; 4])?;
-    assert_eq!(rt; outcome.end.as_str(), "done");
-    assert_eq!(rt; outcome.printed.as_slice(), case.printed.as_bytes());
-    Ok(())
+    holds(length > 40_000, "a short output")?;
+    check_write_fault(alloc, case, length.saturating_sub(1), WHOLE)?;
+    check_write_fault(alloc, case, length.saturating_sub(20_000), WHOLE)?;
+    let outcome = run_at(alloc, case, [WHOLE; 4])?;
+    holds(is_whole(case, &outcome), &outcome.end)
 }
 
 #[test]
 fn a_long_output(rt: HostRuntime) -> Result<(), Fail> {
-    let mut lines = String::new(rt.alloc());
-    let mut keys = String::new(rt.alloc());
-    for _ in 0..4000 {
-        lines.push_str("a\n")?;
-        keys.push_str(KEY_OF_A)?;
+    let lines = repeated(rt.alloc(), "a\n", 4000)?;
+    let keys = repeated(rt.alloc(), KEY_OF_A, 4000)?;
+    let case = with_input(&KEYS, lines.as_bytes(), &keys);
+    check_long_output(rt.alloc(), &case)
+}
+
+// Lines of ideographs, each longer or each shorter than the one before.
+fn lines_of(alloc: Global, is_rising: bool) -> Result<String, AllocError> {
+    let mut lines = String::new(alloc);
+    for count in 0..150usize {
+        let count = if is_rising { count } else { 149 - count };
+        push_line(&mut lines, count)?;
     }
-    check_long_output(&rt, with_input(KEYS, lines.as_bytes(), &keys))
+    Ok(lines)
 }
 
 #[test]
 fn a_long_output_of_sorted_lines(rt: HostRuntime) -> Result<(), Fail> {
-    let mut lines = String::new(rt.alloc());
-    let mut sorted = String::new(rt.alloc());
-    for count in 0..150usize {
-        push_line(&mut sorted, count)?;
-        push_line(&mut lines, 149usize.saturating_sub(count))?;
-    }
-    check_long_output(&rt, with_input(SORT, lines.as_bytes(), &sorted))
+    let lines = lines_of(rt.alloc(), false)?;
+    let sorted = lines_of(rt.alloc(), true)?;
+    let case = with_input(&SORT, lines.as_bytes(), &sorted);
+    check_long_output(rt.alloc(), &case)
 }
 
 // A line of so many ideographs.
