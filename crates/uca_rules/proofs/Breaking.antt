@@ -4,9 +4,10 @@ use Rattle.std.proofs.lemmas.Bool.{ne_eqb}
 use Rattle.std.specs.Option.{unwrap_or}
 use borrow.Author.Tests.{eqb-true}
 use Rattle.uca_rules.specs.declared.characters.Character.{Character}
-use Rattle.uca_rules.specs.Characters.{apostrophe, backslash, hyphen}
+use Rattle.uca_rules.specs.declared.faults.RuleFaultKind.TheVariants as kinds
+use Rattle.uca_rules.specs.Characters.{apostrophe, backslash, hyphen, place_of}
 use Rattle.uca_rules.specs.Pieces.{Symbol, Literal, is_plain, begins_piece, piece_at, EndsText}
-use Rattle.uca_rules.specs.Faults.{opened}
+use Rattle.uca_rules.specs.Faults.{opened, is_part, TextCause}
 use Rattle.uca_rules.specs.Views.{BeginsAt, ShowsWrongHyphen}
 
 -- of a backslash and an apostrophe, either may begin what is no piece
@@ -43,3 +44,10 @@ breaks_there starred symbols [] d c So (Some wrong) place star quote within is o
 breaks_there starred symbols (x ∷ xs) d c So (Some wrong) place star quote within is other h at =
     let first : x.code ≡ apostrophe = (let e : x ≡ quote.first = cc (quote.are) in rw e quote.is) in
     inr (star, rw (opened_there (x ∷ xs) d within first (rw (← is) other), ← is, at) h)
+
+-- a character with which no text begins
+pub no_text : (end : ℕ) (starred : Bool) (text : List Character) (d : Character) (place : ℕ) → 0 < length text → IsFalse (is_part (get_or text 0 d).code) →
+    IsFalse (begins_piece starred (get_or text 0 d).code) → place ≡ place_of end text → TextCause end starred text place kinds.Syntax
+no_text end starred [] d place within part piece at = absurd (omega arith)
+no_text end false (c ∷ cs) d place within part piece at = inl ((part, piece), at)
+no_text end true (c ∷ cs) d place within part piece at = inl ((part, piece), at)

@@ -8,6 +8,7 @@ ghost use Rattle.uca_rules.specs.Characters;
 ghost use Rattle.uca_rules.specs.Pieces.{BeginsText, EndsText, piece_at, points_of};
 ghost use Rattle.uca_rules.specs.Statements.{HasRanges, HasRangesSoFar, IsRange};
 ghost use Rattle.uca_rules.specs.Relations.{IsRuleText};
+ghost use Rattle.uca_rules.specs.Faults;
 ghost use Rattle.uca_rules.specs.Faults.{TextCause};
 ghost use Rattle.uca_rules.specs.Views.{BeginsRange, BreaksOff, EndsInHyphen, IsTextFault, ShowsWrongHyphen};
 
@@ -180,7 +181,7 @@ fn begins_text(text: &[Character], starred: bool, end: usize) -> Result<(), Rule
     let byte = place_of(end, text);
     match text.first() {
         Some(c) if begins_piece(starred, c.code) => Ok(()),
-        Some(c) if !matches!(c.code, '&' | '<' | '=' | '/') => Err(RuleFault {
+        Some(c) if !is_part(c.code) => Err(RuleFault {
             byte,
             kind: RuleFaultKind::Syntax,
         }),
@@ -189,6 +190,13 @@ fn begins_text(text: &[Character], starred: bool, end: usize) -> Result<(), Rule
             kind: RuleFaultKind::EmptyText,
         }),
     }
+}
+
+/// `&`, `<`, `=` or `/`.
+fn is_part(c: char) -> bool
+    ensures { result ≡ Faults.is_part c }
+{
+    matches!(c, '&' | '<' | '=' | '/')
 }
 
 /// Whether no piece begins there.
