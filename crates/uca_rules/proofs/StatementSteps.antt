@@ -228,65 +228,7 @@ plain_adds {A} old middle new strength text more rest target expansion t e begin
       };
     }
 
--- ---- Texts have a code point
-
-abbrev HasPoints : Option Piece → Type 0
-HasPoints piece = IfSome piece (λ p. points_of p.symbols ≢ [])
-
-points_either : (b : Bool) (x y : Option Piece) → HasPoints x → HasPoints y → HasPoints (if b then x else y)
-points_either true x y first second = first
-points_either false x y first second = second
-
-literal_points : (c : Character) (piece : Option Piece) → HasPoints (with_literal c piece)
-literal_points c None = tt
-literal_points c (Some piece) = λ none. cc
-
-quoted_points : (d : Character) (cs : List Character) → (d.code == apostrophe) ≡ false → HasPoints (inside_quotes (d ∷ cs))
-quoted_points d [] other = rw other tt
-quoted_points d (e ∷ cs) other = rw other (literal_points d (inside_quotes (e ∷ cs)))
-
-apostrophe_points : (c : Character) (cs : List Character) → HasPoints (behind_apostrophe c cs)
-apostrophe_points c [] = tt
-apostrophe_points c (d ∷ cs) = by (d.code == apostrophe) refl
-  where
-    by : (b : Bool) → (d.code == apostrophe) ≡ b → HasPoints (behind_apostrophe c (d ∷ cs))
-    by true is = rw is (λ none. cc)
-    by false is = rw is (quoted_points d cs is)
-
-number_points : (c : Character) (rest : List Character) (code : Option ℕ) → HasPoints (option_map (λ code. record { symbols = Literal (record { code = code; place = c.place }) ∷ []; rest = rest }) code)
-number_points c rest None = tt
-number_points c rest (Some code) = λ none. cc
-
-backslash_points : (c : Character) (cs : List Character) → HasPoints (behind_backslash c cs)
-backslash_points c [] = tt
-backslash_points c (d ∷ cs) =
-    let itself : Option Piece = Some (record { symbols = Literal (record { code = d.code; place = c.place }) ∷ []; rest = cs }) in
-    points_either (d.code == byte "u") (numbered c 4 cs) (if d.code == byte "U" then numbered c 8 cs else itself)
-    (number_points c (drop 4 cs) (number_at 4 cs))
-    (points_either (d.code == byte "U") (numbered c 8 cs) itself (number_points c (drop 8 cs) (number_at 8 cs)) (λ none. cc))
-
-piece_points : (cs : List Character) → HasPoints (piece_at false cs)
-piece_points [] = tt
-piece_points (c ∷ cs) =
-    let itself : Option Piece = Some (record { symbols = Literal c ∷ []; rest = cs }) in
-    let plain : Option Piece = if is_plain c.code then itself else None in
-    points_either (c.code == apostrophe) (behind_apostrophe c cs) (if c.code == backslash then behind_backslash c cs else plain)
-    (apostrophe_points c cs)
-    (points_either (c.code == backslash) (behind_backslash c cs) plain (backslash_points c cs) (points_either (is_plain c.code) itself None (λ none. cc) tt))
-
-points_front : (xs ys : List Symbol) → points_of xs ≢ [] → points_of (xs ++ ys) ≢ []
-points_front [] ys some none = some refl
-points_front (Literal c ∷ xs) ys some none = cc
-points_front (Hyphen place ∷ xs) ys some none = points_front xs ys some none
-
-pieces_points : (cs : List Character) (pieces : List (List Symbol)) (rest : List Character) → pieces ≢ [] → ArePieces false cs pieces rest → points_of (symbols_of pieces) ≢ []
-pieces_points cs [] rest some are = absurd (some refl)
-pieces_points cs (symbols ∷ pieces) rest some are =
-    points_front symbols (symbols_of pieces) (subst (λ (piece : Option Piece). HasPoints piece) are.1 (piece_points cs))
-
--- a text that is not starred has a code point
-pub text_points : (cs : List Character) (symbols : List Symbol) (rest : List Character) → BeginsText false cs symbols rest → points_of symbols ≢ []
-text_points cs symbols rest begins = subst (λ (l : List Symbol). points_of l ≢ []) (sym begins.give) (pieces_points cs begins.pieces rest begins.some begins.are)
+-- ---- Where a text is written
 
 -- it is written at its first byte
 pub written_place : (end : ℕ) (cs : List Character) (text : Written) (rest : List Character) → BeginsWritten cs text rest → place_of end cs ≡ text.place
