@@ -220,6 +220,8 @@ const STARRED: &str = r"-- A `-` without a character before or behind it.
 &a <* c-a'x | Syntax at 7
 &a <* c-ab-b | Syntax at 7
 &a <* b-d-\u12 | Syntax at 9
+&a <* -\u12 | Syntax at 6
+&a <* b--\u12 | Syntax at 7
 &a <* b-\u12 | Escape at 8
 &a <* \u12-a | Escape at 6
 &a <* b\uD800c-a | Escape at 7

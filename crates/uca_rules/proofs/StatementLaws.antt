@@ -5,7 +5,6 @@ use Rattle.uca_rules.specs.declared.characters.Character.{Character}
 use Rattle.uca_rules.specs.Characters.{behind_gaps, slash}
 use Rattle.uca_rules.specs.Pieces.{Written, BeginsWritten}
 use Rattle.uca_rules.specs.Statements.{SignAt, sign_at, IsNotAt, BeginsBracket, IsAnchorDue, IsTargetDue, IsExpansionDue, targets_of, Statement, Reset, Plain, Starred, BeginsReset, BeginsExpansion, BeginsPlain, BeginsStarred, BeginsStatement, AreStatements}
-use Rattle.uca_rules.specs.Laws.{OneStatement}
 use Rattle.uca_rules.proofs.TextLaws.{one_text, one_written}
 use Rattle.uca_rules.proofs.SignLaws.{no_sign_at_ampersand, bracket_begins}
 use Rattle.uca_rules.proofs.Suffixes.{statement_behind, behind_length}
@@ -100,6 +99,10 @@ no_plain_starred cs rest rest' strength strength' target expansion targets begin
     let due = one_target cs begins.text begins'.text strength strength' false true begins.due begins'.due in
     let star : false ≡ true = due.1 in
     cc
+
+-- characters begin with at most one statement
+abbrev pub OneStatement : Type 0
+OneStatement = (cs rest rest' : List Character) (s s' : Statement) → BeginsStatement cs s rest → BeginsStatement cs s' rest' → (s ≡ s') × (rest ≡ rest')
 
 pub one_statement : OneStatement
 one_statement cs rest rest' (Reset before anchor) (Reset before' anchor') begins begins' = one_reset cs rest rest' before before' anchor anchor' begins begins'

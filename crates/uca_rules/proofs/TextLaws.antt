@@ -4,8 +4,7 @@ use Rattle.std.specs.Prelude.{if◌then◌else◌, ◌==◌, IsFalse}
 use Rattle.std.proofs.lemmas.List.{append-nil}
 use Rattle.uca_rules.specs.declared.characters.Character.{Character}
 use Rattle.uca_rules.specs.Characters.{place_of, apostrophe, backslash, hyphen}
-use Rattle.uca_rules.specs.Pieces.{Symbol, Literal, Hyphen, Piece, is_plain, piece_at, behind_apostrophe, behind_backslash, ArePieces, EndsText, symbols_of, Written, BeginsWritten, points_of}
-use Rattle.uca_rules.specs.Laws.{OneText}
+use Rattle.uca_rules.specs.Pieces.{BeginsText, Symbol, Literal, Hyphen, Piece, is_plain, piece_at, behind_apostrophe, behind_backslash, ArePieces, EndsText, symbols_of, Written, BeginsWritten, points_of}
 
 -- ---- Where a text ends no piece stands
 
@@ -59,6 +58,10 @@ no_pieces starred cs rest (symbols ∷ pieces) ends are =
     absurd cc
 
 -- ---- Texts
+
+-- a text, starred or not, ends at one place and gives one list of characters
+abbrev pub OneText : Type 0
+OneText = (starred : Bool) (cs rest rest' : List Character) (symbols symbols' : List Symbol) → BeginsText starred cs symbols rest → BeginsText starred cs symbols' rest' → (symbols ≡ symbols') × (rest ≡ rest')
 
 pub one_text : OneText
 one_text starred cs rest rest' symbols symbols' begins begins' =

@@ -33,6 +33,7 @@ equals_sign = byte "="
 abbrev pub bracket : ℕ
 bracket = byte "["
 
+-- `\`, which no literal spells
 abbrev pub backslash : ℕ
 backslash = 92
 

@@ -1,22 +1,11 @@
 -- Laws of rules, as statements.
-use Rattle.std.specs.Prelude.{◌≡◌, ◌≢◌, ℕ, Bool, List}
+use Rattle.std.specs.Prelude.{◌≡◌, ◌≢◌, ℕ, List}
 use Rattle.uca_values.specs.Content.{Properties}
-use Rattle.uca_rules.specs.declared.characters.Character.{Character}
 use Rattle.uca_rules.specs.declared.faults.RuleFaultKind.{RuleFaultKind}
 use Rattle.uca_rules.specs.declared.faults.RuleFaultKind.TheVariants as kinds
-use Rattle.uca_rules.specs.Pieces.{Symbol, BeginsText}
-use Rattle.uca_rules.specs.Statements.{Statement, BeginsStatement}
 use Rattle.uca_rules.specs.declared.relations.Relation.{Relation}
 use Rattle.uca_rules.specs.Meaning.{Means}
 use Rattle.uca_rules.specs.Faults.{IsCause}
-
--- a text, starred or not, ends at one place and gives one list of characters
-abbrev pub OneText : Type 0
-OneText = (starred : Bool) (cs rest rest' : List Character) (symbols symbols' : List Symbol) → BeginsText starred cs symbols rest → BeginsText starred cs symbols' rest' → (symbols ≡ symbols') × (rest ≡ rest')
-
--- characters begin with at most one statement
-abbrev pub OneStatement : Type 0
-OneStatement = (cs rest rest' : List Character) (s s' : Statement) → BeginsStatement cs s rest → BeginsStatement cs s' rest' → (s ≡ s') × (rest ≡ rest')
 
 -- bytes mean at most one list of relations
 abbrev pub OneMeaning : Type 0

@@ -123,6 +123,7 @@ abbrev pub between : ℕ → ℕ → ℕ → List Character
 between place x y = placed_at place (range_with_len (x + 1) (y - (x + 1)))
 
 -- The targets of a starred text: each character, and for the `-` of a range the code points between its ends.
+-- (Where a `-` stands for no range the text is none, and what is said of it here does not matter.)
 abbrev pub targets_of : List Symbol → List Character
 targets_of [] = []
 targets_of (Hyphen place ∷ symbols) = targets_of symbols

@@ -5,8 +5,8 @@ ghost use Rattle.uca_rules.specs.declared.faults.RuleFaultKind.{RuleFaultKind};
 ghost use Rattle.uca_rules.specs.FaultText.{kind_text, rule_fault_text};
 
 use std::alloc::{AllocError, AllocFailed};
-use std::error::Error;
 use std::fmt;
+use thiserror::Error;
 
 /// Why rules are refused.
 #[derive(Clone, Copy, Debug, PartialEq, Eq)]
@@ -14,7 +14,7 @@ pub enum RuleFaultKind {
     /// A character stands where it may not; a bracket is none of the three forms; a quote has no end; four or more `<`
     /// stand in a row; a chain has no relation; or a `-` of a starred text stands for no range.
     Syntax,
-    /// A backslash stands at the end, or its digits are missing or give no code point.
+    /// A backslash stands at the end, or its digits are missing, or give a surrogate or a number above 10FFFF.
     Escape,
     /// The first relation behind `[before 1]`, `[before 2]` or `[before 3]` has another strength.
     BeforeStrength,
@@ -25,8 +25,8 @@ pub enum RuleFaultKind {
     Limit,
     /// The target is the target of an earlier relation.
     DuplicateTarget,
-    /// The target occurs in order in an anchor or an expansion that was read before it, so that these would be read
-    /// otherwise.
+    /// The target occurs in order in an anchor or an expansion, of its own or of an earlier relation, that is not itself the
+    /// target of a relation before that one: this text would be read otherwise.
     LateTarget,
     /// An allocation failed.
     Memory,
@@ -62,7 +62,7 @@ impl fmt::Display for RuleFaultKind {
 }
 
 /// Rules are refused: at which byte, and why.
-#[derive(Clone, Copy, Debug, PartialEq, Eq)]
+#[derive(Clone, Copy, Debug, PartialEq, Eq, Error)]
 pub struct RuleFault {
     /// The byte, counted from 0; the length of the rules is their end.
     pub byte: usize,
@@ -77,8 +77,6 @@ impl fmt::Display for RuleFault {
         write!(f, "byte {}: {}", self.byte, self.kind)
     }
 }
-
-impl Error for RuleFault {}
 
 impl From<AllocError> for RuleFaultKind {
     ghost from_gives = { λ _ kind. kind ≡ RuleFaultKind.Memory };

@@ -9,7 +9,7 @@ use uca_text::Normal;
 use uca_weights::Strength;
 
 /// A relation between two texts (UTS #35 Part 5, section 3.3): the target stands behind the anchor, or before it, and
-/// differs from it at the strength.
+/// differs from it at the strength; at `Identical` it stands where the anchor and the expansion stand.
 #[derive(Drop)]
 pub struct Relation {
     /// The text that the target is placed by.
