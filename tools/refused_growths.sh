@@ -22,7 +22,7 @@ if [ $# -gt 0 ]; then
     shift
 fi
 if [ $# -eq 0 ]; then
-    set -- uca_text uca_words
+    set -- uca_text_tests uca_rule_tests
 fi
 log=$(mktemp)
 trap 'rm -f "$log"' EXIT
@@ -31,9 +31,9 @@ for crate in "$@"; do
     refused=0
     n=1
     while [ "$n" -le "$last" ]; do
-        (cd "$top/crates/$crate" && rt try --test --fail-alloc "$n") >"$log" 2>&1
+        (cd "$top/crates/$crate" && rt try --test --seconds 300 --fail-alloc "$n") >"$log" 2>&1
         failed=$(grep -c '^test .* \.\.\. FAILED$' "$log")
-        by_refusal=$(grep -c -E '^ *(error: (Memory|AllocError)|left: Err\(Memory\))' "$log")
+        by_refusal=$(grep -c -E '^ *(error: (Memory|AllocError|RuleFault \{.* kind: Memory \})|left: Err\(Memory\))' "$log")
         if [ "$failed" -ne "$by_refusal" ] || ! grep -q '^run=ended ' "$log"; then
             echo "$crate: growth $n:"
             cat "$log"
