@@ -1,5 +1,5 @@
 -- What reading a statement gives, from what reading its parts gives.
-use Rattle.std.proofs.Common.{◌≡◌, ◌≢◌, ◌⊎◌, ℕ, ◌<◌, Bool, true, false, List, [], ◌∷◌, ◌++◌, length, drop, arith, Option, Some, None, option_map, IfSome, if◌then◌else◌, ◌==◌, refl, sym, ap, subst, ◌∙◌, inl, inr}
+use Rattle.std.proofs.Common.{◌≡◌, ◌≢◌, ◌⊎◌, ℕ, ◌<◌, Bool, true, false, List, [], ◌∷◌, ◌++◌, length, drop, arith, Option, Some, None, option_map, IfSome, refl, sym, ap, subst, ◌∙◌, inl, inr}
 use Rattle.std.specs.Prelude.{is_some, slice_get}
 use Rattle.std.proofs.lemmas.List.{append-nil}
 use Rattle.uca_weights.specs.declared.Strength.{Strength}
@@ -13,9 +13,8 @@ use Rattle.uca_rules.specs.declared.signs.Last.TheVariants as lasts
 use Rattle.uca_rules.specs.declared.reader.Reader.{Reader}
 use Rattle.uca_rules.specs.declared.text_reader.TextReader.{TextReader}
 use Rattle.uca_rules.specs.Growing.{AreGrowing}
-use Rattle.uca_rules.specs.Characters.{ampersand, apostrophe, backslash, behind_gaps, bracket, place_of}
-use Rattle.std.specs.Str.{byte}
-use Rattle.uca_rules.specs.Pieces.{Symbol, Literal, Hyphen, Piece, Written, ArePieces, BeginsText, BeginsWritten, behind_apostrophe, behind_backslash, inside_quotes, is_plain, number_at, numbered, piece_at, points_of, symbols_of, with_literal}
+use Rattle.uca_rules.specs.Characters.{ampersand, behind_gaps, bracket, place_of}
+use Rattle.uca_rules.specs.Pieces.{Symbol, Written, ArePieces, BeginsWritten}
 use Rattle.uca_rules.specs.Statements.{Statement, Reset, Plain, Starred, Resets, Signs, IsAnchorDue, IsTargetDue, BeginsExpansion, BeginsStatement, IsExpansionDue, bracket_at, sign_at, MayFollow, last_is, opening, targets_of}
 use Rattle.uca_rules.specs.Meaning.{Anchor, IsShort, Taken, relations_in, relations_of, anchor_behind}
 use Rattle.uca_rules.specs.Views.{IsMemoryAt, IsTextFault}
