@@ -5,3 +5,4 @@ pub mod WeightingText
 pub mod Levels
 pub mod Maps
 pub mod Runs
+pub mod MapFaultText

@@ -1,0 +1,13 @@
+//! The audit of tailorings: an independent check that a tailored table is what its base, its rules and its certificate
+//! say, and leaves alone every text in which no target of the rules occurs.
+#![tactic(auto)]
+
+mod audit;
+mod faults;
+
+pub use audit::audit;
+pub use faults::{AuditFault, Place};
+pub use uca_certificates::{
+    Certificate, CertificateFault, CertificateFaultKind, read_certificate,
+};
+pub use uca_tailorings::Condition;

@@ -1,0 +1,29 @@
+//! Certificates as values.
+
+use std::marker::Model;
+use uca_weights::WeightMap;
+
+/// What becomes of the weights of a base in a tailored table: a map for each level. The levels of the three are `One`,
+/// `Two` and `Three`.
+#[derive(Drop)]
+pub struct Certificate {
+    /// The map of level 1.
+    pub primary: WeightMap,
+    /// The map of level 2.
+    pub secondary: WeightMap,
+    /// The map of level 3.
+    pub tertiary: WeightMap,
+}
+
+impl Model for Certificate {
+    ghost use Rattle.std.specs.Prelude.{◌≡◌};
+    ghost use Rattle.uca_weights.specs.declared.Level.TheVariants.{One, Two, Three};
+    ghost use Rattle.uca_certificates.specs.Certificates.{CertificateContent, IsCertificate};
+
+    ghost Value = { CertificateContent };
+
+    ghost view = { λ c. record { primary = c.primary.runs; secondary = c.secondary.runs; tertiary = c.tertiary.runs } };
+
+    ghost invariant = { λ c. (c.primary.level ≡ One) × (c.secondary.level ≡ Two) × (c.tertiary.level ≡ Three)
+        × IsCertificate (record { primary = c.primary.runs; secondary = c.secondary.runs; tertiary = c.tertiary.runs }) };
+}

@@ -1,0 +1,24 @@
+//! Certificates of tailorings: what becomes of the weights of a base, as a map for each level. A reader and a writer of
+//! their one text.
+#![tactic(auto)]
+
+mod certificate;
+mod faults;
+mod read;
+
+pub use certificate::Certificate;
+use faults::CertificateFaultKind as Kind;
+pub use faults::{CertificateFault, CertificateFaultKind};
+pub use read::read_certificate;
+use uca_files::FileForm;
+
+/// The form of certificates.
+pub const CERTIFICATE_FORM: FileForm<CertificateFaultKind> = FileForm {
+    longest: 16,
+    too_long: Kind::Line,
+    too_many: None,
+    no_lf: Kind::Line,
+    failed_read: Kind::Read,
+    no_memory: Kind::Memory,
+    early_end: None,
+};

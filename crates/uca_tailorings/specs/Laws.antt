@@ -1,0 +1,41 @@
+-- Laws of tailorings, as statements.
+use Rattle.std.specs.Prelude.{◌≡◌, ℕ, List, Bool}
+use Rattle.uca_weights.specs.declared.Depth.{Depth}
+use Rattle.uca_weights.specs.declared.Weighting.{Weighting}
+use Rattle.uca_text.specs.Texts.{Spelled}
+use Rattle.uca_text.specs.Limits.{IsNormal}
+use Rattle.uca_rules.specs.Relations.{IsUntouched}
+use Rattle.uca_match.specs.Collations.{Collation}
+use Rattle.uca_key.specs.Levels.{dictionary}
+use Rattle.uca_key.specs.Depths.{read_text, compared_at, key_at}
+use Rattle.uca_tailorings.specs.Images.{KeepAllWeights}
+use Rattle.uca_tailorings.specs.Tailorings.{Tailoring, IsTailoring, base_reading, tailored_reading, IsAccepted}
+use Rattle.uca_tailorings.specs.Meaning.{IsFaithful}
+
+-- A yes holds for all texts: where a tailoring is accepted, the tailored table is well-formed, each relation holds with its target
+-- nearest its anchor, and texts that no target touches compare as before.
+abbrev pub AcceptedTailoringsAreFaithful : Type 0
+AcceptedTailoringsAreFaithful = (tailoring : Tailoring) → IsTailoring tailoring → IsAccepted tailoring → IsFaithful tailoring
+
+-- texts are read so, whatever looks the rows up
+pub record ReadsAs (given reading : Collation) : Type 0 where
+  pub rows : (key : List ℕ) → given.rows key ≡ reading.rows key
+  pub ranges : given.ranges ≡ reading.ranges
+  pub properties : given.properties ≡ reading.properties
+
+-- The same for a caller who reads texts by lookups of his own, `old` of the base and `new` of the tailored table: two texts that no
+-- target touches compare as before, and so do the bytes of their keys; where no weight is changed a text keeps its key.
+pub record UntouchedTextsStay (tailoring : Tailoring) (old new : Collation) : Type 0 where
+  pub compared : (depth : Depth) (weighting : Weighting) (left right : Spelled) → IsNormal left → IsNormal right →
+      IsUntouched tailoring.relations left.points → IsUntouched tailoring.relations right.points →
+      compared_at depth weighting (read_text new left) (read_text new right) ≡ compared_at depth weighting (read_text old left) (read_text old right)
+  pub ordered : (depth : Depth) (weighting : Weighting) (left right : Spelled) → IsNormal left → IsNormal right →
+      IsUntouched tailoring.relations left.points → IsUntouched tailoring.relations right.points →
+      dictionary (key_at depth weighting (read_text new left)) (key_at depth weighting (read_text new right))
+      ≡ dictionary (key_at depth weighting (read_text old left)) (key_at depth weighting (read_text old right))
+  pub keys : KeepAllWeights tailoring.maps → (depth : Depth) (weighting : Weighting) (text : Spelled) → IsNormal text →
+      IsUntouched tailoring.relations text.points → key_at depth weighting (read_text new text) ≡ key_at depth weighting (read_text old text)
+
+abbrev pub FaithfulTailoringsKeepUntouchedTexts : Type 0
+FaithfulTailoringsKeepUntouchedTexts = (tailoring : Tailoring) (old new : Collation) → IsFaithful tailoring →
+    ReadsAs old (base_reading tailoring) → ReadsAs new (tailored_reading tailoring) → UntouchedTextsStay tailoring old new

@@ -1,0 +1,6 @@
+pub mod Images
+pub mod Placing
+pub mod Tailorings
+pub mod Meaning
+pub mod Laws
+pub mod ConditionText

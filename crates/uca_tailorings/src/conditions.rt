@@ -1,0 +1,52 @@
+//! The conditions on an accepted tailoring, by the names of their failures.
+
+ghost use Rattle.std.specs.Prelude.{◌≡◌};
+ghost use Rattle.uca_tailorings.specs.ConditionText.{condition_text};
+
+/// The conditions on an accepted tailoring, in the order in which they are looked at. Each has the name of its failure.
+#[derive(Clone, Copy, Debug, PartialEq, Eq)]
+pub enum Condition {
+    /// The base is not well-formed (UTS #10, section 9.2).
+    BaseIllFormed,
+    /// The tailored table is not well-formed.
+    TailoredIllFormed,
+    /// The version, the variable setting or the ranges for implicit weights differ.
+    Header,
+    /// A weight of a base row other than 0 has no image at its level.
+    Uncovered,
+    /// The tailored row of a base key that is no target is not the image of its base row.
+    RowChanged,
+    /// A base key or a target has no tailored row.
+    RowMissing,
+    /// A tailored key is neither a base key nor a target.
+    RowExtra,
+    /// The elements of an anchor have no last one that a new weight can be put on.
+    Anchor,
+    /// A target has other elements than its relation asks for, whatever the new weight on its side.
+    NotPlaced,
+    /// A new weight is one that the base gave, that of another relation, or at level 1 one from 8000 up.
+    NotFresh,
+    /// A weight that the base gave, or the new weight of an earlier relation, lies between a new weight and its anchor's.
+    NotNearest,
+}
+
+impl Condition {
+    /// The name of its failure.
+    pub fn name(self) -> &'static str
+        ensures { result.now ≡ condition_text self }
+    {
+        match self {
+            Condition::BaseIllFormed => "BaseIllFormed",
+            Condition::TailoredIllFormed => "TailoredIllFormed",
+            Condition::Header => "Header",
+            Condition::Uncovered => "Uncovered",
+            Condition::RowChanged => "RowChanged",
+            Condition::RowMissing => "RowMissing",
+            Condition::RowExtra => "RowExtra",
+            Condition::Anchor => "Anchor",
+            Condition::NotPlaced => "NotPlaced",
+            Condition::NotFresh => "NotFresh",
+            Condition::NotNearest => "NotNearest",
+        }
+    }
+}
