@@ -29,7 +29,7 @@ pub record RunLine : Type 0 where
 
 -- `LEVEL FROM TO COUNT`: `1`, `2` or `3`, then numbers of four digits
 unfoldable pub run_text : RunLine → List ℕ
-run_text l = 48 + level_number l.level ∷ 32 ∷ (digits 4 l.run.from ++ 32 ∷ (digits 4 l.run.to ++ 32 ∷ digits 4 l.run.count))
+run_text l = (48 + level_number l.level) ∷ 32 ∷ (digits 4 l.run.from ++ 32 ∷ (digits 4 l.run.to ++ 32 ∷ digits 4 l.run.count))
 
 abbrev pub of_level : Level → List Run → List RunLine
 of_level level runs = map (λ run. record { level = level; run = run }) runs
