@@ -1,23 +1,26 @@
 -- The words for a refusal of an audit: `refused 10 NotFresh relation 1`.
-use Rattle.std.specs.Prelude.{ℕ, List, ◌++◌, codes, decimal}
+use Rattle.std.specs.Prelude.{ℕ, List, ◌++◌, ◌==◌, if◌then◌else◌, codes, decimal}
+use Rattle.uca_tailorings.specs.declared.conditions.Condition.TheVariants as conditions
+use Rattle.uca_tailorings.specs.ConditionText.{condition_text}
 use Rattle.uca_audit.specs.declared.faults.AuditFault.{AuditFault}
 use Rattle.uca_audit.specs.declared.faults.Place.{Place}
 use Rattle.uca_audit.specs.declared.faults.Place.TheVariants as places
 
 -- the name of the condition of a number, that of a failed allocation for any other
 abbrev pub name_of : ℕ → List ℕ
-name_of 1 = codes "BaseIllFormed"
-name_of 2 = codes "TailoredIllFormed"
-name_of 3 = codes "Header"
-name_of 4 = codes "Uncovered"
-name_of 5 = codes "RowChanged"
-name_of 6 = codes "RowMissing"
-name_of 7 = codes "RowExtra"
-name_of 8 = codes "Anchor"
-name_of 9 = codes "NotPlaced"
-name_of 10 = codes "NotFresh"
-name_of 11 = codes "NotNearest"
-name_of _ = codes "Memory"
+name_of number =
+    if number == 1 then condition_text conditions.BaseIllFormed else
+    if number == 2 then condition_text conditions.TailoredIllFormed else
+    if number == 3 then condition_text conditions.Header else
+    if number == 4 then condition_text conditions.Uncovered else
+    if number == 5 then condition_text conditions.RowChanged else
+    if number == 6 then condition_text conditions.RowMissing else
+    if number == 7 then condition_text conditions.RowExtra else
+    if number == 8 then condition_text conditions.Anchor else
+    if number == 9 then condition_text conditions.NotPlaced else
+    if number == 10 then condition_text conditions.NotFresh else
+    if number == 11 then condition_text conditions.NotNearest else
+    codes "Memory"
 
 abbrev pub place_text : Place → List ℕ
 place_text places.Nowhere = codes ""

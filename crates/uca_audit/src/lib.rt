@@ -2,12 +2,10 @@
 //! say, and leaves alone every text in which no target of the rules occurs.
 #![tactic(auto)]
 
-mod audit;
+mod auditing;
 mod faults;
 
-pub use audit::audit;
+pub use auditing::audit;
 pub use faults::{AuditFault, Place};
-pub use uca_certificates::{
-    Certificate, CertificateFault, CertificateFaultKind, read_certificate,
-};
+pub use uca_certificates::{Certificate, CertificateFault, CertificateFaultKind, read_certificate};
 pub use uca_tailorings::Condition;
