@@ -1,3 +1,4 @@
 pub mod Inputs
 pub mod Refusals
 pub mod FaultText
+pub mod Views

@@ -5,8 +5,10 @@ ghost use Rattle.uca_values.specs.Content.{properties_of};
 ghost use Rattle.uca_tailorings.specs.Tailorings.{IsAccepted};
 ghost use Rattle.uca_tailorings.specs.Meaning.{IsFaithful};
 ghost use Rattle.uca_audit.specs.Inputs.{tailoring_of};
+ghost use Rattle.uca_audit.specs.Views.{tailoring_in};
 ghost use Rattle.uca_audit.specs.Refusals.{IsFirstRefusal, IsMemory};
 
+use crate::inputs::Inputs;
 use crate::{AuditFault, Certificate, Place};
 use std::alloc::Global;
 use uca_rules::Rules;
@@ -36,6 +38,24 @@ pub fn audit(
     ensures refused { IfErr result (λ fault.
         IsFirstRefusal (tailoring_of base.now (properties_of properties.now) rules.now tailored.now certificate.now) fault
         ⊎ IsMemory fault) }
+{
+    audit_inputs(
+        alloc,
+        &Inputs {
+            base,
+            properties,
+            rules,
+            tailored,
+            certificate,
+        },
+    )
+}
+
+// The same of what is handed in, as one value.
+fn audit_inputs(alloc: Global, inputs: &Inputs) -> Result<(), AuditFault>
+    ensures accepted { OnOk result (IsAccepted (tailoring_in inputs.now)) }
+    ensures faithful { OnOk result (IsFaithful (tailoring_in inputs.now)) }
+    ensures refused { IfErr result (λ fault. IsFirstRefusal (tailoring_in inputs.now) fault ⊎ IsMemory fault) }
 {
     Err(AuditFault {
         number: 12,

@@ -4,6 +4,8 @@
 
 mod auditing;
 mod faults;
+mod inputs;
+mod placements;
 
 pub use auditing::audit;
 pub use faults::{AuditFault, Place};
