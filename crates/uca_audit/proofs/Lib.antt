@@ -1,1 +1,3 @@
 pub mod TargetSets
+pub mod FirstRelations
+pub mod ImageLists

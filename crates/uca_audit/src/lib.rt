@@ -6,6 +6,7 @@ mod auditing;
 mod faults;
 mod inputs;
 mod placements;
+mod rows;
 mod targets;
 
 pub use auditing::audit;
