@@ -2,12 +2,17 @@
 //! say, and leaves alone every text in which no target of the rules occurs.
 #![tactic(auto)]
 
+mod anchors;
 mod auditing;
+mod conditions;
 mod faults;
 mod inputs;
+mod known;
+mod new_weights;
 mod placements;
 mod rows;
 mod targets;
+mod weight_sets;
 
 pub use auditing::audit;
 pub use faults::{AuditFault, Place};

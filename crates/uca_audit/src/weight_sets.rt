@@ -1,0 +1,5 @@
+//! Sets of weights.
+
+/// A set of weights for each level.
+#[derive(Drop)]
+pub(crate) struct WeightSet {}
