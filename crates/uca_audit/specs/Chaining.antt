@@ -7,7 +7,7 @@ use Rattle.uca_match.specs.Rows.{Rows, rows_of}
 use Rattle.uca_tailorings.specs.declared.conditions.Condition.{Condition}
 use Rattle.uca_tailorings.specs.Tailorings.{Tailoring, Meets}
 use Rattle.uca_audit.specs.declared.faults.AuditFault.{AuditFault}
-use Rattle.uca_audit.specs.Refusals.{number_of, FailsFirstAt, IsMemory}
+use Rattle.uca_audit.specs.Refusals.{number_of, FailsFirstAt, IsFirstRefusal, IsMemory}
 
 -- the keys are the targets of the relations
 abbrev pub AreTargetsOf : List Relation → List (List ℕ) → Type 0
@@ -29,3 +29,7 @@ pub record Fails (tailoring : Tailoring) (condition : Condition) (fault : AuditF
 -- the condition is met, or the fault is its; or no memory was left
 abbrev pub Settles : {A : Type 0} → Tailoring → Condition → Result A AuditFault → Type 0
 Settles tailoring condition result = MatchResult result (λ _. Meets tailoring condition) (λ fault. Fails tailoring condition fault ⊎ IsMemory fault)
+
+-- all conditions of lower numbers are met, or the fault is that of the first one that fails; or no memory was left
+abbrev pub Passes : {A : Type 0} → Tailoring → ℕ → Result A AuditFault → Type 0
+Passes tailoring n result = MatchResult result (λ _. MeetsBelow tailoring n) (λ fault. IsFirstRefusal tailoring fault ⊎ IsMemory fault)

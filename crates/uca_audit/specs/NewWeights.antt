@@ -3,5 +3,5 @@ use Rattle.uca_tailorings.specs.Tailorings.{Tailoring}
 use Rattle.uca_audit.specs.declared.weight_sets.WeightSet.{WeightSet}
 
 -- the set has the known weights of each level
-abbrev pub HoldsKnown : Tailoring → WeightSet → Type 0
+unfoldable pub HoldsKnown : Tailoring → WeightSet → Type 0
 HoldsKnown tailoring set = ⊥

@@ -8,6 +8,7 @@ mod conditions;
 mod faults;
 mod inputs;
 mod known;
+mod laws;
 mod new_weights;
 mod placements;
 mod rows;
@@ -16,5 +17,6 @@ mod weight_sets;
 
 pub use auditing::audit;
 pub use faults::{AuditFault, Place};
+pub use laws::refused_tailorings_are_not_accepted;
 pub use uca_certificates::{Certificate, CertificateFault, CertificateFaultKind, read_certificate};
 pub use uca_tailorings::Condition;
