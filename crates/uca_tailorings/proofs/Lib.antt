@@ -1,0 +1,2 @@
+pub mod ImplicitImages
+pub mod RowConditions
