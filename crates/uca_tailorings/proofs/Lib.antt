@@ -1,2 +1,4 @@
 pub mod ImplicitImages
 pub mod RowConditions
+pub mod Images
+pub mod RisingMaps
