@@ -2,3 +2,4 @@ pub mod ImplicitImages
 pub mod RowConditions
 pub mod Images
 pub mod RisingMaps
+pub mod WeightedImages
