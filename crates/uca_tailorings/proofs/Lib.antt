@@ -3,3 +3,5 @@ pub mod RowConditions
 pub mod Images
 pub mod RisingMaps
 pub mod WeightedImages
+pub mod UntouchedTexts
+pub mod AgreeingReadings
