@@ -5,3 +5,6 @@ pub mod RisingMaps
 pub mod WeightedImages
 pub mod UntouchedTexts
 pub mod AgreeingReadings
+pub mod Members
+pub mod WorkedTables
+pub mod WorkedLaws
