@@ -8,7 +8,8 @@ none_of [] y after same = cc
 none_of (b ∷ before) y after same = cc
 
 -- a list of one member is split in one way
-pub only_one : {A : Type 0} (x : A) (before : List A) (y : A) (after : List A) → x ∷ [] ≡ before ++ y ∷ after → (before ≡ []) × (x ≡ y) × (after ≡ [])
+pub only_one : {A : Type 0} (x : A) (before : List A) (y : A) (after : List A) → x ∷ [] ≡ before ++ y ∷ after →
+    (before ≡ []) × (x ≡ y) × (after ≡ [])
 only_one x [] y after same = let first : x ≡ y = cc in let rest : [] ≡ after = cc in (refl, first, sym rest)
 only_one x (b ∷ before) y after same = let rest : [] ≡ before ++ y ∷ after = cc in absurd (none_of before y after rest)
 
@@ -16,6 +17,7 @@ only_one x (b ∷ before) y after same = let rest : [] ≡ before ++ y ∷ after
 pub each_contained : {A : Type 0} (P : A → Type 0) (xs : List A) (y : A) → AllByRecursion P xs → Contains xs y → P y
 each_contained {A = A} P xs y all h = at_place xs all h.0 h.1 h.2
   where
+    -- by the place of what is contained
     at_place : (zs : List A) → AllByRecursion P zs → (k : ℕ) → k < length zs → get_or zs k y ≡ y → P y
     at_place [] all k within same = absurd (omega arith)
     at_place (z ∷ zs) all zero within same = subst P same all.0

@@ -1,5 +1,6 @@
 -- The worked tailoring is one, is accepted, and is refused where the row of `x` is another.
-use Rattle.std.proofs.Common.{◌≡◌, ◌≢◌, ◌⊎◌, ℕ, ◌+◌, ◌<◌, ◌≤◌, List, [], ◌∷◌, ◌++◌, length, Bool, true, false, Option, Some, None, Contains, inl, inr, ⊎_elim, refl, sym, ap, subst, subst₂, ◌∙◌, arith}
+use Rattle.std.proofs.Common.{◌≡◌, ◌≢◌, ◌⊎◌, ℕ, ◌+◌, ◌<◌, ◌≤◌, List, [], ◌∷◌, ◌++◌, length, Bool, true, false, Option, Some, None, Contains, inl, inr, ⊎_elim}
+use Rattle.std.proofs.Common.{refl, sym, ap, subst, subst₂, ◌∙◌, arith}
 use Rattle.std.specs.List.{AllByRecursion}
 use Rattle.std.specs.Char.{IsScalar}
 use Rattle.uca_weights.specs.declared.Element.{Element}
@@ -18,8 +19,10 @@ use Rattle.uca_match.specs.Rows.{rows_of}
 use Rattle.uca_match.specs.WorkedTable.{plain, row, small_header, small_properties}
 use Rattle.uca_tailorings.specs.Images.{AreRisingMaps, AreImages}
 use Rattle.uca_tailorings.specs.Placing.{IsLow, IsAnchor, reweighted}
-use Rattle.uca_tailorings.specs.Tailorings.{Tailoring, IsTailoring, IsUnchangedRow, IsPlacedAt, IsNewWeight, IsPairWeight, IsImageOfBase, IsKnownWeight, IsBetween, IsFreshWeight, IsNearestWeight, Meets, IsAccepted}
-use Rattle.uca_tailorings.specs.declared.conditions.Condition.TheVariants.{BaseIllFormed, TailoredIllFormed, Header, Uncovered, RowChanged, RowMissing, RowExtra, Anchor, NotPlaced, NotFresh, NotNearest}
+use Rattle.uca_tailorings.specs.Tailorings.{Tailoring, IsTailoring, IsUnchangedRow, IsPlacedAt, IsNewWeight, IsPairWeight, IsImageOfBase, IsKnownWeight}
+use Rattle.uca_tailorings.specs.Tailorings.{IsBetween, IsFreshWeight, IsNearestWeight, Meets, IsAccepted}
+use Rattle.uca_tailorings.specs.declared.conditions.Condition.TheVariants.{BaseIllFormed, TailoredIllFormed, Header, Uncovered, RowChanged, RowMissing}
+use Rattle.uca_tailorings.specs.declared.conditions.Condition.TheVariants.{RowExtra, Anchor, NotPlaced, NotFresh, NotNearest}
 use Rattle.uca_tailorings.specs.Worked.{letter, a_and_b, x_behind_a, with_rows, with_x, WorkedTailorings}
 use Rattle.uca_tailorings.proofs.Members.{only_one, each_contained}
 use Rattle.uca_tailorings.proofs.WorkedTables.{IsLetterRow, letters_well_formed}
@@ -35,6 +38,7 @@ rising_same level fixed =
       fixed = fixed;
     }
 
+-- at each level
 rising_maps : AreRisingMaps (with_rows []).maps
 rising_maps =
     record {
@@ -43,6 +47,7 @@ rising_maps =
       tertiary = rising_same Three refl;
     }
 
+-- the header
 header : IsHeader small_header
 header =
     record {
@@ -55,6 +60,7 @@ header =
       few = omega arith;
     }
 
+-- the row of a letter
 letter_entry : (point primary : ℕ) → IsScalar point → primary < 0x1_0000 → IsEntry (row (point ∷ []) (plain primary 0x20 2))
 letter_entry point primary scalar fits =
     record {
@@ -74,18 +80,23 @@ key point = point ∷ []
 other_key : (b c : ℕ) → b ≢ c → ¬ (key b ≡ key c)
 other_key b c apart same = let heads : b ≡ c = cc in apart heads
 
+-- `b` has another key than `a`
 b_is_not_a : ¬ (key 0x62 ≡ key 0x61)
 b_is_not_a = other_key 0x62 0x61 (λ same. omega (arith, same))
 
+-- so has `x`
 x_is_not_a : ¬ (key 0x78 ≡ key 0x61)
 x_is_not_a = other_key 0x78 0x61 (λ same. omega (arith, same))
 
+-- and another than `b`
 x_is_not_b : ¬ (key 0x78 ≡ key 0x62)
 x_is_not_b = other_key 0x78 0x62 (λ same. omega (arith, same))
 
+-- a key that differs from each of some is none of them
 not_among : (keys : List (List ℕ)) (point : ℕ) → AllByRecursion (λ other. ¬ (other ≡ key point)) keys → ¬ (Contains keys (key point))
 not_among keys point apart h = each_contained (λ other. ¬ (other ≡ key point)) keys (key point) apart h refl
 
+-- the rows of the base
 base_rows : AreRows a_and_b
 base_rows =
     record {
@@ -94,6 +105,7 @@ base_rows =
       few = omega arith;
     }
 
+-- the rows of the tailored table
 tailored_rows : AreRows (a_and_b ++ row (0x78 ∷ []) (plain 0x1C48 0x20 2) ∷ [])
 tailored_rows =
     record {
@@ -108,6 +120,7 @@ tailored_rows =
       few = omega arith;
     }
 
+-- the text of a letter
 letter_text : (point : ℕ) → IsScalar point → IsRuleText (letter point)
 letter_text point scalar =
     record {
@@ -123,9 +136,11 @@ letter_text point scalar =
 anchor_untouched : (text : List ℕ) → IsUsedBy x_behind_a text → IsUntouched (x_behind_a ∷ []) text
 anchor_untouched text used = (⊎_elim (λ is. subst (λ t. ¬ (OccursInOrder (key 0x78) t)) (sym is) apart) (λ none. absurd none) used, tt)
   where
+    -- the target does not occur in the anchor
     apart : ¬ (OccursInOrder (key 0x78) (key 0x61))
     apart occurs = ⊎_elim (λ here. omega (arith, here.0)) (λ later. later) occurs
 
+-- the one rule
 rules : AreRules (x_behind_a ∷ [])
 rules =
     record {
@@ -138,6 +153,7 @@ rules =
           (anchor_untouched text (subst (λ (s : Relation). IsUsedBy s text) (sym parts.1) used));
     }
 
+-- tables, rules and maps keep what holds of every tailoring
 is_tailoring : IsTailoring (with_x (plain 0x1C48 0x20 2))
 is_tailoring =
     record {
@@ -155,6 +171,7 @@ own_images e new found =
     let same : e ∷ [] ≡ new = cc in
     subst (AreImages (with_rows []).maps (e ∷ [])) same (record { primary = refl; secondary = refl; tertiary = refl; mark = refl }, tt)
 
+-- the anchor takes a new primary
 a_is_anchor : IsAnchor One (plain 0x1C47 0x20 2 ∷ []) [] (plain 0x1C47 0x20 2) []
 a_is_anchor =
     record {
@@ -165,6 +182,7 @@ a_is_anchor =
       low = omega arith;
     }
 
+-- a greater one puts the target behind it
 x_is_placed : (new : ℕ) → 0x1C47 < new → IsPlacedAt (with_x (plain new 0x20 2)) x_behind_a One 0x1C47 new
 x_is_placed new above =
     record {
@@ -194,13 +212,16 @@ placed_row e Three old new placed = let no : Some One ≡ Some Three = placed.st
 base_weights : (e : Element) (w : ℕ) → IsKnownWeight (with_x e) One w → (w ≡ 0x1C47) ⊎ (w ≡ 0x1C60)
 base_weights e w known = ⊎_elim (λ image. of_image image) (λ none. absurd none) known
   where
+    -- its primaries are the two of the base
     HasKnown : Entry → Type 0
     HasKnown r = AllByRecursion (λ (f : Element). (f.primary ≡ 0x1C47) ⊎ (f.primary ≡ 0x1C60)) r.elements
 
+    -- by the row and the element that have the weight
     of_image : IsImageOfBase (with_x e) One w → (w ≡ 0x1C47) ⊎ (w ≡ 0x1C60)
     of_image image =
         let in_row = each_contained HasKnown a_and_b image.row ((inl refl, tt), ((inr refl, tt), tt)) image.is_row in
-        let weighs = each_contained (λ (f : Element). (f.primary ≡ 0x1C47) ⊎ (f.primary ≡ 0x1C60)) image.row.elements image.element in_row image.is_element in
+        let weighs =
+        each_contained (λ (f : Element). (f.primary ≡ 0x1C47) ⊎ (f.primary ≡ 0x1C60)) image.row.elements image.element in_row image.is_element in
         let sent : Some image.element.primary ≡ Some w = image.image in
         let same : image.element.primary ≡ w = cc in
         subst (λ v. (v ≡ 0x1C47) ⊎ (v ≡ 0x1C60)) same weighs
@@ -219,6 +240,7 @@ b_weighs e =
 
 -- ---- Conditions
 
+-- the element directly behind the anchor
 abbrev accepted_element : Element
 accepted_element = plain 0x1C48 0x20 2
 
@@ -226,6 +248,7 @@ accepted_element = plain 0x1C48 0x20 2
 placed_weight : (level : Level) (old new : ℕ) → IsPlacedAt (with_x accepted_element) x_behind_a level old new → new ≡ 0x1C48
 placed_weight level old new placed = sym (ap (λ (e : Element). e.primary) (placed_row accepted_element level old new placed).2)
 
+-- its weight is new
 fresh : Meets (with_x accepted_element) NotFresh
 fresh before r after split level old new placed =
     let parts = only_one x_behind_a before r after split in
@@ -242,6 +265,7 @@ fresh before r after split level old new placed =
       low = subst (λ l. IsLow l new) (sym is_one) (omega (arith, is_new));
     }
 
+-- and no weight lies between
 nearest : Meets (with_x accepted_element) NotNearest
 nearest before r after split level old new placed =
     let parts = only_one x_behind_a before r after split in
@@ -255,9 +279,11 @@ nearest before r after split level old new placed =
       earlier = λ w own between. subst (λ relations. IsNewWeight (with_x accepted_element) level w relations) parts.0 own;
     }
 
+-- the row of a letter with a primary
 letter_row : (point primary : ℕ) → primary ≢ 0 → IsLetterRow (row (point ∷ []) (plain primary 0x20 2))
 letter_row point primary some = record { point = point; primary = primary; some = some; is = refl }
 
+-- all conditions are met
 accepted : IsAccepted (with_x accepted_element)
 accepted BaseIllFormed =
     letters_well_formed a_and_b (refl, (refl, tt)) small_properties.class
@@ -285,6 +311,7 @@ accepted NotNearest = nearest
 
 -- ---- The law
 
+-- acceptance, and four failures
 pub worked : WorkedTailorings
 worked =
     record {
