@@ -1,0 +1,10 @@
+pub mod ImplicitImages
+pub mod RowConditions
+pub mod Images
+pub mod RisingMaps
+pub mod WeightedImages
+pub mod UntouchedTexts
+pub mod AgreeingReadings
+pub mod Members
+pub mod WorkedTables
+pub mod WorkedLaws
