@@ -1,2 +1,5 @@
 pub mod ImplicitImages
 pub mod RowConditions
+pub mod Parts
+pub mod ReadingEach
+pub mod Sound
