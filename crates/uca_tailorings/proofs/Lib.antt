@@ -3,3 +3,4 @@ pub mod RowConditions
 pub mod Parts
 pub mod ReadingEach
 pub mod Sound
+pub mod Holding
