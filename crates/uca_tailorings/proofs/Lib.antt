@@ -4,3 +4,4 @@ pub mod Parts
 pub mod ReadingEach
 pub mod Sound
 pub mod Holding
+pub mod Relating
