@@ -5,3 +5,4 @@ pub mod ReadingEach
 pub mod Sound
 pub mod Holding
 pub mod Relating
+pub mod TailoredWeights
