@@ -6,3 +6,4 @@ pub mod Sound
 pub mod Holding
 pub mod Relating
 pub mod TailoredWeights
+pub mod Nearest

@@ -81,7 +81,7 @@ sound_elements tailoring is well text normal =
 -- ---- Weights that are not 0
 
 -- a number is 0 or not
-zero_or_not : (n : ℕ) → (n ≡ 0) ⊎ (n ≢ 0)
+pub zero_or_not : (n : ℕ) → (n ≡ 0) ⊎ (n ≢ 0)
 zero_or_not zero = inl refl
 zero_or_not (suc n) = inr (λ none. omega (arith, none))
 
