@@ -53,12 +53,14 @@ sound_pair lead low high below small = (
     secondary = λ is. absurd (omega (arith, is.0));
     tertiary = λ is. absurd (omega (arith, is.0));
   },
-  (record {
-    gap = λ gap. ((λ none. omega (arith, none)), refl, refl);
-    secondary = λ is. absurd (is.1 refl);
-    tertiary = λ is. absurd (is.2 refl);
-  },
-  tt),
+  (
+    record {
+      gap = λ gap. ((λ none. omega (arith, none)), refl, refl);
+      secondary = λ is. absurd (is.1 refl);
+      tertiary = λ is. absurd (is.2 refl);
+    },
+    tt,
+  ),
 )
 
 -- a Unicode scalar value is a code point

@@ -59,7 +59,7 @@ IsMade P tailoring r = AllByRecursion P (anchor_elements tailoring r) → AllByR
 module _ (P : Element → Type 0) (tailoring : Tailoring) (is : IsTailoring tailoring) (accepted : IsAccepted tailoring)
     (at_points : (c : ℕ) → c < 0x11_0000 → AllByRecursion P (implicit tailoring.tailored.header.ranges tailoring.properties c))
     (at_others : (key : List ℕ) (row : List Element) → ¬ (IsTarget tailoring.relations key) → rows_of tailoring.tailored.rows key ≡ Some row →
-        AllByRecursion P row)
+    AllByRecursion P row)
     (made : (before : List Relation) (r : Relation) (after : List Relation) → tailoring.relations ≡ before ++ r ∷ after → IsMade P tailoring r) where
   -- it holds of the rows of these relations' targets
   abbrev AreKnown : List Relation → Type 0
