@@ -1,5 +1,10 @@
 pub mod ImplicitImages
 pub mod RowConditions
+pub mod Images
+pub mod RisingMaps
+pub mod WeightedImages
+pub mod UntouchedTexts
+pub mod AgreeingReadings
 pub mod Parts
 pub mod ReadingEach
 pub mod Sound
