@@ -13,11 +13,11 @@ use Rattle.uca_weights.specs.declared.Level.{Level}
 use Rattle.uca_weights.specs.declared.Level.TheVariants.{One, Two, Three}
 use Rattle.uca_weights.specs.declared.Weighting.TheVariants.{NonIgnorable}
 use Rattle.uca_weights.specs.Levels.{weight, level_number}
+use Rattle.uca_check.proofs.Elements.{each_weaker}
 use Rattle.uca_key.specs.Levels.{Comparison, weighted_following, level_list, level_lists, dictionary, decided, compare_from, compared}
 use Rattle.uca_key.proofs.KeyOrder.{cmp_less, cmp_equal, cmp_greater, then_equal, dictionary_itself}
 use Rattle.uca_tailorings.specs.Placing.{IsSilent, placed, reweighted, IsOnSide}
 use Rattle.uca_tailorings.specs.Meaning.{stands}
-use Rattle.uca_tailorings.proofs.Parts.{each_weaker}
 
 -- ---- The weights of a level
 
@@ -29,9 +29,11 @@ sounded level es = filter (λ w. not (nat_eq w 0)) (map (weight level) es)
 abbrev pub keep : ℕ → List ℕ → List ℕ
 keep w ws = cond (not (nat_eq w 0)) (w ∷ ws) ws
 
+-- a weight 0 is not kept
 keep_zero : (w : ℕ) (ws : List ℕ) → w ≡ 0 → keep w ws ≡ ws
 keep_zero w ws none = ap (λ v. keep v ws) none
 
+-- any other is
 keep_some : (w : ℕ) (ws : List ℕ) → w ≢ 0 → keep w ws ≡ w ∷ ws
 keep_some w ws some = ap (λ b. cond (not b) (w ∷ ws) ws) (ne_eqb w 0 some)
 
@@ -44,6 +46,7 @@ level_list_is One earlier (e ∷ es) = ap (keep e.primary) (level_list_is One (e
 level_list_is Two earlier (e ∷ es) = ap (keep e.secondary) (level_list_is Two (e ∷ earlier) es)
 level_list_is Three earlier (e ∷ es) = ap (keep e.tertiary) (level_list_is Three (e ∷ earlier) es)
 
+-- all level lists
 level_lists_are : (es : List Element) → level_lists NonIgnorable es ≡ sounded One es ∷ sounded Two es ∷ sounded Three es ∷ []
 level_lists_are es = λ i. level_list_is One [] es i ∷ level_list_is Two [] es i ∷ level_list_is Three [] es i ∷ []
 
@@ -55,6 +58,7 @@ by_orders first second third = decided first 1 (decided second 2 (decided third 
 abbrev order_at : Level → List Element → List Element → Ordering
 order_at level es fs = dictionary (sounded level es) (sounded level fs)
 
+-- elements compare by the three levels
 compared_by_levels : (es fs : List Element) → compared NonIgnorable es fs ≡ by_orders (order_at One es fs) (order_at Two es fs) (order_at Three es fs)
 compared_by_levels es fs = ap₂ (compare_from 1) (level_lists_are es) (level_lists_are fs)
 
@@ -68,6 +72,7 @@ compared_itself es =
 
 -- ---- One level
 
+-- elements one after the other
 sounded-append : (level : Level) (es fs : List Element) → sounded level (es ++ fs) ≡ sounded level es ++ sounded level fs
 sounded-append level es fs =
     ap (filter (λ w. not (nat_eq w 0))) (map-append (weight level) es fs)
@@ -121,10 +126,12 @@ abbrev side_order : Bool → Ordering
 side_order false = Less
 side_order true = Greater
 
+-- a weight on the stated side
 on_side : (is_before : Bool) (old new : ℕ) → IsOnSide is_before old new → nat_cmp old new ≡ side_order is_before
 on_side false old new side = cmp_less old new side
 on_side true old new side = cmp_greater old new side
 
+-- what is said where the level decides
 decides : (is_before : Bool) (level : Level) (later : Comparison) → decided (side_order is_before) (level_number level) later ≡ stands is_before (Some level)
 decides false level later = refl
 decides true level later = refl

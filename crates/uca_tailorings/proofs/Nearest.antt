@@ -1,5 +1,6 @@
 -- Where each weight of the tailored table comes from, and why each target stands nearest its anchor.
-use Rattle.std.proofs.Common.{◌≡◌, ◌≢◌, ◌⊎◌, inl, inr, ⊎_elim, ℕ, ◌+◌, ◌<◌, ◌≤◌, List, [], ◌∷◌, ◌++◌, map, Option, Some, None, Contains, refl, sym, ap, subst, ◌∙◌, arith, nat_eq}
+use Rattle.std.proofs.Common.{◌≡◌, ◌≢◌, ◌⊎◌, inl, inr, ⊎_elim, ℕ, ◌+◌, ◌<◌, ◌≤◌, List, [], ◌∷◌, ◌++◌, map, Option, Some, None, Contains}
+use Rattle.std.proofs.Common.{refl, sym, ap, subst, ◌∙◌, arith, nat_eq}
 use Rattle.std.specs.List.{AllByRecursion}
 use Rattle.std.proofs.lemmas.Bool.{cond_both}
 use Rattle.std.proofs.lemmas.List.Elements.{recursion_from_All, All-from_recursion, All-contains, All-contains_itself}
@@ -17,7 +18,8 @@ use Rattle.uca_match.specs.Laws.{AreRelatedRows}
 use Rattle.uca_match.proofs.RowsByKey.{row_of_found, found_of_row}
 use Rattle.uca_tailorings.specs.Images.{Maps, map_of, AreRisingMaps, IsImage, AreImages}
 use Rattle.uca_tailorings.specs.Placing.{IsLow, reset, reweighted, placed}
-use Rattle.uca_tailorings.specs.Tailorings.{Tailoring, IsTailoring, anchor_elements, expansion_elements, IsTargetRow, IsPlacedAt, IsPlacedBy, IsPlaced, IsNewWeight, IsPairWeight, IsKnownWeight, IsBetween, AllRelations, IsAccepted}
+use Rattle.uca_tailorings.specs.Tailorings.{Tailoring, IsTailoring, anchor_elements, expansion_elements, IsTargetRow, IsPlacedAt, IsPlacedBy, IsPlaced, IsNewWeight, IsPairWeight, IsKnownWeight, IsBetween}
+use Rattle.uca_tailorings.specs.Tailorings.{AllRelations, IsAccepted}
 use Rattle.uca_tailorings.specs.Meaning.{IsTailoredWeight, StandsNearestAt, NearestAt, StandsNearest}
 use Rattle.uca_tailorings.specs.declared.conditions.Condition.TheVariants.{NotPlaced, NotFresh, NotNearest}
 use Rattle.uca_tailorings.proofs.RowConditions.{row_kept}
@@ -59,11 +61,13 @@ new_of_part tailoring level old w (q ∷ before) r after at = inr (new_of_part t
 
 -- ---- Images and implicit weights
 
+-- the image at a level
 image_at : (level : Level) (maps : Maps) (e f : Element) → IsImage maps e f → Sends (map_of level maps) (weight level e) (weight level f)
 image_at One maps e f image = image.primary
 image_at Two maps e f image = image.secondary
 image_at Three maps e f image = image.tertiary
 
+-- no map changes 0
 zero_at : (level : Level) (maps : Maps) → AreRisingMaps maps → Sends (map_of level maps) 0 0
 zero_at One maps rising = rising.primary.zero
 zero_at Two maps rising = rising.secondary.zero
@@ -81,6 +85,7 @@ module _ (tailoring : Tailoring) (is : IsTailoring tailoring) (accepted : IsAcce
       (λ some. inr (inl (inl (record { row = row; is_row = is_row; element = e; is_element = is_element; some = some; image = sent }))))
       (zero_or_not (weight level e))
 
+  -- the images of elements of a base row
   image_sources : (row : Entry) → Contains tailoring.base.rows row → (es fs : List Element) → AllByRecursion (Contains row.elements) es →
       AreImages tailoring.maps es fs → AllByRecursion (IsFounded tailoring level) fs
   image_sources row is_row [] [] within images = tt
@@ -191,19 +196,22 @@ source tailoring is accepted level w weight_there =
 
 -- ---- Targets stand nearest
 
--- no weight lies between two weights that are both low, or between a weight and itself, if it is high, or that weight
+-- no high weight lies between two low ones
 not_high : (level : Level) (old new w : ℕ) → IsLow level old → IsLow level new → IsHigh level w → ¬ (IsBetween old new w)
 not_high One old new w old_low new_low high between =
     ⊎_elim (λ up. omega (arith, old_low, new_low, high, up.0, up.1)) (λ down. omega (arith, old_low, new_low, high, down.0, down.1)) between
 not_high Two old new w old_low new_low high between = high
 not_high Three old new w old_low new_low high between = high
 
+-- nor does 0 lie between two weights
 not_zero : (old new w : ℕ) → w ≡ 0 → ¬ (IsBetween old new w)
 not_zero old new w none between = ⊎_elim (λ up. omega (arith, none, up.0)) (λ down. omega (arith, none, down.0)) between
 
+-- nor the new weight itself
 not_itself : (old new w : ℕ) → new ≡ w → ¬ (IsBetween old new w)
 not_itself old new w same between = ⊎_elim (λ up. omega (arith, same, up.1)) (λ down. omega (arith, same, down.0)) between
 
+-- only the new weights of later relations lie between the two weights of a relation
 nearest_at : (tailoring : Tailoring) → IsTailoring tailoring → IsAccepted tailoring → (before : List Relation) (r : Relation) (after : List Relation) →
     tailoring.relations ≡ before ++ r ∷ after → (level : Level) (old new : ℕ) → IsPlacedAt tailoring r level old new →
     StandsNearestAt tailoring before after level old new
@@ -231,6 +239,7 @@ nearest_at tailoring is accepted before r after whole level old new at =
           (source tailoring is accepted level w there);
     }
 
+-- the same at either strength, where an identical one has no new weight
 nearest_by : (tailoring : Tailoring) → IsTailoring tailoring → IsAccepted tailoring → (before : List Relation) (r : Relation) (after : List Relation) →
     tailoring.relations ≡ before ++ r ∷ after → (level : Option Level) → IsPlacedBy tailoring r level → NearestAt tailoring before r after level
 nearest_by tailoring is accepted before r after whole None placement = tt

@@ -31,8 +31,3 @@ pub each_of_both : {X : Type 0} (P Q R : X → Type 0) → ((x : X) → P x → 
     AllByRecursion R xs
 each_of_both P Q R both [] first second = tt
 each_of_both P Q R both (x ∷ xs) first second = (both x first.0 second.0, each_of_both P Q R both xs first.1 second.1)
-
--- what follows from one
-pub each_weaker : {X : Type 0} (P Q : X → Type 0) → ((x : X) → P x → Q x) → (xs : List X) → AllByRecursion P xs → AllByRecursion Q xs
-each_weaker P Q weaker [] all = tt
-each_weaker P Q weaker (x ∷ xs) all = (weaker x all.0, each_weaker P Q weaker xs all.1)

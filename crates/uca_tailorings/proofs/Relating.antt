@@ -40,7 +40,7 @@ pub target_reads : (tailoring : Tailoring) (r : Relation) (row : List Element) �
     elements_of (tailored_reading tailoring) r.target ≡ row
 target_reads tailoring r row is found = key_reads tailoring r.target row is found
 
--- a relation with its texts holds, as each at its strength
+-- a relation holds, be it of strength 1 to 3 or identical
 holds_by : (tailoring : Tailoring) → IsTailoring tailoring → IsAccepted tailoring → (before : List Relation) (r : Relation) (after : List Relation) →
     tailoring.relations ≡ before ++ r ∷ after → HasRuleTexts r → (level : Option Level) → level_of r.strength ≡ level → IsPlacedBy tailoring r level →
     Holds tailoring r

@@ -11,6 +11,7 @@ use Rattle.uca_weights.specs.Levels.{weight}
 use Rattle.uca_values.specs.Content.{Entry}
 use Rattle.uca_values.specs.Implicit.{implicit_pair, implicit}
 use Rattle.uca_check.specs.WellFormed.{HasGap, MeetsWF1, MeetsWF2, IsWellFormed}
+use Rattle.uca_check.proofs.Elements.{each_weaker}
 use Rattle.uca_text.specs.Texts.{Spelled, code_points, letters_of}
 use Rattle.uca_text.specs.Limits.{IsNormal}
 use Rattle.uca_match.specs.Rows.{rows_of}
@@ -19,7 +20,7 @@ use Rattle.uca_tailorings.specs.Placing.{IsSilent, reset, reweighted}
 use Rattle.uca_tailorings.specs.Tailorings.{Tailoring, IsTailoring, tailored_reading, IsBetween}
 use Rattle.uca_tailorings.proofs.RowConditions.{at_row}
 use Rattle.uca_tailorings.proofs.ImplicitImages.{each_implicit}
-use Rattle.uca_tailorings.proofs.Parts.{each_by_parts, each_of_both, each_weaker}
+use Rattle.uca_tailorings.proofs.Parts.{each_by_parts, each_of_both}
 use Rattle.uca_tailorings.proofs.ReadingEach.{points_of_text, read_each}
 
 -- ---- Sound elements

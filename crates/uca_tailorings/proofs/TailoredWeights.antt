@@ -6,6 +6,7 @@ use Rattle.std.specs.List.{AllByRecursion}
 use Rattle.std.specs.Char.{IsScalar}
 use Rattle.uca_weights.specs.declared.Element.{Element}
 use Rattle.uca_values.specs.Implicit.{implicit}
+use Rattle.uca_check.proofs.Elements.{each_weaker}
 use Rattle.uca_text.specs.Texts.{Spelled, code_points, letters_of}
 use Rattle.uca_text.specs.Occurring.{OccursInOrder}
 use Rattle.uca_rules.specs.declared.relations.Relation.{Relation}
@@ -16,7 +17,8 @@ use Rattle.uca_match.proofs.ReadingLemmas.{some_row}
 use Rattle.uca_tailorings.specs.Tailorings.{Tailoring, IsTailoring, tailored_reading, anchor_elements, expansion_elements, elements_of_expansion, IsTargetRow, IsPresentTarget, IsAccepted}
 use Rattle.uca_tailorings.specs.declared.conditions.Condition.TheVariants.{RowMissing}
 use Rattle.uca_tailorings.proofs.RowConditions.{target_or_not}
-use Rattle.uca_tailorings.proofs.Parts.{each_weaker, of_part}
+use Rattle.uca_tailorings.proofs.UntouchedTexts.{no_target}
+use Rattle.uca_tailorings.proofs.Parts.{of_part}
 use Rattle.uca_tailorings.proofs.ReadingEach.{points_of_text, read_each}
 use Rattle.uca_tailorings.proofs.Sound.{scalar_below}
 use Rattle.uca_tailorings.proofs.Relating.{key_reads}
@@ -33,13 +35,6 @@ target_parts (r ∷ earlier) later text target =
 target_in_first : (earlier later : List Relation) (text : List ℕ) → IsTarget earlier text → IsTarget (earlier ++ later) text
 target_in_first [] later text target = absurd target
 target_in_first (r ∷ earlier) later text target = ⊎_elim (λ here. inl here) (λ behind. inr (target_in_first earlier later text behind)) target
-
--- no target occurs in order in a text that relations leave as it is
-untouched_by : (relations : List Relation) (text key : List ℕ) → IsUntouched relations text → OccursInOrder key text → ¬ (IsTarget relations key)
-untouched_by [] text key untouched occurs target = target
-untouched_by (r ∷ relations) text key untouched occurs target =
-    ⊎_elim (λ here. untouched.0 (subst (λ k. OccursInOrder k text) (sym here) occurs))
-    (λ later. untouched_by relations text key untouched.1 occurs later) target
 
 -- a target is a key of the tailored table
 target_is_key : (tailoring : Tailoring) (relations : List Relation) (text : List ℕ) → AllByRecursion (IsPresentTarget tailoring) relations →
@@ -87,13 +82,13 @@ module _ (P : Element → Type 0) (tailoring : Tailoring) (is : IsTailoring tail
       ⊎_elim
       (λ target. known key row target found)
       (λ other. at_others key row
-      (λ target. ⊎_elim other (untouched_by later text.points key (untouched free) within)
+      (λ target. ⊎_elim other (no_target later key text.points (untouched free) within)
       (target_parts earlier later key (subst (λ relations. IsTarget relations key) whole target))) found)
       (target_or_not earlier key))
       (subst (AllByRecursion (λ c. AllByRecursion P (of_point c))) (sym points) implicit_hold))
       (target_or_not earlier text.points)
 
-  -- the texts of a relation behind known ones
+  -- an expansion, if there is one, that holds no later target or is an earlier one
   each_of_expansion : (earlier later : List Relation) → tailoring.relations ≡ earlier ++ later → AreKnown earlier → (expansion : Option Spelled) →
       IfSome expansion IsRuleText → ((text : List ℕ) → IsSomeAnd expansion (λ e. text ≡ e.points) → ¬ (IsTarget earlier text) → IsUntouched later text) →
       AllByRecursion P (elements_of_expansion (tailored_reading tailoring) expansion)
