@@ -1,5 +1,5 @@
 -- Where each weight of the tailored table comes from, and why each target stands nearest its anchor.
-use Rattle.std.proofs.Common.{◌≡◌, ◌≢◌, ◌⊎◌, inl, inr, ⊎_elim, ℕ, ◌+◌, ◌<◌, ◌≤◌, List, [], ◌∷◌, ◌++◌, map, Option, Some, None, Contains}
+use Rattle.std.proofs.Common.{◌≡◌, ◌⊎◌, inl, inr, ⊎_elim, ℕ, ◌<◌, ◌≤◌, List, [], ◌∷◌, ◌++◌, map, Option, Some, None, Contains}
 use Rattle.std.proofs.Common.{refl, sym, ap, subst, ◌∙◌, arith, nat_eq}
 use Rattle.std.specs.List.{AllByRecursion}
 use Rattle.std.proofs.lemmas.Bool.{cond_both}
@@ -18,7 +18,8 @@ use Rattle.uca_match.specs.Laws.{AreRelatedRows}
 use Rattle.uca_match.proofs.RowsByKey.{row_of_found, found_of_row}
 use Rattle.uca_tailorings.specs.Images.{Maps, map_of, AreRisingMaps, IsImage, AreImages}
 use Rattle.uca_tailorings.specs.Placing.{IsLow, reset, reweighted, placed}
-use Rattle.uca_tailorings.specs.Tailorings.{Tailoring, IsTailoring, anchor_elements, expansion_elements, IsTargetRow, IsPlacedAt, IsPlacedBy, IsPlaced, IsNewWeight, IsPairWeight, IsKnownWeight, IsBetween}
+use Rattle.uca_tailorings.specs.Tailorings.{Tailoring, IsTailoring, anchor_elements, expansion_elements, IsPlacedAt, IsPlacedBy, IsPlaced}
+use Rattle.uca_tailorings.specs.Tailorings.{IsNewWeight, IsPairWeight, IsKnownWeight, IsBetween}
 use Rattle.uca_tailorings.specs.Tailorings.{AllRelations, IsAccepted}
 use Rattle.uca_tailorings.specs.Meaning.{IsTailoredWeight, StandsNearestAt, NearestAt, StandsNearest}
 use Rattle.uca_tailorings.specs.declared.conditions.Condition.TheVariants.{NotPlaced, NotFresh, NotNearest}
@@ -75,7 +76,8 @@ zero_at Three maps rising = rising.tertiary.zero
 
 module _ (tailoring : Tailoring) (is : IsTailoring tailoring) (accepted : IsAccepted tailoring) (level : Level) where
   -- the image of an element of a base row
-  image_source : (row : Entry) → Contains tailoring.base.rows row → (e f : Element) → Contains row.elements e → IsImage tailoring.maps e f → IsFounded tailoring level f
+  image_source : (row : Entry) → Contains tailoring.base.rows row → (e f : Element) → Contains row.elements e →
+      IsImage tailoring.maps e f → IsFounded tailoring level f
   image_source row is_row e f is_element image =
       let sent : Sends (map_of level tailoring.maps) (weight level e) (weight level f) = image_at level tailoring.maps e f image in
       ⊎_elim
@@ -151,7 +153,8 @@ made_by tailoring level before r after whole (Some strength) placement anchor ex
     let changed : Element = reweighted strength new at.last in
     let same : Some (placed strength at.before at.last (expansion_elements tailoring r) new) ≡ Some row = sym at.row ∙ found in
     let is : placed strength at.before at.last (expansion_elements tailoring r) new ≡ row = cc in
-    let parts = each_split (IsFounded tailoring level) at.before (at.last ∷ at.trailing) (subst (AllByRecursion (IsFounded tailoring level)) at.anchor.whole anchor) in
+    let parts = each_split (IsFounded tailoring level) at.before (at.last ∷ at.trailing)
+    (subst (AllByRecursion (IsFounded tailoring level)) at.anchor.whole anchor) in
     let is_new : strength ≡ level → IsNewWeight tailoring level new tailoring.relations =
     λ same_level. subst (λ l. IsNewWeight tailoring l new tailoring.relations) same_level
     (subst (IsNewWeight tailoring strength new) (sym whole) (new_of_part tailoring strength placement.0 new before r after at)) in
@@ -184,7 +187,8 @@ source tailoring is accepted level w weight_there =
         each_implicit (AllByRecursion (IsFounded tailoring level)) (pair_sources tailoring level) tailoring.tailored.header.ranges tailoring.properties
         is.tailored.header.ranges c within
 
-    made : (before : List Relation) (r : Relation) (after : List Relation) → tailoring.relations ≡ before ++ r ∷ after → IsMade (IsFounded tailoring level) tailoring r
+    made : (before : List Relation) (r : Relation) (after : List Relation) → tailoring.relations ≡ before ++ r ∷ after →
+        IsMade (IsFounded tailoring level) tailoring r
     made before r after whole =
         made_by tailoring level before r after whole (level_of r.strength)
         (of_part (IsPlaced tailoring) tailoring.relations before r after (accepted NotPlaced) whole)
@@ -239,7 +243,7 @@ nearest_at tailoring is accepted before r after whole level old new at =
           (source tailoring is accepted level w there);
     }
 
--- the same at either strength, where an identical one has no new weight
+-- so each target stands nearest its anchor, where its relation puts a new weight
 nearest_by : (tailoring : Tailoring) → IsTailoring tailoring → IsAccepted tailoring → (before : List Relation) (r : Relation) (after : List Relation) →
     tailoring.relations ≡ before ++ r ∷ after → (level : Option Level) → IsPlacedBy tailoring r level → NearestAt tailoring before r after level
 nearest_by tailoring is accepted before r after whole None placement = tt

@@ -1,5 +1,5 @@
 -- What holds of the elements of each row and of the implicit weights that a text may read as holds of all its elements.
-use Rattle.std.proofs.Common.{◌≡◌, ℕ, List, [], ◌∷◌, length, Option, Some, None, refl, sym, ap, subst, ◌∙◌, arith}
+use Rattle.std.proofs.Common.{◌≡◌, ℕ, List, [], ◌∷◌, length, Option, Some, None, refl, ap, arith}
 use Rattle.std.specs.List.{AllByRecursion}
 use Rattle.uca_weights.specs.declared.Element.{Element}
 use Rattle.uca_text.specs.Texts.{Text, Spelled, code_points, letters, letters_of}

@@ -1,5 +1,5 @@
 -- Relations of an accepted tailoring hold, and each has one new weight.
-use Rattle.std.proofs.Common.{◌≡◌, ◌≢◌, ◌⊎◌, inl, inr, ℕ, List, [], ◌∷◌, ◌++◌, Bool, Option, Some, None, length, refl, sym, ap, ap₂, subst, ◌∙◌, arith}
+use Rattle.std.proofs.Common.{◌≡◌, inr, ℕ, List, [], ◌∷◌, ◌++◌, Option, Some, None, refl, sym, ap, ap₂, subst, ◌∙◌}
 use Rattle.std.proofs.lemmas.List.{append_cancel_left}
 use Rattle.std.specs.List.{AllByRecursion}
 use Rattle.uca_weights.specs.declared.Element.{Element}
@@ -8,8 +8,7 @@ use Rattle.uca_weights.specs.declared.Level.TheVariants.{One, Two, Three}
 use Rattle.uca_weights.specs.declared.Weighting.TheVariants.{NonIgnorable}
 use Rattle.uca_weights.specs.Levels.{weight, level_of}
 use Rattle.uca_values.specs.Implicit.{implicit}
-use Rattle.uca_text.specs.Texts.{Text, Spelled, code_points, letters_of}
-use Rattle.uca_text.specs.Limits.{IsNormal}
+use Rattle.uca_text.specs.Texts.{Spelled, code_points, letters_of}
 use Rattle.uca_rules.specs.declared.relations.Relation.{Relation}
 use Rattle.uca_rules.specs.Relations.{IsRuleText, HasRuleTexts}
 use Rattle.uca_match.specs.Rows.{rows_of}
@@ -17,7 +16,8 @@ use Rattle.uca_match.specs.Collations.{elements_of}
 use Rattle.uca_match.proofs.ReadingLemmas.{key_reads_as_row}
 use Rattle.uca_key.specs.Levels.{compared}
 use Rattle.uca_tailorings.specs.Placing.{IsSilent, reweighted, placed, IsOnSide}
-use Rattle.uca_tailorings.specs.Tailorings.{Tailoring, IsTailoring, tailored_reading, anchor_elements, expansion_elements, IsTargetRow, IsPlacedAt, IsPlacedBy, IsPlaced, IsPairWeight, IsBetween, IsAccepted}
+use Rattle.uca_tailorings.specs.Tailorings.{Tailoring, IsTailoring, tailored_reading, anchor_elements, expansion_elements, IsTargetRow, IsPlacedAt}
+use Rattle.uca_tailorings.specs.Tailorings.{IsPlacedBy, IsPlaced, IsPairWeight, IsBetween, IsAccepted}
 use Rattle.uca_tailorings.specs.Meaning.{Holds, stands}
 use Rattle.uca_tailorings.specs.declared.conditions.Condition.TheVariants.{TailoredIllFormed, NotPlaced, NotNearest}
 use Rattle.uca_tailorings.proofs.Parts.{each_by_parts, each_split, of_part}

@@ -10,11 +10,12 @@ use Rattle.uca_check.proofs.Elements.{each_weaker}
 use Rattle.uca_text.specs.Texts.{Spelled, code_points, letters_of}
 use Rattle.uca_text.specs.Occurring.{OccursInOrder}
 use Rattle.uca_rules.specs.declared.relations.Relation.{Relation}
-use Rattle.uca_rules.specs.Relations.{IsTarget, IsUsedBy, IsUntouched, IsRuleText, HasRuleTexts}
+use Rattle.uca_rules.specs.Relations.{IsTarget, IsUntouched, IsRuleText, HasRuleTexts}
 use Rattle.uca_match.specs.Rows.{IsKey, rows_of}
 use Rattle.uca_match.specs.Collations.{elements_of}
 use Rattle.uca_match.proofs.ReadingLemmas.{some_row}
-use Rattle.uca_tailorings.specs.Tailorings.{Tailoring, IsTailoring, tailored_reading, anchor_elements, expansion_elements, elements_of_expansion, IsTargetRow, IsPresentTarget, IsAccepted}
+use Rattle.uca_tailorings.specs.Tailorings.{Tailoring, IsTailoring, tailored_reading, anchor_elements, expansion_elements, elements_of_expansion}
+use Rattle.uca_tailorings.specs.Tailorings.{IsTargetRow, IsPresentTarget, IsAccepted}
 use Rattle.uca_tailorings.specs.declared.conditions.Condition.TheVariants.{RowMissing}
 use Rattle.uca_tailorings.proofs.RowConditions.{target_or_not}
 use Rattle.uca_tailorings.proofs.UntouchedTexts.{no_target}
