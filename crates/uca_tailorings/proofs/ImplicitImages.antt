@@ -25,9 +25,11 @@ pub each_implicit : (P : List Element → Type 0) →
     P (implicit ranges properties point)
 each_implicit P pair ranges properties are point within = by_lead (lead_of ranges point) refl
   where
+    -- the pair of a block
     block : (lead : ℕ) → 0xFB40 ≤ lead → lead ≤ 0xFBC0 → P (block_pair lead point)
     block lead low high = pair (lead + point / 0x8000) (point % 0x8000) (omega arith) (omega arith) (omega arith)
 
+    -- the pair of a code point that no range holds
     unlisted : P (unlisted_pair properties point)
     unlisted =
         cond_both (properties.is_core point) (block_pair 0xFB40 point) (cond (properties.is_other point) (block_pair 0xFB80 point) (block_pair 0xFBC0 point)) P
@@ -36,6 +38,7 @@ each_implicit P pair ranges properties are point within = by_lead (lead_of range
         (λ other. block 0xFB80 (omega arith) (omega arith))
         (λ not_other. block 0xFBC0 (omega arith) (omega arith)))
 
+    -- by the range that holds the code point
     by_lead : (lead : Option ℕ) → lead_of ranges point ≡ lead → P (pair_by_lead ranges lead (unlisted_pair properties point) point)
     by_lead None found = unlisted
     by_lead (Some lead) found =
@@ -51,6 +54,7 @@ own_implicit maps rising ranges properties are point within =
     (λ lead low high fits near. (first lead high fits, (second low near, tt)))
     ranges properties are point within
   where
+    -- the first element of a pair
     first : (lead : ℕ) → 0x8000 ≤ lead → lead < 0x1_0000 →
         let e : Element = record { primary = lead; secondary = 0x20; tertiary = 2; mark = false } in IsImage maps e e
     first lead high fits =
@@ -61,6 +65,7 @@ own_implicit maps rising ranges properties are point within =
           mark = refl;
         }
 
+    -- the second one
     second : (low : ℕ) → low < 0x8000 →
         let e : Element = record { primary = 0x8000 + low; secondary = 0; tertiary = 0; mark = false } in IsImage maps e e
     second low near =

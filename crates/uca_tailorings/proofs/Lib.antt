@@ -12,3 +12,6 @@ pub mod Holding
 pub mod Relating
 pub mod TailoredWeights
 pub mod Nearest
+pub mod Members
+pub mod WorkedTables
+pub mod WorkedLaws

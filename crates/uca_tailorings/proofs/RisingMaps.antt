@@ -33,6 +33,7 @@ module _ (level : Level) (images : WeightImages) (rising : IsRisingMap level ima
   pub sent_zero : (w x : ℕ) → Sends images w x → nat_eq x 0 ≡ nat_eq w 0
   sent_zero w x sent = by_weight w sent
     where
+      -- by the weight
       by_weight : (v : ℕ) → Sends images v x → nat_eq x 0 ≡ nat_eq v 0
       by_weight zero sent = ap (λ n. nat_eq n 0) (one_image 0 x 0 sent rising.zero)
       by_weight (suc v) sent = let above = rising.rising 0 (suc v) 0 x rising.zero sent (omega arith) in grind (arith, nat_tests)
@@ -51,8 +52,8 @@ module _ (level : Level) (images : WeightImages) (rising : IsRisingMap level ima
   sent_order (v ∷ vs) (w ∷ ws) (x ∷ xs) (y ∷ ys) first second =
       ap₂ ordering_then (sent_cmp v w x y first.0 second.0) (sent_order vs ws xs ys first.1 second.1)
 
-  -- so do the weights other than 0
-  kept_step : (w x : ℕ) (ws xs : List ℕ) (zero_weight : Bool) → Sends images w x → AreSent images ws xs → nat_eq w 0 ≡ zero_weight → nat_eq x 0 ≡ zero_weight →
+  -- one weight more, which is left out where it is 0
+  kept_step : (w x : ℕ) (ws xs : List ℕ) (silent : Bool) → Sends images w x → AreSent images ws xs → nat_eq w 0 ≡ silent → nat_eq x 0 ≡ silent →
       AreSent images (cond (not (nat_eq w 0)) (w ∷ ws) ws) (cond (not (nat_eq x 0)) (x ∷ xs) xs)
   kept_step w x ws xs true sent rest first second = rw (first, second) rest
   kept_step w x ws xs false sent rest first second = rw (first, second) (sent, rest)

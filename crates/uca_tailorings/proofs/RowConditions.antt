@@ -48,6 +48,7 @@ pub row_kept : (tailoring : Tailoring) → IsAccepted tailoring → (key : List 
     AreRelatedRows (AreImages tailoring.maps) (rows_of tailoring.base.rows key) (rows_of tailoring.tailored.rows key)
 row_kept tailoring accepted key other = kept (rows_of tailoring.base.rows key) (rows_of tailoring.tailored.rows key) refl refl
   where
+    -- by whether each table has a row
     kept : (old new : Option (List Element)) → rows_of tailoring.base.rows key ≡ old → rows_of tailoring.tailored.rows key ≡ new →
         AreRelatedRows (AreImages tailoring.maps) old new
     kept None None at_base at_tailored = tt

@@ -48,6 +48,7 @@ letters_occur [] classes = tt
 letters_occur (c ∷ points) [] = tt
 letters_occur (c ∷ points) (k ∷ classes) = inl (refl, letters_occur points classes)
 
+-- scalar values are code points
 scalar_bound : (c : ℕ) → IsScalar c → c < 0x11_0000
 scalar_bound c scalar = grind (arith, nat_tests)
 
@@ -67,15 +68,19 @@ images_read tailoring is accepted text normal untouched =
           (each_weaker IsScalar (λ c. AreImages tailoring.maps (old c) (new tailoring.tailored.header c)) own text.points normal.scalars);
     })
   where
+    -- the implicit weights under the base
     old : ℕ → List Element
     old = implicit tailoring.base.header.ranges tailoring.properties
 
+    -- those under a header
     new : HeaderContent → ℕ → List Element
     new header = implicit header.ranges tailoring.properties
 
+    -- the code points of its letters occur in the text
     points : OccursInOrder (code_points (letters_of text)) text.points
     points = letters_occur text.points text.classes
 
+    -- they are images of each other
     own : (c : ℕ) → IsScalar c → AreImages tailoring.maps (old c) (new tailoring.tailored.header c)
     own c scalar =
         subst (λ header. AreImages tailoring.maps (old c) (new header c)) (accepted Header)

@@ -8,7 +8,8 @@ use Rattle.uca_weights.specs.declared.Level.TheVariants.{One, Two, Three}
 use Rattle.uca_weights.specs.declared.Weighting.{Weighting}
 use Rattle.uca_weights.specs.declared.Weighting.TheVariants.{NonIgnorable, Shifted}
 use Rattle.uca_weights.specs.Maps.{WeightImages, Sends, IsRisingMap}
-use Rattle.uca_key.specs.Levels.{Weights, is_ignorable, is_completely_ignorable, follows_variable, shifted_weights, weights_of, weighted_following, weighted, weight_at, level_list, dictionary}
+use Rattle.uca_key.specs.Levels.{Weights, is_ignorable, is_completely_ignorable, follows_variable, shifted_weights, weights_of, weighted_following, weighted}
+use Rattle.uca_key.specs.Levels.{weight_at, level_list, dictionary}
 use Rattle.uca_tailorings.specs.Images.{Maps, AreRisingMaps, IsImage, AreImages}
 use Rattle.uca_tailorings.proofs.RisingMaps.{AreSent, sent_zero, sent_order, sent_filter}
 
@@ -24,6 +25,7 @@ level_images maps (suc (suc (suc (suc level)))) = maps.primary
 abbrev pub AreSentWeights : Maps → Weights → Weights → Type 0
 AreSentWeights maps ws xs = (level : ℕ) → Sends (level_images maps level) (weight_at level ws) (weight_at level xs)
 
+-- the same of the weights of each element
 abbrev pub AreAllSent : Maps → List Weights → List Weights → Type 0
 AreAllSent maps [] [] = ⊤
 AreAllSent maps [] (x ∷ xs) = ⊥
@@ -33,14 +35,16 @@ AreAllSent maps (w ∷ ws) (x ∷ xs) = AreSentWeights maps w x × AreAllSent ma
 -- the weights of an element by what is asked of it
 abbrev shifted_by : Bool → Bool → Bool → ℕ → ℕ → ℕ → Weights
 shifted_by variable silent empty primary secondary tertiary =
-    cond variable (0 ∷ 0 ∷ 0 ∷ primary ∷ []) (cond silent (0 ∷ 0 ∷ 0 ∷ 0 ∷ []) (primary ∷ secondary ∷ tertiary ∷ cond empty 0 0xFFFF ∷ []))
+    cond variable (0 ∷ 0 ∷ 0 ∷ primary ∷ [])
+    (cond silent (0 ∷ 0 ∷ 0 ∷ 0 ∷ []) (primary ∷ secondary ∷ tertiary ∷ cond empty 0 0xFFFF ∷ []))
 
 -- the weights other than 0
 abbrev sounding : List ℕ → List ℕ
 sounding = filter (λ w. not (nat_eq w 0))
 
 -- a rising map keeps the order of two lists, without the weights 0
-kept_order : (level : Level) (images : WeightImages) → IsRisingMap level images → (vs ws xs ys : List ℕ) → AreSent images vs xs → AreSent images ws ys →
+kept_order : (level : Level) (images : WeightImages) → IsRisingMap level images → (vs ws xs ys : List ℕ) → AreSent images vs xs →
+    AreSent images ws ys →
     dictionary (sounding xs) (sounding ys) ≡ dictionary (sounding vs) (sounding ws)
 kept_order level images rising vs ws xs ys left right =
     sent_order level images rising (sounding vs) (sounding ws) (sounding xs) (sounding ys)
@@ -71,6 +75,7 @@ module _ (maps : Maps) (rising : AreRisingMaps maps) where
   last_sent true = rising.primary.zero
   last_sent false = rising.primary.fixed.0 0xFFFF (omega arith) (omega arith)
 
+  -- shifted weights
   shifted_sent : (variable silent empty : Bool) (a b c x y z : ℕ) → Sends maps.primary a x → Sends maps.secondary b y → Sends maps.tertiary c z →
       AreSentWeights maps (shifted_by variable silent empty a b c) (shifted_by variable silent empty x y z)
   shifted_sent true silent empty a b c x y z first second third =
@@ -123,6 +128,7 @@ module _ (maps : Maps) (rising : AreRisingMaps maps) where
     following_sent weighting (e ∷ before) (f ∷ before_images) es fs (images.0, earlier) images.1,
   )
 
+  -- the weights of a level, one for each element
   weights_at_sent : (level : ℕ) (ws xs : List Weights) → AreAllSent maps ws xs →
       AreSent (level_images maps level) (map (weight_at level) ws) (map (weight_at level) xs)
   weights_at_sent level [] [] sent = tt
