@@ -5,11 +5,13 @@
 mod certificate;
 mod faults;
 mod read;
+mod write;
 
 pub use certificate::Certificate;
 use faults::CertificateFaultKind as Kind;
 pub use faults::{CertificateFault, CertificateFaultKind};
 pub use read::read_certificate;
+pub use write::write_certificate;
 use uca_files::FileForm;
 
 /// The form of certificates.
