@@ -1,1 +1,5 @@
-pub mod Stub
+pub mod LineLaws
+pub mod TakeLaws
+pub mod Exact
+pub mod Sizes
+pub mod WholeLaws

@@ -4,7 +4,9 @@
 
 mod certificate;
 mod faults;
+mod lines;
 mod read;
+mod spelling;
 mod write;
 
 pub use certificate::Certificate;
