@@ -1,5 +1,5 @@
 -- Lines say the runs of one certificate, and a line in which a cause stands is part of no certificate.
-use Rattle.std.proofs.Common.{◌≡◌, ◌≢◌, ℕ, ◌+◌, ◌<◌, ◌≤◌, ◌==◌, Bool, true, false, List, [], ◌∷◌, ◌++◌, length, map, refl, sym, ap, subst, ◌∙◌, append_assoc, append-nil, arith, length-append}
+use Rattle.std.proofs.Common.{◌≡◌, ◌≢◌, ℕ, ◌+◌, ◌<◌, ◌≤◌, ◌==◌, Bool, true, false, List, [], ◌∷◌, ◌++◌, length, map, refl, sym, ap, subst, ◌∙◌, append-nil, arith, length-append}
 use Rattle.std.specs.Bool.{⊤}
 use Rattle.std.specs.Prelude.{if◌then◌else◌}
 use Rattle.std.specs.List.{AllByRecursion}
@@ -12,7 +12,7 @@ use Rattle.uca_files.specs.Laws.{IsExact}
 use Rattle.uca_certificates.specs.declared.faults.CertificateFaultKind.{CertificateFaultKind}
 use Rattle.uca_certificates.specs.declared.faults.CertificateFaultKind.TheVariants as kinds
 use Rattle.uca_certificates.specs.Certificates.{CertificateContent, runs_at}
-use Rattle.uca_certificates.specs.Texts.{RunLine, run_text, of_level, run_lines, IsRunLine, IsLine, IsPassed, Says, Cause}
+use Rattle.uca_certificates.specs.Texts.{RunLine, run_text, of_level, run_lines, IsRunLine, IsLine, Says, Cause}
 use Rattle.uca_certificates.proofs.LineLaws.{line_same}
 
 -- ---- The runs of a level among lines
@@ -176,7 +176,7 @@ excluded before s line kind more t h cause k =
         let higher = cause.2.0 in
         let above : level_number cause.0.level < level_number higher = cause.2.1 in
         let behind = sorted_after 1 (run_lines s) c.next c.rest higher (subst (AreSorted 1) c.parts (sorted_lines t))
-            (λ none. cause.2.2 (sym (runs_of-lines higher s) ∙ none)) in
+        (λ none. cause.2.2 (sym (runs_of-lines higher s) ∙ none)) in
         omega (arith, low, above, behind)
     by_kind kinds.Limit c cause =
         let same : cause.0 ≡ c.next = line_same line cause.0 c.next cause.1 c.is_line in

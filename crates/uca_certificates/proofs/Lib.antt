@@ -2,4 +2,6 @@ pub mod LineLaws
 pub mod TakeLaws
 pub mod Exact
 pub mod Sizes
+pub mod MapLaws
 pub mod WholeLaws
+pub mod WriteLaws

@@ -1,7 +1,6 @@
 -- What is read of a line is what it says, and what it says is read.
-use Rattle.std.proofs.Common.{◌≡◌, ℕ, ◌+◌, ◌/◌, ◌%◌, ◌<◌, Bool, true, false, ◌==◌, List, [], ◌∷◌, ◌++◌, length, take, drop, get_or, Option, Some, None, refl, ap, sym, subst, ◌∙◌, arith, append_assoc, append-nil, length-append}
+use Rattle.std.proofs.Common.{◌≡◌, ℕ, ◌+◌, ◌/◌, ◌%◌, ◌<◌, Bool, true, false, ◌==◌, List, [], ◌∷◌, ◌++◌, length, take, drop, get_or, Option, Some, None, refl, ap, sym, subst, ◌∙◌, arith, append-nil, length-append}
 use Rattle.std.specs.Option.{option_map}
-use Rattle.std.specs.List.{AllByRecursion}
 use Rattle.std.proofs.lemmas.Option.{same_Some}
 use Rattle.std.proofs.lemmas.List.{take-append-drop}
 use Rattle.std.proofs.Math.Seq.{take-append_seam, drop-append_seam}
@@ -15,7 +14,7 @@ use Rattle.uca_lines.specs.Lines.{is_lf, Lacks, ended}
 use Rattle.uca_fields.specs.Number.{weight_of, upper_digit, digits}
 use Rattle.uca_fields.proofs.Digits.{weight_takes, weight_of-digits, length-digits}
 use Rattle.uca_fields.proofs.ManyDigits.{four_digits_are, last_digit}
-use Rattle.uca_certificates.specs.Texts.{RunLine, run_text, IsRunLine, IsLine}
+use Rattle.uca_certificates.specs.Texts.{RunLine, run_text, IsLine}
 use Rattle.uca_certificates.specs.Steps.{◌>>=◌, level_at, number_at, if_empty, line_of}
 
 -- ---- What is read stands there
@@ -177,6 +176,11 @@ level_lacks_lf Three = refl
 -- no LF stands in it
 pub run_text_lacks_lf : (l : RunLine) → Lacks is_lf (run_text l)
 unfolding run_text
-run_text_lacks_lf l =
-    (level_lacks_lf l.level, (refl, lacks_append is_lf (digits 4 l.run.from) _ (digits_lack_lf l.run.from)
-    (refl, lacks_append is_lf (digits 4 l.run.to) _ (digits_lack_lf l.run.to) (refl, digits_lack_lf l.run.count))))
+run_text_lacks_lf l = (
+  level_lacks_lf l.level,
+  (
+    refl,
+    lacks_append is_lf (digits 4 l.run.from) _ (digits_lack_lf l.run.from)
+        (refl, lacks_append is_lf (digits 4 l.run.to) _ (digits_lack_lf l.run.to) (refl, digits_lack_lf l.run.count)),
+  ),
+)

@@ -1,24 +1,20 @@
 -- Whole certificates: bytes mean at most one, and none where they are refused for a cause in them.
-use Rattle.std.proofs.Common.{◌≡◌, ◌⊎◌, inl, inr, ℕ, zero, suc, ◌+◌, ◌<◌, ◌≤◌, List, [], ◌∷◌, ◌++◌, length, map, Option, Some, None, Result, Ok, Err, IfSome, IfOk, IfErr, MatchResult, refl, sym, ap, subst, ◌∙◌, arith}
+use Rattle.std.proofs.Common.{◌≡◌, inl, inr, ℕ, ◌≤◌, List, [], ◌∷◌, ◌++◌, length, map, Option, Some, None, Result, Ok, Err, IfSome, IfOk, IfErr, MatchResult, refl, sym, ap, subst, ◌∙◌, arith}
+use Rattle.std.specs.Prelude.{OnOk}
 use Rattle.std.specs.List.{flat_map, AllByRecursion}
 use Rattle.std.proofs.lemmas.List.Folds.{flat_map-map}
 use Rattle.uca_weights.specs.declared.Level.{Level}
 use Rattle.uca_weights.specs.declared.Level.TheVariants.{One, Two, Three}
-use Rattle.uca_weights.specs.declared.maps.Run.{Run}
-use Rattle.uca_weights.specs.declared.maps.MapFault.{MapFault}
-use Rattle.uca_weights.specs.declared.maps.MapFaultKind.{MapFaultKind}
-use Rattle.uca_weights.specs.declared.maps.MapFaultKind.TheVariants as map_kinds
-use Rattle.uca_weights.specs.Runs.{IsProperRun, AreRising, AreProperRuns, RefusesRun, IsFirstRefused, IsMapFault}
+use Rattle.uca_weights.specs.Runs.{AreProperRuns}
+use Rattle.uca_weights.proofs.RunMaps.{faulty_not_proper}
 use Rattle.uca_lines.specs.Lines.{ended}
 use Rattle.uca_files.specs.Files
 use Rattle.uca_files.specs.Files.{IsFileLine, AreLines, ReadsLines, RefusesLine}
 use Rattle.uca_files.proofs.FileLaws.{one_meaning, no_meaning}
 use Rattle.uca_certificates.specs.declared.TheConstants.{CERTIFICATE_FORM}
 use Rattle.uca_certificates.specs.declared.faults.CertificateFault.{CertificateFault}
-use Rattle.uca_certificates.specs.declared.faults.CertificateFaultKind.{CertificateFaultKind}
-use Rattle.uca_certificates.specs.declared.faults.CertificateFaultKind.TheVariants as kinds
 use Rattle.uca_certificates.specs.Certificates.{CertificateContent, runs_at, IsCertificate}
-use Rattle.uca_certificates.specs.Texts.{RunLine, run_text, of_level, run_lines, certificate_text, Means, IsRunLine, Says, Cause, FaultOfMap, Refuses, IsStop}
+use Rattle.uca_certificates.specs.Texts.{RunLine, run_text, of_level, run_lines, Means, IsRunLine, Says, Cause, FaultOfMap, Refuses, IsStop}
 use Rattle.uca_certificates.specs.Steps.{RefusesContent}
 use Rattle.uca_certificates.proofs.LineLaws.{length-run_text, run_text_lacks_lf}
 use Rattle.uca_certificates.proofs.Exact.{exact, says_same}
@@ -53,15 +49,18 @@ certificate_says content h = record {
 
 -- bytes that mean a certificate are lines that say its runs
 means_reads : (bytes : List ℕ) (content : CertificateContent) → Means bytes content → Files.Reads CERTIFICATE_FORM Says bytes content
-means_reads bytes content h = (length (map run_text (run_lines content)), record {
-      lines = map run_text (run_lines content);
-      divides = record { parts = h.text ∙ text_is (run_lines content); each = file_lines (run_lines content); count = tt };
-      says = certificate_says content h.maps;
-      many = refl;
-    })
+means_reads bytes content h = (
+  length (map run_text (run_lines content)),
+  record {
+    lines = map run_text (run_lines content);
+    divides = record { parts = h.text ∙ text_is (run_lines content); each = file_lines (run_lines content); count = tt };
+    says = certificate_says content h.maps;
+    many = refl;
+  },
+)
 
 -- and the other way round
-pub reads_means : (bytes : List ℕ) (count : ℕ) (content : CertificateContent) → ReadsLines CERTIFICATE_FORM Says bytes count content → IsCertificate content
+reads_means : (bytes : List ℕ) (count : ℕ) (content : CertificateContent) → ReadsLines CERTIFICATE_FORM Says bytes count content → IsCertificate content
     → Means bytes content
 reads_means bytes count content h maps =
     record { text = h.divides.parts ∙ ap (flat_map ended) h.says.text ∙ sym (text_is (run_lines content)); maps = maps }
@@ -70,23 +69,6 @@ reads_means bytes count content h maps =
 
 pub means_same : (bytes : List ℕ) (c d : CertificateContent) → Means bytes c → Means bytes d → c ≡ d
 means_same bytes c d h k = one_meaning CERTIFICATE_FORM Says says_same bytes c d (means_reads bytes c h) (means_reads bytes d k)
-
--- a run that is refused is not proper
-refused_run : (level : Level) (previous : Option Run) (r : Run) (kind : MapFaultKind) → RefusesRun level previous r kind → IsProperRun level previous r → ⊥
-refused_run level previous r map_kinds.Empty h proper = omega (arith, h, proper.some)
-refused_run level previous r map_kinds.OutOfRange h proper = h.1 proper.range
-refused_run level previous r map_kinds.NotRising h proper = h.2 proper.above
-refused_run level previous r map_kinds.Fixed h proper = h
-
-first_refused : (level : Level) (previous : Option Run) (runs : List Run) (index : ℕ) (kind : MapFaultKind) → IsFirstRefused level previous runs index kind
-    → AreRising level previous runs → ⊥
-first_refused level previous [] index kind h rise = h
-first_refused level previous (r ∷ runs) zero kind h rise = refused_run level previous r kind h rise.0
-first_refused level previous (r ∷ runs) (suc index) kind h rise = first_refused level (Some r) runs index kind h.1 rise.1
-
-faulty_runs : (level : Level) (runs : List Run) (fault : MapFault) → IsMapFault level runs fault → AreProperRuns level runs → ⊥
-faulty_runs level runs fault (inl h) proper = first_refused level None runs fault.run fault.kind h proper.rise
-faulty_runs level runs fault (inr h) proper = h.lost proper.fixed
 
 proper_at : (level : Level) (content : CertificateContent) → IsCertificate content → AreProperRuns level (runs_at level content)
 proper_at One content h = h.primary
@@ -97,7 +79,7 @@ no_fault_of_map : (bytes : List ℕ) (fault : CertificateFault) (content : Certi
 no_fault_of_map bytes fault content h means =
     let same : content ≡ h.content = one_meaning CERTIFICATE_FORM Says says_same bytes content h.content (means_reads bytes content means) h.reads in
     let maps : IsCertificate h.content = subst IsCertificate same means.maps in
-    faulty_runs h.level (runs_at h.level h.content) h.cause h.is_fault (proper_at h.level h.content maps)
+    faulty_not_proper h.level (runs_at h.level h.content) h.cause h.is_fault (proper_at h.level h.content maps)
 
 -- bytes that mean a certificate are refused by a stop alone
 stops : (bytes : List ℕ) (left : Option (List ℕ)) (fault : CertificateFault) (content : CertificateContent) → Refuses bytes left fault → Means bytes content
@@ -130,18 +112,20 @@ pub refused_content : (known left : Option (List ℕ)) (count : ℕ) (content : 
     → IfSome known (λ bytes. Refuses bytes left fault)
 refused_content None left count content fault h refuses = tt
 refused_content (Some bytes) left count content fault h refuses = inr (record {
-      content = content;
-      reads = (count, h);
-      level = refuses.level;
-      lower = refuses.lower;
-      cause = refuses.cause;
-      is_fault = refuses.is_fault;
-      kind = refuses.kind;
-      place = refuses.place;
-    })
+  content = content;
+  reads = (count, h);
+  level = refuses.level;
+  lower = refuses.lower;
+  cause = refuses.cause;
+  is_fault = refuses.is_fault;
+  kind = refuses.kind;
+  place = refuses.place;
+})
 
 -- the certificate of the runs
-pub found_content : (known : Option (List ℕ)) (count : ℕ) (content : CertificateContent)
-    → IfSome known (λ bytes. ReadsLines CERTIFICATE_FORM Says bytes count content) → IsCertificate content → IfSome known (λ bytes. Means bytes content)
-found_content None count content h maps = tt
-found_content (Some bytes) count content h maps = reads_means bytes count content h maps
+pub found_content : (known : Option (List ℕ)) (count : ℕ) (content : CertificateContent) (r : Result CertificateContent CertificateFault)
+    → IfSome known (λ bytes. ReadsLines CERTIFICATE_FORM Says bytes count content) → IfOk r (λ read. read ≡ content) → OnOk r (IsCertificate content)
+    → IfSome known (λ bytes. IfOk r (Means bytes))
+found_content None count content r h is maps = tt
+found_content (Some bytes) count content (Err fault) h is maps = tt
+found_content (Some bytes) count content (Ok read) h is maps = subst (Means bytes) (sym is) (reads_means bytes count content h maps)

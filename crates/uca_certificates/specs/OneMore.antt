@@ -1,5 +1,5 @@
 -- With one line more, acceptable lines stay acceptable. For the laws that what takes lines must have.
-use Rattle.std.proofs.Common.{◌≡◌, ◌≢◌, ℕ, ◌+◌, ◌<◌, ◌≤◌, Bool, false, List, [], ◌∷◌, ◌++◌, length, map, refl, sym, ap, subst, ◌∙◌, append_assoc, append-nil, arith, length-append}
+use Rattle.std.proofs.Common.{◌≡◌, ◌≢◌, ℕ, ◌+◌, ◌<◌, ◌≤◌, false, List, [], ◌∷◌, ◌++◌, length, map, refl, sym, ap, subst, ◌∙◌, append_assoc, append-nil, arith, length-append}
 use Rattle.std.specs.List.{AllByRecursion}
 use Rattle.std.proofs.lemmas.List.{map-append, length-map}
 use Rattle.uca_weights.specs.declared.Level.{Level}
@@ -10,7 +10,7 @@ use Rattle.uca_files.proofs.ListLemmas.{each_more}
 use Rattle.uca_certificates.specs.declared.faults.CertificateFaultKind.{CertificateFaultKind}
 use Rattle.uca_certificates.specs.declared.faults.CertificateFaultKind.TheVariants as kinds
 use Rattle.uca_certificates.specs.Certificates.{CertificateContent, runs_at}
-use Rattle.uca_certificates.specs.Texts.{RunLine, run_text, of_level, run_lines, IsRunLine, IsLine, IsPassed, Says, Cause, is_read_kind}
+use Rattle.uca_certificates.specs.Texts.{RunLine, run_text, of_level, run_lines, IsRunLine, IsPassed, Says, Cause, is_read_kind}
 use Rattle.uca_certificates.specs.Steps.{put_last, Takes}
 
 -- no line is to blame for a read that failed
@@ -95,7 +95,7 @@ says_more lines old line new says takes =
     let P : CertificateContent → Type 0 = Says (lines ++ line ∷ []) in
     let more = run_lines_more old takes.said.level takes.said.run takes.due in
     let last : lines ++ line ∷ [] ≡ map run_text (run_lines old ++ takes.said ∷ []) =
-        rw (says.text, takes.is_line.text) (sym (map-append run_text (run_lines old) (takes.said ∷ []))) in
+    rw (says.text, takes.is_line.text) (sym (map-append run_text (run_lines old) (takes.said ∷ []))) in
     subst P (sym takes.adds) (record {
       text = last ∙ ap (map run_text) (sym more);
       fit = subst (AllByRecursion IsRunLine) (sym more) (each_more IsRunLine (run_lines old) takes.said says.fit takes.is_line.fits);

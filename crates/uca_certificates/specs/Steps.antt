@@ -1,6 +1,7 @@
 -- How a line is read, what it adds to the runs before it, and what becomes of all runs. For private contracts alone.
-use Rattle.std.specs.Prelude.{◌≡◌, ◌≢◌, ℕ, suc, ◌+◌, ◌<◌, ◌==◌, List, [], ◌∷◌, ◌++◌, length, take, drop, if◌then◌else◌, Option, Some, None, option_and_then}
+use Rattle.std.specs.Prelude.{◌≡◌, ℕ, suc, ◌+◌, ◌<◌, ◌==◌, List, [], ◌∷◌, ◌++◌, length, take, drop, if◌then◌else◌, Option, Some, None, option_and_then}
 use Rattle.std.specs.Option.{option_map}
+use Rattle.std.specs.List.{flat_map}
 use Rattle.uca_weights.specs.declared.Level.{Level}
 use Rattle.uca_weights.specs.declared.Level.TheVariants.{One, Two, Three}
 use Rattle.uca_weights.specs.declared.maps.Run.{Run}
@@ -9,11 +10,12 @@ use Rattle.uca_weights.specs.declared.maps.MapFaultKind.{MapFaultKind}
 use Rattle.uca_weights.specs.declared.maps.MapFaultKind.TheVariants as map_kinds
 use Rattle.uca_weights.specs.Levels.{level_number}
 use Rattle.uca_weights.specs.Runs.{AreProperRuns, IsMapFault}
+use Rattle.uca_lines.specs.Lines.{ended}
 use Rattle.uca_fields.specs.Number.{weight_of}
 use Rattle.uca_certificates.specs.declared.faults.CertificateFault.{CertificateFault}
 use Rattle.uca_certificates.specs.declared.faults.CertificateFaultKind.TheVariants as kinds
 use Rattle.uca_certificates.specs.Certificates.{CertificateContent, runs_at}
-use Rattle.uca_certificates.specs.Texts.{RunLine, IsLine, IsPassed, map_line}
+use Rattle.uca_certificates.specs.Texts.{RunLine, run_text, IsLine, IsPassed, map_line}
 
 -- ---- A line
 
@@ -83,3 +85,9 @@ pub record RefusesContent (content : CertificateContent) (fault : CertificateFau
   pub is_fault : IsMapFault level (runs_at level content) cause
   pub kind : fault.kind ≡ kinds.Map cause
   pub place : fault.line ≡ map_line content level cause.run cause.kind
+
+-- ---- The text of a level
+
+-- the lines of some runs, with their LF
+unfoldable pub level_text : Level → List Run → List ℕ
+level_text level runs = flat_map (λ run. ended (run_text (record { level = level; run = run }))) runs

@@ -13,8 +13,8 @@ pub use certificate::Certificate;
 use faults::CertificateFaultKind as Kind;
 pub use faults::{CertificateFault, CertificateFaultKind};
 pub use read::read_certificate;
-pub use write::write_certificate;
 use uca_files::FileForm;
+pub use write::write_certificate;
 
 /// The form of certificates.
 pub const CERTIFICATE_FORM: FileForm<CertificateFaultKind> = FileForm {

@@ -81,6 +81,34 @@ impl Lines {
             Level::Three => push_run(&mut self.tertiary, run),
         }
     }
+
+    /// The certificate of the runs.
+    ///
+    /// # Errors
+    ///
+    /// `Map` for the lowest level whose runs make no map.
+    pub fn into_certificate(self) -> Result<Certificate, CertificateFault>
+        ensures certificate { IfOk result (λ certificate. certificate ≡ self) }
+        ensures maps { OnOk result (IsCertificate self) }
+        ensures fault { IfErr result (RefusesContent self) }
+    {
+        let Lines {
+            primary,
+            secondary,
+            tertiary,
+        } = self;
+        let below_two = primary.len();
+        let below_three = below_two + secondary.len();
+        let all = below_three + tertiary.len();
+        let primary = map_of(Level::One, primary, 0, all)?;
+        let secondary = map_of(Level::Two, secondary, below_two, all)?;
+        let tertiary = map_of(Level::Three, tertiary, below_three, all)?;
+        Ok(Certificate {
+            primary,
+            secondary,
+            tertiary,
+        })
+    }
 }
 
 impl TakesLines for Lines {
@@ -139,4 +167,40 @@ fn push_run(runs: &mut Vec<Run>, run: Run) -> Result<(), CertificateFaultKind>
     }
     runs.push(run)?;
     Ok(())
+}
+
+// The map of the runs of a level, before which `below` runs stand among `all`.
+fn map_of(
+    level: Level,
+    runs: Vec<Run>,
+    below: usize,
+    all: usize,
+) -> Result<WeightMap, CertificateFault>
+    requires within { below + length runs.items ≤ all }
+    requires few { all ≤ 0x10_0000 }
+    ensures map { IfOk result (λ map. map ≡ record { level = level; runs = runs.items }) }
+    ensures proper { OnOk result (AreProperRuns level runs.items) }
+    ensures fault { IfErr result (RefusesRuns level runs.items below all) }
+{
+    match WeightMap::from_runs(level, runs) {
+        Ok(map) => Ok(map),
+        Err(fault) => Err(CertificateFault {
+            line: line_of(fault, below, all),
+            kind: CertificateFaultKind::Map(fault),
+        }),
+    }
+}
+
+// The line of a fault in the runs of a level, before which `below` runs stand among `all`.
+fn line_of(fault: MapFault, below: usize, all: usize) -> u32
+    requires within { below + fault.run ≤ all }
+    requires few { all ≤ 0x10_0000 }
+    ensures { result ≡ fault_line below all fault.run fault.kind }
+{
+    let before = match fault.kind {
+        MapFaultKind::Fixed => all,
+        MapFaultKind::Empty | MapFaultKind::NotRising | MapFaultKind::OutOfRange => below
+            + fault.run,
+    };
+    before as u32 + 1
 }
