@@ -1,0 +1,2 @@
+pub mod AnchorSteps
+pub mod RelationSteps
