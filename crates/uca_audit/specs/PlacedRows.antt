@@ -1,5 +1,5 @@
 -- What a look at the row of a target finds. Only clauses inside this crate cite this file.
-use Rattle.std.specs.Prelude.{◌≡◌, ℕ, List, ◌++◌, Bool, Option, Some, None, MatchOption}
+use Rattle.std.specs.Prelude.{◌≡◌, ℕ, List, Bool, Option, MatchOption}
 use Rattle.uca_weights.specs.declared.Element.{Element}
 use Rattle.uca_weights.specs.declared.Level.{Level}
 use Rattle.uca_weights.specs.Levels.{weight}
@@ -19,16 +19,6 @@ pub record IsRowAt (level : Level) (is_before : Bool) (anchor expansion row : Li
   pub old_weight : weight level last ≡ old
   pub side : IsOnSide is_before old new
   pub is_row : row ≡ placed level before last expansion new
-
--- the placement is that of the row
-abbrev pub IsRowBy : Bool → List Element → List Element → List Element → Placement → Option Level → Type 0
-IsRowBy is_before anchor expansion row p None = (p.level ≡ None) × (row ≡ anchor ++ expansion)
-IsRowBy is_before anchor expansion row p (Some level) = (p.level ≡ Some level) × IsRowAt level is_before anchor expansion row p.old p.new
-
--- the row has no placement
-abbrev pub IsNoRowBy : Bool → List Element → List Element → List Element → Option Level → Type 0
-IsNoRowBy is_before anchor expansion row None = ¬ (row ≡ anchor ++ expansion)
-IsNoRowBy is_before anchor expansion row (Some level) = (old new : ℕ) → ¬ (IsRowAt level is_before anchor expansion row old new)
 
 -- what is found of a relation is how its target was placed, or nothing where it was not
 abbrev pub IsFoundPlacement : Tailoring → Relation → Option Placement → Type 0

@@ -7,7 +7,7 @@ ghost use Rattle.uca_tailorings.specs.Laws.{ReadsAs};
 ghost use Rattle.uca_tailorings.specs.Placing as placing;
 ghost use Rattle.uca_tailorings.specs.Placing.{placed, IsOnSide};
 ghost use Rattle.uca_tailorings.specs.Tailorings.{Tailoring, IsPlaced, Meets, tailored_reading};
-ghost use Rattle.uca_audit.specs.PlacedRows.{IsRowAt, IsRowBy, IsNoRowBy, IsFoundPlacement};
+ghost use Rattle.uca_audit.specs.PlacedRows.{IsRowAt, IsFoundPlacement};
 ghost use Rattle.uca_audit.specs.Refusals.{IsFirstRelationWithout};
 ghost use Rattle.uca_audit.specs.Views.{IsPlacement, tailoring_in};
 

@@ -1,7 +1,5 @@
 use Rattle.std.proofs.Common.{◌≡◌, suc, List, Some, sym, ◌∙◌, subst}
-use Rattle.uca_weights.specs.declared.Element.{Element}
 use Rattle.uca_weights.specs.Levels.{level_of}
-use Rattle.uca_match.specs.Collations.{Collation}
 use Rattle.uca_rules.specs.declared.relations.Relation.{Relation}
 use Rattle.uca_tailorings.specs.Tailorings.{HasAnchor, anchor_elements, tailored_reading}
 use Rattle.uca_audit.specs.Refusals.{IsFirstRelationWithout}
