@@ -2,3 +2,5 @@ pub mod Inputs
 pub mod Refusals
 pub mod FaultText
 pub mod Views
+pub mod Anchors
+pub mod PlacedRows

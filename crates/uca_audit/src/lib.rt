@@ -2,10 +2,12 @@
 //! say, and leaves alone every text in which no target of the rules occurs.
 #![tactic(auto)]
 
+mod anchors;
 mod auditing;
 mod faults;
 mod inputs;
 mod placements;
+mod readings;
 
 pub use auditing::audit;
 pub use faults::{AuditFault, Place};

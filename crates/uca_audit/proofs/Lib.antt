@@ -1,0 +1,4 @@
+pub mod AnchorSteps
+pub mod RelationSteps
+pub mod PlacedRowSteps
+pub mod TargetRows
