@@ -2,3 +2,4 @@ pub mod Inputs
 pub mod Refusals
 pub mod FaultText
 pub mod Views
+pub mod WeightSets

@@ -6,6 +6,7 @@ mod auditing;
 mod faults;
 mod inputs;
 mod placements;
+mod weight_sets;
 
 pub use auditing::audit;
 pub use faults::{AuditFault, Place};
