@@ -3,3 +3,4 @@ pub mod Refusals
 pub mod FaultText
 pub mod Views
 pub mod WeightSets
+pub mod NewWeights

@@ -1,5 +1,5 @@
 -- What sets of weights have. Only clauses inside this crate cite this file.
-use Rattle.std.specs.Prelude.{◌≡◌, ℕ, List, Bool, true, false, slice_index_or}
+use Rattle.std.specs.Prelude.{◌≡◌, ◌↔◌, ◌⊎◌, ℕ, List, Bool, true, false, slice_index_or}
 use Rattle.uca_weights.specs.declared.Level.{Level}
 use Rattle.uca_weights.specs.declared.Level.TheVariants.{One, Two, Three}
 use Rattle.uca_tailorings.specs.Tailorings.{IsBetween}
@@ -22,3 +22,7 @@ HasWeight set level w = slice_index_or (flags_at level set) w false ≡ true
 -- the set has a weight of the level strictly between the two
 abbrev pub HasBetween : Flags → Level → ℕ → ℕ → Type 0
 HasBetween set level old new = (w : ℕ) × HasWeight set level w × IsBetween old new w
+
+-- the second set has the weight too
+abbrev pub AddsWeight : Flags → Flags → Level → ℕ → Type 0
+AddsWeight old new level weight = (l : Level) (w : ℕ) → HasWeight new l w ↔ (((l ≡ level) × (w ≡ weight)) ⊎ HasWeight old l w)

@@ -1,10 +1,11 @@
 //! Conditions 10 and 11: the new weights that relations give their targets.
 
-ghost use Rattle.std.specs.Prelude.{◌≡◌, ◌↔◌, ◌⊎◌, ℕ, IfOk, IsTrue};
+ghost use Rattle.std.specs.Prelude.{◌↔◌, ◌⊎◌, ℕ, List, [], ◌∷◌, ◌++◌, IfOk, IsTrue};
 ghost use Rattle.std.specs.List.{AllZip};
 ghost use Rattle.uca_weights.specs.declared.Level.{Level};
 ghost use Rattle.uca_tailorings.specs.Placing.{IsLow};
 ghost use Rattle.uca_tailorings.specs.Tailorings.{Meets, IsFresh, IsNearest};
+ghost use Rattle.uca_audit.specs.declared.placements.Placement.{Placement};
 ghost use Rattle.uca_audit.specs.WeightSets.{HasWeight};
 ghost use Rattle.uca_audit.specs.Views.{tailoring_in, FindsFirstRelation, IsPlacement};
 ghost use Rattle.uca_audit.specs.NewWeights.{HoldsKnown, HoldsNew, IsFreshPlacement, IsNearestPlacement, puts};
@@ -30,9 +31,12 @@ pub(crate) fn first_not_fresh(
         FindsFirstRelation (Meets tailoring Condition.NotFresh) (IsFresh tailoring) tailoring.relations found) }
 {
     let shared = shared_weights(alloc, placements)?;
-    Ok(placements
-        .iter()
-        .position(|placement| !is_fresh(*placement, known, &shared)))
+    for (at, placement) in placements.iter().enumerate() {
+        if !is_fresh(*placement, known, &shared) {
+            return Ok(Some(at));
+        }
+    }
+    Ok(None)
 }
 
 /// The index of the first relation between whose old and new weight a known weight lies, or the new weight of an earlier
@@ -63,12 +67,24 @@ fn shared_weights(alloc: Global, placements: &[Placement]) -> Result<WeightSet, 
     let mut seen = WeightSet::new(alloc)?;
     let mut shared = WeightSet::new(alloc)?;
     for placement in placements {
-        if is_new_in(*placement, &seen) {
-            add_new(&mut shared, *placement);
-        }
-        add_new(&mut seen, *placement);
+        add_again(&mut seen, &mut shared, *placement);
     }
     Ok(shared)
+}
+
+/// Puts the placement's new weight in with those that are seen, and with those that are seen twice if it is one of them already.
+fn add_again(seen: &mut WeightSet, shared: &mut WeightSet, placement: Placement)
+    ensures seen { (placements : List Placement) → HoldsNew 1 placements seen.old → HoldsNew 1 (placements ++ placement ∷ []) seen.new }
+    ensures shared { (placements : List Placement) → HoldsNew 1 placements seen.old → HoldsNew 2 placements shared.old →
+        HoldsNew 2 (placements ++ placement ∷ []) shared.new }
+{
+    let Some(level) = placement.level else {
+        return;
+    };
+    if seen.contains(level, placement.new) {
+        shared.insert(level, placement.new);
+    }
+    seen.insert(level, placement.new);
 }
 
 /// Whether the placement puts a new weight at a level that is not low enough, or is in one of two sets.
@@ -100,16 +116,6 @@ fn is_low(level: Level, weight: u16) -> bool
     match level {
         Level::One => weight < 0x8000,
         Level::Two | Level::Three => true,
-    }
-}
-
-/// Whether the placement puts a new weight at a level that the set has.
-fn is_new_in(placement: Placement, set: &WeightSet) -> bool
-    ensures { IsTrue result ↔ PutsOneOf set.now placement }
-{
-    match placement.level {
-        None => false,
-        Some(level) => set.contains(level, placement.new),
     }
 }
 

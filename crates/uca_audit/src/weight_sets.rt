@@ -2,7 +2,7 @@
 
 ghost use Rattle.std.specs.Prelude.{◌≡◌, ◌↔◌, ◌⊎◌, ℕ, length, vec_len, IfOk, IsTrue, false, slice_index_or};
 ghost use Rattle.uca_weights.specs.declared.Level.{Level};
-ghost use Rattle.uca_audit.specs.WeightSets.{flags_at, HasWeight, HasBetween};
+ghost use Rattle.uca_audit.specs.WeightSets.{flags_at, HasWeight, HasBetween, AddsWeight};
 
 use std::alloc::{AllocError, Global};
 use std::marker::Model;
@@ -69,8 +69,7 @@ impl WeightSet {
 
     /// Puts a weight of a level in.
     pub(crate) fn insert(&mut self, level: Level, weight: u16)
-        ensures { (l : Level) (w : ℕ) →
-            HasWeight self.new l w ↔ (((l ≡ level) × (w ≡ weight)) ⊎ HasWeight self.old l w) }
+        ensures { AddsWeight self.old self.new level weight }
     {
         let at = usize::from(weight);
         match level {

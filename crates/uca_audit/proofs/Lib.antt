@@ -1,0 +1,4 @@
+pub mod Passes
+pub mod PlacedWeights
+pub mod Fresh
+pub mod Nearest
