@@ -5,13 +5,13 @@ use Rattle.std.specs.List.{AllZip}
 use Rattle.std.proofs.lemmas.Bool.{cases_lt, false≢true}
 use Rattle.uca_weights.specs.declared.Level.{Level}
 use Rattle.uca_rules.specs.declared.relations.Relation.{Relation}
-use Rattle.uca_tailorings.specs.Tailorings.{Tailoring, IsFreshWeight, IsFresh, IsNewWeight}
+use Rattle.uca_tailorings.specs.Tailorings.{Tailoring, IsFreshWeight, IsFresh}
 use Rattle.uca_tailorings.proofs.Relating.{one_new}
 use Rattle.uca_audit.specs.declared.placements.Placement.{Placement}
 use Rattle.uca_audit.specs.Refusals.{IsFirstRelationWithout}
 use Rattle.uca_audit.specs.Views.{IsPlacement}
 use Rattle.uca_audit.specs.WeightSets.{Flags, HasWeight, AddsWeight}
-use Rattle.uca_audit.specs.NewWeights.{puts, times_new, HoldsKnown, HoldsNew, IsFreshAt, IsFreshPlacement}
+use Rattle.uca_audit.specs.NewWeights.{times_new, HoldsKnown, HoldsNew, IsFreshAt, IsFreshPlacement}
 use Rattle.uca_audit.proofs.Passes.{in_step, split_at, AllBelow, below_one_more, first_here}
 use Rattle.uca_audit.proofs.PlacedWeights.{placed_there, puts_there, puts_cases, times_push, times_split, new_counted}
 
@@ -27,8 +27,7 @@ shared_more placements p level seen old new there once twice was adds l w = ⊎_
     let some = (once l w).0 (subst (λ k. HasWeight seen k w) (sym put.1) (subst (HasWeight seen level) (sym put.2) was)) in
     (λ has. omega arith, λ two. (adds l w).1 (inl (put.1, put.2))))
     (λ other.
-    let count = times_push l w placements p ∙ ap (λ b. times_new l w placements + cond b 1 0) other.0 in
-    (
+    let count = times_push l w placements p ∙ ap (λ b. times_new l w placements + cond b 1 0) other.0 in (
       (λ has. ⊎_elim (λ same. absurd (other.1 same)) (λ before. let two = (twice l w).0 before in omega arith) ((adds l w).0 has)),
       λ two. (adds l w).1 (inr ((twice l w).1 (omega arith))),
     ))
@@ -76,9 +75,9 @@ module _ (tailoring : Tailoring) (known shared : Flags) (before : List Relation)
       (record {
         unknown = λ is. found.unknown ((is_known level p.new).1 is);
         own_before = λ own. let some = (new_counted tailoring before front are_before level p.new).0 own in
-        found.own ((is_shared level p.new).1 (omega arith));
+            found.own ((is_shared level p.new).1 (omega arith));
         own_after = λ own. let some = (new_counted tailoring after back are_after level p.new).0 own in
-        found.own ((is_shared level p.new).1 (omega arith));
+            found.own ((is_shared level p.new).1 (omega arith));
         low = found.low;
       })
 
@@ -94,12 +93,12 @@ module _ (tailoring : Tailoring) (known shared : Flags) (before : List Relation)
           (record {
             unknown = λ has. found.unknown ((is_known level p.new).0 has);
             own = λ has.
-            let two = (is_shared level p.new).0 has in
-            let none : 1 ≤ times_new level p.new front → ⊥ =
-            λ some. found.own_before ((new_counted tailoring before front are_before level p.new).1 some) in
-            let none_behind : 1 ≤ times_new level p.new back → ⊥ =
-            λ some. found.own_after ((new_counted tailoring after back are_after level p.new).1 some) in
-            ⊎_elim none none_behind (either (times_new level p.new front) (times_new level p.new back) (omega arith));
+                let two = (is_shared level p.new).0 has in
+                let none : 1 ≤ times_new level p.new front → ⊥ =
+                λ some. found.own_before ((new_counted tailoring before front are_before level p.new).1 some) in
+                let none_behind : 1 ≤ times_new level p.new back → ⊥ =
+                λ some. found.own_after ((new_counted tailoring after back are_after level p.new).1 some) in
+                ⊎_elim none none_behind (either (times_new level p.new front) (times_new level p.new back) (omega arith));
             low = found.low;
           })
 

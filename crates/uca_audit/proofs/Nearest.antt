@@ -5,7 +5,7 @@ use Rattle.std.specs.List.{AllZip}
 use Rattle.std.proofs.lemmas.Bool.{false≢true}
 use Rattle.uca_weights.specs.declared.Level.{Level}
 use Rattle.uca_rules.specs.declared.relations.Relation.{Relation}
-use Rattle.uca_tailorings.specs.Tailorings.{Tailoring, IsPlacedAt, IsNewWeight, IsNearest, IsNearestWeight}
+use Rattle.uca_tailorings.specs.Tailorings.{Tailoring, IsPlacedAt, IsNewWeight, IsNearest}
 use Rattle.uca_tailorings.proofs.Relating.{one_new}
 use Rattle.uca_tailorings.proofs.Nearest.{new_cases}
 use Rattle.uca_audit.specs.declared.placements.Placement.{Placement}
@@ -41,16 +41,16 @@ pub known_more : (tailoring : Tailoring) (before : List Relation) (r : Relation)
     HoldsKnownAndNew tailoring (before ++ r ∷ []) new
 known_more tailoring before r p old new holds is adds level w = (
   (λ has. ⊎_elim
-  (λ put. inr (new_last tailoring level w before r ((puts_new tailoring r p is level w).0 put)))
-  (λ had. ⊎_elim (λ known. inl known) (λ earlier. inr (new_earlier tailoring level w before r earlier)) ((holds level w).0 had))
-  ((adds level w).0 has)),
+      (λ put. inr (new_last tailoring level w before r ((puts_new tailoring r p is level w).0 put)))
+      (λ had. ⊎_elim (λ known. inl known) (λ earlier. inr (new_earlier tailoring level w before r earlier)) ((holds level w).0 had))
+      ((adds level w).0 has)),
   λ is_one. (adds level w).1 (⊎_elim
-  (λ known. inr ((holds level w).1 (inl known)))
-  (λ own. ⊎_elim
-  (λ earlier. inr ((holds level w).1 (inr earlier)))
-  (λ last. inl (⊎_elim (λ here. (puts_new tailoring r p is level w).1 here) (λ none. absurd none) last))
-  (new_cases tailoring level w before r [] own))
-  is_one),
+      (λ known. inr ((holds level w).1 (inl known)))
+      (λ own. ⊎_elim
+      (λ earlier. inr ((holds level w).1 (inr earlier)))
+      (λ last. inl (⊎_elim (λ here. (puts_new tailoring r p is level w).1 here) (λ none. absurd none) last))
+      (new_cases tailoring level w before r [] own))
+      is_one),
 )
 
 -- the test of a placement is right of its relation

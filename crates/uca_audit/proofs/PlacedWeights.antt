@@ -1,5 +1,5 @@
 -- Placements of relations: the new weights that they put at each level.
-use Rattle.std.proofs.Common.{◌≡◌, ◌≢◌, ◌⊎◌, inl, inr, ⊎_elim, ◌↔◌, ℕ, ◌+◌, ◌≤◌, ◌&&◌, ◌==◌, List, [], ◌∷◌, ◌++◌, Option, Some, None, Bool, true, false, cond, IsTrue, refl, sym, ap, subst, ◌∙◌, arith}
+use Rattle.std.proofs.Common.{◌≡◌, ◌⊎◌, inl, inr, ⊎_elim, ◌↔◌, ℕ, ◌+◌, ◌≤◌, ◌&&◌, ◌==◌, List, [], ◌∷◌, ◌++◌, Option, Some, None, Bool, true, false, cond, IsTrue, refl, sym, ap, subst, ◌∙◌, arith}
 use Rattle.std.specs.List.{AllZip}
 use Rattle.std.proofs.lemmas.List.Sums.{sum_by-append, sum_by-cons}
 use Rattle.std.proofs.lemmas.Bool.{false≢true}
@@ -77,8 +77,11 @@ puts_new tailoring r p is l w = (forth p.level refl, back)
     forth : (at : Option Level) → p.level ≡ at → IsTrue (puts l w p) → (old : ℕ) × IsPlacedAt tailoring r l old w
     forth None none put = absurd (false≢true (sym (puts_none p l w none) ∙ put))
     forth (Some level) there put = ⊎_elim
-        (λ same. (p.old, subst (λ v. IsPlacedAt tailoring r l p.old v) (sym same.2)
-        (subst (λ k. IsPlacedAt tailoring r k p.old p.new) (sym same.1) (puts_there tailoring r p level is there))))
+        (λ same. (
+          p.old,
+          subst (λ v. IsPlacedAt tailoring r l p.old v) (sym same.2)
+              (subst (λ k. IsPlacedAt tailoring r k p.old p.new) (sym same.1) (puts_there tailoring r p level is there)),
+        ))
         (λ other. absurd (false≢true (sym other.0 ∙ put)))
         (puts_cases p level l w there)
 
@@ -116,13 +119,12 @@ new_counted tailoring (r ∷ relations) [] are l w = absurd are
 new_counted tailoring (r ∷ relations) (p ∷ placements) are l w =
     let rest = new_counted tailoring relations placements are.1 l w in
     let here = puts_new tailoring r p are.0 l w in
-    let count : times_new l w (p ∷ placements) ≡ cond (puts l w p) 1 0 + times_new l w placements = sum_by-cons (λ q. cond (puts l w q) 1 0) p placements in
-    (
+    let count : times_new l w (p ∷ placements) ≡ cond (puts l w p) 1 0 + times_new l w placements = sum_by-cons (λ q. cond (puts l w q) 1 0) p placements in (
       (λ new. ⊎_elim
-      (λ own. let one : cond {A = ℕ} (puts l w p) 1 0 ≡ 1 = ap (λ b. cond b 1 0) (here.1 own) in omega arith)
-      (λ later. let more = rest.0 later in omega arith) new),
+          (λ own. let one : cond {A = ℕ} (puts l w p) 1 0 ≡ 1 = ap (λ b. cond b 1 0) (here.1 own) in omega arith)
+          (λ later. let more = rest.0 later in omega arith) new),
       λ some. ⊎_elim
-      (λ put. inl (here.0 put))
-      (λ not. let none : cond {A = ℕ} (puts l w p) 1 0 ≡ 0 = ap (λ b. cond b 1 0) not in inr (rest.1 (omega arith)))
-      (true_or_false (puts l w p)),
+          (λ put. inl (here.0 put))
+          (λ not. let none : cond {A = ℕ} (puts l w p) 1 0 ≡ 0 = ap (λ b. cond b 1 0) not in inr (rest.1 (omega arith)))
+          (true_or_false (puts l w p)),
     )

@@ -4,3 +4,4 @@ pub mod FaultText
 pub mod Views
 pub mod WeightSets
 pub mod NewWeights
+pub mod KnownWeights

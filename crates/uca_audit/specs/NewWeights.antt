@@ -1,5 +1,5 @@
 -- What is found of new weights, by sets of weights. Only clauses inside this crate cite this file.
-use Rattle.std.specs.Prelude.{◌≡◌, ◌↔◌, ◌⊎◌, ⊤, ℕ, ◌≤◌, ◌&&◌, ◌==◌, Bool, false, List, Option, Some, None, MatchOption, count_by}
+use Rattle.std.specs.Prelude.{◌↔◌, ◌⊎◌, ⊤, ℕ, ◌≤◌, ◌&&◌, ◌==◌, Bool, false, List, Option, Some, None, MatchOption, count_by}
 use Rattle.uca_weights.specs.declared.Level.{Level}
 use Rattle.uca_weights.specs.Levels.{level_number}
 use Rattle.uca_rules.specs.declared.relations.Relation.{Relation}

@@ -5,6 +5,7 @@
 mod auditing;
 mod faults;
 mod inputs;
+mod known;
 mod new_weights;
 mod placements;
 mod weight_sets;

@@ -14,9 +14,9 @@ pub loop-at-preserved : goal.loop-at-preserved
 loop-at-preserved c =
     rw add-one (
       known_next (tailoring_in c.args.inputs.now) c.args.placements.now c.loop-at.known c.add_new.new.set c.loop-at.at _
-      c.requires.placed c.loop-at.invariant.0 c.loop-at-test.true c.add_new.ensures,
+          c.requires.placed c.loop-at.invariant.0 c.loop-at-test.true c.add_new.ensures,
       nearest_more (tailoring_in c.args.inputs.now) c.args.placements.now c.loop-at.known c.loop-at.at _ c.is_nearest.result
-      c.requires.placed c.loop-at.invariant.0 c.loop-at-test.true c.loop-at.invariant.1 c.is_nearest.ensures c.if-not-is_nearest.false,
+          c.requires.placed c.loop-at.invariant.0 c.loop-at-test.true c.loop-at.invariant.1 c.is_nearest.ensures c.if-not-is_nearest.false,
     )
 
 pub returns : goal.returns

@@ -1,4 +1,4 @@
-use Rattle.std.proofs.Common.{subst, sym, take, get_or, ◌++◌, ◌∷◌, [], arith}
+use Rattle.std.proofs.Common.{subst, sym, take, arith}
 use Rattle.std.proofs.lemmas.List.{take_more, take_all}
 use Rattle.uca_audit.specs.NewWeights.{HoldsNew}
 use Rattle.uca_audit.proofs.new_weights.shared_weights.Goals as goal
