@@ -2,3 +2,8 @@ pub mod AnchorSteps
 pub mod RelationSteps
 pub mod PlacedRowSteps
 pub mod TargetRows
+pub mod Passes
+pub mod PlacedWeights
+pub mod Fresh
+pub mod Nearest
+pub mod KnownImages

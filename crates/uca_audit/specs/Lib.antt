@@ -4,3 +4,6 @@ pub mod FaultText
 pub mod Views
 pub mod Anchors
 pub mod PlacedRows
+pub mod WeightSets
+pub mod NewWeights
+pub mod KnownWeights

@@ -6,8 +6,11 @@ mod anchors;
 mod auditing;
 mod faults;
 mod inputs;
+mod known;
+mod new_weights;
 mod placements;
 mod readings;
+mod weight_sets;
 
 pub use auditing::audit;
 pub use faults::{AuditFault, Place};
