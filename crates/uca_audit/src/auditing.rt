@@ -22,6 +22,7 @@ use crate::{AuditFault, Certificate};
 use std::alloc::Global;
 use uca_match::{Collator, Lookup, Trie};
 use uca_rules::Rules;
+use uca_tailorings::accepted_tailorings_are_faithful;
 use uca_values::{Data, Header, Table};
 
 /// Audits a tailoring: accepts exactly where its eleven conditions are met, and then promises what follows from them.
@@ -121,6 +122,7 @@ fn meaning(inputs: &Inputs)
     ensures { IsFaithful (tailoring_in inputs.now) }
 {
     know(inputs);
+    accepted_tailorings_are_faithful();
 }
 
 // What the values that are handed in keep: none of it has to be looked at again.
