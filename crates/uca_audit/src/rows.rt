@@ -130,11 +130,11 @@ pub(crate) fn first_missing_target(inputs: &Inputs, tailored: &Trie) -> Option<u
     ensures { FindsFirstRelation (AllByRecursion (IsPresentTarget (tailoring_in inputs.now)) (tailoring_in inputs.now).relations)
         (λ before r after. IsPresentTarget (tailoring_in inputs.now) r) (tailoring_in inputs.now).relations result }
 {
-    inputs
-        .rules
-        .relations()
-        .iter()
-        .position(|relation| !has_tailored_row(inputs, tailored, relation.target.chars()))
+    inputs.rules.relations().iter().position(|relation| !has_tailored_row(
+        inputs,
+        tailored,
+        relation.target.chars(),
+    ))
 }
 
 fn has_tailored_row(inputs: &Inputs, tailored: &Trie, key: &[char]) -> bool
