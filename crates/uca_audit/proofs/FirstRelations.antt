@@ -1,9 +1,9 @@
 -- The first relation without a property of its own.
-use Rattle.std.proofs.Common.{◌≡◌, ℕ, zero, suc, ◌+◌, ◌<◌, List, [], ◌∷◌, ◌++◌, length, Option, Some, None, refl, ap, subst, MatchOption, arith}
+use Rattle.std.proofs.Common.{◌≡◌, ℕ, zero, suc, ◌<◌, List, [], ◌∷◌, ◌++◌, length, Option, Some, None, refl, ap, subst, MatchOption, arith}
 use Rattle.std.specs.List.{AllByRecursion, AllWithin, HoldsAt}
 use Rattle.std.proofs.lemmas.List.Elements.{recursion_from_All, All-from_all_within}
 use Rattle.uca_rules.specs.declared.relations.Relation.{Relation}
-use Rattle.uca_audit.specs.Refusals.{IsFirstRelationWithout, IsFirstAloneWithout}
+use Rattle.uca_audit.specs.Refusals.{IsFirstAloneWithout}
 use Rattle.uca_audit.specs.Views.{FindsFirstRelation}
 
 -- with one more relation at the front that has the property

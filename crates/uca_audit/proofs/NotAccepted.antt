@@ -1,15 +1,14 @@
 -- A tailoring that is refused is not accepted.
-use Rattle.std.proofs.Common.{◌≡◌, ◌⊎◌, ⊎_elim, ℕ, zero, suc, ◌+◌, ◌<◌, ◌≤◌, List, [], ◌∷◌, ◌++◌, refl, sym, subst, arith}
+use Rattle.std.proofs.Common.{⊎_elim, ℕ, zero, suc, ◌≤◌, List, [], ◌∷◌, ◌++◌, subst, arith}
 use Rattle.std.specs.List.{AllByRecursion}
 use Rattle.uca_values.specs.Content.{Entry}
 use Rattle.uca_check.specs.WellFormed.{IsWellFormed, IsFirstWithout, IsFirstFailure, Meets as MeetsForm}
 use Rattle.uca_rules.specs.declared.relations.Relation.{Relation}
 use Rattle.uca_tailorings.specs.declared.conditions.Condition.{Condition}
 use Rattle.uca_tailorings.specs.declared.conditions.Condition.TheVariants.{BaseIllFormed, TailoredIllFormed, Header, Uncovered, RowChanged, RowMissing, RowExtra, Anchor, NotPlaced, NotFresh, NotNearest}
-use Rattle.uca_tailorings.specs.Tailorings.{Tailoring, Meets, AllRelations, IsAccepted}
-use Rattle.uca_audit.specs.declared.faults.AuditFault.{AuditFault}
+use Rattle.uca_tailorings.specs.Tailorings.{Tailoring, Meets, AllRelations}
 use Rattle.uca_audit.specs.declared.faults.Place.{Place}
-use Rattle.uca_audit.specs.Refusals.{IsFirstRelationWithout, IsFirstAloneWithout, FailsFirstAt, IsFirstRefusal, RefusedTailoringsAreNotAccepted}
+use Rattle.uca_audit.specs.Refusals.{IsFirstRelationWithout, IsFirstAloneWithout, FailsFirstAt, RefusedTailoringsAreNotAccepted}
 
 -- what holds of each of a list holds of one inside it
 inside : {X : Type 0} (P : X → Type 0) (before : List X) (x : X) (after : List X) → AllByRecursion P (before ++ x ∷ after) → P x

@@ -1,6 +1,6 @@
 use Rattle.uca_tailorings.specs.declared.conditions.Condition.TheVariants.{Anchor, NotPlaced, NotFresh, NotNearest}
 use Rattle.uca_audit.specs.Views.{tailoring_in}
-use Rattle.uca_audit.proofs.Chaining.{meets_none, meets_more, passes_refused}
+use Rattle.uca_audit.proofs.Chaining.{meets_more, passes_refused}
 use Rattle.uca_audit.proofs.auditing.audit_relations.Goals as goal
 
 pub returns-in_err-anchors_are_there : goal.returns-in_err-anchors_are_there

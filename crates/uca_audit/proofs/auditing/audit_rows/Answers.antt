@@ -1,6 +1,6 @@
 use Rattle.uca_tailorings.specs.declared.conditions.Condition.TheVariants.{RowChanged, RowMissing, RowExtra}
 use Rattle.uca_audit.specs.Views.{tailoring_in}
-use Rattle.uca_audit.proofs.Chaining.{meets_none, meets_more, passes_refused}
+use Rattle.uca_audit.proofs.Chaining.{meets_more, passes_refused}
 use Rattle.uca_audit.proofs.auditing.audit_rows.Goals as goal
 
 pub returns-in_err-rows_are_unchanged : goal.returns-in_err-rows_are_unchanged

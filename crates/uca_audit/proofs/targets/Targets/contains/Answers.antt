@@ -1,4 +1,4 @@
-use Rattle.std.proofs.Common.{List, Contains, IsTrue, ◌↔◌, subst, sym, ◌∙◌}
+use Rattle.std.proofs.Common.{Contains, IsTrue, ◌↔◌, subst, sym, ◌∙◌}
 use Rattle.uca_audit.proofs.TargetSets.{found_iff}
 use Rattle.uca_audit.proofs.targets.Targets.contains.Goals as goal
 

@@ -1,4 +1,4 @@
-use Rattle.std.proofs.Common.{take, map, List}
+use Rattle.std.proofs.Common.{take, map}
 use Rattle.uca_audit.specs.Chaining.{AreTargetsOf}
 use Rattle.uca_audit.proofs.targets.Targets.new.Given as goal
 
