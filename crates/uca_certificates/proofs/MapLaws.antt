@@ -47,6 +47,17 @@ refuses_content content level runs below all fault lower is b a h = record {
   place = h.place ∙ place_is content level below all h.cause.run h.cause.kind b a;
 }
 
+-- the runs of level 1 make no map
+pub refuses_primary : (content : CertificateContent) (runs : List Run) (all : ℕ) (fault : CertificateFault) → runs ≡ content.primary
+    → all ≡ length content.primary + (length content.secondary + length content.tertiary) → RefusesRuns One runs 0 all fault → RefusesContent content fault
+refuses_primary content runs all fault is a h =
+    refuses_content content One runs 0 all fault lower is refl (omega (arith, a, length-run_lines content)) h
+  where
+    lower : (other : Level) → level_number other < 1 → AreProperRuns other (runs_at other content)
+    lower One l = absurd (omega arith)
+    lower Two l = absurd (omega arith)
+    lower Three l = absurd (omega arith)
+
 -- the runs of level 2 make no map, and those of level 1 do
 pub refuses_secondary : (content : CertificateContent) (runs : List Run) (below all : ℕ) (fault : CertificateFault) → AreProperRuns One content.primary
     → runs ≡ content.secondary → below ≡ length content.primary
