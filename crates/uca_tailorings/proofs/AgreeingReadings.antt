@@ -1,13 +1,7 @@
 -- Lookups that find the same rows read texts alike.
-use Rattle.std.proofs.Common.{◌≡◌, ℕ, List, sym, ap, ap₂, subst₂, ◌∙◌}
-use Rattle.uca_weights.specs.declared.Depth.{Depth}
-use Rattle.uca_weights.specs.declared.Weighting.{Weighting}
-use Rattle.uca_text.specs.Texts.{Spelled}
-use Rattle.uca_text.specs.Limits.{IsNormal}
-use Rattle.uca_rules.specs.Relations.{IsUntouched}
+use Rattle.std.proofs.Common.{◌≡◌, sym, ap, subst₂, ◌∙◌}
 use Rattle.uca_match.specs.Collations.{Collation}
-use Rattle.uca_key.specs.Levels.{dictionary}
-use Rattle.uca_key.specs.Depths.{ReadText, read_text, key_at}
+use Rattle.uca_key.specs.Depths.{read_text}
 use Rattle.uca_key.proofs.DepthOrder.{depth_order}
 use Rattle.uca_tailorings.specs.Tailorings.{Tailoring, base_reading, tailored_reading}
 use Rattle.uca_tailorings.specs.Meaning.{IsFaithful}

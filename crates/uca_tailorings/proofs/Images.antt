@@ -1,12 +1,8 @@
 -- Images of elements, and the weights and orders that they keep.
-use Rattle.std.proofs.Common.{◌≡◌, ℕ, zero, suc, ◌<◌, List, [], ◌∷◌, ◌++◌, Bool, true, false, cond, not, nat_eq, ◌&&◌, map, filter, Option, Some, refl, sym}
-use Rattle.std.proofs.Common.{ap, ap₂}
-use Rattle.std.proofs.Common.{subst, subst₂, ◌∙◌, arith}
-use Rattle.std.proofs.lemmas.Bool.{cond_both}
-use Rattle.std.specs.Prelude.{⊤}
+use Rattle.std.proofs.Common.{◌≡◌, List, [], ◌∷◌, ◌++◌, refl}
+use Rattle.std.proofs.Common.{ap₂}
 use Rattle.uca_weights.specs.declared.Element.{Element}
-use Rattle.uca_weights.specs.Maps.{WeightImages, Sends, KeepsWeights}
-use Rattle.uca_tailorings.specs.Images.{Maps, AreRisingMaps, IsImage, AreImages, KeepAllWeights}
+use Rattle.uca_tailorings.specs.Images.{Maps, IsImage, AreImages, KeepAllWeights}
 
 -- lists of images stay so where they are put one after the other
 pub images-append : (maps : Maps) (es fs gs hs : List Element) → AreImages maps es fs → AreImages maps gs hs → AreImages maps (es ++ gs) (fs ++ hs)

@@ -1,8 +1,7 @@
 -- Texts in which no target occurs in order compare as before, and keep their keys where no weight is changed.
-use Rattle.std.proofs.Common.{◌≡◌, ℕ, zero, suc, ◌<◌, List, [], ◌∷◌, ◌++◌, inl, inr, ⊎_elim, refl, sym, ap, ap₂, subst, arith}
+use Rattle.std.proofs.Common.{◌≡◌, ℕ, zero, suc, ◌<◌, List, [], ◌∷◌, ◌++◌, inl, ⊎_elim, refl, sym, ap, ap₂, subst, arith}
 use Rattle.std.proofs.lemmas.Bool.Decides.{nat_tests}
 use Rattle.std.specs.Char.{IsScalar}
-use Rattle.std.specs.List.{AllByRecursion}
 use Rattle.uca_weights.specs.declared.Depth.{Depth}
 use Rattle.uca_weights.specs.declared.Depth.TheVariants.{Weights, Identical}
 use Rattle.uca_weights.specs.declared.Element.{Element}
@@ -21,7 +20,7 @@ use Rattle.uca_match.specs.Rows.{rows_of}
 use Rattle.uca_match.specs.Collations.{elements_of}
 use Rattle.uca_match.proofs.RelatedReading.{read_related}
 use Rattle.uca_key.specs.Levels.{Weights as ElementWeights, level_list, level_lists_from, weighted, decided, dictionary, compare_from}
-use Rattle.uca_key.specs.Depths.{read_text, compared_at, key_at}
+use Rattle.uca_key.specs.Depths.{compared_at, key_at}
 use Rattle.uca_tailorings.specs.Images.{Maps, AreRisingMaps, AreImages, KeepAllWeights}
 use Rattle.uca_tailorings.specs.Tailorings.{Tailoring, IsTailoring, IsAccepted, base_reading, tailored_reading}
 use Rattle.uca_tailorings.specs.Meaning.{CompareAsBefore, KeepsKey}

@@ -1,6 +1,6 @@
 -- The weights of images at each level are the images of the weights, under either weighting.
-use Rattle.std.proofs.Common.{◌≡◌, ◌≢◌, ℕ, zero, suc, ◌<◌, List, [], ◌∷◌, Bool, true, false, cond, not, nat_eq, ◌&&◌, map, filter, refl, sym, ap, ap₂}
-use Rattle.std.proofs.Common.{subst, ◌∙◌, arith}
+use Rattle.std.proofs.Common.{◌≡◌, ℕ, zero, suc, List, [], ◌∷◌, Bool, true, false, cond, not, nat_eq, ◌&&◌, map, filter, refl, sym, ap₂}
+use Rattle.std.proofs.Common.{subst, arith}
 use Rattle.std.specs.Prelude.{⊤}
 use Rattle.uca_weights.specs.declared.Element.{Element}
 use Rattle.uca_weights.specs.declared.Level.{Level}
@@ -8,7 +8,7 @@ use Rattle.uca_weights.specs.declared.Level.TheVariants.{One, Two, Three}
 use Rattle.uca_weights.specs.declared.Weighting.{Weighting}
 use Rattle.uca_weights.specs.declared.Weighting.TheVariants.{NonIgnorable, Shifted}
 use Rattle.uca_weights.specs.Maps.{WeightImages, Sends, IsRisingMap}
-use Rattle.uca_key.specs.Levels.{Weights, is_ignorable, is_completely_ignorable, follows_variable, shifted_weights, weights_of, weighted_following, weighted}
+use Rattle.uca_key.specs.Levels.{Weights, is_ignorable, is_completely_ignorable, follows_variable, weights_of, weighted_following, weighted}
 use Rattle.uca_key.specs.Levels.{weight_at, level_list, dictionary}
 use Rattle.uca_tailorings.specs.Images.{Maps, AreRisingMaps, IsImage, AreImages}
 use Rattle.uca_tailorings.proofs.RisingMaps.{AreSent, sent_zero, sent_order, sent_filter}
@@ -124,7 +124,7 @@ module _ (maps : Maps) (rising : AreRisingMaps maps) where
   following_sent weighting before before_images (e ∷ es) [] earlier images = absurd images
   following_sent weighting before before_images (e ∷ es) (f ∷ fs) earlier images = (
     subst (λ after. AreSentWeights maps (weights_of weighting (follows_variable before) e) (weights_of weighting after f))
-    (sym (follows_same before before_images earlier)) (weights_sent e f images.0 weighting (follows_variable before)),
+        (sym (follows_same before before_images earlier)) (weights_sent e f images.0 weighting (follows_variable before)),
     following_sent weighting (e ∷ before) (f ∷ before_images) es fs (images.0, earlier) images.1,
   )
 

@@ -1,5 +1,5 @@
 -- The worked tailoring is one, is accepted, and is refused where the row of `x` is another.
-use Rattle.std.proofs.Common.{◌≡◌, ◌≢◌, ◌⊎◌, ℕ, ◌+◌, ◌<◌, ◌≤◌, List, [], ◌∷◌, ◌++◌, length, Bool, true, false, Option, Some, None, Contains, inl, inr, ⊎_elim}
+use Rattle.std.proofs.Common.{◌≡◌, ◌≢◌, ◌⊎◌, ℕ, ◌<◌, List, [], ◌∷◌, ◌++◌, true, false, Some, Contains, inl, inr, ⊎_elim}
 use Rattle.std.proofs.Common.{refl, sym, ap, subst, subst₂, ◌∙◌, arith}
 use Rattle.std.specs.List.{AllByRecursion}
 use Rattle.std.specs.Char.{IsScalar}
@@ -7,20 +7,16 @@ use Rattle.uca_weights.specs.declared.Element.{Element}
 use Rattle.uca_weights.specs.declared.Level.{Level}
 use Rattle.uca_weights.specs.declared.Level.TheVariants.{One, Two, Three}
 use Rattle.uca_weights.specs.Levels.{weight}
-use Rattle.uca_weights.specs.Maps.{WeightImages, IsRisingMap, KeepsFixed}
-use Rattle.uca_values.specs.Content.{Entry, IsHeader, IsEntry, Fits, AreRows, keys_of, AreDistinct}
-use Rattle.uca_check.specs.WellFormed.{IsWellFormed}
-use Rattle.uca_text.specs.Texts.{Spelled}
+use Rattle.uca_weights.specs.Maps.{IsRisingMap, KeepsFixed}
+use Rattle.uca_values.specs.Content.{Entry, IsHeader, IsEntry, AreRows}
 use Rattle.uca_text.specs.Occurring.{OccursInOrder}
 use Rattle.uca_rules.specs.declared.relations.Relation.{Relation}
 use Rattle.uca_rules.specs.Relations.{IsTarget, IsUsedBy, IsUntouched, IsRuleText, AreRules}
-use Rattle.uca_rules.specs.Relations.{AreDistinct as AreDistinctTargets, HaveNoLateTarget}
-use Rattle.uca_match.specs.Rows.{rows_of}
 use Rattle.uca_match.specs.WorkedTable.{plain, row, small_header, small_properties}
 use Rattle.uca_tailorings.specs.Images.{AreRisingMaps, AreImages}
 use Rattle.uca_tailorings.specs.Placing.{IsLow, IsAnchor, reweighted}
-use Rattle.uca_tailorings.specs.Tailorings.{Tailoring, IsTailoring, IsUnchangedRow, IsPlacedAt, IsNewWeight, IsPairWeight, IsImageOfBase, IsKnownWeight}
-use Rattle.uca_tailorings.specs.Tailorings.{IsBetween, IsFreshWeight, IsNearestWeight, Meets, IsAccepted}
+use Rattle.uca_tailorings.specs.Tailorings.{IsTailoring, IsPlacedAt, IsNewWeight, IsImageOfBase, IsKnownWeight}
+use Rattle.uca_tailorings.specs.Tailorings.{Meets, IsAccepted}
 use Rattle.uca_tailorings.specs.declared.conditions.Condition.TheVariants.{BaseIllFormed, TailoredIllFormed, Header, Uncovered, RowChanged, RowMissing}
 use Rattle.uca_tailorings.specs.declared.conditions.Condition.TheVariants.{RowExtra, Anchor, NotPlaced, NotFresh, NotNearest}
 use Rattle.uca_tailorings.specs.Worked.{letter, a_and_b, x_behind_a, with_rows, with_x, WorkedTailorings}

@@ -1,10 +1,10 @@
 -- Tables of letters without marks are well-formed.
-use Rattle.std.proofs.Common.{◌≡◌, ◌≢◌, ◌⊎◌, ℕ, ◌+◌, ◌<◌, ◌≤◌, List, [], ◌∷◌, ◌++◌, length, true, false, refl, sym, ap, subst, arith, ⊎_elim, length-append}
+use Rattle.std.proofs.Common.{◌≡◌, ◌≢◌, ℕ, ◌≤◌, List, [], ◌∷◌, length, true, false, sym, ap, subst, arith, ⊎_elim, length-append}
 use Rattle.std.proofs.Common.{◌∙◌}
 use Rattle.std.specs.List.{AllByRecursion}
 use Rattle.uca_weights.specs.declared.Element.{Element}
-use Rattle.uca_values.specs.Content.{Entry, keys_of}
-use Rattle.uca_check.specs.WellFormed.{elements_of, HasGap, IsVariable, IsVariableBetween, MeetsWF1, MeetsWF2, MeetsWF3, MeetsWF4, MeetsWF5, IsWellFormed}
+use Rattle.uca_values.specs.Content.{Entry}
+use Rattle.uca_check.specs.WellFormed.{elements_of, HasGap, IsVariable, MeetsWF1, MeetsWF2, MeetsWF3, MeetsWF4, MeetsWF5, IsWellFormed}
 use Rattle.uca_check.proofs.Elements.{each_weaker, each_any}
 use Rattle.uca_match.specs.WorkedTable.{plain, row}
 use Rattle.uca_tailorings.proofs.Members.{only_one}

@@ -10,7 +10,7 @@
 use Rattle.std.specs.Prelude.{ℕ, List, [], ◌∷◌, ◌++◌, false, Some, None}
 use Rattle.uca_weights.specs.declared.Element.{Element}
 use Rattle.uca_weights.specs.declared.Strength.TheVariants.{Primary}
-use Rattle.uca_values.specs.Content.{Entry, TableContent}
+use Rattle.uca_values.specs.Content.{Entry}
 use Rattle.uca_text.specs.Texts.{Spelled}
 use Rattle.uca_rules.specs.declared.relations.Relation.{Relation}
 use Rattle.uca_match.specs.WorkedTable.{plain, row, small_header, small_properties}
