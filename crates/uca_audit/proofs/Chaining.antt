@@ -24,6 +24,7 @@ condition_of n =
     if n == 10 then NotFresh else
     NotNearest
 
+-- it is the one that has the number
 condition_of_number : (condition : Condition) → condition_of (number_of condition) ≡ condition
 condition_of_number BaseIllFormed = refl
 condition_of_number TailoredIllFormed = refl
@@ -41,7 +42,7 @@ condition_of_number NotNearest = refl
 one_of_number : (one other : Condition) → number_of one ≡ number_of other → one ≡ other
 one_of_number one other same = sym (condition_of_number one) ∙ (ap condition_of same ∙ condition_of_number other)
 
--- numbers are 1 to 11
+-- numbers are above 0
 number_from_1 : (condition : Condition) → 0 < number_of condition
 number_from_1 BaseIllFormed = omega arith
 number_from_1 TailoredIllFormed = omega arith
@@ -55,6 +56,7 @@ number_from_1 NotPlaced = omega arith
 number_from_1 NotFresh = omega arith
 number_from_1 NotNearest = omega arith
 
+-- and below 12
 number_below_12 : (condition : Condition) → number_of condition < 12
 number_below_12 BaseIllFormed = omega arith
 number_below_12 TailoredIllFormed = omega arith
@@ -73,22 +75,26 @@ pub meets_none : (tailoring : Tailoring) → MeetsBelow tailoring 1
 meets_none tailoring other below = absurd (omega (arith, below, number_from_1 other))
 
 -- one more condition is met
-pub meets_more : (tailoring : Tailoring) (condition : Condition) → MeetsBelow tailoring (number_of condition) → Meets tailoring condition → MeetsBelow tailoring (number_of condition + 1)
+pub meets_more : (tailoring : Tailoring) (condition : Condition) → MeetsBelow tailoring (number_of condition) → Meets tailoring condition →
+    MeetsBelow tailoring (number_of condition + 1)
 meets_more tailoring condition so_far met other below =
-    ⊎_elim (λ lower. so_far other lower) (λ not. subst (Meets tailoring) (one_of_number condition other (omega arith)) met) (cases_lt (number_of other) (number_of condition))
+    ⊎_elim (λ lower. so_far other lower) (λ not. subst (Meets tailoring) (one_of_number condition other (omega arith)) met)
+    (cases_lt (number_of other) (number_of condition))
 
 -- all conditions are met
 pub meets_all : (tailoring : Tailoring) → MeetsBelow tailoring 12 → IsAccepted tailoring
 meets_all tailoring met condition = met condition (number_below_12 condition)
 
 -- a condition fails behind those that are met, or no memory was left
-pub refused_at : (tailoring : Tailoring) (condition : Condition) (fault : AuditFault) → MeetsBelow tailoring (number_of condition) → Fails tailoring condition fault ⊎ IsMemory fault
+pub refused_at : (tailoring : Tailoring) (condition : Condition) (fault : AuditFault) → MeetsBelow tailoring (number_of condition) →
+    Fails tailoring condition fault ⊎ IsMemory fault
     → IsFirstRefusal tailoring fault ⊎ IsMemory fault
 refused_at tailoring condition fault so_far (inl fails) = inl (record { condition = condition; number = fails.number; lower = so_far; fails = fails.place })
 refused_at tailoring condition fault so_far (inr memory) = inr memory
 
 -- the same, where the fault is handed on
-pub passes_refused : {A : Type 0} (tailoring : Tailoring) (n : ℕ) (condition : Condition) (result : Result A AuditFault) (given : AuditFault) → IsErrAnd result (λ fault. fault ≡ given)
+pub passes_refused : {A : Type 0} (tailoring : Tailoring) (n : ℕ) (condition : Condition) (result : Result A AuditFault) (given : AuditFault)
+    → IsErrAnd result (λ fault. fault ≡ given)
     → MeetsBelow tailoring (number_of condition) → Fails tailoring condition given ⊎ IsMemory given → Passes tailoring n result
 passes_refused tailoring n condition (Ok x) given handed so_far fails = absurd handed
 passes_refused tailoring n condition (Err fault) given handed so_far fails =

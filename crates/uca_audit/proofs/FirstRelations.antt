@@ -7,7 +7,8 @@ use Rattle.uca_audit.specs.Refusals.{IsFirstAloneWithout}
 use Rattle.uca_audit.specs.Views.{FindsFirstRelation}
 
 -- with one more relation at the front that has the property
-later : (P : Relation → Type 0) (r : Relation) (relations : List Relation) (number : ℕ) → P r → IsFirstAloneWithout P relations number → IsFirstAloneWithout P (r ∷ relations) (suc number)
+later : (P : Relation → Type 0) (r : Relation) (relations : List Relation) (number : ℕ) → P r →
+    IsFirstAloneWithout P relations number → IsFirstAloneWithout P (r ∷ relations) (suc number)
 later P r relations number has first = record {
   before = r ∷ first.before;
   r = first.r;
@@ -22,8 +23,9 @@ later P r relations number has first = record {
     each [] s back e = let same : r ≡ s = cc in subst P same has
     each (f ∷ front) s back e = let rest : first.before ≡ front ++ s ∷ back = cc in first.earlier front s back rest
 
--- what a pass over the relations finds
-first_at : (P : Relation → Type 0) (relations : List Relation) (i : ℕ) → i < length relations → HoldsAt (λ r. P r → ⊥) relations i → AllWithin P relations 0 i → IsFirstAloneWithout P relations (suc i)
+-- the first at an index
+first_at : (P : Relation → Type 0) (relations : List Relation) (i : ℕ) → i < length relations →
+    HoldsAt (λ r. P r → ⊥) relations i → AllWithin P relations 0 i → IsFirstAloneWithout P relations (suc i)
 first_at P [] i within fails earlier = absurd (omega arith)
 first_at P (r ∷ relations) zero within fails earlier = record {
   before = [];
@@ -42,7 +44,9 @@ first_at P (r ∷ relations) (suc i) within fails earlier =
     later P r relations (suc i) (earlier zero r (omega arith) (omega arith))
     (first_at P relations i (omega arith) fails (λ k d low high. earlier (suc k) d (omega arith) (omega arith)))
 
-pub first_relation_found : (P : Relation → Type 0) (relations : List Relation) (found : Option ℕ) → MatchOption found (AllWithin P relations 0 (length relations)) (λ i. (i < length relations) × HoldsAt (λ r. P r → ⊥) relations i × AllWithin P relations 0 i)
+-- what a pass over the relations finds
+pub first_relation_found : (P : Relation → Type 0) (relations : List Relation) (found : Option ℕ)
+    → MatchOption found (AllWithin P relations 0 (length relations)) (λ i. (i < length relations) × HoldsAt (λ r. P r → ⊥) relations i × AllWithin P relations 0 i)
     → FindsFirstRelation (AllByRecursion P relations) (λ before r after. P r) relations found
 first_relation_found P relations None h = recursion_from_All P relations (All-from_all_within P relations h)
 first_relation_found P relations (Some i) h = first_at P relations i h.0 h.1 h.2

@@ -14,7 +14,8 @@ images_length maps (e ∷ es) [] h = absurd h
 images_length maps (e ∷ es) (f ∷ fs) h = let rest = images_length maps es fs h.1 in omega (arith, rest)
 
 -- pairs that are images make lists that are
-pairs_are : (maps : Maps) (es fs : List Element) → length es ≡ length fs → AllWithin (λ (p : Element × Element). IsImage maps p.0 p.1) (zip es fs) 0 (length (zip es fs)) → AreImages maps es fs
+pairs_are : (maps : Maps) (es fs : List Element) → length es ≡ length fs →
+    AllWithin (λ (p : Element × Element). IsImage maps p.0 p.1) (zip es fs) 0 (length (zip es fs)) → AreImages maps es fs
 pairs_are maps [] [] same all = tt
 pairs_are maps [] (f ∷ fs) same all = absurd (omega arith)
 pairs_are maps (e ∷ es) [] same all = absurd (omega arith)
@@ -22,14 +23,17 @@ pairs_are maps (e ∷ es) (f ∷ fs) same all =
     (all zero (e, f) (omega arith) (omega arith), pairs_are maps es fs (omega arith) (λ k d low high. all (suc k) d (omega arith) (omega arith)))
 
 -- and one pair that is not makes lists that are not
-pair_fails : (maps : Maps) (es fs : List Element) (k : ℕ) → k < length (zip es fs) → HoldsAt (λ (p : Element × Element). IsImage maps p.0 p.1 → ⊥) (zip es fs) k → AreImages maps es fs → ⊥
+pair_fails : (maps : Maps) (es fs : List Element) (k : ℕ) → k < length (zip es fs) →
+    HoldsAt (λ (p : Element × Element). IsImage maps p.0 p.1 → ⊥) (zip es fs) k → AreImages maps es fs → ⊥
 pair_fails maps [] fs k within fails h = absurd (omega arith)
 pair_fails maps (e ∷ es) [] k within fails h = h
 pair_fails maps (e ∷ es) (f ∷ fs) zero within fails h = fails (e, f) h.0
 pair_fails maps (e ∷ es) (f ∷ fs) (suc k) within fails h = pair_fails maps es fs k (omega arith) fails h.1
 
+-- a test of all pairs is one of the lists
 pub images_tested : (maps : Maps) (es fs : List Element) (test : Bool) → length es ≡ length fs
-    → MatchBool test (AllWithin (λ (p : Element × Element). IsImage maps p.0 p.1) (zip es fs) 0 (length (zip es fs))) ((k : ℕ) × (k < length (zip es fs)) × HoldsAt (λ (p : Element × Element). IsImage maps p.0 p.1 → ⊥) (zip es fs) k)
+    → MatchBool test (AllWithin (λ (p : Element × Element). IsImage maps p.0 p.1) (zip es fs) 0 (length (zip es fs)))
+    ((k : ℕ) × (k < length (zip es fs)) × HoldsAt (λ (p : Element × Element). IsImage maps p.0 p.1 → ⊥) (zip es fs) k)
     → IsTrue test ↔ AreImages maps es fs
 images_tested maps es fs true same all = (λ h. pairs_are maps es fs same all, λ h. refl)
 images_tested maps es fs false same fault = (λ h. absurd (false≢true h), λ h. absurd (pair_fails maps es fs fault.0 fault.1 fault.2 h))

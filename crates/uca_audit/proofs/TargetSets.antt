@@ -38,7 +38,8 @@ found_iff {V} points key (k ∷ keys) =
     )
 
 -- one more key is inserted, or it is there
-pub inserted_iff : {V : Type 0} (points : V → List ℕ) (order : V → V → Ordering) → ((a b : V) → order a b ≡ Equal → points a ≡ points b) → (keys : List V) (k : V) (key : List ℕ)
+pub inserted_iff : {V : Type 0} (points : V → List ℕ) (order : V → V → Ordering) → ((a b : V) → order a b ≡ Equal → points a ≡ points b)
+    → (keys : List V) (k : V) (key : List ℕ)
     → Contains (map points (insert_key order keys k)) key ↔ ((points k ≡ key) ⊎ Contains (map points keys) key)
 inserted_iff points order same [] k key = contained_first (points k) [] key
 inserted_iff points order same (x ∷ keys) k key = cases (order k x) refl (inserted_iff points order same keys k key)
@@ -68,7 +69,8 @@ target_more (s ∷ relations) r key =
 
 -- the keys of a set are the targets, with one more relation
 pub targets_more : {V : Type 0} (points : V → List ℕ) (order : V → V → Ordering) → ((a b : V) → order a b ≡ Equal → points a ≡ points b)
-    → (keys now : List V) (k : V) (relations : List Relation) (i : ℕ) (r : Relation) → i < length relations → r ≡ get_or relations i r → points k ≡ r.target.points
+    → (keys now : List V) (k : V) (relations : List Relation) (i : ℕ) (r : Relation) → i < length relations → r ≡ get_or relations i r
+    → points k ≡ r.target.points
     → now ≡ insert_key order keys k → AreTargetsOf (take i relations) (map points keys) → AreTargetsOf (take (i + 1) relations) (map points now)
 targets_more points order same keys now k relations i r within there is added so_far key =
     let inserted = inserted_iff points order same keys k key in

@@ -125,7 +125,7 @@ fn meaning(inputs: &Inputs)
     accepted_tailorings_are_faithful();
 }
 
-// What the values that are handed in keep: none of it has to be looked at again.
+// What the values that are handed in keep, so that none of it has to be audited.
 fn know(inputs: &Inputs)
     ensures { IsTailoring (tailoring_in inputs.now) }
 {
@@ -135,6 +135,7 @@ fn know(inputs: &Inputs)
     let _ = inputs.rules.relations();
 }
 
+// What a table keeps.
 fn know_table(table: &Table)
     ensures { IsTable table.now }
 {
@@ -142,12 +143,14 @@ fn know_table(table: &Table)
     let _ = &table.rows;
 }
 
+// What a header keeps.
 fn know_header(header: &Header)
     ensures { IsHeader header.now }
 {
     let _ = &header.ranges;
 }
 
+// What the maps of a certificate keep.
 fn know_certificate(certificate: &Certificate)
     ensures { AreRisingMaps (maps_of certificate.now) }
 {

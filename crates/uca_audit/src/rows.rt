@@ -27,12 +27,14 @@ pub(crate) fn are_same_headers(one: &Header, other: &Header) -> bool
         && are_same_ranges(&one.ranges, &other.ranges)
 }
 
+/// Whether two variable settings are the same.
 fn are_same_settings(one: Option<Weighting>, other: Option<Weighting>) -> bool
     ensures { IsTrue result ↔ (one ≡ other) }
 {
     one == other
 }
 
+/// Whether two lists have the same ranges in the same order.
 fn are_same_ranges(one: &[ImplicitRange], other: &[ImplicitRange]) -> bool
     ensures { IsTrue result ↔ (one.now ≡ other.now) }
 {
@@ -49,6 +51,7 @@ pub(crate) fn first_uncovered(inputs: &Inputs) -> Option<usize>
         .position(|row| !is_covered_row(inputs.certificate, row))
 }
 
+/// Whether each weight of the row has an image.
 fn is_covered_row(certificate: &Certificate, row: &Row) -> bool
     ensures { IsTrue result ↔ AllByRecursion (IsCovered (maps_of certificate.now)) row.now.elements }
 {
@@ -57,6 +60,7 @@ fn is_covered_row(certificate: &Certificate, row: &Row) -> bool
         .all(|element| is_covered(certificate, *element))
 }
 
+/// Whether each weight of the element has an image at its level.
 fn is_covered(certificate: &Certificate, element: Element) -> bool
     ensures { IsTrue result ↔ IsCovered (maps_of certificate.now) element }
 {
@@ -77,6 +81,7 @@ pub(crate) fn first_changed(inputs: &Inputs, tailored: &Trie, targets: &Targets)
         .position(|row| !is_unchanged(inputs, tailored, targets, row))
 }
 
+/// Whether the row's key is a target, or has no tailored row, or its tailored row is the image of the row.
 fn is_unchanged(inputs: &Inputs, tailored: &Trie, targets: &Targets, row: &Row) -> bool
     requires rows { FindsRowsOf (tailoring_in inputs.now).tailored (⟦<Trie as Lookup>⟧.content tailored.now) }
     requires targets { AreTargetsOf (tailoring_in inputs.now).relations targets.now }
@@ -137,6 +142,7 @@ pub(crate) fn first_missing_target(inputs: &Inputs, tailored: &Trie) -> Option<u
     ))
 }
 
+/// Whether some tailored row has these code points as its key.
 fn has_tailored_row(inputs: &Inputs, tailored: &Trie, key: &[char]) -> bool
     requires { FindsRowsOf (tailoring_in inputs.now).tailored (⟦<Trie as Lookup>⟧.content tailored.now) }
     ensures { IsTrue result ↔ IsKey (rows_of (tailoring_in inputs.now).tailored.rows) key.now }
@@ -162,12 +168,13 @@ pub(crate) fn first_extra(
     Ok(extra)
 }
 
+/// Whether the row's key is a base key or a target.
 fn is_expected(inputs: &Inputs, base: &Trie, targets: &Targets, row: &Row) -> bool
     requires rows { FindsRowsOf (tailoring_in inputs.now).base (⟦<Trie as Lookup>⟧.content base.now) }
     requires targets { AreTargetsOf (tailoring_in inputs.now).relations targets.now }
     ensures { IsTrue result ↔ IsExpectedRow (tailoring_in inputs.now) row.now }
 {
-    targets.contains(&row.key) || is_key(base, &row.key)
+    is_key(base, &row.key) || targets.contains(&row.key)
 }
 
 /// Whether the lookup has a row for the code points.

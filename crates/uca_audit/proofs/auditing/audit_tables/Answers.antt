@@ -11,14 +11,20 @@ returns-in_err-base_is_well_formed c =
 pub returns-in_err-tailored_is_well_formed : goal.returns-in_err-tailored_is_well_formed
 returns-in_err-tailored_is_well_formed c =
     let t = tailoring_in c.args.inputs.now in
-    passes_refused t 5 TailoredIllFormed _ _ c.from_residual-in_err-tailored_is_well_formed.ensures.1 (meets_more t BaseIllFormed (meets_none t) c.in_ok-base_is_well_formed.ensures) c.in_err-tailored_is_well_formed.ensures
+    let below_2 = meets_more t BaseIllFormed (meets_none t) c.in_ok-base_is_well_formed.ensures in
+    passes_refused t 5 TailoredIllFormed _ _ c.from_residual-in_err-tailored_is_well_formed.ensures.1 below_2 c.in_err-tailored_is_well_formed.ensures
 
 pub returns-in_err-headers_are_same : goal.returns-in_err-headers_are_same
 returns-in_err-headers_are_same c =
     let t = tailoring_in c.args.inputs.now in
-    passes_refused t 5 Header _ _ c.from_residual-in_err-headers_are_same.ensures.1 (meets_more t TailoredIllFormed (meets_more t BaseIllFormed (meets_none t) c.in_ok-base_is_well_formed.ensures) c.in_ok-tailored_is_well_formed.ensures) c.in_err-headers_are_same.ensures
+    let below_2 = meets_more t BaseIllFormed (meets_none t) c.in_ok-base_is_well_formed.ensures in
+    let below_3 = meets_more t TailoredIllFormed below_2 c.in_ok-tailored_is_well_formed.ensures in
+    passes_refused t 5 Header _ _ c.from_residual-in_err-headers_are_same.ensures.1 below_3 c.in_err-headers_are_same.ensures
 
 pub returns-in_err-weights_are_covered : goal.returns-in_err-weights_are_covered
 returns-in_err-weights_are_covered c =
     let t = tailoring_in c.args.inputs.now in
-    passes_refused t 5 Uncovered _ _ c.from_residual-in_err-weights_are_covered.ensures.1 (meets_more t Header (meets_more t TailoredIllFormed (meets_more t BaseIllFormed (meets_none t) c.in_ok-base_is_well_formed.ensures) c.in_ok-tailored_is_well_formed.ensures) c.in_ok-headers_are_same.ensures) c.in_err-weights_are_covered.ensures
+    let below_2 = meets_more t BaseIllFormed (meets_none t) c.in_ok-base_is_well_formed.ensures in
+    let below_3 = meets_more t TailoredIllFormed below_2 c.in_ok-tailored_is_well_formed.ensures in
+    let below_4 = meets_more t Header below_3 c.in_ok-headers_are_same.ensures in
+    passes_refused t 5 Uncovered _ _ c.from_residual-in_err-weights_are_covered.ensures.1 below_4 c.in_err-weights_are_covered.ensures

@@ -8,12 +8,17 @@ use Rattle.uca_audit.proofs.ImageLists.{images_length, images_tested}
 use Rattle.uca_audit.proofs.rows.are_images.Goals as goal
 
 pub returns-then-old-new : goal.returns-then-old-new
-returns-then-old-new c = (λ h. absurd (false≢true h), λ h. absurd (c.if-old-new.true (images_length (maps_of c.args.certificate.now) c.args.old.now c.args.new.now h)))
+returns-then-old-new c = (
+  (λ h. absurd (false≢true h)),
+  λ h. absurd (c.if-old-new.true (images_length (maps_of c.args.certificate.now) c.args.old.now c.args.new.now h)),
+)
 
 pub returns : goal.returns
 returns c =
     let maps = maps_of c.args.certificate.now in
     let Image : Element × Element → Type 0 = λ p. IsImage maps p.0 p.1 in
-    let pairs = YieldsList-from_zip {s = c.zip.result} (YieldsList-from_slice c.args.old.now (ap (λ i. i.rest.now) c.zip.ensures.first ∙ c.iter.ensures.rest)) (YieldsList-from_slice c.args.new.now c.zip.ensures.second.0) in
+    let old = YieldsList-from_slice c.args.old.now (ap (λ i. i.rest.now) c.zip.ensures.first ∙ c.iter.ensures.rest) in
+    let new = YieldsList-from_slice c.args.new.now c.zip.ensures.second.0 in
+    let pairs = YieldsList-from_zip {s = c.zip.result} old new in
     images_tested maps c.args.old.now c.args.new.now c.all.result c.if-old-new.false
     (cases_from_all c.all.new.self _ _ Image (λ p. Image p → ⊥) c.all.ensures.ran pairs (λ x q k. search (rules, tests)) (λ x q k. search (rules, tests)))

@@ -10,5 +10,6 @@ pub returns : goal.returns
 returns c =
     let rows = c.args.inputs.now.base.now.rows in
     let P : Entry → Type 0 = IsUnchangedRow (tailoring_in c.args.inputs.now) in
-    let all = c.iter.ensures.rest ∙ (c.deref.ensures.value ∙ ap (λ (t : TableContent). t.rows) c.base.view_is) in
-    first_found P rows _ (IsFirst-from_position _ _ _ (λ row. P row → ⊥) P c.position.ensures.ran (YieldsList-from_slice rows all) (λ x q k. search (rules, tests)) (λ x q k. search (rules, tests)))
+    let all = YieldsList-from_slice rows (c.iter.ensures.rest ∙ (c.deref.ensures.value ∙ ap (λ (t : TableContent). t.rows) c.base.view_is)) in
+    first_found P rows _
+    (IsFirst-from_position _ _ _ (λ row. P row → ⊥) P c.position.ensures.ran all (λ x q k. search (rules, tests)) (λ x q k. search (rules, tests)))

@@ -10,4 +10,6 @@ pub returns : goal.returns
 returns c =
     let relations = c.args.inputs.now.rules.now in
     let P : Relation → Type 0 = IsPresentTarget (tailoring_in c.args.inputs.now) in
-    first_relation_found P relations _ (IsFirst-from_position _ _ _ (λ r. P r → ⊥) P c.position.ensures.ran (YieldsList-from_slice relations (c.iter.ensures.rest ∙ c.relations.ensures.value)) (λ x q k. search (rules, tests)) (λ x q k. search (rules, tests)))
+    let all = YieldsList-from_slice relations (c.iter.ensures.rest ∙ c.relations.ensures.value) in
+    first_relation_found P relations _
+    (IsFirst-from_position _ _ _ (λ r. P r → ⊥) P c.position.ensures.ran all (λ x q k. search (rules, tests)) (λ x q k. search (rules, tests)))
