@@ -22,6 +22,7 @@ pub const CERTIFICATE_FORM: FileForm<CertificateFaultKind> = FileForm {
     too_long: Kind::Line,
     too_many: None,
     no_lf: Kind::Line,
+    lf_first: true,
     failed_read: Kind::Read,
     no_memory: Kind::Memory,
     early_end: None,

@@ -23,6 +23,8 @@ pub struct FileForm<K> {
     pub too_many: Option<K>,
     /// The fault of a last line that no LF ends.
     pub no_lf: K,
+    /// Whether a last line that no LF ends is refused before what it says is judged.
+    pub lf_first: bool,
     /// The fault where the reader failed.
     pub failed_read: K,
     /// The fault where an allocation failed.
@@ -37,6 +39,7 @@ pub const TABLE_FORM: FileForm<FaultKind> = FileForm {
     too_long: FaultKind::Limit,
     too_many: Some(FaultKind::Limit),
     no_lf: FaultKind::Line,
+    lf_first: false,
     failed_read: FaultKind::Read,
     no_memory: FaultKind::Memory,
     early_end: Some(FaultKind::Order),

@@ -20,9 +20,9 @@ use uca_weights::Source;
 /// # Errors
 ///
 /// The line, counted from 1, and of its faults the first in this order, each called as the form of the
-/// taker says: it is line 1,000,001 or has more bytes than the form allows; what `taker` returns; no LF
-/// ends it. A source that fails and an allocation that fails come with the line that was being read.
-/// After a fault the source is not used further.
+/// taker says: it is line 1,000,001 or has more bytes than the form allows; where the form has `lf_first`,
+/// no LF ends it; what `taker` returns; no LF ends it. A source that fails and an allocation that fails
+/// come with the line that was being read. After a fault the source is not used further.
 pub fn read_lines<T: TakesLines, R: Read, A: Allocator>(
     alloc: A,
     source: &mut Source<R>,
@@ -83,6 +83,7 @@ fn take_line<T: TakesLines, R: Read, A: Allocator>(
             taker.take(line)?;
             Ok(true)
         }
+        Ok(NextLine::Unterminated) if T::form().lf_first => Err(T::form().no_lf),
         Ok(NextLine::Unterminated) => {
             taker.take(line)?;
             Err(T::form().no_lf)

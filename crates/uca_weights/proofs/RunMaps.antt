@@ -1,6 +1,7 @@
--- Proper runs make a rising map, and runs with a fault are not proper.
+-- Proper runs make a rising map, runs with a fault are not proper, and runs that stay move no weight.
 use Rattle.std.proofs.Common.{◌≡◌, ◌⊎◌, inl, inr, ℕ, zero, suc, ◌+◌, ◌-◌, ◌<◌, ◌≤◌, Bool, true, false, ◌&&◌, List, [], ◌∷◌, Option, Some, None, nat_le, nat_lt, nat_eq, if◌then◌else◌, refl, ap, ◌∙◌, sym, arith}
 use Rattle.std.specs.Bool.{⊤}
+use Rattle.std.specs.List.{AllByRecursion}
 use Rattle.std.proofs.lemmas.Bool.Decides.{nat_tests}
 use Rattle.uca_weights.specs.declared.Level.{Level}
 use Rattle.uca_weights.specs.declared.Level.TheVariants.{One, Two, Three}
@@ -8,7 +9,7 @@ use Rattle.uca_weights.specs.declared.maps.Run.{Run}
 use Rattle.uca_weights.specs.declared.maps.MapFaultKind.{MapFaultKind}
 use Rattle.uca_weights.specs.declared.maps.MapFaultKind.TheVariants as kinds
 use Rattle.uca_weights.specs.Maps.{Sends}
-use Rattle.uca_weights.specs.Runs.{run_image, weight_image, weights_end, AreRising, IsProperRun, RefusesRun, IsFirstRefused, ProperRunsRise, FaultyRunsAreNotProper}
+use Rattle.uca_weights.specs.Runs.{run_image, weight_image, weights_end, AreRising, IsProperRun, RefusesRun, IsFirstRefused, ProperRunsRise, FaultyRunsAreNotProper, RunsThatStayKeepWeights}
 
 -- ---- The image of a weight
 
@@ -247,3 +248,29 @@ first_refused level previous (r ∷ runs) (suc index) kind h rise = first_refuse
 pub faulty_not_proper : FaultyRunsAreNotProper
 faulty_not_proper level runs fault (inl refused) proper = first_refused level None runs fault.run fault.kind refused proper.rise
 faulty_not_proper level runs fault (inr loses) proper = loses.lost proper.fixed
+
+-- ---- Runs that stay
+
+-- such runs send no weight to another
+stay_sent : (runs : List Run) (w x : ℕ) → AllByRecursion (λ r. r.from ≡ r.to) runs → Sends (run_image runs) w x → w ≡ x
+stay_sent [] w x h e = absurd (cc)
+stay_sent (r ∷ runs) w x h e = elim (image_cases r runs w) [
+  | inl here ↦
+      let same : r.to + (w - r.from) ≡ x = some_is _ _ (sym here.1 ∙ e) in
+      let low : r.from ≤ w = here.0.0 in let stays : r.from ≡ r.to = h.0 in
+      omega arith
+  | inr there ↦ stay_sent runs w x h.1 (sym there ∙ e)
+]
+
+-- nor does 0 move
+stay_with_zero : (runs : List Run) (w x : ℕ) → AllByRecursion (λ r. r.from ≡ r.to) runs → Sends (with_zero runs) w x → w ≡ x
+stay_with_zero runs w x h e = elim (zero_cases w (run_image runs w)) [
+  | inl none ↦ none.0 ∙ some_is _ _ (sym none.1 ∙ e)
+  | inr some ↦ stay_sent runs w x h (sym some.1 ∙ e)
+]
+
+-- runs that stay move no weight
+pub runs_stay : RunsThatStayKeepWeights
+runs_stay One runs h w x e = elim (first_cases runs w x e) [ inl high ↦ high.1 | inr low ↦ stay_with_zero runs w x h low.1 ]
+runs_stay Two runs h w x e = stay_with_zero runs w x h e
+runs_stay Three runs h w x e = stay_with_zero runs w x h e

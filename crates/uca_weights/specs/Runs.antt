@@ -6,7 +6,8 @@ use Rattle.uca_weights.specs.declared.maps.Run.{Run}
 use Rattle.uca_weights.specs.declared.maps.MapFault.{MapFault}
 use Rattle.uca_weights.specs.declared.maps.MapFaultKind.{MapFaultKind}
 use Rattle.uca_weights.specs.declared.maps.MapFaultKind.TheVariants as kinds
-use Rattle.uca_weights.specs.Maps.{WeightImages, Sends, IsRisingMap}
+use Rattle.std.specs.List.{AllByRecursion}
+use Rattle.uca_weights.specs.Maps.{WeightImages, Sends, IsRisingMap, KeepsWeights}
 
 -- ---- The map of some runs
 
@@ -103,3 +104,7 @@ ProperRunsRise = (level : Level) (runs : List Run) → AreProperRuns level runs 
 -- Runs with a fault are not proper.
 abbrev pub FaultyRunsAreNotProper : Type 0
 FaultyRunsAreNotProper = (level : Level) (runs : List Run) (fault : MapFault) → IsMapFault level runs fault → ¬ (AreProperRuns level runs)
+
+-- Where each run has the same weights on both sides, no weight moves.
+abbrev pub RunsThatStayKeepWeights : Type 0
+RunsThatStayKeepWeights = (level : Level) (runs : List Run) → AllByRecursion (λ r. r.from ≡ r.to) runs → KeepsWeights (weight_image level runs)

@@ -10,6 +10,7 @@ pub mod streams;
 
 pub use maps::{
     MapFault, MapFaultKind, Run, WeightMap, faulty_runs_are_not_proper, proper_runs_rise,
+    runs_that_stay_keep_weights,
 };
 pub use streams::{ReadFault, Sink, Source, WriteFault};
 

@@ -5,7 +5,7 @@ ghost use Rattle.std.specs.List.Sorted.{IsNonDecreasingBy, IsPartitionPoint};
 ghost use Rattle.uca_weights.specs.MapFaultText.{map_kind_text};
 ghost use Rattle.uca_weights.specs.Maps.{IsRisingMap};
 ghost use Rattle.uca_weights.specs.Runs as map_runs;
-ghost use Rattle.uca_weights.specs.Runs.{AreProperRuns, AreRising, IsAbove, IsInRange, IsMapFault, IsProperRun, KeepsPairWeight, RefusesRun, run_image, weight_image, ProperRunsRise, FaultyRunsAreNotProper};
+ghost use Rattle.uca_weights.specs.Runs.{AreProperRuns, AreRising, IsAbove, IsInRange, IsMapFault, IsProperRun, KeepsPairWeight, RefusesRun, run_image, weight_image, ProperRunsRise, FaultyRunsAreNotProper, RunsThatStayKeepWeights};
 
 use crate::Level;
 use std::fmt;
@@ -139,6 +139,11 @@ pub fn proper_runs_rise()
 /// The law that runs with a fault make none: so `from_runs` is `Ok` exactly where the runs are proper.
 pub fn faulty_runs_are_not_proper()
     ensures { FaultyRunsAreNotProper }
+{}
+
+/// The law that a map whose runs have the same weights on both sides moves no weight.
+pub fn runs_that_stay_keep_weights()
+    ensures { RunsThatStayKeepWeights }
 {}
 
 // The first cause that a run has behind the run before it.
