@@ -1,1 +1,4 @@
 pub mod WriteLemmas
+pub mod RunMaps
+pub mod RunPlaces
+pub mod RunSteps

@@ -8,7 +8,9 @@ ghost use Rattle.uca_weights.specs.WeightingText.{weighting_text, IsNoWeighting}
 mod maps;
 pub mod streams;
 
-pub use maps::{MapFault, MapFaultKind, Run, WeightMap};
+pub use maps::{
+    MapFault, MapFaultKind, Run, WeightMap, faulty_runs_are_not_proper, proper_runs_rise,
+};
 pub use streams::{ReadFault, Sink, Source, WriteFault};
 
 /// A collation element (UTS #10, section 3.1): a weight for each of three levels, each 16 bits wide,

@@ -1,7 +1,11 @@
 //! Rising maps of the weights of a level, as runs of consecutive weights with consecutive images.
 
-ghost use Rattle.std.specs.Prelude.{◌≡◌, Some};
+ghost use Rattle.std.specs.Prelude.{◌≡◌, ◌↔◌, ◌≤◌, ◌<◌, ◌+◌, IfOk, IfErr, IsTrue, MatchOption, List, Some, None, cond, length};
+ghost use Rattle.std.specs.List.Sorted.{IsNonDecreasingBy, IsPartitionPoint};
 ghost use Rattle.uca_weights.specs.MapFaultText.{map_kind_text};
+ghost use Rattle.uca_weights.specs.Maps.{IsRisingMap};
+ghost use Rattle.uca_weights.specs.Runs as map_runs;
+ghost use Rattle.uca_weights.specs.Runs.{AreProperRuns, AreRising, IsAbove, IsInRange, IsMapFault, IsProperRun, KeepsPairWeight, RefusesRun, run_image, weight_image, ProperRunsRise, FaultyRunsAreNotProper};
 
 use crate::Level;
 use std::fmt;
@@ -80,4 +84,155 @@ impl Model for WeightMap {
     ghost view = { λ m. record { level = m.level; runs = m.runs.items } };
 
     ghost invariant = { λ m. AreProperRuns m.level m.runs.items };
+}
+
+impl WeightMap {
+    /// The map of a level by its runs. It takes no memory.
+    ///
+    /// # Errors
+    ///
+    /// The first run that has a fault, in the order `Empty`, `OutOfRange`, `NotRising`; where no run has one, `Fixed`.
+    pub fn from_runs(level: Level, runs: Vec<Run>) -> Result<WeightMap, MapFault>
+        ensures map { IfOk result (λ map. map ≡ record { level = level; runs = runs.items }) }
+        ensures proper { IfOk result (λ map. AreProperRuns level runs.items) }
+        ensures fault { IfErr result (IsMapFault level runs.items) }
+    {
+        let mut previous = None;
+        for (index, run) in runs.iter().enumerate() {
+            if let Some(kind) = cause(level, previous, *run) {
+                return Err(MapFault { run: index, kind });
+            }
+            previous = Some(*run);
+        }
+        if !keeps_pair_weight(level, &runs) {
+            return Err(MapFault {
+                run: runs.len(),
+                kind: MapFaultKind::Fixed,
+            });
+        }
+        Ok(WeightMap { level, runs })
+    }
+
+    /// The image of a weight, or `None` where it has none: 0 is its own, and so is at level 1 each weight from 8000 up;
+    /// a weight of a run has its image there.
+    pub fn get(&self, weight: u16) -> Option<u16>
+        ensures { result ≡ weight_image self.now.level self.now.runs weight }
+    {
+        image(self.level, &self.runs, weight)
+    }
+
+    /// The runs, in rising order.
+    pub fn runs(&self) -> &[Run]
+        ensures value { result.now ≡ self.now.runs }
+        ensures proper { AreProperRuns self.now.level self.now.runs }
+        ensures rising { IsRisingMap self.now.level (weight_image self.now.level self.now.runs) }
+    {
+        &self.runs
+    }
+}
+
+/// The law that proper runs make a rising map.
+pub fn proper_runs_rise()
+    ensures { ProperRunsRise }
+{}
+
+/// The law that runs with a fault make none: so `from_runs` is `Ok` exactly where the runs are proper.
+pub fn faulty_runs_are_not_proper()
+    ensures { FaultyRunsAreNotProper }
+{}
+
+// The first cause that a run has behind the run before it.
+fn cause(level: Level, previous: Option<Run>, run: Run) -> Option<MapFaultKind>
+    ensures { MatchOption result (IsProperRun level previous run) (RefusesRun level previous run) }
+{
+    if run.count == 0 {
+        return Some(MapFaultKind::Empty);
+    }
+    if !is_in_range(level, run) {
+        return Some(MapFaultKind::OutOfRange);
+    }
+    if !is_above(previous, run) {
+        return Some(MapFaultKind::NotRising);
+    }
+    None
+}
+
+// Whether both sides of a run are weights of the level other than 0.
+fn is_in_range(level: Level, run: Run) -> bool
+    ensures { IsTrue result ↔ IsInRange level run }
+{
+    let end = weights_end(level);
+    let count = u32::from(run.count);
+    run.from > 0
+        && run.to > 0
+        && u32::from(run.from) + count <= end
+        && u32::from(run.to) + count <= end
+}
+
+// The least number above the weights of a level that a run may hold.
+fn weights_end(level: Level) -> u32
+    ensures { result ≡ map_runs.weights_end level }
+{
+    match level {
+        Level::One => 0x8000,
+        Level::Two | Level::Three => 0x1_0000,
+    }
+}
+
+// Whether the run lies above the one before it, if there is one, on both sides.
+fn is_above(previous: Option<Run>, run: Run) -> bool
+    ensures { IsTrue result ↔ IsAbove previous run }
+{
+    let Some(before) = previous else {
+        return true;
+    };
+    let count = u32::from(before.count);
+    u32::from(before.from) + count <= u32::from(run.from)
+        && u32::from(before.to) + count <= u32::from(run.to)
+}
+
+// Whether the weight of implicit weights at levels 2 and 3 stays.
+fn keeps_pair_weight(level: Level, runs: &[Run]) -> bool
+    requires { AreRising level None runs.now }
+    ensures { IsTrue result ↔ KeepsPairWeight level runs.now }
+{
+    match level {
+        Level::One => true,
+        Level::Two => image(level, runs, 0x20) == Some(0x20),
+        Level::Three => image(level, runs, 2) == Some(2),
+    }
+}
+
+// The image of a weight of a level by rising runs.
+fn image(level: Level, runs: &[Run], weight: u16) -> Option<u16>
+    requires { AreRising level None runs.now }
+    ensures { result ≡ weight_image level runs.now weight }
+{
+    if is_kept(level, weight) {
+        return Some(weight);
+    }
+    let at = place(runs, weight);
+    if at == runs.len() || weight < runs[at].from {
+        return None;
+    }
+    Some(runs[at].to + (weight - runs[at].from))
+}
+
+// Whether the weight stays, whatever the runs are.
+fn is_kept(level: Level, weight: u16) -> bool
+    ensures { (runs : List Run) → weight_image level runs weight ≡ cond result (Some weight) (run_image runs weight) }
+{
+    match level {
+        Level::One => weight == 0 || weight >= 0x8000,
+        Level::Two | Level::Three => weight == 0,
+    }
+}
+
+// The place of the first run that ends above the weight.
+fn place(runs: &[Run], weight: u16) -> usize
+    requires { IsNonDecreasingBy (λ r. r.from + r.count) runs.now }
+    ensures bound { result ≤ length runs.now }
+    ensures place { IsPartitionPoint (λ r. r.from + r.count ≤ weight) (λ r. weight < r.from + r.count) runs.now result }
+{
+    runs.partition_point(|run| u32::from(run.from) + u32::from(run.count) <= u32::from(weight))
 }
