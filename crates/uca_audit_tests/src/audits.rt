@@ -1,6 +1,6 @@
 //! Verdicts of audits.
 
-use crate::files::{files, verdict};
+use crate::files::{files_of, verdict};
 use std::alloc::Global;
 use std::test::Fail;
 use uca_fakes::{halves, is_remark, same};
@@ -130,7 +130,7 @@ fn check(alloc: Global, case: &str) -> Result<(), Fail> {
     let (rules, rest) = halves(rest)?;
     let (tailored, rest) = halves(rest)?;
     let (certificate, wanted) = halves(rest)?;
-    let files = files(alloc, [base, rules, tailored, certificate])?;
+    let files = files_of(alloc, [base, rules, tailored, certificate])?;
     same(&verdict(alloc, &files)?, wanted, case)
 }
 

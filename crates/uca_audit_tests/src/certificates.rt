@@ -73,7 +73,10 @@ fn said<R: Read>(alloc: Global, source: &mut Source<R>, bytes: &[u8]) -> Result<
     let calls = Calls::new();
     let mut out = Sink::new(FakeWriter::new(alloc, Pace::steps(5), &calls));
     write_certificate(&read, &mut out)?;
-    holds(out.into_inner().text.as_slice() == bytes, "the text that is written")?;
+    holds(
+        out.into_inner().text.as_slice() == bytes,
+        "the text that is written",
+    )?;
     Ok(format!(in alloc; "accepted")?)
 }
 
@@ -83,7 +86,11 @@ fn check(alloc: Global, case: &str) -> Result<(), Fail> {
     }
     let (bytes, wanted) = halves(case)?;
     let bytes = bytes_of(alloc, bytes)?;
-    same(&said(alloc, &mut Source::new(bytes.as_slice()), &bytes)?, wanted, case)
+    same(
+        &said(alloc, &mut Source::new(bytes.as_slice()), &bytes)?,
+        wanted,
+        case,
+    )
 }
 
 #[test]
@@ -93,17 +100,28 @@ fn certificates(rt: HostRuntime) -> Result<(), Fail> {
         check(alloc, case)?;
     }
     let bytes = CERTIFICATE.as_bytes();
-    same(&said(alloc, &mut Source::new(bytes), bytes)?, "accepted", "the first one")
+    same(
+        &said(alloc, &mut Source::new(bytes), bytes)?,
+        "accepted",
+        "the first one",
+    )
 }
 
 /// 65,535 runs of a level are read, and fail as they do not rise; another is one too many.
 #[test]
 fn at_most_65_535_runs_of_a_level(rt: HostRuntime) -> Result<(), Fail> {
     let alloc = rt.alloc();
-    for (count, wanted) in [(65_535, "line 2: Map NotRising"), (65_536, "line 65536: Limit")] {
+    for (count, wanted) in [
+        (65_535, "line 2: Map NotRising"),
+        (65_536, "line 65536: Limit"),
+    ] {
         let text = repeated(alloc, "2 0020 0020 0001\n", count)?;
         let bytes = text.as_bytes();
-        same(&said(alloc, &mut Source::new(bytes), bytes)?, wanted, "runs of a level")?;
+        same(
+            &said(alloc, &mut Source::new(bytes), bytes)?,
+            wanted,
+            "runs of a level",
+        )?;
     }
     Ok(())
 }
@@ -118,8 +136,15 @@ fn readers_that_fail(rt: HostRuntime) -> Result<(), Fail> {
         let pace = Pace::failing(7, good, Failure::Error(ErrorKind::Interrupted));
         let mut source = Source::new(FakeReader::new(bytes, pace, &calls));
         let wanted = format!(in alloc; "line {}: Read", good / 17 + 1)?;
-        same(&said(alloc, &mut source, bytes)?, &wanted, "a reader that fails")?;
-        holds(source.failed() && calls.late.get() == 0, "nothing is read again")?;
+        same(
+            &said(alloc, &mut source, bytes)?,
+            &wanted,
+            "a reader that fails",
+        )?;
+        holds(
+            source.failed() && calls.late.get() == 0,
+            "nothing is read again",
+        )?;
     }
     Ok(())
 }
@@ -137,9 +162,15 @@ fn writers_that_fail(rt: HostRuntime) -> Result<(), Fail> {
             return Err(Fail::new("a failed write that is not answered"));
         };
         holds(fault.written == good as u64, "how much went out")?;
-        holds(out.failed() && calls.late.get() == 0, "nothing is written again")?;
+        holds(
+            out.failed() && calls.late.get() == 0,
+            "nothing is written again",
+        )?;
         let text = out.into_inner().text;
-        holds(text.as_slice() == &CERTIFICATE.as_bytes()[..good], "what went out")?;
+        holds(
+            text.as_slice() == &CERTIFICATE.as_bytes()[..good],
+            "what went out",
+        )?;
     }
     Ok(())
 }

@@ -74,7 +74,7 @@ fn table(alloc: Global, bytes: &[u8]) -> Result<Table, Fail> {
 }
 
 /// The files that the fields of a case stand for: the base, the rules, the tailored table, the certificate.
-pub fn files(alloc: Global, fields: [&str; 4]) -> Result<Files, Fail> {
+pub fn files_of(alloc: Global, fields: [&str; 4]) -> Result<Files, Fail> {
     let [base, rules, tailored, certificate] = fields;
     let rules = if rules == "." { RULES } else { rules };
     let with_row = format!(in alloc; "{TABLE}{ROW}")?;

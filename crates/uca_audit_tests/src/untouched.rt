@@ -1,6 +1,6 @@
 //! What a yes means for texts: how they compare under the base and under the tailored table, and their keys.
 
-use crate::files::{Files, files, verdict};
+use crate::files::{Files, files_of, verdict};
 use std::alloc::Global;
 use std::cmp::Ordering;
 use std::test::Fail;
@@ -33,7 +33,13 @@ fn comparison(
     right: &Normal,
 ) -> (Ordering, u8) {
     let collator = Collator::new(trie, &table.header, &files.data);
-    let found = compare(&collator, Weighting::NonIgnorable, Depth::Weights, left, right);
+    let found = compare(
+        &collator,
+        Weighting::NonIgnorable,
+        Depth::Weights,
+        left,
+        right,
+    );
     (found.order, found.level)
 }
 
@@ -73,7 +79,13 @@ fn said(alloc: Global, files: &Files, texts: &str) -> Result<String, Fail> {
     let both = stays(alloc, files, [&base, &tailored], &left)?
         && stays(alloc, files, [&base, &tailored], &right)?;
     let keys = if both { "stay" } else { "differ" };
-    Ok(format!(in alloc; "{} {}, {} {}, {keys}", sign(old.0), old.1, sign(new.0), new.1)?)
+    Ok(format!(in alloc;
+        "{} {}, {} {}, {keys}",
+        sign(old.0),
+        old.1,
+        sign(new.0),
+        new.1
+    )?)
 }
 
 fn check(alloc: Global, case: &str) -> Result<(), Fail> {
@@ -85,7 +97,7 @@ fn check(alloc: Global, case: &str) -> Result<(), Fail> {
     let (tailored, rest) = halves(rest)?;
     let (certificate, rest) = halves(rest)?;
     let (texts, wanted) = halves(rest)?;
-    let files = files(alloc, [base, rules, tailored, certificate])?;
+    let files = files_of(alloc, [base, rules, tailored, certificate])?;
     same(&verdict(alloc, &files)?, "accepted", case)?;
     same(&said(alloc, &files, texts)?, wanted, case)
 }
