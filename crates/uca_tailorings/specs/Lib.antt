@@ -3,4 +3,5 @@ pub mod Placing
 pub mod Tailorings
 pub mod Meaning
 pub mod Laws
+pub mod Worked
 pub mod ConditionText

@@ -3,5 +3,9 @@
 #![tactic(auto)]
 
 mod conditions;
+mod laws;
 
 pub use conditions::Condition;
+pub use laws::{
+    accepted_tailorings_are_faithful, faithful_tailorings_keep_untouched_texts, worked_tailorings,
+};

@@ -1,0 +1,174 @@
+-- How the elements of an anchor and an expansion compare with those of a target that has a new weight.
+use Rattle.std.proofs.Common.{◌≡◌, ◌≢◌, ℕ, List, [], ◌∷◌, ◌++◌, map, Bool, true, false, not, cond, nat_eq, filter, Some, refl, ap, ap₂, ◌∙◌}
+use Rattle.std.proofs.Common.{append_assoc}
+use Rattle.std.specs.List.{AllByRecursion}
+use Rattle.std.specs.Ordering.{nat_cmp, ordering_then}
+use Rattle.std.specs.declared.cmp.Ordering.{Ordering}
+use Rattle.std.specs.declared.cmp.Ordering.TheVariants.{Less, Equal, Greater}
+use Rattle.std.proofs.lemmas.Bool.{ne_eqb}
+use Rattle.std.proofs.lemmas.List.{map-append}
+use Rattle.std.proofs.lemmas.List.Elements.{filter-append}
+use Rattle.uca_weights.specs.declared.Element.{Element}
+use Rattle.uca_weights.specs.declared.Level.{Level}
+use Rattle.uca_weights.specs.declared.Level.TheVariants.{One, Two, Three}
+use Rattle.uca_weights.specs.declared.Weighting.TheVariants.{NonIgnorable}
+use Rattle.uca_weights.specs.Levels.{weight, level_number}
+use Rattle.uca_check.proofs.Elements.{each_weaker}
+use Rattle.uca_key.specs.Levels.{Comparison, weighted_following, level_list, level_lists, dictionary, decided, compare_from, compared}
+use Rattle.uca_key.proofs.KeyOrder.{cmp_less, cmp_equal, cmp_greater, then_equal, dictionary_itself}
+use Rattle.uca_tailorings.specs.Placing.{IsSilent, placed, reweighted, IsOnSide}
+use Rattle.uca_tailorings.specs.Meaning.{stands}
+
+-- ---- The weights of a level
+
+-- the weights of elements at a level that are not 0
+abbrev pub sounded : Level → List Element → List ℕ
+sounded level es = filter (λ w. not (nat_eq w 0)) (map (weight level) es)
+
+-- one more weight in front, unless it is 0
+abbrev pub keep : ℕ → List ℕ → List ℕ
+keep w ws = cond (not (nat_eq w 0)) (w ∷ ws) ws
+
+-- a weight 0 is not kept
+keep_zero : (w : ℕ) (ws : List ℕ) → w ≡ 0 → keep w ws ≡ ws
+keep_zero w ws none = ap (λ v. keep v ws) none
+
+-- any other is
+keep_some : (w : ℕ) (ws : List ℕ) → w ≢ 0 → keep w ws ≡ w ∷ ws
+keep_some w ws some = ap (λ b. cond (not b) (w ∷ ws) ws) (ne_eqb w 0 some)
+
+-- a level list of elements that are not shifted
+level_list_is : (level : Level) (earlier es : List Element) → level_list (level_number level) (weighted_following NonIgnorable earlier es) ≡ sounded level es
+level_list_is One earlier [] = refl
+level_list_is Two earlier [] = refl
+level_list_is Three earlier [] = refl
+level_list_is One earlier (e ∷ es) = ap (keep e.primary) (level_list_is One (e ∷ earlier) es)
+level_list_is Two earlier (e ∷ es) = ap (keep e.secondary) (level_list_is Two (e ∷ earlier) es)
+level_list_is Three earlier (e ∷ es) = ap (keep e.tertiary) (level_list_is Three (e ∷ earlier) es)
+
+-- all level lists
+level_lists_are : (es : List Element) → level_lists NonIgnorable es ≡ sounded One es ∷ sounded Two es ∷ sounded Three es ∷ []
+level_lists_are es = λ i. level_list_is One [] es i ∷ level_list_is Two [] es i ∷ level_list_is Three [] es i ∷ []
+
+-- what three levels say
+abbrev by_orders : Ordering → Ordering → Ordering → Comparison
+by_orders first second third = decided first 1 (decided second 2 (decided third 3 (record { order = Equal; level = 0 })))
+
+-- how elements compare at a level
+abbrev order_at : Level → List Element → List Element → Ordering
+order_at level es fs = dictionary (sounded level es) (sounded level fs)
+
+-- elements compare by the three levels
+compared_by_levels : (es fs : List Element) → compared NonIgnorable es fs ≡ by_orders (order_at One es fs) (order_at Two es fs) (order_at Three es fs)
+compared_by_levels es fs = ap₂ (compare_from 1) (level_lists_are es) (level_lists_are fs)
+
+-- elements differ from themselves at no level
+pub compared_itself : (es : List Element) → compared NonIgnorable es es ≡ record { order = Equal; level = 0 }
+compared_itself es =
+    compared_by_levels es es
+    ∙ ap (λ o. by_orders o (order_at Two es es) (order_at Three es es)) (dictionary_itself (sounded One es))
+    ∙ ap (λ o. by_orders Equal o (order_at Three es es)) (dictionary_itself (sounded Two es))
+    ∙ ap (by_orders Equal Equal) (dictionary_itself (sounded Three es))
+
+-- ---- One level
+
+-- elements one after the other
+sounded-append : (level : Level) (es fs : List Element) → sounded level (es ++ fs) ≡ sounded level es ++ sounded level fs
+sounded-append level es fs =
+    ap (filter (λ w. not (nat_eq w 0))) (map-append (weight level) es fs)
+    ∙ filter-append (λ w. not (nat_eq w 0)) (map (weight level) es) (map (weight level) fs)
+
+-- elements without a weight at the level
+unheard : (level : Level) (es fs : List Element) → AllByRecursion (λ e. weight level e ≡ 0) es → sounded level (es ++ fs) ≡ sounded level fs
+unheard level [] fs none = refl
+unheard level (e ∷ es) fs none = keep_zero (weight level e) (sounded level (es ++ fs)) none.0 ∙ unheard level es fs none.1
+
+-- lists that begin alike
+dictionary-append : (xs ys zs : List ℕ) → dictionary (xs ++ ys) (xs ++ zs) ≡ dictionary ys zs
+dictionary-append [] ys zs = refl
+dictionary-append (x ∷ xs) ys zs = ap (λ o. ordering_then o (dictionary (xs ++ ys) (xs ++ zs))) (cmp_equal x x refl) ∙ dictionary-append xs ys zs
+
+module _ (before : List Element) (last new : Element) (trailing expansion : List Element) where
+  -- at a level where the trailing elements have no weight, the two last elements decide
+  last_decides : (level : Level) → AllByRecursion (λ e. weight level e ≡ 0) trailing →
+      order_at level ((before ++ last ∷ trailing) ++ expansion) (before ++ new ∷ expansion)
+      ≡ dictionary (keep (weight level last) (sounded level expansion)) (keep (weight level new) (sounded level expansion))
+  last_decides level none =
+      let left : sounded level ((before ++ last ∷ trailing) ++ expansion)
+      ≡ sounded level before ++ keep (weight level last) (sounded level expansion) =
+      ap (sounded level) (append_assoc before (last ∷ trailing) expansion)
+      ∙ sounded-append level before (last ∷ (trailing ++ expansion))
+      ∙ ap (λ ws. sounded level before ++ keep (weight level last) ws) (unheard level trailing expansion none) in
+      ap₂ dictionary left (sounded-append level before (new ∷ expansion))
+      ∙ dictionary-append (sounded level before) (keep (weight level last) (sounded level expansion)) (keep (weight level new) (sounded level expansion))
+
+  -- where they have the same weight, none does
+  same_level : (level : Level) → AllByRecursion (λ e. weight level e ≡ 0) trailing → weight level new ≡ weight level last →
+      order_at level ((before ++ last ∷ trailing) ++ expansion) (before ++ new ∷ expansion) ≡ Equal
+  same_level level none same =
+      last_decides level none
+      ∙ ap (λ w. dictionary (keep (weight level last) (sounded level expansion)) (keep w (sounded level expansion))) same
+      ∙ dictionary_itself (keep (weight level last) (sounded level expansion))
+
+  -- where neither weight is 0, the level compares as they do
+  new_level : (level : Level) → AllByRecursion (λ e. weight level e ≡ 0) trailing → weight level last ≢ 0 → weight level new ≢ 0 →
+      order_at level ((before ++ last ∷ trailing) ++ expansion) (before ++ new ∷ expansion) ≡ nat_cmp (weight level last) (weight level new)
+  new_level level none old_some new_some =
+      last_decides level none
+      ∙ ap₂ dictionary (keep_some (weight level last) (sounded level expansion) old_some) (keep_some (weight level new) (sounded level expansion) new_some)
+      ∙ ap (ordering_then (nat_cmp (weight level last) (weight level new))) (dictionary_itself (sounded level expansion))
+      ∙ then_equal (nat_cmp (weight level last) (weight level new))
+
+-- ---- All levels
+
+-- how the anchor's weight compares with the new one
+abbrev side_order : Bool → Ordering
+side_order false = Less
+side_order true = Greater
+
+-- a weight on the stated side
+on_side : (is_before : Bool) (old new : ℕ) → IsOnSide is_before old new → nat_cmp old new ≡ side_order is_before
+on_side false old new side = cmp_less old new side
+on_side true old new side = cmp_greater old new side
+
+-- what is said where the level decides
+decides : (is_before : Bool) (level : Level) (later : Comparison) → decided (side_order is_before) (level_number level) later ≡ stands is_before (Some level)
+decides false level later = refl
+decides true level later = refl
+
+-- the anchor's side stands where its relation says
+pub holds_placed : (is_before : Bool) (level : Level) (before : List Element) (last : Element) (trailing expansion : List Element) (w : ℕ) →
+    AllByRecursion (IsSilent level) trailing → weight level last ≢ 0 → w ≢ 0 → IsOnSide is_before (weight level last) w →
+    compared NonIgnorable ((before ++ last ∷ trailing) ++ expansion) (placed level before last expansion w) ≡ stands is_before (Some level)
+holds_placed is_before One before last trailing expansion w silent old_some new_some side =
+    let left : List Element = (before ++ last ∷ trailing) ++ expansion in
+    let new : Element = reweighted One w last in
+    let right : List Element = before ++ new ∷ expansion in
+    compared_by_levels left right
+    ∙ ap (λ o. by_orders o (order_at Two left right) (order_at Three left right))
+    (new_level before last new trailing expansion One silent old_some new_some ∙ on_side is_before last.primary w side)
+    ∙ decides is_before One (decided (order_at Two left right) 2 (decided (order_at Three left right) 3 (record { order = Equal; level = 0 })))
+holds_placed is_before Two before last trailing expansion w silent old_some new_some side =
+    let left : List Element = (before ++ last ∷ trailing) ++ expansion in
+    let new : Element = reweighted Two w last in
+    let right : List Element = before ++ new ∷ expansion in
+    let first = each_weaker (IsSilent Two) (λ e. e.primary ≡ 0) (λ e none. none.0) trailing silent in
+    let second = each_weaker (IsSilent Two) (λ e. e.secondary ≡ 0) (λ e none. none.1) trailing silent in
+    compared_by_levels left right
+    ∙ ap (λ o. by_orders o (order_at Two left right) (order_at Three left right)) (same_level before last new trailing expansion One first refl)
+    ∙ ap (λ o. by_orders Equal o (order_at Three left right))
+    (new_level before last new trailing expansion Two second old_some new_some ∙ on_side is_before last.secondary w side)
+    ∙ decides is_before Two (decided (order_at Three left right) 3 (record { order = Equal; level = 0 }))
+holds_placed is_before Three before last trailing expansion w silent old_some new_some side =
+    let left : List Element = (before ++ last ∷ trailing) ++ expansion in
+    let new : Element = reweighted Three w last in
+    let right : List Element = before ++ new ∷ expansion in
+    let first = each_weaker (IsSilent Three) (λ e. e.primary ≡ 0) (λ e none. none.0) trailing silent in
+    let second = each_weaker (IsSilent Three) (λ e. e.secondary ≡ 0) (λ e none. none.1) trailing silent in
+    let third = each_weaker (IsSilent Three) (λ e. e.tertiary ≡ 0) (λ e none. none.2) trailing silent in
+    compared_by_levels left right
+    ∙ ap (λ o. by_orders o (order_at Two left right) (order_at Three left right)) (same_level before last new trailing expansion One first refl)
+    ∙ ap (λ o. by_orders Equal o (order_at Three left right)) (same_level before last new trailing expansion Two second refl)
+    ∙ ap (by_orders Equal Equal)
+    (new_level before last new trailing expansion Three third old_some new_some ∙ on_side is_before last.tertiary w side)
+    ∙ decides is_before Three (record { order = Equal; level = 0 })

@@ -1,0 +1,17 @@
+pub mod ImplicitImages
+pub mod RowConditions
+pub mod Images
+pub mod RisingMaps
+pub mod WeightedImages
+pub mod UntouchedTexts
+pub mod AgreeingReadings
+pub mod Parts
+pub mod ReadingEach
+pub mod Sound
+pub mod Holding
+pub mod Relating
+pub mod TailoredWeights
+pub mod Nearest
+pub mod Members
+pub mod WorkedTables
+pub mod WorkedLaws

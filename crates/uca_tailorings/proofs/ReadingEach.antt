@@ -1,0 +1,36 @@
+-- What holds of the elements of each row and of the implicit weights that a text may read as holds of all its elements.
+use Rattle.std.proofs.Common.{◌≡◌, ℕ, List, [], ◌∷◌, length, Option, Some, None, refl, ap, arith}
+use Rattle.std.specs.List.{AllByRecursion}
+use Rattle.uca_weights.specs.declared.Element.{Element}
+use Rattle.uca_text.specs.Texts.{Text, Spelled, code_points, letters, letters_of}
+use Rattle.uca_text.specs.Limits.{IsNormal}
+use Rattle.uca_text.specs.Occurring.{OccursInOrder}
+use Rattle.uca_match.specs.Rows.{Rows}
+use Rattle.uca_match.specs.Reading.{read}
+use Rattle.uca_match.specs.Laws.{AreRelatedRows}
+use Rattle.uca_match.proofs.RelatedReading.{read_related}
+use Rattle.uca_tailorings.proofs.Parts.{each_append}
+
+-- letters have the code points that they are made of
+points_of_letters : (points classes : List ℕ) → length classes ≡ length points → code_points (letters points classes) ≡ points
+points_of_letters [] classes same = refl
+points_of_letters (c ∷ points) [] same = absurd (omega arith)
+points_of_letters (c ∷ points) (k ∷ classes) same = ap (λ rest. c ∷ rest) (points_of_letters points classes (omega arith))
+
+-- a text has the code points that it is spelled by
+pub points_of_text : (text : Spelled) → IsNormal text → code_points (letters_of text) ≡ text.points
+points_of_text text normal = points_of_letters text.points text.classes normal.accepted.same
+
+module _ (P : Element → Type 0) (implicit : ℕ → List Element) (rows : Rows) where
+  -- a row is related to itself
+  each_row : (row : Option (List Element)) → ((elements : List Element) → row ≡ Some elements → AllByRecursion P elements) →
+      AreRelatedRows (λ es fs. AllByRecursion P es) row row
+  each_row None holds = tt
+  each_row (Some elements) holds = holds elements refl
+
+  -- what holds of each row that occurs in order in a text, and of the implicit weights of its code points, holds of its elements
+  pub read_each : (t : Text) → ((key : List ℕ) (row : List Element) → OccursInOrder key (code_points t) → rows key ≡ Some row → AllByRecursion P row) →
+      AllByRecursion (λ c. AllByRecursion P (implicit c)) (code_points t) → AllByRecursion P (read implicit rows t)
+  read_each t at_rows at_points =
+      read_related (λ es fs. AllByRecursion P es) tt (λ es fs gs hs first second. each_append P es gs first second) implicit implicit rows rows t
+      (record { at_keys = λ key occurs. each_row (rows key) (λ row found. at_rows key row occurs found); at_points = at_points })

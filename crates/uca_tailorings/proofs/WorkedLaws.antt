@@ -1,0 +1,325 @@
+-- The worked tailoring is one, is accepted, and is refused where the row of `x` is another.
+use Rattle.std.proofs.Common.{◌≡◌, ◌≢◌, ◌⊎◌, ℕ, ◌<◌, List, [], ◌∷◌, ◌++◌, true, false, Some, Contains, inl, inr, ⊎_elim}
+use Rattle.std.proofs.Common.{refl, sym, ap, subst, subst₂, ◌∙◌, arith}
+use Rattle.std.specs.List.{AllByRecursion}
+use Rattle.std.specs.Char.{IsScalar}
+use Rattle.uca_weights.specs.declared.Element.{Element}
+use Rattle.uca_weights.specs.declared.Level.{Level}
+use Rattle.uca_weights.specs.declared.Level.TheVariants.{One, Two, Three}
+use Rattle.uca_weights.specs.Levels.{weight}
+use Rattle.uca_weights.specs.Maps.{IsRisingMap, KeepsFixed}
+use Rattle.uca_values.specs.Content.{Entry, IsHeader, IsEntry, AreRows}
+use Rattle.uca_text.specs.Occurring.{OccursInOrder}
+use Rattle.uca_rules.specs.declared.relations.Relation.{Relation}
+use Rattle.uca_rules.specs.Relations.{IsTarget, IsUsedBy, IsUntouched, IsRuleText, AreRules}
+use Rattle.uca_match.specs.WorkedTable.{plain, row, small_header, small_properties}
+use Rattle.uca_tailorings.specs.Images.{AreRisingMaps, AreImages}
+use Rattle.uca_tailorings.specs.Placing.{IsLow, IsAnchor, reweighted}
+use Rattle.uca_tailorings.specs.Tailorings.{IsTailoring, IsPlacedAt, IsNewWeight, IsImageOfBase, IsKnownWeight}
+use Rattle.uca_tailorings.specs.Tailorings.{Meets, IsAccepted}
+use Rattle.uca_tailorings.specs.declared.conditions.Condition.TheVariants.{BaseIllFormed, TailoredIllFormed, Header, Uncovered, RowChanged, RowMissing}
+use Rattle.uca_tailorings.specs.declared.conditions.Condition.TheVariants.{RowExtra, Anchor, NotPlaced, NotFresh, NotNearest}
+use Rattle.uca_tailorings.specs.Worked.{letter, a_and_b, x_behind_a, with_rows, with_x, WorkedTailorings}
+use Rattle.uca_tailorings.proofs.Members.{only_one, each_contained}
+use Rattle.uca_tailorings.proofs.WorkedTables.{IsLetterRow, letters_well_formed}
+
+-- ---- A tailoring
+
+-- the map of a level that changes no weight
+rising_same : (level : Level) → KeepsFixed level (λ w. Some w) → IsRisingMap level (λ w. Some w)
+rising_same level fixed =
+    record {
+      rising = λ v w x y first second less. let one : v ≡ x = cc in let two : w ≡ y = cc in omega arith;
+      zero = refl;
+      fixed = fixed;
+    }
+
+-- at each level
+rising_maps : AreRisingMaps (with_rows []).maps
+rising_maps =
+    record {
+      primary = rising_same One ((λ w low high. refl), (λ w x sent low. let same : w ≡ x = cc in omega arith));
+      secondary = rising_same Two refl;
+      tertiary = rising_same Three refl;
+    }
+
+-- the header
+header : IsHeader small_header
+header =
+    record {
+      named = refl;
+      ranges = (
+        record { first_point = refl; last_point = refl; rising = omega arith; low = omega arith; high = omega arith; short = omega arith },
+        tt,
+        tt,
+      );
+      few = omega arith;
+    }
+
+-- the row of a letter
+letter_entry : (point primary : ℕ) → IsScalar point → primary < 0x1_0000 → IsEntry (row (point ∷ []) (plain primary 0x20 2))
+letter_entry point primary scalar fits =
+    record {
+      points = (scalar, tt);
+      some_points = omega arith;
+      few_points = omega arith;
+      fits = (record { primary = fits; secondary = omega arith; tertiary = omega arith }, tt);
+      some_elements = omega arith;
+      few_elements = omega arith;
+    }
+
+-- the key of a letter
+abbrev key : ℕ → List ℕ
+key point = point ∷ []
+
+-- other letters have other keys
+other_key : (b c : ℕ) → b ≢ c → ¬ (key b ≡ key c)
+other_key b c apart same = let heads : b ≡ c = cc in apart heads
+
+-- `b` has another key than `a`
+b_is_not_a : ¬ (key 0x62 ≡ key 0x61)
+b_is_not_a = other_key 0x62 0x61 (λ same. omega (arith, same))
+
+-- so has `x`
+x_is_not_a : ¬ (key 0x78 ≡ key 0x61)
+x_is_not_a = other_key 0x78 0x61 (λ same. omega (arith, same))
+
+-- and another than `b`
+x_is_not_b : ¬ (key 0x78 ≡ key 0x62)
+x_is_not_b = other_key 0x78 0x62 (λ same. omega (arith, same))
+
+-- a key that differs from each of some is none of them
+not_among : (keys : List (List ℕ)) (point : ℕ) → AllByRecursion (λ other. ¬ (other ≡ key point)) keys → ¬ (Contains keys (key point))
+not_among keys point apart h = each_contained (λ other. ¬ (other ≡ key point)) keys (key point) apart h refl
+
+-- the rows of the base
+base_rows : AreRows a_and_b
+base_rows =
+    record {
+      entries = (letter_entry 0x61 0x1C47 refl (omega arith), (letter_entry 0x62 0x1C60 refl (omega arith), tt));
+      distinct = (not_among (key 0x62 ∷ []) 0x61 (b_is_not_a, tt), (not_among [] 0x62 tt, tt));
+      few = omega arith;
+    }
+
+-- the rows of the tailored table
+tailored_rows : AreRows (a_and_b ++ row (0x78 ∷ []) (plain 0x1C48 0x20 2) ∷ [])
+tailored_rows =
+    record {
+      entries = (
+        letter_entry 0x61 0x1C47 refl (omega arith),
+        (letter_entry 0x62 0x1C60 refl (omega arith), (letter_entry 0x78 0x1C48 refl (omega arith), tt)),
+      );
+      distinct = (
+        not_among (key 0x62 ∷ key 0x78 ∷ []) 0x61 (b_is_not_a, (x_is_not_a, tt)),
+        (not_among (key 0x78 ∷ []) 0x62 (x_is_not_b, tt), (not_among [] 0x78 tt, tt)),
+      );
+      few = omega arith;
+    }
+
+-- the text of a letter
+letter_text : (point : ℕ) → IsScalar point → IsRuleText (letter point)
+letter_text point scalar =
+    record {
+      normal = record {
+        accepted = record { same = refl; few = omega arith; short_runs = λ place run. omega (arith, run.within) };
+        scalars = (scalar, tt);
+      };
+      some = λ none. cc;
+      short = omega arith;
+    }
+
+-- the rule leaves its own anchor as it is
+anchor_untouched : (text : List ℕ) → IsUsedBy x_behind_a text → IsUntouched (x_behind_a ∷ []) text
+anchor_untouched text used = (⊎_elim (λ is. subst (λ t. ¬ (OccursInOrder (key 0x78) t)) (sym is) apart) (λ none. absurd none) used, tt)
+  where
+    -- the target does not occur in the anchor
+    apart : ¬ (OccursInOrder (key 0x78) (key 0x61))
+    apart occurs = ⊎_elim (λ here. omega (arith, here.0)) (λ later. later) occurs
+
+-- the one rule
+rules : AreRules (x_behind_a ∷ [])
+rules =
+    record {
+      few = omega arith;
+      texts = (record { anchors = letter_text 0x61 refl; targets = letter_text 0x78 refl; expands = tt }, tt);
+      distinct = λ before after r split target. subst (λ relations. IsTarget relations r.target.points) (only_one x_behind_a before r after split).0 target;
+      none_late = λ before after r text split used free.
+          let parts = only_one x_behind_a before r after split in
+          subst₂ (λ (s : Relation) later. IsUntouched (s ∷ later) text) parts.1 (sym parts.2)
+          (anchor_untouched text (subst (λ (s : Relation). IsUsedBy s text) (sym parts.1) used));
+    }
+
+-- tables, rules and maps keep what holds of every tailoring
+is_tailoring : IsTailoring (with_x (plain 0x1C48 0x20 2))
+is_tailoring =
+    record {
+      base = record { header = header; rows = base_rows };
+      tailored = record { header = header; rows = tailored_rows };
+      rules = rules;
+      maps = rising_maps;
+    }
+
+-- ---- Where `x` is placed
+
+-- an element is its own image, where no weight is changed
+own_images : (e : Element) (new : List Element) → Some (e ∷ []) ≡ Some new → AreImages (with_rows []).maps (e ∷ []) new
+own_images e new found =
+    let same : e ∷ [] ≡ new = cc in
+    subst (AreImages (with_rows []).maps (e ∷ [])) same (record { primary = refl; secondary = refl; tertiary = refl; mark = refl }, tt)
+
+-- the anchor takes a new primary
+a_is_anchor : IsAnchor One (plain 0x1C47 0x20 2 ∷ []) [] (plain 0x1C47 0x20 2) []
+a_is_anchor =
+    record {
+      whole = refl;
+      silent = tt;
+      sounds = λ none. omega (arith, none);
+      alone = λ continues. omega (arith, continues.1);
+      low = omega arith;
+    }
+
+-- a greater one puts the target behind it
+x_is_placed : (new : ℕ) → 0x1C47 < new → IsPlacedAt (with_x (plain new 0x20 2)) x_behind_a One 0x1C47 new
+x_is_placed new above =
+    record {
+      strength = refl;
+      before = [];
+      last = plain 0x1C47 0x20 2;
+      trailing = [];
+      anchor = a_is_anchor;
+      old_weight = refl;
+      side = above;
+      row = refl;
+    }
+
+-- the row of `x` where it is placed
+placed_row : (e : Element) (level : Level) (old new : ℕ) → IsPlacedAt (with_x e) x_behind_a level old new →
+    (level ≡ One) × (old ≡ 0x1C47) × (e ≡ plain new 0x20 2)
+placed_row e One old new placed =
+    let parts = only_one (plain 0x1C47 0x20 2) placed.before placed.last placed.trailing placed.anchor.whole in
+    let found : Some (e ∷ []) ≡ Some (placed.before ++ reweighted One new placed.last ∷ []) = placed.row in
+    let same : e ∷ [] ≡ placed.before ++ reweighted One new placed.last ∷ [] = cc in
+    let only = only_one e placed.before (reweighted One new placed.last) [] same in
+    (refl, sym placed.old_weight ∙ sym (ap (weight One) parts.1), only.1 ∙ ap (reweighted One new) (sym parts.1))
+placed_row e Two old new placed = let no : Some One ≡ Some Two = placed.strength in absurd cc
+placed_row e Three old new placed = let no : Some One ≡ Some Three = placed.strength in absurd cc
+
+-- the weights that the base gave at level 1
+base_weights : (e : Element) (w : ℕ) → IsKnownWeight (with_x e) One w → (w ≡ 0x1C47) ⊎ (w ≡ 0x1C60)
+base_weights e w known = ⊎_elim (λ image. of_image image) (λ none. absurd none) known
+  where
+    -- its primaries are the two of the base
+    HasKnown : Entry → Type 0
+    HasKnown r = AllByRecursion (λ (f : Element). (f.primary ≡ 0x1C47) ⊎ (f.primary ≡ 0x1C60)) r.elements
+
+    -- by the row and the element that have the weight
+    of_image : IsImageOfBase (with_x e) One w → (w ≡ 0x1C47) ⊎ (w ≡ 0x1C60)
+    of_image image =
+        let in_row = each_contained HasKnown a_and_b image.row ((inl refl, tt), ((inr refl, tt), tt)) image.is_row in
+        let weighs =
+        each_contained (λ (f : Element). (f.primary ≡ 0x1C47) ⊎ (f.primary ≡ 0x1C60)) image.row.elements image.element in_row image.is_element in
+        let sent : Some image.element.primary ≡ Some w = image.image in
+        let same : image.element.primary ≡ w = cc in
+        subst (λ v. (v ≡ 0x1C47) ⊎ (v ≡ 0x1C60)) same weighs
+
+-- the weight of `b`
+b_weighs : (e : Element) → IsKnownWeight (with_x e) One 0x1C60
+b_weighs e =
+    inl (record {
+      row = row (0x62 ∷ []) (plain 0x1C60 0x20 2);
+      is_row = (1, omega arith, refl);
+      element = plain 0x1C60 0x20 2;
+      is_element = (0, omega arith, refl);
+      some = λ none. omega (arith, none);
+      image = refl;
+    })
+
+-- ---- Conditions
+
+-- the element directly behind the anchor
+abbrev accepted_element : Element
+accepted_element = plain 0x1C48 0x20 2
+
+-- what is placed has the weight 1C48
+placed_weight : (level : Level) (old new : ℕ) → IsPlacedAt (with_x accepted_element) x_behind_a level old new → new ≡ 0x1C48
+placed_weight level old new placed = sym (ap (λ (e : Element). e.primary) (placed_row accepted_element level old new placed).2)
+
+-- its weight is new
+fresh : Meets (with_x accepted_element) NotFresh
+fresh before r after split level old new placed =
+    let parts = only_one x_behind_a before r after split in
+    let at_x : IsPlacedAt (with_x accepted_element) x_behind_a level old new =
+    subst (λ (s : Relation). IsPlacedAt (with_x accepted_element) s level old new) (sym parts.1) placed in
+    let is_one : level ≡ One = (placed_row accepted_element level old new at_x).0 in
+    let is_new : new ≡ 0x1C48 = placed_weight level old new at_x in
+    record {
+      unknown = λ known.
+          ⊎_elim (λ a. omega (arith, a, is_new)) (λ b. omega (arith, b, is_new))
+          (base_weights accepted_element new (subst (λ l. IsKnownWeight (with_x accepted_element) l new) is_one known));
+      own_before = λ own. subst (λ relations. IsNewWeight (with_x accepted_element) level new relations) parts.0 own;
+      own_after = λ own. subst (λ relations. IsNewWeight (with_x accepted_element) level new relations) parts.2 own;
+      low = subst (λ l. IsLow l new) (sym is_one) (omega (arith, is_new));
+    }
+
+-- and no weight lies between
+nearest : Meets (with_x accepted_element) NotNearest
+nearest before r after split level old new placed =
+    let parts = only_one x_behind_a before r after split in
+    let at_x : IsPlacedAt (with_x accepted_element) x_behind_a level old new =
+    subst (λ (s : Relation). IsPlacedAt (with_x accepted_element) s level old new) (sym parts.1) placed in
+    let is_old : old ≡ 0x1C47 = (placed_row accepted_element level old new at_x).1 in
+    let is_new : new ≡ 0x1C48 = placed_weight level old new at_x in
+    record {
+      known = λ w known between.
+          ⊎_elim (λ above. omega (arith, above.0, above.1, is_old, is_new)) (λ below. omega (arith, below.0, below.1, is_old, is_new)) between;
+      earlier = λ w own between. subst (λ relations. IsNewWeight (with_x accepted_element) level w relations) parts.0 own;
+    }
+
+-- the row of a letter with a primary
+letter_row : (point primary : ℕ) → primary ≢ 0 → IsLetterRow (row (point ∷ []) (plain primary 0x20 2))
+letter_row point primary some = record { point = point; primary = primary; some = some; is = refl }
+
+-- all conditions are met
+accepted : IsAccepted (with_x accepted_element)
+accepted BaseIllFormed =
+    letters_well_formed a_and_b (refl, (refl, tt)) small_properties.class
+    (letter_row 0x61 0x1C47 (λ none. omega (arith, none)), (letter_row 0x62 0x1C60 (λ none. omega (arith, none)), tt))
+accepted TailoredIllFormed =
+    letters_well_formed (a_and_b ++ row (0x78 ∷ []) accepted_element ∷ []) (refl, (refl, (refl, tt))) small_properties.class (
+      letter_row 0x61 0x1C47 (λ none. omega (arith, none)),
+      (letter_row 0x62 0x1C60 (λ none. omega (arith, none)), (letter_row 0x78 0x1C48 (λ none. omega (arith, none)), tt)),
+    )
+accepted Header = refl
+accepted Uncovered = (
+  (record { primary = refl; secondary = refl; tertiary = refl }, tt),
+  ((record { primary = refl; secondary = refl; tertiary = refl }, tt), tt),
+)
+accepted RowChanged = (
+  (λ other new found. own_images (plain 0x1C47 0x20 2) new found),
+  ((λ other new found. own_images (plain 0x1C60 0x20 2) new found), tt),
+)
+accepted RowMissing = ((refl, (refl, tt)), (refl, tt))
+accepted RowExtra = (inl refl, (inl refl, (inr (inl refl), tt)))
+accepted Anchor = (([], plain 0x1C47 0x20 2, [], a_is_anchor), tt)
+accepted NotPlaced = ((0x1C47, 0x1C48, x_is_placed 0x1C48 (omega arith)), tt)
+accepted NotFresh = fresh
+accepted NotNearest = nearest
+
+-- ---- The law
+
+-- acceptance, and four failures
+pub worked : WorkedTailorings
+worked =
+    record {
+      is_tailoring = is_tailoring;
+      accepted = accepted;
+      not_fresh = λ met.
+          (met [] x_behind_a [] refl One 0x1C47 0x1C60 (x_is_placed 0x1C60 (omega arith))).unknown (b_weighs (plain 0x1C60 0x20 2));
+      not_nearest = λ met.
+          (met [] x_behind_a [] refl One 0x1C47 0x1C61 (x_is_placed 0x1C61 (omega arith))).known 0x1C60 (b_weighs (plain 0x1C61 0x20 2))
+          (inl (omega arith, omega arith));
+      not_placed = λ met.
+          let same = (placed_row (plain 0x1C48 0x20 8) One met.0.0 met.0.1 met.0.2).2 in
+          omega (arith, ap (λ (e : Element). e.tertiary) same);
+      missing = λ met. let none : false ≡ true = met.1.0 in absurd cc;
+    }
