@@ -1,0 +1,14 @@
+pub mod TargetSets
+pub mod FirstRelations
+pub mod ImageLists
+pub mod Chaining
+pub mod NotAccepted
+pub mod AnchorSteps
+pub mod RelationSteps
+pub mod PlacedRowSteps
+pub mod TargetRows
+pub mod Passes
+pub mod PlacedWeights
+pub mod Fresh
+pub mod Nearest
+pub mod KnownImages
