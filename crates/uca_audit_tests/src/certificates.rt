@@ -36,7 +36,7 @@ const CASES: &str = r"-- the least one, and runs of which each lies above the on
 2 0020 0020 0001\n1 0001 0001 0001\n | line 2: Order
 2 0020 0020 0001\n3 0002 0002 0001\n2 0021 0021 0001\n | line 3: Order
 2 0020 0020 0001\n1 0001 0001 001\n | line 2: Line
-2 0020 0020 0001\n1 0001 0001 0001 | line 2: Order
+2 0020 0020 0001\n1 0001 0001 0001 | line 2: Line
 -- ranges, where an empty run comes first, and a run that does not rise last
 1 FFFF 0001 0002\n | line 1: Map OutOfRange
 1 7FFF 8000 0001\n | line 1: Map OutOfRange

@@ -4,43 +4,62 @@ use crate::files::{Files, files_of, verdict};
 use std::alloc::Global;
 use std::cmp::Ordering;
 use std::test::Fail;
-use uca_fakes::{halves, is_remark, same};
+use uca_fakes::{halves, holds, is_remark, same};
 use uca_key::{compare, key};
 use uca_match::{Collator, Trie};
 use uca_text::{Normal, normal};
 use uca_values::Table;
 use uca_weights::{Depth, Weighting};
 
-/// The fields of an audit that is accepted, two texts, how each pair of untouched texts compares under the base and under the
-/// tailored table, and whether the keys of both texts stay.
+/// The fields of an audit that is accepted, two texts, whether no target occurs in either, how they compare under the base and under
+/// the tailored table, and whether the keys of both stay. Of untouched texts each other comparison is looked at too.
 const CASES: &str = r"-- no text with `x` in it is a text of the base
-. | . | . | . | a b | < 1, < 1, stay
-. | . | . | . | ab aB | < 1, < 1, stay
-. | . | . | . | á a | > 2, > 2, stay
-. | . | . | . | x b | > 1, < 1, differ
+. | . | . | . | a / b | untouched, < 1, < 1, stay
+. | . | . | . | ab / aB | untouched, < 1, < 1, stay
+. | . | . | . | á / a | untouched, > 2, > 2, stay
+. | . | . | . | x / b | touched, > 1, < 1, differ
 -- a base weight that made room: order and level stay, keys do not
-.1C60. => .1C48. | . | 0062 ; [.1C60 => 0062 ; [.1C49 | 1C60 1C60 => 1C48 1C49 | a b | < 1, < 1, differ
-.1C60. => .1C48. | . | 0062 ; [.1C60 => 0062 ; [.1C49 | 1C60 1C60 => 1C48 1C49 | a A | < 3, < 3, stay
+.1C60. => .1C48. | . | 0062 ; [.1C60 => 0062 ; [.1C49 | 1C60 1C60 => 1C48 1C49 | a / b | untouched, < 1, < 1, differ
+.1C60. => .1C48. | . | 0062 ; [.1C60 => 0062 ; [.1C49 | 1C60 1C60 => 1C48 1C49 | a / A | untouched, < 3, < 3, stay
+-- a variable weight that made room
++002D ; [*020A.0020.0002] | &\u0020 < x | .1C48 => .020A, +002D ; [*020B.0020.0002], [.020A => [*020A | 1 1C47 => 1 020A 020B 0001\n1 1C47 | a b / a-b | untouched, < 1, < 1, differ
++002D ; [*020A.0020.0002] | &\u0020 < x | .1C48 => .020A, +002D ; [*020B.0020.0002], [.020A => [*020A | 1 1C47 => 1 020A 020B 0001\n1 1C47 | a-b / ab | untouched, < 1, < 1, differ
 -- a contraction whose letters stand in order, with others between, is touched
-. | &b < a\u0301 | -0078, +0061 0301 ; [.1C61.0020.0002] | . | ạ b | < 1, < 1, stay
-. | &b < a\u0301 | -0078, +0061 0301 ; [.1C61.0020.0002] | . | ạ́ b | < 1, > 1, differ";
+. | &b < a\u0301 | -0078, +0061 0301 ; [.1C61.0020.0002] | . | ạ / b | untouched, < 1, < 1, stay
+. | &b < a\u0301 | -0078, +0061 0301 ; [.1C61.0020.0002] | . | ạ́ / b | touched, < 1, > 1, differ";
 
-fn comparison(
-    table: &Table,
-    trie: &Trie,
-    files: &Files,
-    left: &Normal,
-    right: &Normal,
-) -> (Ordering, u8) {
-    let collator = Collator::new(trie, &table.header, &files.data);
-    let found = compare(
-        &collator,
-        Weighting::NonIgnorable,
-        Depth::Weights,
-        left,
-        right,
-    );
-    (found.order, found.level)
+/// Each weighting at each depth, as comparisons and keys take them.
+const WAYS: [(Weighting, Depth); 4] = [
+    (Weighting::NonIgnorable, Depth::Weights),
+    (Weighting::NonIgnorable, Depth::Identical),
+    (Weighting::Shifted, Depth::Weights),
+    (Weighting::Shifted, Depth::Identical),
+];
+
+/// What two texts are read by.
+#[derive(Clone, Copy)]
+struct Reading<'a> {
+    files: &'a Files,
+    table: &'a Table,
+    trie: &'a Trie,
+}
+
+impl Reading<'_> {
+    fn compare(
+        &self,
+        (weighting, depth): (Weighting, Depth),
+        pair: &[Normal; 2],
+    ) -> (Ordering, u8) {
+        let collator = Collator::new(self.trie, &self.table.header, &self.files.data);
+        let [left, right] = pair;
+        let found = compare(&collator, weighting, depth, left, right);
+        (found.order, found.level)
+    }
+
+    fn key(&self, alloc: Global, way: (Weighting, Depth), text: &Normal) -> Result<Vec<u8>, Fail> {
+        let collator = Collator::new(self.trie, &self.table.header, &self.files.data);
+        Ok(key(alloc, &collator, way.0, way.1, text)?)
+    }
 }
 
 fn sign(order: Ordering) -> &'static str {
@@ -51,16 +70,11 @@ fn sign(order: Ordering) -> &'static str {
     }
 }
 
-/// Whether a text has the same key under both tables, at either depth and under either weighting.
-fn stays(alloc: Global, files: &Files, tries: [&Trie; 2], text: &Normal) -> Result<bool, Fail> {
-    let [base, tailored] = tries;
-    let base = Collator::new(base, &files.base.header, &files.data);
-    let tailored = Collator::new(tailored, &files.tailored.header, &files.data);
-    for weighting in [Weighting::NonIgnorable, Weighting::Shifted] {
-        for depth in [Depth::Weights, Depth::Identical] {
-            let old = key(alloc, &base, weighting, depth, text)?;
-            let new = key(alloc, &tailored, weighting, depth, text)?;
-            if old != new {
+/// Whether both texts have the same keys under both tables.
+fn stay(alloc: Global, [old, new]: [Reading; 2], pair: &[Normal; 2]) -> Result<bool, Fail> {
+    for way in WAYS {
+        for text in pair {
+            if old.key(alloc, way, text)? != new.key(alloc, way, text)? {
                 return Ok(false);
             }
         }
@@ -68,24 +82,51 @@ fn stays(alloc: Global, files: &Files, tries: [&Trie; 2], text: &Normal) -> Resu
     Ok(true)
 }
 
+fn said_of(alloc: Global, readings: [Reading; 2], pair: &[Normal; 2]) -> Result<String, Fail> {
+    let [old, new] = readings;
+    let [left, right] = pair;
+    let rules = &old.files.rules;
+    let untouched = rules.untouched(left) && rules.untouched(right);
+    if untouched {
+        for way in WAYS {
+            holds(
+                old.compare(way, pair) == new.compare(way, pair),
+                "another comparison",
+            )?;
+        }
+    }
+    let (before, level) = old.compare(WAYS[0], pair);
+    let (after, new_level) = new.compare(WAYS[0], pair);
+    let touched = if untouched { "untouched" } else { "touched" };
+    let keys = if stay(alloc, readings, pair)? {
+        "stay"
+    } else {
+        "differ"
+    };
+    Ok(format!(in alloc;
+        "{touched}, {} {level}, {} {new_level}, {keys}",
+        sign(before),
+        sign(after)
+    )?)
+}
+
 fn said(alloc: Global, files: &Files, texts: &str) -> Result<String, Fail> {
-    let (left, right) = texts.split_once(" ").ok_or("two texts")?;
+    let (left, right) = texts.split_once(" / ").ok_or("two texts")?;
     let left = normal(alloc, left, &files.data)?;
     let right = normal(alloc, right, &files.data)?;
     let base = Trie::new(alloc, &files.base)?;
     let tailored = Trie::new(alloc, &files.tailored)?;
-    let old = comparison(&files.base, &base, files, &left, &right);
-    let new = comparison(&files.tailored, &tailored, files, &left, &right);
-    let both = stays(alloc, files, [&base, &tailored], &left)?
-        && stays(alloc, files, [&base, &tailored], &right)?;
-    let keys = if both { "stay" } else { "differ" };
-    Ok(format!(in alloc;
-        "{} {}, {} {}, {keys}",
-        sign(old.0),
-        old.1,
-        sign(new.0),
-        new.1
-    )?)
+    let old = Reading {
+        files,
+        table: &files.base,
+        trie: &base,
+    };
+    let new = Reading {
+        files,
+        table: &files.tailored,
+        trie: &tailored,
+    };
+    said_of(alloc, [old, new], &[left, right])
 }
 
 fn check(alloc: Global, case: &str) -> Result<(), Fail> {
