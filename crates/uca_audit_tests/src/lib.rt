@@ -1,0 +1,14 @@
+//! Tests of audits, of certificates and of maps of weights: each condition at its first place and before the next one, and what a yes
+//! means for keys. Files are given as bytes, and cases as lines of text.
+#![tactic(auto)]
+
+#[cfg(test)]
+mod audits;
+#[cfg(test)]
+mod certificates;
+#[cfg(test)]
+mod files;
+#[cfg(test)]
+mod maps;
+#[cfg(test)]
+mod untouched;

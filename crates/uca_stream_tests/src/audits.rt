@@ -1,0 +1,145 @@
+//! Audits over readers that fail after each number of bytes, and writers that do.
+
+use std::alloc::{AllocError, Global};
+use std::io::ErrorKind;
+use std::test::Fail;
+use uca_cli::run_audit;
+use uca_fakes::{Calls, DATA, Failure, FakeReader, FakeWriter, Pace, TABLE, holds, joined, same};
+use uca_trials::{Answer, told};
+use uca_weights::{Sink, Source};
+
+const ROW: &str = "0078 ; [.1C48.0020.0002]\n";
+
+const CERTIFICATE: &str = "1 0209 0209 0001\n\
+    1 1C47 1C47 0001\n\
+    1 1C60 1C60 0001\n\
+    2 0020 0020 0001\n\
+    2 0024 0024 0002\n\
+    2 002C 002C 0001\n\
+    3 0002 0002 0001\n\
+    3 0008 0008 0001\n";
+
+/// What a file is for, in the order of the words.
+const ROLES: [&str; 5] = ["base", "data", "rules", "tailored", "certificate"];
+
+/// What came of an audit.
+#[derive(Drop)]
+struct Outcome {
+    end: String,
+    printed: Vec<u8>,
+    failed: [bool; 6],
+    late: u32,
+}
+
+/// An audit of five files, each read at its pace, with a writer at another.
+fn audited(
+    alloc: Global,
+    texts: [&str; 5],
+    paces: [Pace; 5],
+    pace: Pace,
+) -> Result<Outcome, AllocError> {
+    let calls = Calls::new();
+    let [base, data, rules, tailored, certificate] = texts;
+    let reader = |text: &'_ str, pace| Source::new(FakeReader::new(text.as_bytes(), pace, &calls));
+    let mut base = reader(base, paces[0]);
+    let mut data = reader(data, paces[1]);
+    let mut rules = reader(rules, paces[2]);
+    let mut tailored = reader(tailored, paces[3]);
+    let mut certificate = reader(certificate, paces[4]);
+    let mut out = Sink::new(FakeWriter::new(alloc, pace, &calls));
+    let end = run_audit(
+        alloc,
+        &mut base,
+        &mut data,
+        &mut rules,
+        &mut tailored,
+        &mut certificate,
+        &mut out,
+    );
+    let failed = [
+        base.failed(),
+        data.failed(),
+        rules.failed(),
+        tailored.failed(),
+        certificate.failed(),
+        out.failed(),
+    ];
+    Ok(Outcome {
+        end: told(alloc, &end.map(Answer::Verdict))?,
+        printed: out.into_inner().text,
+        failed,
+        late: calls.late.get(),
+    })
+}
+
+/// The files of an audit that is accepted.
+fn with_files(
+    alloc: Global,
+    test: fn(Global, [&str; 5]) -> Result<(), Fail>,
+) -> Result<(), Fail> {
+    let tailored = joined(alloc, &[TABLE, ROW])?;
+    test(alloc, [TABLE, DATA, "&a < x", &tailored, CERTIFICATE])
+}
+
+/// The line that is being read behind the first bytes of a file.
+fn line_behind(text: &str, good: usize) -> usize {
+    text.as_bytes()[..good].iter().filter(|byte| **byte == b'\n').count() + 1
+}
+
+/// One file fails after so many bytes: nothing is written, and of the streams this one says that it failed.
+fn check_read(alloc: Global, texts: [&str; 5], which: usize, good: usize) -> Result<(), Fail> {
+    let mut paces = [Pace::steps(9); 5];
+    paces[which] = Pace::failing(9, good, Failure::Error(ErrorKind::Interrupted));
+    let outcome = audited(alloc, texts, paces, Pace::steps(9))?;
+    let role = ROLES[which];
+    let wanted = if role == "rules" {
+        format!(in alloc; "rules: Read")?
+    } else {
+        format!(in alloc; "{role} line {}: Read", line_behind(texts[which], good))?
+    };
+    same(&outcome.end, &wanted, "a reader that fails")?;
+    holds(outcome.printed.is_empty() && outcome.late == 0, &wanted)?;
+    let mut failed = [false; 6];
+    failed[which] = true;
+    holds(outcome.failed == failed, &wanted)
+}
+
+#[test]
+fn readers_of_audits_that_fail(rt: HostRuntime) -> Result<(), Fail> {
+    with_files(rt.alloc(), |alloc, texts| {
+        for (which, text) in texts.iter().enumerate() {
+            for good in 0..=text.len() {
+                check_read(alloc, texts, which, good)?;
+            }
+        }
+        Ok(())
+    })
+}
+
+#[test]
+fn writers_of_audits_that_fail(rt: HostRuntime) -> Result<(), Fail> {
+    with_files(rt.alloc(), |alloc, texts| {
+        for good in 0..9 {
+            for failure in [Failure::Nothing, Failure::Error(ErrorKind::Interrupted)] {
+                let pace = Pace::failing(2, good, failure);
+                let outcome = audited(alloc, texts, [Pace::steps(9); 5], pace)?;
+                let wanted = format!(in alloc; "output: Write after {good}")?;
+                same(&outcome.end, &wanted, "a writer that fails")?;
+                holds(outcome.printed.as_slice() == &b"accepted\n"[..good], &wanted)?;
+                holds(outcome.failed == [false, false, false, false, false, true], &wanted)?;
+            }
+        }
+        Ok(())
+    })
+}
+
+/// A reader and a writer of one byte a call.
+#[test]
+fn audits_byte_by_byte(rt: HostRuntime) -> Result<(), Fail> {
+    with_files(rt.alloc(), |alloc, texts| {
+        let outcome = audited(alloc, texts, [Pace::steps(1); 5], Pace::steps(1))?;
+        same(&outcome.end, "true", "one byte a call")?;
+        holds(outcome.printed.as_slice() == b"accepted\n", "one byte a call")?;
+        holds(outcome.failed == [false; 6], "one byte a call")
+    })
+}
