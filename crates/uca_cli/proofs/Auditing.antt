@@ -1,6 +1,6 @@
 -- The run of an audit, from what its five files mean and what is answered of them.
-use Rattle.std.proofs.Common.{◌≡◌, ℕ, List, Bool, true, false, ◌||◌, Option, Some, None, IfSome, IsSomeAnd, Result, Ok, Err, refl, ap, ap₂, subst, sym, ◌∙◌}
-use Rattle.uca_weights.specs.Streams.{SourceState, SinkState}
+use Rattle.std.proofs.Common.{◌≡◌, ℕ, List, false, ◌||◌, Option, Some, None, IfSome, IsSomeAnd, Result, Ok, Err, ap, subst, sym, ◌∙◌}
+use Rattle.uca_weights.specs.Streams.{SinkState}
 use Rattle.uca_values.specs.Content.{TableContent, Properties}
 use Rattle.uca_table.specs.Lines as tables
 use Rattle.uca_data.specs.Said as data_files
@@ -12,8 +12,8 @@ use Rattle.uca_tailorings.specs.Tailorings.{Tailoring}
 use Rattle.uca_audit.specs.Inputs.{tailoring_of}
 use Rattle.uca_cli.specs.declared.faults.RunFault.{RunFault}
 use Rattle.uca_cli.specs.declared.faults.Role.TheVariants as roles
-use Rattle.uca_cli.specs.Runs.{OfLines, OverTable, OverData, IsRefused, fault_of, is_file, is_file_read, is_write}
-use Rattle.uca_cli.specs.AuditRun.{AuditSources, AuditContent, AuditsOver, HaveContent, IsStop, OverRules, OverCertificate, RefusesRules, RefusesCertificate, SourcesHaveFailed, AuditHasFailed, audit_content, tailoring_by}
+use Rattle.uca_cli.specs.Runs.{OfLines, IsRefused, fault_of, is_file, is_write}
+use Rattle.uca_cli.specs.AuditRun.{AuditSources, AuditContent, AuditsOver, IsStop, RefusesRules, RefusesCertificate, SourcesHaveFailed, AuditHasFailed, audit_content, tailoring_by}
 use Rattle.uca_cli.specs.AuditFiles.{MayMean}
 use Rattle.uca_cli.proofs.Running.{no_fault, no_file_read, known_value, over_value, known_weaker}
 

@@ -1,6 +1,5 @@
 -- No tailoring is both accepted and refused by an audit.
-use Rattle.std.proofs.Common.{◌≡◌, ◌⊎◌, inl, inr, ℕ, zero, suc, ◌<◌, ◌≤◌, List, [], ◌∷◌, ◌++◌, length, Bool, true, false, refl, ap, sym, subst, ◌∙◌, arith}
-use Rattle.std.specs.Prelude.{if◌then◌else◌}
+use Rattle.std.proofs.Common.{◌≡◌, ◌⊎◌, inl, inr, ℕ, zero, suc, List, [], ◌∷◌, ◌++◌, subst}
 use Rattle.std.specs.List.{AllByRecursion}
 use Rattle.uca_values.specs.Content.{Entry}
 use Rattle.uca_check.specs.WellFormed.{Meets as MeetsForm, MeetsWF1, MeetsWF2, MeetsWF3, MeetsWF4, MeetsWF5, IsWellFormed, IsFirstWithout, IsFirstFailure}
@@ -10,7 +9,7 @@ use Rattle.uca_tailorings.specs.declared.conditions.Condition.{Condition}
 use Rattle.uca_tailorings.specs.declared.conditions.Condition.TheVariants as conditions
 use Rattle.uca_audit.specs.declared.faults.AuditFault.{AuditFault}
 use Rattle.uca_audit.specs.declared.faults.Place.{Place}
-use Rattle.uca_audit.specs.Refusals.{IsFirstRelationWithout, IsFirstAloneWithout, FailsFirstAt, IsFirstRefusal, IsMemory, RefusedTailoringsAreNotAccepted, number_of}
+use Rattle.uca_audit.specs.Refusals.{IsFirstRelationWithout, IsFirstAloneWithout, FailsFirstAt, IsFirstRefusal, IsMemory, RefusedTailoringsAreNotAccepted}
 
 -- a property of all is one of each
 at_split : {X : Type 0} (P : X → Type 0) (before : List X) (x : X) (after : List X) → AllByRecursion P (before ++ x ∷ after) → P x

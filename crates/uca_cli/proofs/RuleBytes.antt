@@ -1,5 +1,5 @@
 -- What bytes of rules mean and why they are refused, from the first 1,048,577 of them.
-use Rattle.std.proofs.Common.{◌≡◌, ◌⊎◌, inl, inr, ℕ, ◌+◌, ◌<◌, ◌≤◌, List, [], ◌++◌, length, Option, Some, None, IfSome, Ok, Err, refl, ap, sym, subst, ◌∙◌, arith}
+use Rattle.std.proofs.Common.{◌≡◌, ◌⊎◌, inl, inr, ℕ, ◌<◌, ◌≤◌, List, [], ◌++◌, length, Option, Some, None, IfSome, Ok, Err, refl, ap, sym, subst, ◌∙◌, arith}
 use Rattle.std.proofs.lemmas.Bool.{cases_lt}
 use Rattle.std.proofs.lemmas.List.{length-append, append-nil}
 use Rattle.uca_values.specs.Content.{Properties}
@@ -7,7 +7,7 @@ use Rattle.uca_rules.specs.declared.relations.Relation.{Relation}
 use Rattle.uca_rules.specs.declared.faults.RuleFault.{RuleFault}
 use Rattle.uca_rules.specs.declared.faults.RuleFaultKind.{RuleFaultKind}
 use Rattle.uca_rules.specs.declared.faults.RuleFaultKind.TheVariants as kinds
-use Rattle.uca_rules.specs.Faults.{IsCause, IsInside}
+use Rattle.uca_rules.specs.Faults.{IsCause}
 use Rattle.uca_rules.specs.Meaning.{Means}
 use Rattle.uca_cli.specs.declared.faults.FileFault.TheVariants.{Rules}
 use Rattle.uca_cli.specs.declared.faults.Role.TheVariants as roles

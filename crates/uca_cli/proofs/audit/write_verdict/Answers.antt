@@ -1,5 +1,4 @@
 -- An accepted tailoring is not refused.
-use Rattle.std.proofs.Common.{rules}
 use Rattle.uca_cli.proofs.Refusals.{accepted_by_none}
 use Rattle.uca_cli.proofs.audit.write_verdict.Goals as goal
 

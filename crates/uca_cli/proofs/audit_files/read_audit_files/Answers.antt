@@ -1,6 +1,5 @@
 -- Which of the five files is refused, and what is read of files that mean something.
 use Rattle.std.specs.Prelude.{⊤}
-use Rattle.std.proofs.Common.{refl}
 use Rattle.std.proofs.lemmas.Result.{err_from_is_err_and}
 use Rattle.uca_values.specs.Content.{properties_of}
 use Rattle.uca_table.specs.Lines as tables

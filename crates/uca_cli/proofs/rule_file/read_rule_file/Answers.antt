@@ -16,6 +16,9 @@ returns-clause-only g c =
     c.in-Ok.ensures.bytes (rw c.deref.ensures.value at c.in-Err-read_rules.ensures.only)
 
 pub returns-clause-refused : goal.returns-clause-refused
-returns-clause-refused g c = (Rules c.in-Err-read_rules.fault, refl,
-    rules_refused (properties_of c.args.properties.now) c.args.source.now.remaining c.read_bytes.new.source.remaining c.in-Ok.bytes.items c.in-Err-read_rules.fault
-    c.in-Ok.ensures.bytes (rw c.deref.ensures.value at c.in-Err-read_rules.ensures.fault))
+returns-clause-refused g c = (
+  Rules c.in-Err-read_rules.fault,
+  refl,
+  rules_refused (properties_of c.args.properties.now) c.args.source.now.remaining c.read_bytes.new.source.remaining c.in-Ok.bytes.items c.in-Err-read_rules.fault
+      c.in-Ok.ensures.bytes (rw c.deref.ensures.value at c.in-Err-read_rules.ensures.fault),
+)
