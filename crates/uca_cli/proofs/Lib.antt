@@ -14,3 +14,6 @@ pub mod Running
 pub mod Verdicts
 pub mod LineLaws
 pub mod OneOrder
+pub mod RuleBytes
+pub mod Refusals
+pub mod Auditing

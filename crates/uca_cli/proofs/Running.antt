@@ -33,7 +33,7 @@ pub read_of_role : (role : Role) (new old reads : Bool) → new ≡ (old || read
 read_of_role role new old reads same = same ∙ ap (λ b. old || (b && reads)) (sym (same_role role))
 
 -- what is no file's fault is of no role
-no_fault : {A : Type 0} (role : Role) (result : Result A RunFault) → is_file result ≡ false → fault_of role result ≡ None
+pub no_fault : {A : Type 0} (role : Role) (result : Result A RunFault) → is_file result ≡ false → fault_of role result ≡ None
 no_fault role (Ok x) h = refl
 no_fault role (Err (File other fault)) h = let never : ⊥ = cc in absurd never
 no_fault role (Err _) h = refl
@@ -44,18 +44,18 @@ no_file_read role (Ok x) h = refl
 no_file_read role (Err (File other fault)) h = let never : ⊥ = cc in absurd never
 no_file_read role (Err _) h = refl
 
-known_value : {V : Type 0} (known : Option (List ℕ)) (Means : List ℕ → V → Type 0) (K : V → Type 0) (value : V) → IfSome known (λ bytes. Means bytes value) → K value → IfSome known (λ bytes. MeansOne Means bytes K)
+pub known_value : {V : Type 0} (known : Option (List ℕ)) (Means : List ℕ → V → Type 0) (K : V → Type 0) (value : V) → IfSome known (λ bytes. Means bytes value) → K value → IfSome known (λ bytes. MeansOne Means bytes K)
 known_value None Means K value means holds = tt
 known_value (Some bytes) Means K value means holds = record { value = value; means = means; holds = holds }
 
 -- what is answered where the file means a value
-over_value : {A V : Type 0} (role : Role) (old new : SourceState) (Means : List ℕ → V → Type 0) (Refuses : List ℕ → Option (List ℕ) → FileFault → Type 0) (K : V → Type 0) (result : Result A RunFault) (value : V)
+pub over_value : {A V : Type 0} (role : Role) (old new : SourceState) (Means : List ℕ → V → Type 0) (Refuses : List ℕ → Option (List ℕ) → FileFault → Type 0) (K : V → Type 0) (result : Result A RunFault) (value : V)
     → fault_of role result ≡ None → IfSome old.remaining (λ bytes. Means bytes value) → K value → OverFile role old new Means Refuses K result
 over_value role old new Means Refuses K result value none means holds =
     subst (λ o. IfSome old.remaining (λ bytes. MatchOption o (MeansOne Means bytes K) (λ fault. Refuses bytes new.remaining fault))) (sym none)
     (known_value old.remaining Means K value means holds)
 
-known_weaker : {V : Type 0} (known left : Option (List ℕ)) (cause : Option FileFault) (Means : List ℕ → V → Type 0) (Refuses : List ℕ → Option (List ℕ) → FileFault → Type 0) (K L : V → Type 0) → ((v : V) → K v → L v)
+pub known_weaker : {V : Type 0} (known left : Option (List ℕ)) (cause : Option FileFault) (Means : List ℕ → V → Type 0) (Refuses : List ℕ → Option (List ℕ) → FileFault → Type 0) (K L : V → Type 0) → ((v : V) → K v → L v)
     → IfSome known (λ bytes. MatchOption cause (MeansOne Means bytes K) (λ fault. Refuses bytes left fault)) → IfSome known (λ bytes. MatchOption cause (MeansOne Means bytes L) (λ fault. Refuses bytes left fault))
 known_weaker None left cause Means Refuses K L weaker over = tt
 known_weaker (Some bytes) left None Means Refuses K L weaker over = record { value = over.value; means = over.means; holds = weaker over.value over.holds }

@@ -1,9 +1,9 @@
 -- What the whole command does: it reads its words, opens the files that they name in their order, runs over them, and ends
 -- with a status. `gives` says what a call of the opener gives, and `remaining` what the bytes of an opened file are.
-use Rattle.std.specs.Prelude.{◌≡◌, ◌⊎◌, ℕ, List, Bool, true, false, Option, Result, Ok, Err}
+use Rattle.std.specs.Prelude.{◌≡◌, ◌⊎◌, ℕ, List, [], ◌∷◌, Bool, true, false, Option, Result, Ok, Err}
 use Rattle.uca_weights.specs.Streams.{SourceState, SinkState}
 use Rattle.uca_words.specs.declared.Words.{Words as WordsType}
-use Rattle.uca_words.specs.declared.Words.TheVariants.{Check, Keys, Sort, Compare}
+use Rattle.uca_words.specs.declared.Words.TheVariants.{Check, Keys, Sort, Compare, Audit}
 use Rattle.uca_words.specs.Words.{AreRead, IsFaultOf}
 use Rattle.uca_words.specs.declared.WordFault.{WordFault}
 use Rattle.uca_cli.specs.declared.command.OpenFault.{OpenFault}
@@ -11,6 +11,7 @@ use Rattle.uca_cli.specs.declared.faults.Role.{Role}
 use Rattle.uca_cli.specs.declared.faults.Role.TheVariants as roles
 use Rattle.uca_cli.specs.declared.faults.RunFault.{RunFault}
 use Rattle.uca_cli.specs.declared.faults.RunFault.TheVariants.{Open, Words}
+use Rattle.uca_cli.specs.AuditRun.{AuditSources, audit_sources, AuditsOver, RunsAudit}
 use Rattle.uca_cli.specs.CheckRun.{RunsCheck}
 use Rattle.uca_cli.specs.CompareRun.{RunsCompare}
 use Rattle.uca_cli.specs.KeysRun.{RunsKeys}
@@ -19,35 +20,59 @@ use Rattle.uca_cli.specs.Runs.{RunsOver}
 use Rattle.uca_cli.specs.Reports.{Reports}
 use Rattle.uca_cli.specs.Statuses.{IsStatus}
 
--- the files of these names were opened in this order, and these are their sources, of which nothing was read
-pub record AreOpened {O F : Type 0} (gives : O → List ℕ → Result F OpenFault → O → Type 0) (remaining : F → Option (List ℕ)) (old new : O) (table_name data_name : List ℕ) (table properties : SourceState) : Type 0 where
-  pub between : O
-  pub table_file : F
-  pub data_file : F
-  pub opens_table : gives old table_name (Ok table_file) between
-  pub opens_data : gives between data_name (Ok data_file) new
-  pub table_source : table ≡ record { remaining = remaining table_file; failed = false }
-  pub data_source : properties ≡ record { remaining = remaining data_file; failed = false }
+-- ---- Opened files
 
--- the file of this role does not open, and the one before it did
-abbrev pub DoesNotOpen : {O F : Type 0} → (O → List ℕ → Result F OpenFault → O → Type 0) → O → O → List ℕ → List ℕ → Role → Type 0
-DoesNotOpen gives old new table_name data_name roles.Table = (fault : OpenFault) × gives old table_name (Err fault) new
-DoesNotOpen {O = O} {F = F} gives old new table_name data_name roles.Data = (between : O) × (file : F) × (fault : OpenFault) × gives old table_name (Ok file) between × gives between data_name (Err fault) new
-DoesNotOpen gives old new table_name data_name _ = ⊥
+-- a file that is to be opened: what it is for, and its name
+pub record NamedFile : Type 0 where
+  pub role : Role
+  pub name : List ℕ
 
--- a table file and a data file that are run over: P of their sources before and after, and of the result
-pub record RunsOpened {O F : Type 0} (gives : O → List ℕ → Result F OpenFault → O → Type 0) (remaining : F → Option (List ℕ)) (old new : O) (table_name data_name : List ℕ) (P : SourceState → SourceState → SourceState → SourceState → Type 0) : Type 0 where
-  pub table : SourceState
-  pub table_new : SourceState
-  pub properties : SourceState
-  pub properties_new : SourceState
-  pub opened : AreOpened gives remaining old new table_name data_name table properties
-  pub runs : P table table_new properties properties_new
+abbrev pub table_and_data : List ℕ → List ℕ → List NamedFile
+table_and_data table properties = record { role = roles.Table; name = table } ∷ record { role = roles.Data; name = properties } ∷ []
 
--- one of the two does not open, and then this stays as it was; or both are run over
-abbrev pub OpensAndRuns : {O F : Type 0} → (O → List ℕ → Result F OpenFault → O → Type 0) → (F → Option (List ℕ)) → O → O → List ℕ → List ℕ → Type 0 → (SourceState → SourceState → SourceState → SourceState → Type 0) → Result ℕ RunFault → Type 0
-OpensAndRuns gives remaining old new table_name data_name Stays P result = ((role : Role) × (result ≡ Err (Open role)) × DoesNotOpen gives old new table_name data_name role × Stays)
-    ⊎ RunsOpened gives remaining old new table_name data_name P
+abbrev pub audit_files : List ℕ → List ℕ → List ℕ → List ℕ → List ℕ → List NamedFile
+audit_files base properties rules tailored certificate =
+    record { role = roles.Base; name = base } ∷ record { role = roles.Data; name = properties } ∷ record { role = roles.Rules; name = rules }
+    ∷ record { role = roles.Tailored; name = tailored } ∷ record { role = roles.Certificate; name = certificate } ∷ []
+
+-- the file of this name was opened, and this is its source, of which nothing was read
+abbrev pub IsOpened : {O F : Type 0} → (O → List ℕ → Result F OpenFault → O → Type 0) → (F → Option (List ℕ)) → O → O → List ℕ → SourceState → Type 0
+IsOpened {O = O} {F = F} gives remaining old new name source = (file : F) × gives old name (Ok file) new × (source ≡ record { remaining = remaining file; failed = false })
+
+-- the files were opened in this order, and these are their sources
+abbrev pub AreOpened : {O F : Type 0} → (O → List ℕ → Result F OpenFault → O → Type 0) → (F → Option (List ℕ)) → O → O → List NamedFile → List SourceState → Type 0
+AreOpened gives remaining old new [] [] = new ≡ old
+AreOpened {O = O} gives remaining old new (file ∷ files) (source ∷ sources) = (between : O) × IsOpened gives remaining old between file.name source × AreOpened gives remaining between new files sources
+AreOpened gives remaining old new _ _ = ⊥
+
+-- the file of this role does not open, and those before it did
+abbrev pub DoesNotOpen : {O F : Type 0} → (O → List ℕ → Result F OpenFault → O → Type 0) → (F → Option (List ℕ)) → O → O → List NamedFile → Role → Type 0
+DoesNotOpen gives remaining old new [] role = ⊥
+DoesNotOpen {O = O} gives remaining old new (file ∷ files) role = ((role ≡ file.role) × (fault : OpenFault) × gives old file.name (Err fault) new)
+    ⊎ ((between : O) × (source : SourceState) × IsOpened gives remaining old between file.name source × DoesNotOpen gives remaining between new files role)
+
+-- the files were opened and run over: P of their sources
+pub record RunsOpened {O F : Type 0} (gives : O → List ℕ → Result F OpenFault → O → Type 0) (remaining : F → Option (List ℕ)) (old new : O) (files : List NamedFile) (P : List SourceState → Type 0) : Type 0 where
+  pub sources : List SourceState
+  pub opened : AreOpened gives remaining old new files sources
+  pub runs : P sources
+
+-- one of the files does not open, and then this stays as it was; or all are run over
+abbrev pub OpensAndRuns : {O F : Type 0} → (O → List ℕ → Result F OpenFault → O → Type 0) → (F → Option (List ℕ)) → O → O → List NamedFile → Type 0 → (List SourceState → Type 0) → Result ℕ RunFault → Type 0
+OpensAndRuns gives remaining old new files Stays P result = ((role : Role) × (result ≡ Err (Open role)) × DoesNotOpen gives remaining old new files role × Stays)
+    ⊎ RunsOpened gives remaining old new files P
+
+-- a table and a data file are run over: P of their sources before and after
+abbrev pub OverTwo : (SourceState → SourceState → SourceState → SourceState → Type 0) → List SourceState → Type 0
+OverTwo P (table ∷ properties ∷ []) = (table_new : SourceState) × (properties_new : SourceState) × P table table_new properties properties_new
+OverTwo P _ = ⊥
+
+-- and so are the files of an audit
+abbrev pub OverFive : (AuditSources → AuditSources → Type 0) → List SourceState → Type 0
+OverFive P (base ∷ properties ∷ rules ∷ tailored ∷ certificate ∷ []) = (new : AuditSources) × P (audit_sources base properties rules tailored certificate) new
+OverFive P _ = ⊥
+
+-- ---- What is done
 
 -- the status of a run that was done, or its fault
 abbrev pub done_result : {A : Type 0} → Result A RunFault → Result ℕ RunFault
@@ -61,14 +86,17 @@ check_result (Err fault) = Err fault
 
 -- what a subcommand does with its words, given what it reads and writes before and after
 abbrev pub DoesWords : {O F : Type 0} → (O → List ℕ → Result F OpenFault → O → Type 0) → (F → Option (List ℕ)) → O → O → WordsType → SourceState → SourceState → SinkState → SinkState → Result ℕ RunFault → Type 0
-DoesWords gives remaining old new (Check table_name data_name) input input_new out out_new result = (input_new ≡ input) × OpensAndRuns gives remaining old new table_name.now data_name.now (out_new ≡ out)
-    (λ table table_new properties properties_new. (run : Result Bool RunFault) × (result ≡ check_result run) × RunsOver table table_new properties properties_new (RunsCheck out out_new run) run) result
-DoesWords gives remaining old new (Keys weighting depth table_name data_name) input input_new out out_new result = OpensAndRuns gives remaining old new table_name.now data_name.now ((input_new ≡ input) × (out_new ≡ out))
-    (λ table table_new properties properties_new. (run : Result (Unit {0}) RunFault) × (result ≡ done_result run) × RunsOver table table_new properties properties_new (RunsKeys weighting depth input input_new out out_new run) run) result
-DoesWords gives remaining old new (Sort weighting depth table_name data_name) input input_new out out_new result = OpensAndRuns gives remaining old new table_name.now data_name.now ((input_new ≡ input) × (out_new ≡ out))
-    (λ table table_new properties properties_new. (run : Result (Unit {0}) RunFault) × (result ≡ done_result run) × RunsOver table table_new properties properties_new (RunsSort weighting depth input input_new out out_new run) run) result
-DoesWords gives remaining old new (Compare weighting depth table_name data_name left right) input input_new out out_new result = (input_new ≡ input) × OpensAndRuns gives remaining old new table_name.now data_name.now (out_new ≡ out)
-    (λ table table_new properties properties_new. (run : Result (Unit {0}) RunFault) × (result ≡ done_result run) × RunsOver table table_new properties properties_new (RunsCompare weighting depth left.now right.now out out_new run) run) result
+DoesWords gives remaining old new (Check table_name data_name) input input_new out out_new result = (input_new ≡ input) × OpensAndRuns gives remaining old new (table_and_data table_name.now data_name.now) (out_new ≡ out)
+    (OverTwo (λ table table_new properties properties_new. (run : Result Bool RunFault) × (result ≡ check_result run) × RunsOver table table_new properties properties_new (RunsCheck out out_new run) run)) result
+DoesWords gives remaining old new (Keys weighting depth table_name data_name) input input_new out out_new result = OpensAndRuns gives remaining old new (table_and_data table_name.now data_name.now) ((input_new ≡ input) × (out_new ≡ out))
+    (OverTwo (λ table table_new properties properties_new. (run : Result (Unit {0}) RunFault) × (result ≡ done_result run) × RunsOver table table_new properties properties_new (RunsKeys weighting depth input input_new out out_new run) run)) result
+DoesWords gives remaining old new (Sort weighting depth table_name data_name) input input_new out out_new result = OpensAndRuns gives remaining old new (table_and_data table_name.now data_name.now) ((input_new ≡ input) × (out_new ≡ out))
+    (OverTwo (λ table table_new properties properties_new. (run : Result (Unit {0}) RunFault) × (result ≡ done_result run) × RunsOver table table_new properties properties_new (RunsSort weighting depth input input_new out out_new run) run)) result
+DoesWords gives remaining old new (Compare weighting depth table_name data_name left right) input input_new out out_new result = (input_new ≡ input) × OpensAndRuns gives remaining old new (table_and_data table_name.now data_name.now) (out_new ≡ out)
+    (OverTwo (λ table table_new properties properties_new. (run : Result (Unit {0}) RunFault) × (result ≡ done_result run) × RunsOver table table_new properties properties_new (RunsCompare weighting depth left.now right.now out out_new run) run)) result
+DoesWords gives remaining old new (Audit base data_name rules tailored certificate) input input_new out out_new result = (input_new ≡ input)
+    × OpensAndRuns gives remaining old new (audit_files base.now data_name.now rules.now tailored.now certificate.now) (out_new ≡ out)
+    (OverFive (λ sources sources_new. (run : Result Bool RunFault) × (result ≡ check_result run) × AuditsOver sources sources_new (RunsAudit out out_new run) run)) result
 
 -- how the command ends after a run: with its status, or with what its fault reports
 abbrev pub EndsWith : Result ℕ RunFault → ℕ → SinkState → SinkState → SinkState → SinkState → Type 0

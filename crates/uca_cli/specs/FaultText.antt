@@ -1,13 +1,15 @@
 -- The words of a fault: its line on standard error, without the LF.
 use Rattle.std.specs.Prelude.{ℕ, List, [], ◌++◌, Bool, codes, decimal, if◌then◌else◌}
 use Rattle.uca_values.specs.FaultText.{kind_text}
+use Rattle.uca_rules.specs.FaultText as rule_files
+use Rattle.uca_certificates.specs.FaultText as certificates
 use Rattle.uca_text.specs.FaultText.{text_fault_text}
 use Rattle.uca_words.specs.declared.WordFault.{WordFault}
 use Rattle.uca_words.specs.declared.WordFault.TheVariants as words
 use Rattle.uca_cli.specs.declared.faults.InputKind.{InputKind}
 use Rattle.uca_cli.specs.declared.faults.InputKind.TheVariants as input_kind
 use Rattle.uca_cli.specs.declared.faults.FileFault.{FileFault}
-use Rattle.uca_cli.specs.declared.faults.FileFault.TheVariants.{Lines}
+use Rattle.uca_cli.specs.declared.faults.FileFault.TheVariants.{Lines, Rules, RulesRead, RulesMemory, Certificate}
 use Rattle.uca_cli.specs.declared.faults.RunFault.{RunFault}
 use Rattle.uca_cli.specs.declared.faults.RunFault.TheVariants.{File, Input, Write, Memory, Text, Open, Words}
 use Rattle.uca_cli.specs.RoleText.{role_text}
@@ -30,6 +32,10 @@ line_text name line kind = name ++ codes " line " ++ decimal line ++ codes ": " 
 -- where a file of this name is refused, and why
 abbrev pub file_fault_text : List ℕ → FileFault → List ℕ
 file_fault_text name (Lines fault) = line_text name fault.line (kind_text fault.kind)
+file_fault_text name (Rules fault) = name ++ codes " byte " ++ decimal fault.byte ++ codes ": " ++ rule_files.kind_text fault.kind
+file_fault_text name RulesRead = name ++ codes ": Read"
+file_fault_text name RulesMemory = name ++ codes ": Memory"
+file_fault_text name (Certificate fault) = line_text name fault.line (certificates.kind_text fault.kind)
 
 abbrev pub side_text : Bool → List ℕ
 side_text right = if right then codes "right" else codes "left"

@@ -9,6 +9,8 @@ pub mod SortSoFar
 pub mod Verdicts
 pub mod CheckRun
 pub mod CompareRun
+pub mod AuditRun
+pub mod AuditFiles
 pub mod Laws
 pub mod Print
 pub mod RoleText

@@ -9,10 +9,11 @@ use Rattle.uca_files.specs.Faults.{is_read_kind}
 use Rattle.uca_values.specs.declared.faults.TableFault.{TableFault}
 use Rattle.uca_table.specs.Lines as tables
 use Rattle.uca_data.specs.Said as data_files
+use Rattle.uca_certificates.specs.Texts as certificates
 use Rattle.uca_cli.specs.declared.faults.InputKind.{InputKind}
 use Rattle.uca_cli.specs.declared.faults.InputKind.TheVariants.{Utf8, TooLong, LongRun, Read, Limit, Memory as InputMemory}
 use Rattle.uca_cli.specs.declared.faults.FileFault.{FileFault}
-use Rattle.uca_cli.specs.declared.faults.FileFault.TheVariants.{Lines}
+use Rattle.uca_cli.specs.declared.faults.FileFault.TheVariants.{Lines, Rules, RulesRead, RulesMemory, Certificate}
 use Rattle.uca_cli.specs.declared.faults.RunFault.{RunFault}
 use Rattle.uca_cli.specs.declared.faults.RunFault.TheVariants.{File, Input, Write}
 use Rattle.uca_cli.specs.declared.faults.Role.{Role}
@@ -52,6 +53,7 @@ OverFile role old new Means Refuses K result = IfSome old.remaining (λ bytes. M
 -- why a file that is read line by line is refused
 abbrev pub OfLines : (List ℕ → Option (List ℕ) → TableFault → Type 0) → List ℕ → Option (List ℕ) → FileFault → Type 0
 OfLines Refuses bytes left (Lines fault) = Refuses bytes left fault
+OfLines Refuses bytes left _ = ⊥
 
 -- the same by a table, which may have any role
 abbrev pub OverTable : {A : Type 0} → Role → SourceState → SourceState → (TableContent → Type 0) → Result A RunFault → Type 0
@@ -79,6 +81,10 @@ is_file (Err _) = false
 -- whether the fault is that reading the file failed
 abbrev pub is_read_fault : FileFault → Bool
 is_read_fault (Lines fault) = is_read_kind fault.kind
+is_read_fault (Rules fault) = false
+is_read_fault RulesRead = true
+is_read_fault RulesMemory = false
+is_read_fault (Certificate fault) = certificates.is_read_kind fault.kind
 
 -- whether reading a file of this role failed
 abbrev pub is_file_read : {A : Type 0} → Role → Result A RunFault → Bool

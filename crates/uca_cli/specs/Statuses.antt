@@ -5,12 +5,16 @@ use Rattle.clap.specs.declared.error.ErrorKind.TheVariants.{DisplayHelp, Display
 use Rattle.clap.specs.Values.{kind_of}
 use Rattle.uca_values.specs.declared.faults.FaultKind.{FaultKind}
 use Rattle.uca_values.specs.declared.faults.FaultKind.TheVariants as kinds
+use Rattle.uca_rules.specs.declared.faults.RuleFaultKind.{RuleFaultKind}
+use Rattle.uca_rules.specs.declared.faults.RuleFaultKind.TheVariants as rule_kinds
+use Rattle.uca_certificates.specs.declared.faults.CertificateFaultKind.{CertificateFaultKind}
+use Rattle.uca_certificates.specs.declared.faults.CertificateFaultKind.TheVariants as certificate_kinds
 use Rattle.uca_text.specs.declared.limits.TextFault.{TextFault}
 use Rattle.uca_text.specs.declared.limits.TextFault.TheVariants as text_fault
 use Rattle.uca_cli.specs.declared.faults.InputKind.{InputKind}
 use Rattle.uca_cli.specs.declared.faults.InputKind.TheVariants as input_kind
 use Rattle.uca_cli.specs.declared.faults.FileFault.{FileFault}
-use Rattle.uca_cli.specs.declared.faults.FileFault.TheVariants.{Lines}
+use Rattle.uca_cli.specs.declared.faults.FileFault.TheVariants.{Lines, Rules, RulesRead, RulesMemory, Certificate}
 use Rattle.uca_cli.specs.declared.faults.RunFault.{RunFault}
 use Rattle.uca_cli.specs.declared.faults.RunFault.TheVariants.{File, Input, Write, Memory, Text, Open, Words}
 use Rattle.uca_words.specs.declared.WordFault.{WordFault}
@@ -22,8 +26,21 @@ line_status kinds.Read = 3
 line_status kinds.Memory = 4
 line_status _ = 1
 
+abbrev pub rule_status : RuleFaultKind → ℕ
+rule_status rule_kinds.Memory = 4
+rule_status _ = 1
+
+abbrev pub certificate_status : CertificateFaultKind → ℕ
+certificate_status certificate_kinds.Read = 3
+certificate_status certificate_kinds.Memory = 4
+certificate_status _ = 1
+
 abbrev pub file_status : FileFault → ℕ
 file_status (Lines fault) = line_status fault.kind
+file_status (Rules fault) = rule_status fault.kind
+file_status RulesRead = 3
+file_status RulesMemory = 4
+file_status (Certificate fault) = certificate_status fault.kind
 
 abbrev pub input_status : InputKind → ℕ
 input_status input_kind.Read = 3

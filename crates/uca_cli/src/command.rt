@@ -1,7 +1,8 @@
 //! The command: it reads its words, opens the files that they name, and calls the run.
 
-ghost use Rattle.std.specs.Prelude.{◌≡◌, ⊤, ℕ, List, Bool, Result, MatchResult};
+ghost use Rattle.std.specs.Prelude.{◌≡◌, ◌∷◌, [], ⊤, ℕ, List, Bool, Result, MatchResult};
 ghost use Rattle.clap.specs.Walk.{texts};
+ghost use Rattle.uca_cli.specs.AuditRun.{AuditsOver, RunsAudit};
 ghost use Rattle.uca_cli.specs.CheckRun.{RunsCheck};
 ghost use Rattle.uca_cli.specs.CompareRun.{RunsCompare};
 ghost use Rattle.uca_cli.specs.KeysRun.{RunsKeys};
@@ -9,11 +10,11 @@ ghost use Rattle.uca_cli.specs.SortRun.{RunsSort};
 ghost use Rattle.uca_cli.specs.Runs.{RunsOver};
 ghost use Rattle.uca_cli.specs.declared.command.OpenFault.{OpenFault};
 ghost use Rattle.uca_cli.specs.declared.faults.RunFault.{RunFault};
-ghost use Rattle.uca_cli.specs.Command.{AreOpened, DoesNotOpen, OpensAndRuns, done_result, check_result, DoesWords, DoesCommand};
+ghost use Rattle.uca_cli.specs.Command.{table_and_data, audit_files, AreOpened, DoesNotOpen, OpensAndRuns, OverTwo, OverFive, done_result, check_result, DoesWords, DoesCommand};
 
 use crate::faults::{Role, RunFault};
 use crate::reporting::{DONE, REFUSED, report};
-use crate::{run_check, run_compare, run_keys, run_sort};
+use crate::{run_audit, run_check, run_compare, run_keys, run_sort};
 use std::alloc::Global;
 use std::io::{Read, Write};
 use thiserror::Error;
@@ -50,8 +51,8 @@ fn open_files<O: Opens>(
     properties: &str,
 ) -> Result<(Source<O::File>, Source<O::File>), Role>
     ensures { MatchResult result
-        (λ files. AreOpened O.open_gives O.File.remaining opener.old opener.new table.now properties.now files.0 files.1)
-        (DoesNotOpen O.open_gives opener.old opener.new table.now properties.now) }
+        (λ files. AreOpened O.open_gives O.File.remaining opener.old opener.new (table_and_data table.now properties.now) (files.0 ∷ files.1 ∷ []))
+        (DoesNotOpen O.open_gives O.File.remaining opener.old opener.new (table_and_data table.now properties.now)) }
 {
     let Ok(table) = opener.open(table) else {
         return Err(Role::Table);
@@ -60,6 +61,54 @@ fn open_files<O: Opens>(
         return Err(Role::Data);
     };
     Ok((Source::new(table), Source::new(properties)))
+}
+
+// The sources of the files of an audit.
+#[derive(Drop)]
+struct AuditFiles<F: Read + Drop> {
+    base: Source<F>,
+    properties: Source<F>,
+    rules: Source<F>,
+    tailored: Source<F>,
+    certificate: Source<F>,
+}
+
+// The sources of the files of an audit, which are opened in the order of the words, or the first that does not open.
+fn open_audit_files<O: Opens>(
+    opener: &mut O,
+    base: &str,
+    data_file: &str,
+    rules: &str,
+    tailored: &str,
+    certificate: &str,
+) -> Result<AuditFiles<O::File>, Role>
+    ensures { MatchResult result
+        (λ files. AreOpened O.open_gives O.File.remaining opener.old opener.new (audit_files base.now data_file.now rules.now tailored.now certificate.now)
+        (files.base ∷ files.properties ∷ files.rules ∷ files.tailored ∷ files.certificate ∷ []))
+        (DoesNotOpen O.open_gives O.File.remaining opener.old opener.new (audit_files base.now data_file.now rules.now tailored.now certificate.now)) }
+{
+    let Ok(base) = opener.open(base) else {
+        return Err(Role::Base);
+    };
+    let Ok(data_file) = opener.open(data_file) else {
+        return Err(Role::Data);
+    };
+    let Ok(rules) = opener.open(rules) else {
+        return Err(Role::Rules);
+    };
+    let Ok(tailored) = opener.open(tailored) else {
+        return Err(Role::Tailored);
+    };
+    let Ok(certificate) = opener.open(certificate) else {
+        return Err(Role::Certificate);
+    };
+    Ok(AuditFiles {
+        base: Source::new(base),
+        properties: Source::new(data_file),
+        rules: Source::new(rules),
+        tailored: Source::new(tailored),
+        certificate: Source::new(certificate),
+    })
 }
 
 // The status of a run that was done.
@@ -91,8 +140,8 @@ fn check<O: Opens, W: Write>(
     properties: &str,
     out: &mut Sink<W>,
 ) -> Result<u8, RunFault>
-    ensures { OpensAndRuns O.open_gives O.File.remaining opener.old opener.new table.now properties.now (out.new ≡ out.old)
-        (λ t t_new d d_new. (run : Result Bool RunFault) × (result ≡ check_result run) × RunsOver t t_new d d_new (RunsCheck out.old out.new run) run) result }
+    ensures { OpensAndRuns O.open_gives O.File.remaining opener.old opener.new (table_and_data table.now properties.now) (out.new ≡ out.old)
+        (OverTwo (λ t t_new d d_new. (run : Result Bool RunFault) × (result ≡ check_result run) × RunsOver t t_new d d_new (RunsCheck out.old out.new run) run)) result }
 {
     let (mut table, mut properties) = match open_files(opener, table, properties) {
         Ok(files) => files,
@@ -112,8 +161,8 @@ fn keys<O: Opens, I: Read, W: Write>(
     input: &mut Source<I>,
     out: &mut Sink<W>,
 ) -> Result<u8, RunFault>
-    ensures { OpensAndRuns O.open_gives O.File.remaining opener.old opener.new table.now properties.now ((input.new ≡ input.old) × (out.new ≡ out.old))
-        (λ t t_new d d_new. (run : Result (Unit {0}) RunFault) × (result ≡ done_result run) × RunsOver t t_new d d_new (RunsKeys weighting depth input.old input.new out.old out.new run) run) result }
+    ensures { OpensAndRuns O.open_gives O.File.remaining opener.old opener.new (table_and_data table.now properties.now) ((input.new ≡ input.old) × (out.new ≡ out.old))
+        (OverTwo (λ t t_new d d_new. (run : Result (Unit {0}) RunFault) × (result ≡ done_result run) × RunsOver t t_new d d_new (RunsKeys weighting depth input.old input.new out.old out.new run) run)) result }
 {
     let (mut table, mut properties) = match open_files(opener, table, properties) {
         Ok(files) => files,
@@ -141,8 +190,8 @@ fn sort<O: Opens, I: Read, W: Write>(
     input: &mut Source<I>,
     out: &mut Sink<W>,
 ) -> Result<u8, RunFault>
-    ensures { OpensAndRuns O.open_gives O.File.remaining opener.old opener.new table.now properties.now ((input.new ≡ input.old) × (out.new ≡ out.old))
-        (λ t t_new d d_new. (run : Result (Unit {0}) RunFault) × (result ≡ done_result run) × RunsOver t t_new d d_new (RunsSort weighting depth input.old input.new out.old out.new run) run) result }
+    ensures { OpensAndRuns O.open_gives O.File.remaining opener.old opener.new (table_and_data table.now properties.now) ((input.new ≡ input.old) × (out.new ≡ out.old))
+        (OverTwo (λ t t_new d d_new. (run : Result (Unit {0}) RunFault) × (result ≡ done_result run) × RunsOver t t_new d d_new (RunsSort weighting depth input.old input.new out.old out.new run) run)) result }
 {
     let (mut table, mut properties) = match open_files(opener, table, properties) {
         Ok(files) => files,
@@ -171,8 +220,8 @@ fn compare<O: Opens, W: Write>(
     right: &str,
     out: &mut Sink<W>,
 ) -> Result<u8, RunFault>
-    ensures { OpensAndRuns O.open_gives O.File.remaining opener.old opener.new table.now properties.now (out.new ≡ out.old)
-        (λ t t_new d d_new. (run : Result (Unit {0}) RunFault) × (result ≡ done_result run) × RunsOver t t_new d d_new (RunsCompare weighting depth left.now right.now out.old out.new run) run) result }
+    ensures { OpensAndRuns O.open_gives O.File.remaining opener.old opener.new (table_and_data table.now properties.now) (out.new ≡ out.old)
+        (OverTwo (λ t t_new d d_new. (run : Result (Unit {0}) RunFault) × (result ≡ done_result run) × RunsOver t t_new d d_new (RunsCompare weighting depth left.now right.now out.old out.new run) run)) result }
 {
     let (mut table, mut properties) = match open_files(opener, table, properties) {
         Ok(files) => files,
@@ -187,6 +236,36 @@ fn compare<O: Opens, W: Write>(
         out,
         weighting,
         depth,
+    ))
+}
+
+// `audit`.
+fn audit<O: Opens, W: Write>(
+    alloc: Global,
+    opener: &mut O,
+    base: &str,
+    properties: &str,
+    rules: &str,
+    tailored: &str,
+    certificate: &str,
+    out: &mut Sink<W>,
+) -> Result<u8, RunFault>
+    ensures { OpensAndRuns O.open_gives O.File.remaining opener.old opener.new
+        (audit_files base.now properties.now rules.now tailored.now certificate.now) (out.new ≡ out.old)
+        (OverFive (λ s s_new. (run : Result Bool RunFault) × (result ≡ check_result run) × AuditsOver s s_new (RunsAudit out.old out.new run) run)) result }
+{
+    let mut files = match open_audit_files(opener, base, properties, rules, tailored, certificate) {
+        Ok(files) => files,
+        Err(role) => return Err(RunFault::Open(role)),
+    };
+    checked(run_audit(
+        alloc,
+        &mut files.base,
+        &mut files.properties,
+        &mut files.rules,
+        &mut files.tailored,
+        &mut files.certificate,
+        out,
     ))
 }
 
@@ -228,6 +307,22 @@ fn run_words<O: Opens, I: Read, W: Write>(
             right,
         } => compare(
             alloc, opener, weighting, depth, table, properties, left, right, out,
+        ),
+        Words::Audit {
+            base,
+            properties,
+            rules,
+            tailored,
+            certificate,
+        } => audit(
+            alloc,
+            opener,
+            base,
+            properties,
+            rules,
+            tailored,
+            certificate,
+            out,
         ),
     }
 }

@@ -6,6 +6,8 @@ ghost use Rattle.uca_cli.specs.declared.faults.RunFault.TheVariants.{Write};
 
 use std::fmt;
 use thiserror::Error;
+use uca_certificates::CertificateFault;
+use uca_rules::RuleFault;
 use uca_text::TextFault;
 use uca_values::TableFault;
 use uca_weights::WriteFault;
@@ -80,18 +82,38 @@ pub enum InputKind {
 /// Where a file is refused, and why. Its text follows the word for the role of the file.
 #[derive(Clone, Copy, Debug, PartialEq, Eq, Error)]
 pub enum FileFault {
-    /// In a line of a table or of a data file: `line 7: Range`. Files of another kind have another way to
-    /// name a place, and a variant each: tailoring rules count bytes, as `byte 7: KIND`, and a certificate
-    /// may be refused as a whole, as `Map KIND`.
+    /// In a line of a table or of a data file: `line 7: Range`.
     #[error("{0}")]
     Lines(TableFault),
+    /// At a byte of rules: `byte 7: Syntax`.
+    #[error("{0}")]
+    Rules(RuleFault),
+    /// The reader of rules failed.
+    #[error("Read")]
+    RulesRead,
+    /// An allocation failed for the bytes of rules.
+    #[error("Memory")]
+    RulesMemory,
+    /// In a line of a certificate: `line 7: Order`.
+    #[error("{0}")]
+    Certificate(CertificateFault),
+}
+
+impl FileFault {
+    // What stands between the word for the role of the file and the text: a fault without a place is set off by a colon.
+    fn separator(self) -> &'static str {
+        match self {
+            FileFault::RulesRead | FileFault::RulesMemory => ": ",
+            _ => " ",
+        }
+    }
 }
 
 /// Why a run ends without its whole output. Its text is the fault line on standard error.
 #[derive(Debug, Drop, Error)]
 pub enum RunFault {
     /// A file is refused, or cannot be read.
-    #[error("{role} {fault}")]
+    #[error("{role}{}{fault}", .fault.separator())]
     File {
         /// What the file is for.
         role: Role,

@@ -1,11 +1,13 @@
 //! The table and the data file that a run goes by.
 
-ghost use Rattle.std.specs.Prelude.{◌≡◌, ◌||◌, is_err, IfOk, IfErr, IfSome, OnErr};
-ghost use Rattle.uca_values.specs.Content.{properties_of};
+ghost use Rattle.std.specs.Prelude.{◌≡◌, ◌||◌, is_err, IfOk, IfErr, IfSome, OnErr, MatchResult};
+ghost use Rattle.uca_values.specs.Content.{Properties, properties_of};
 ghost use Rattle.uca_table.specs.Lines as tables;
 ghost use Rattle.uca_data.specs.Said as data_files;
 ghost use Rattle.uca_match.specs.Rows.{rows_of};
 ghost use Rattle.uca_key.specs.Lengths.{HasShortRows};
+ghost use Rattle.uca_cli.specs.AuditFiles.{ReadsThat};
+ghost use Rattle.uca_cli.specs.AuditRun.{IsStop};
 ghost use Rattle.uca_cli.specs.Keys.{weighting_by};
 ghost use Rattle.uca_cli.specs.Runs.{is_file, is_file_read, IsRefused, OfLines, RunsOver};
 
@@ -62,6 +64,7 @@ pub fn read_table_file<A: Allocator + Copy, T: Read>(
     source: &mut Source<T>,
 ) -> Result<Table<A>, RunFault>
     ensures means { IfOk result (λ table. IfSome source.old.remaining (λ bytes. tables.Means bytes table)) }
+    ensures only { ReadsThat source.old.remaining tables.Means result }
     ensures refused { IfErr result (IsRefused role source.old source.new (OfLines tables.Refuses)) }
     ensures failed { source.new.failed ≡ (source.old.failed || is_file_read role result) }
 {
@@ -85,6 +88,8 @@ pub fn read_data_file<A: Allocator + Copy, D: Read>(
 ) -> Result<Data<A>, RunFault>
     ensures means { IfOk result (λ read. IfSome source.old.remaining (λ bytes.
         data_files.Means bytes (properties_of read))) }
+    ensures only { IfSome source.old.remaining (λ bytes. (content : Properties) → data_files.Means bytes content →
+        MatchResult result (λ read. properties_of read ≡ content) IsStop) }
     ensures refused { IfErr result (IsRefused Role.Data source.old source.new (OfLines data_files.Refuses)) }
     ensures failed { source.new.failed ≡ (source.old.failed || is_file_read Role.Data result) }
 {

@@ -1,6 +1,8 @@
 //! The runs of the command, as functions from the bytes that they read to the bytes that they write.
 #![tactic(auto)]
 
+pub mod audit;
+mod audit_files;
 pub mod check;
 pub mod command;
 pub mod compare;
@@ -12,8 +14,10 @@ pub mod laws;
 mod output;
 pub mod print;
 pub mod reporting;
+mod rule_file;
 pub mod sort;
 
+pub use audit::run_audit;
 pub use check::run_check;
 pub use command::{OpenFault, Opens, run_command};
 pub use compare::{compare_words, run_compare, run_compare_in};

@@ -3,9 +3,9 @@
 ghost use Rattle.std.specs.Prelude.{◌≡◌, ◌++◌, ◌∷◌, []};
 ghost use Rattle.uca_cli.specs.FaultText.{fault_text};
 ghost use Rattle.uca_cli.specs.Reports.{GoesOut, ReportsRefusal, ReportsWords, Reports};
-ghost use Rattle.uca_cli.specs.Statuses.{line_status, file_status, input_status, text_status, is_asked_for, IsWordStatus, IsStatus};
+ghost use Rattle.uca_cli.specs.Statuses.{line_status, rule_status, certificate_status, file_status, input_status, text_status, is_asked_for, IsWordStatus, IsStatus};
 
-mod line;
+pub(crate) mod line;
 
 use crate::faults::{FileFault, InputKind, RunFault};
 use clap::error::ErrorKind;
@@ -14,6 +14,8 @@ use std::alloc::Global;
 use std::fmt::Display;
 use std::io::Write;
 use std::string::ToString;
+use uca_certificates::CertificateFaultKind;
+use uca_rules::RuleFaultKind;
 use uca_text::TextFault;
 use uca_values::FaultKind;
 use uca_weights::Sink;
@@ -40,11 +42,34 @@ fn status_of_line(kind: FaultKind) -> u8
     }
 }
 
+fn status_of_rules(kind: RuleFaultKind) -> u8
+    ensures { result ≡ rule_status kind }
+{
+    match kind {
+        RuleFaultKind::Memory => NO_MEMORY,
+        _ => REFUSED,
+    }
+}
+
+fn status_of_certificate(kind: CertificateFaultKind) -> u8
+    ensures { result ≡ certificate_status kind }
+{
+    match kind {
+        CertificateFaultKind::Read => STREAM_FAILED,
+        CertificateFaultKind::Memory => NO_MEMORY,
+        _ => REFUSED,
+    }
+}
+
 fn status_of_file(fault: FileFault) -> u8
     ensures { result ≡ file_status fault }
 {
     match fault {
         FileFault::Lines(fault) => status_of_line(fault.kind),
+        FileFault::Rules(fault) => status_of_rules(fault.kind),
+        FileFault::RulesRead => STREAM_FAILED,
+        FileFault::RulesMemory => NO_MEMORY,
+        FileFault::Certificate(fault) => status_of_certificate(fault.kind),
     }
 }
 

@@ -39,13 +39,17 @@ sort_app = with_options (new_app (codes "sort"))
 abbrev pub compare_app : App
 compare_app = with_rule (with_rule (with_options (new_app (codes "compare"))) (word_rule (codes "left"))) (word_rule (codes "right"))
 
+-- `audit BASE DATA RULES TAILORED CERTIFICATE`
+abbrev pub audit_app : App
+audit_app = with_rule (with_rule (with_rule (with_rule (with_rule (new_app (codes "audit")) (word_rule (codes "base"))) (word_rule (codes "data"))) (word_rule (codes "rules"))) (word_rule (codes "tailored"))) (word_rule (codes "certificate"))
+
 -- the command before its subcommands: one of them has to be named, and none is `help`
 abbrev pub bare_app : App
 bare_app = on_top (λ s. record s { subcommand_required = true; disable_help_subcommand = true }) (new_app (codes "uca"))
 
 -- the subcommands, in the order of the help
 abbrev pub subcommands : List App
-subcommands = check_app ∷ keys_app ∷ sort_app ∷ compare_app ∷ []
+subcommands = check_app ∷ keys_app ∷ sort_app ∷ compare_app ∷ audit_app ∷ []
 
 abbrev pub uca_app : App
 uca_app = fold (λ app sub. with_subcommand app sub.top) bare_app subcommands

@@ -2,7 +2,7 @@
 
 ghost use Rattle.std.specs.Prelude.{◌≡◌, false, IfOk};
 ghost use Rattle.clap.specs.Words.{App, new_app, rule_of, with_rule, with_subcommand};
-ghost use Rattle.uca_words.specs.Command.{StandsFor, word_rule, weighting_rule, identical_rule, with_files, with_options, check_app, keys_app, sort_app, compare_app, bare_app, uca_app};
+ghost use Rattle.uca_words.specs.Command.{StandsFor, word_rule, weighting_rule, identical_rule, with_files, with_options, check_app, keys_app, sort_app, compare_app, audit_app, bare_app, uca_app};
 
 use clap::{Arg, ArgAction, Command};
 use std::alloc::{AllocError, Global};
@@ -141,6 +141,43 @@ fn compare_command<'a>(alloc: Global) -> Result<Command<'a>, AllocError>
         .arg(word(alloc, "right", "RIGHT", "The text on the right"))
 }
 
+// One more word.
+fn take_word<'a>(
+    alloc: Global,
+    command: Command<'a>,
+    id: &'a str,
+    name: &'a str,
+    help: &'a str,
+) -> Result<Command<'a>, AllocError>
+    ensures { (app : App) → StandsFor app command.entry → IfOk result (StandsFor (with_rule app (word_rule id.entry.now))) }
+{
+    command.arg(word(alloc, id, name, help))
+}
+
+fn audit_command<'a>(alloc: Global) -> Result<Command<'a>, AllocError>
+    ensures { IfOk result (StandsFor audit_app) }
+{
+    let audit = named(
+        alloc,
+        "audit",
+        "Say whether a tailored table is what its rules say",
+        "Says whether TAILORED is BASE as RULES tailor it, with the weights moved as CERTIFICATE says: prints\n\
+         `accepted`, or the first condition that fails and where, as `refused 9 NotPlaced relation 3`, with\n\
+         status 1. Where it accepts, each relation of the rules holds, and all texts in which no target of\n\
+         the rules occurs compare as under BASE.",
+        "Example: uca audit table.txt data.txt rules.txt tailored.txt certificate.txt",
+    );
+    let base = "The weight table before the tailoring";
+    let audit = take_word(alloc, audit, "base", "BASE", base)?;
+    let data = "A data file: combining classes and Han ranges";
+    let audit = take_word(alloc, audit, "data", "DATA", data)?;
+    let audit = take_word(alloc, audit, "rules", "RULES", "The tailoring rules")?;
+    let tailored = "The weight table after the tailoring";
+    let audit = take_word(alloc, audit, "tailored", "TAILORED", tailored)?;
+    let certificate = "The certificate of the tailoring";
+    take_word(alloc, audit, "certificate", "CERTIFICATE", certificate)
+}
+
 // One more subcommand.
 fn take_subcommand<'a>(command: Command<'a>, below: Command<'a>) -> Result<Command<'a>, AllocError>
     ensures { (app sub : App) → StandsFor app command.entry → StandsFor sub below.entry →
@@ -155,7 +192,7 @@ fn bare_command<'a>(alloc: Global) -> Command<'a>
 {
     Command::new(alloc, "uca")
         .about(
-            "Unicode collation (UTS #10): checks tables of weights, prints sort keys, sorts and compares",
+            "Unicode collation (UTS #10): checks tables of weights, prints sort keys, sorts, compares, audits",
         )
         .after_help("`uca COMMAND --help` says more of each, with an example.")
         .subcommand_required(true)
@@ -169,5 +206,6 @@ pub(crate) fn uca_command<'a>(alloc: Global) -> Result<Command<'a>, AllocError>
     let command = take_subcommand(bare_command(alloc), check_command(alloc)?)?;
     let command = take_subcommand(command, keys_command(alloc)?)?;
     let command = take_subcommand(command, sort_command(alloc)?)?;
-    take_subcommand(command, compare_command(alloc)?)
+    let command = take_subcommand(command, compare_command(alloc)?)?;
+    take_subcommand(command, audit_command(alloc)?)
 }

@@ -13,7 +13,7 @@ ghost use Rattle.std.specs.Prelude.{◌≡◌, Some, IfOk, IfErr, IfSome, IfNone
 ghost use Rattle.clap.specs.Words.{found_of, rows_of, first_of};
 ghost use Rattle.clap.specs.Takes.{is_given};
 ghost use Rattle.clap.specs.Walk.{texts};
-ghost use Rattle.uca_words.specs.Command.{check_app, keys_app, sort_app, compare_app};
+ghost use Rattle.uca_words.specs.Command.{check_app, keys_app, sort_app, compare_app, audit_app};
 ghost use Rattle.uca_words.specs.Met.{has_words, is_met, IsWeightingFault};
 ghost use Rattle.uca_words.specs.Words.{HasFiles, HasWord, HasWeighting, HasDepth, Says, AreRead, IsFaultOf};
 
@@ -73,6 +73,19 @@ pub enum Words<'a> {
         left: &'a str,
         /// The text on the right.
         right: &'a str,
+    },
+    /// `audit BASE DATA RULES TAILORED CERTIFICATE`: say whether a tailored table is what its rules say.
+    Audit {
+        /// The name of the file of the table before the tailoring.
+        base: &'a str,
+        /// The name of the data file.
+        properties: &'a str,
+        /// The name of the file of rules.
+        rules: &'a str,
+        /// The name of the file of the table after the tailoring.
+        tailored: &'a str,
+        /// The name of the file of the certificate.
+        certificate: &'a str,
     },
 }
 
@@ -226,6 +239,19 @@ fn compare_words<'a>(found: &ArgMatches<'a>) -> Result<Words<'a>, WordFault>
     })
 }
 
+fn audit_words<'a>(found: &ArgMatches<'a>) -> Words<'a>
+    requires { has_words audit_app (rows_of (found_of found.now)) ≡ true }
+    ensures { Says (codes "audit") (rows_of (found_of found.now)) result }
+{
+    Words::Audit {
+        base: word_of(found, "base"),
+        properties: word_of(found, "data"),
+        rules: word_of(found, "rules"),
+        tailored: word_of(found, "tailored"),
+        certificate: word_of(found, "certificate"),
+    }
+}
+
 // The words of the subcommand of this name.
 fn subcommand_words<'a>(name: &str, found: &ArgMatches<'a>) -> Result<Words<'a>, WordFault>
     requires { is_met name.now (rows_of (found_of found.now)) ≡ true }
@@ -237,6 +263,7 @@ fn subcommand_words<'a>(name: &str, found: &ArgMatches<'a>) -> Result<Words<'a>,
         "keys" => keys_words(found),
         "sort" => sort_words(found),
         "compare" => compare_words(found),
+        "audit" => Ok(audit_words(found)),
         _ => unreachable!(),
     }
 }

@@ -7,14 +7,16 @@ ghost use Rattle.uca_cli.specs.FaultText.{input_kind_text, long_run_text, line_t
 
 use crate::faults::{FileFault, InputKind, Role, RunFault};
 use arrayvec::ArrayString;
+use uca_certificates::{CertificateFault, CertificateFaultKind};
+use uca_rules::RuleFault;
 use uca_text::TextFault;
 use uca_words::WordFault;
 
 /// How many bytes a fault line has at most, its LF counted.
-pub(super) const LONGEST_LINE: usize = 160;
+pub(crate) const LONGEST_LINE: usize = 160;
 
 /// A line in the making.
-pub(super) type Line = ArrayString<LONGEST_LINE>;
+pub(crate) type Line = ArrayString<LONGEST_LINE>;
 
 /// The line of a fault, without its LF: empty for an error of `clap`, which has a text of its own.
 pub(super) fn line_of(fault: &RunFault) -> Line
@@ -52,8 +54,8 @@ fn line_from(text: &str) -> Line
     line
 }
 
-// Appends a word, and after it a number in decimal.
-fn push_number(line: &mut Line, word: &str, number: u32)
+/// Appends a word, and after it a number in decimal.
+pub(crate) fn push_number(line: &mut Line, word: &str, number: u64)
     requires { length line.old.bytes + length word.now ≤ 120 }
     ensures text { line.new.bytes ≡ line.old.bytes ++ (word.now ++ decimal number) }
     ensures short { length line.new.bytes ≤ length line.old.bytes + length word.now + 40 }
@@ -70,7 +72,7 @@ fn line_at(name: &str, number: u32) -> Line
     ensures short { length result.bytes ≤ 70 }
 {
     let mut line = line_from(name);
-    push_number(&mut line, " line ", number);
+    push_number(&mut line, " line ", number.into());
     line.push_str(": ");
     line
 }
@@ -86,7 +88,55 @@ fn file_line(name: &str, fault: FileFault) -> Line
             line.push_str(fault.kind.name());
             line
         }
+        FileFault::Rules(fault) => rule_line(name, fault),
+        FileFault::RulesRead => said_of(name, ": Read"),
+        FileFault::RulesMemory => said_of(name, ": Memory"),
+        FileFault::Certificate(fault) => certificate_line(name, fault),
     }
+}
+
+// A file, and what is said of it as a whole.
+fn said_of(name: &str, text: &str) -> Line
+    requires { length name.now + length text.now ≤ 40 }
+    ensures text { result.bytes ≡ name.now ++ text.now }
+    ensures short { length result.bytes ≤ 40 }
+{
+    let mut line = line_from(name);
+    line.push_str(text);
+    line
+}
+
+// A file, and a place in its bytes: `rules byte 7: Syntax`.
+fn rule_line(name: &str, fault: RuleFault) -> Line
+    requires { length name.now ≤ 20 }
+    ensures text { result.bytes ≡ file_fault_text name.now (FileFault.Rules fault) }
+    ensures short { length result.bytes ≤ 100 }
+{
+    let mut line = line_from(name);
+    push_number(&mut line, " byte ", fault.byte as u64);
+    line.push_str(": ");
+    line.push_str(fault.kind.name());
+    line
+}
+
+fn certificate_line(name: &str, fault: CertificateFault) -> Line
+    requires { length name.now ≤ 20 }
+    ensures text { result.bytes ≡ file_fault_text name.now (FileFault.Certificate fault) }
+    ensures short { length result.bytes ≤ 100 }
+{
+    let mut line = line_at(name, fault.line);
+    match fault.kind {
+        CertificateFaultKind::Line => line.push_str("Line"),
+        CertificateFaultKind::Order => line.push_str("Order"),
+        CertificateFaultKind::Map(fault) => {
+            line.push_str("Map ");
+            line.push_str(fault.kind.name());
+        }
+        CertificateFaultKind::Limit => line.push_str("Limit"),
+        CertificateFaultKind::Read => line.push_str("Read"),
+        CertificateFaultKind::Memory => line.push_str("Memory"),
+    }
+    line
 }
 
 fn input_line(number: u32, kind: InputKind) -> Line
@@ -97,7 +147,7 @@ fn input_line(number: u32, kind: InputKind) -> Line
     match kind {
         InputKind::Utf8 => line.push_str("Utf8"),
         InputKind::TooLong => line.push_str("TooLong"),
-        InputKind::LongRun(place) => push_number(&mut line, "LongRun at ", place),
+        InputKind::LongRun(place) => push_number(&mut line, "LongRun at ", place.into()),
         InputKind::Read => line.push_str("Read"),
         InputKind::Limit => line.push_str("Limit"),
         InputKind::Memory => line.push_str("Memory"),
@@ -113,7 +163,7 @@ fn text_line(right: bool, fault: TextFault) -> Line
     line.push_str(": ");
     match fault {
         TextFault::TooLong => line.push_str("TooLong"),
-        TextFault::LongRun(place) => push_number(&mut line, "LongRun at ", place),
+        TextFault::LongRun(place) => push_number(&mut line, "LongRun at ", place.into()),
         TextFault::Memory => line.push_str("Memory"),
     }
     line
@@ -123,7 +173,5 @@ fn open_line(role: Role) -> Line
     ensures text { result.bytes ≡ role_text role ++ codes ": Open" }
     ensures short { length result.bytes ≤ 40 }
 {
-    let mut line = line_from(role.name());
-    line.push_str(": Open");
-    line
+    said_of(role.name(), ": Open")
 }

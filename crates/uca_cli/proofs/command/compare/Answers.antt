@@ -1,13 +1,10 @@
 -- Both files are opened, and then run over.
-use Rattle.std.proofs.Common.{inr}
+use Rattle.std.proofs.Common.{inr, [], ◌∷◌}
 use Rattle.uca_cli.proofs.command.compare.Goals as goal
 
 pub returns : goal.returns
 returns g c = inr (record {
-  table = c.in-Ok.files.0;
-  table_new = c.run_compare.new.table;
-  properties = c.in-Ok.files.1;
-  properties_new = c.run_compare.new.properties;
+  sources = c.in-Ok.files.0 ∷ c.in-Ok.files.1 ∷ [];
   opened = c.in-Ok.ensures;
-  runs = (c.run_compare.result, c.done.ensures, c.run_compare.ensures.runs);
+  runs = (c.run_compare.new.table, c.run_compare.new.properties, (c.run_compare.result, c.done.ensures, c.run_compare.ensures.runs));
 })

@@ -2,5 +2,17 @@
 use Rattle.std.proofs.Common.{refl}
 use Rattle.uca_cli.proofs.command.run_words.Goals as goal
 
+pub returns-in-Check : goal.returns-in-Check
+returns-in-Check g c = rw c.in-Check.is (refl, c.check.ensures)
+
+pub returns-in-Keys : goal.returns-in-Keys
+returns-in-Keys g c = rw c.in-Keys.is c.keys.ensures
+
+pub returns-in-Sort : goal.returns-in-Sort
+returns-in-Sort g c = rw c.in-Sort.is c.sort.ensures
+
 pub returns-in-Compare : goal.returns-in-Compare
 returns-in-Compare g c = rw c.in-Compare.is (refl, c.compare.ensures)
+
+pub returns-in-Audit : goal.returns-in-Audit
+returns-in-Audit g c = rw c.in-Audit.is (refl, c.audit.ensures)

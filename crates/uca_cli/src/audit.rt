@@ -1,0 +1,105 @@
+//! The run that audits a tailoring.
+
+ghost use Rattle.std.specs.Prelude.{◌≡◌, ◌++◌, ◌∷◌, [], ◌||◌, true, false};
+ghost use Rattle.uca_values.specs.Content.{properties_of};
+ghost use Rattle.uca_tailorings.specs.Tailorings.{IsAccepted};
+ghost use Rattle.uca_audit.specs.FaultText.{audit_fault_text};
+ghost use Rattle.uca_audit.specs.Inputs.{tailoring_of};
+ghost use Rattle.uca_cli.specs.AuditRun.{AcceptsOrStops, AuditContent, AuditHasFailed, AuditsOver, HaveContent, RunsAudit, audit_sources, tailoring_by};
+ghost use Rattle.uca_cli.specs.Runs.{is_before_output, is_file, is_write};
+
+use crate::audit_files::{AuditFiles, read_audit_files};
+use crate::faults::RunFault;
+use crate::output::write_text;
+use crate::reporting::line::{Line, push_number};
+use std::alloc::Global;
+use std::io::{Read, Write};
+use uca_audit::{AuditFault, Place, audit};
+use uca_weights::{Sink, Source};
+
+/// The number that an audit gives to an allocation that failed.
+const NO_MEMORY: u8 = 12;
+
+/// Audits a tailoring: whether the tailored table is the base as the rules tailor it, with the weights of the base moved
+/// as the certificate says. Writes the verdict as a line, and answers whether the tailoring is accepted: `accepted`, or
+/// the first condition that fails and the first place where it does, as `refused 9 NotPlaced relation 3`. The files are
+/// read one after the other, each to its end or its first fault.
+///
+/// # Errors
+///
+/// `File` for the first file that is refused, and `Memory` where an allocation failed in the audit: nothing was written.
+/// `Write` where the writer failed: the first `written` bytes of the verdict went out.
+pub fn run_audit<B: Read, D: Read, U: Read, T: Read, C: Read, W: Write>(
+    alloc: Global,
+    base: &mut Source<B>,
+    properties: &mut Source<D>,
+    rules: &mut Source<U>,
+    tailored: &mut Source<T>,
+    certificate: &mut Source<C>,
+    out: &mut Sink<W>,
+) -> Result<bool, RunFault>
+    // Where the bytes of its files are known.
+    ensures runs { AuditsOver (audit_sources base.old properties.old rules.old tailored.old certificate.old)
+        (audit_sources base.new properties.new rules.new tailored.new certificate.new) (RunsAudit out.old out.new result) result }
+    ensures only { (content : AuditContent) → HaveContent (audit_sources base.old properties.old rules.old tailored.old certificate.old) content →
+        IsAccepted (tailoring_by content) → AcceptsOrStops result }
+
+    // Whatever the readers and the writer are.
+    ensures nothing_written { is_before_output result ≡ true → out.new ≡ out.old }
+    ensures failed { AuditHasFailed (audit_sources base.old properties.old rules.old tailored.old certificate.old)
+        (audit_sources base.new properties.new rules.new tailored.new certificate.new) out.old out.new result }
+{
+    let files = read_audit_files(alloc, base, properties, rules, tailored, certificate)?;
+    write_verdict(alloc, &files, out)
+}
+
+// Audits what the files mean, and writes the verdict as a line.
+fn write_verdict<W: Write>(
+    alloc: Global,
+    files: &AuditFiles,
+    out: &mut Sink<W>,
+) -> Result<bool, RunFault>
+    ensures verdict { RunsAudit out.old out.new result
+        (tailoring_of files.now.base (properties_of files.now.properties) files.now.rules files.now.tailored files.now.certificate) }
+    ensures only { IsAccepted (tailoring_of files.now.base (properties_of files.now.properties) files.now.rules files.now.tailored files.now.certificate) →
+        AcceptsOrStops result }
+    ensures no_file { is_file result ≡ false }
+    ensures nothing_written { is_before_output result ≡ true → out.new ≡ out.old }
+    ensures failed { out.new.failed ≡ (out.old.failed || is_write result) }
+{
+    let verdict = audit(
+        alloc,
+        &files.base,
+        &files.properties,
+        &files.rules,
+        &files.tailored,
+        &files.certificate,
+    );
+    let Err(fault) = verdict else {
+        write_text(b"accepted\n", out)?;
+        return Ok(true);
+    };
+    if fault.number == NO_MEMORY {
+        return Err(RunFault::Memory);
+    }
+    write_text(refusal_line(fault).as_str().as_bytes(), out)?;
+    Ok(false)
+}
+
+// The verdict on a tailoring that is not accepted, as a line.
+fn refusal_line(fault: AuditFault) -> Line
+    ensures { result.bytes ≡ audit_fault_text fault ++ 10 ∷ [] }
+{
+    let mut line = Line::new();
+    push_number(&mut line, "refused ", fault.number.into());
+    line.push_str(" ");
+    line.push_str(fault.name());
+    match fault.place {
+        Place::Nowhere => {}
+        Place::BaseRow(row) => push_number(&mut line, " base row ", row.into()),
+        Place::TailoredRow(row) => push_number(&mut line, " tailored row ", row.into()),
+        Place::Relation(number) => push_number(&mut line, " relation ", number.into()),
+    }
+    line.push('\n');
+    line
+}
