@@ -151,7 +151,7 @@ fn audits_byte_by_byte(rt: HostRuntime) -> Result<(), Fail> {
     with_files(rt.alloc(), |alloc, texts| {
         let outcome = audited(alloc, texts, [Pace::steps(1); 5], Pace::steps(1))?;
         same(&outcome.end, "true", "one byte a call")?;
-        holds(outcome.printed.as_slice() == b"accepted\n", "one byte a call")?;
+        holds(outcome.printed.as_slice() == b"accepted\n".as_slice(), "one byte a call")?;
         holds(outcome.failed == [false; 6], "one byte a call")
     })
 }
