@@ -17,6 +17,7 @@ const CLASSES: &str = "@data 1\nccc 0301..0301 230\n";
 const BOTH: Files<'static> = Files {
     table: Some(ROWS),
     properties: Some(CLASSES),
+    others: &[],
 };
 
 // Done, with this on standard output.
@@ -102,6 +103,7 @@ fn a_table_that_is_not_well_formed(rt: HostRuntime) -> Result<(), Fail> {
     let files = Files {
         table: Some("@version 1\n0061 ; [.1C47.0000.0002]\n"),
         properties: Some(CLASSES),
+        others: &[],
     };
     let end = End {
         status: 1,
@@ -119,7 +121,11 @@ fn check_closed(
     (table, properties): (Option<&str>, Option<&str>),
     (err, opened): (&str, u32),
 ) -> Result<(), Fail> {
-    let files = Files { table, properties };
+    let files = Files {
+        table,
+        properties,
+        others: &[],
+    };
     check(alloc, &files, words, b"a\n", &fault(3, err, opened))
 }
 
@@ -156,6 +162,7 @@ fn check_refused(
     let files = Files {
         table: Some(table),
         properties: Some(properties),
+        others: &[],
     };
     let end = End {
         status: 1,

@@ -1,4 +1,4 @@
-//! An opener of two files in memory that sees in which order they are opened and read.
+//! An opener of files in memory that sees in which order they are opened and read.
 
 use std::alloc::{AllocError, Global};
 use std::cell::Cell;
@@ -17,6 +17,34 @@ pub struct Files<'a> {
     pub table: Option<&'a str>,
     /// The text of the data file.
     pub properties: Option<&'a str>,
+    /// The names and the texts of further files.
+    pub others: &'a [(&'a str, Option<&'a str>)],
+}
+
+impl<'a> Files<'a> {
+    /// How many files there are, those that do not open too.
+    fn count(&self) -> u32 {
+        let mut count: u32 = 2;
+        for _ in self.others {
+            count = count.saturating_add(1);
+        }
+        count
+    }
+
+    /// The text of the file of this name.
+    fn text_of(&self, name: &str) -> Option<&'a str> {
+        match name {
+            "allkeys.txt" => return self.table,
+            "data.txt" => return self.properties,
+            _ => {}
+        }
+        for (other, text) in self.others {
+            if *other == name {
+                return *text;
+            }
+        }
+        None
+    }
 }
 
 // What the opener and its files saw.
@@ -24,9 +52,11 @@ pub struct Files<'a> {
 struct Seen {
     // How many files were opened.
     opened: Cell<u32>,
-    // How many reads there were before two files were opened.
+    // How many files the words name.
+    wanted: u32,
+    // How many reads there were before all files were opened.
     early: Cell<u32>,
-    // How many reads of the first file there were after one of the second.
+    // How many reads of a file there were after one of a later file.
     back: Cell<u32>,
     // The file that was read last.
     last: Cell<u32>,
@@ -34,7 +64,7 @@ struct Seen {
 
 impl Seen {
     fn see_read(&self, number: u32) {
-        if self.opened.get() < 2 {
+        if self.opened.get() < self.wanted {
             self.early.set(self.early.get().saturating_add(1));
         }
         if number < self.last.get() {
@@ -61,12 +91,7 @@ impl<'a> Opens for FakeOpener<'a> {
     type File = FakeFile<'a>;
 
     fn open(&mut self, name: &str) -> Result<FakeFile<'a>, OpenFault> {
-        let text = match name {
-            "allkeys.txt" => self.files.table,
-            "data.txt" => self.files.properties,
-            _ => None,
-        };
-        let Some(text) = text else {
+        let Some(text) = self.files.text_of(name) else {
             return Err(OpenFault);
         };
         let number = self.seen.opened.get().saturating_add(1);
@@ -137,7 +162,7 @@ fn words_of(alloc: Global, line: &str) -> Result<Vec<&str>, AllocError> {
 }
 
 /// The command of some words, with commas between them, ends so over these files and this input: all files are
-/// opened before one is read, the first is read before the second, and the input is read only where both are opened.
+/// opened before one is read, each is read before the next, and the input is read only where all are opened.
 pub fn check(
     alloc: Global,
     files: &Files,
@@ -156,8 +181,10 @@ pub fn check_words(
     input: &[u8],
     end: &End,
 ) -> Result<(), Fail> {
+    let wanted = files.count();
     let seen = Seen {
         opened: Cell::new(0),
+        wanted,
         early: Cell::new(0),
         back: Cell::new(0),
         last: Cell::new(0),
@@ -174,7 +201,7 @@ pub fn check_words(
     let is_in_order = seen.opened.get() == end.opened
         && seen.early.get() == 0
         && seen.back.get() == 0
-        && (end.opened == 2 || calls.all.get() == 0);
+        && (end.opened == wanted || calls.all.get() == 0);
     if is_written && is_in_order {
         return Ok(());
     }

@@ -7,10 +7,11 @@ use std::test::Fail;
 const NONE: Files<'static> = Files {
     table: None,
     properties: None,
+    others: &[],
 };
 
 const WHOLE: &str =
-    "Unicode collation (UTS #10): checks tables of weights, prints sort keys, sorts and compares\n\
+    "Unicode collation (UTS #10): checks tables of weights, prints sort keys, sorts, compares, audits\n\
     \n\
     Usage: uca <COMMAND>\n\
     \n\
@@ -19,6 +20,7 @@ const WHOLE: &str =
     \x20 keys     Print the sort key of each line of standard input\n\
     \x20 sort     Sort the lines of standard input by their sort keys\n\
     \x20 compare  Say how two texts compare, and at which level they differ\n\
+    \x20 audit    Say whether a tailored table is what its rules say\n\
     \n\
     Options:\n\
     \x20 -h, --help  Print help\n\
@@ -128,6 +130,36 @@ const COMPARE: &str =
     \n\
     Example: uca compare --weighting shifted allkeys.txt data.txt cote côté\n";
 
+const AUDIT: &str =
+    "Says whether TAILORED is BASE as RULES tailor it, with the weights moved as CERTIFICATE says: prints\n\
+    `accepted`, or the first condition that fails and where, as `refused 9 NotPlaced relation 3`, with\n\
+    status 1. Where it accepts, each relation of the rules holds, and all texts in which no target of\n\
+    the rules occurs compare as under BASE.\n\
+    \n\
+    Usage: uca audit <BASE> <DATA> <RULES> <TAILORED> <CERTIFICATE>\n\
+    \n\
+    Arguments:\n\
+    \x20 <BASE>\n\
+    \x20         The weight table before the tailoring\n\
+    \n\
+    \x20 <DATA>\n\
+    \x20         A data file: combining classes and Han ranges\n\
+    \n\
+    \x20 <RULES>\n\
+    \x20         The tailoring rules\n\
+    \n\
+    \x20 <TAILORED>\n\
+    \x20         The weight table after the tailoring\n\
+    \n\
+    \x20 <CERTIFICATE>\n\
+    \x20         The certificate of the tailoring\n\
+    \n\
+    Options:\n\
+    \x20 -h, --help\n\
+    \x20         Print help (see a summary with '-h')\n\
+    \n\
+    Example: uca audit table.txt data.txt rules.txt tailored.txt certificate.txt\n";
+
 // No file is opened.
 fn end_of(status: u8, out: &'static str, err: &'static str) -> End<'static> {
     End {
@@ -150,7 +182,8 @@ fn whole_help_texts(rt: HostRuntime) -> Result<(), Fail> {
     check_help(rt.alloc(), "check,--help", CHECK)?;
     check_help(rt.alloc(), "keys,--help", KEYS)?;
     check_help(rt.alloc(), "sort,--help", SORT)?;
-    check_help(rt.alloc(), "compare,--help", COMPARE)
+    check_help(rt.alloc(), "compare,--help", COMPARE)?;
+    check_help(rt.alloc(), "audit,--help", AUDIT)
 }
 
 // Words that are refused, and what is said.
@@ -159,7 +192,7 @@ fn check_refused(alloc: Global, words: &str, err: &'static str) -> Result<(), Fa
 }
 
 const NO_SUBCOMMAND: &str = "error: 'uca' requires a subcommand but one was not provided\n\
-    \x20 [subcommands: check, keys, sort, compare]\n\
+    \x20 [subcommands: check, keys, sort, compare, audit]\n\
     \n\
     Usage: uca <COMMAND>\n\
     \n\

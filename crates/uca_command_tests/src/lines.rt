@@ -3,11 +3,13 @@
 use std::alloc::Global;
 use std::io::{ErrorKind, Write};
 use std::test::Fail;
+use uca_certificates::{CertificateFault, CertificateFaultKind};
 use uca_cli::{FileFault, InputKind, Role, RunFault, report};
-use uca_fakes::{Calls, Failure, FakeWriter, Pace, holds};
+use uca_fakes::{Calls, Failure, FakeWriter, Pace, holds, same};
 use uca_files::{FaultKind, TableFault};
+use uca_rules::{RuleFault, RuleFaultKind};
 use uca_text::TextFault;
-use uca_weights::Sink;
+use uca_weights::{MapFault, MapFaultKind, Sink};
 use uca_words::WordFault;
 
 // The status of a fault that is reported on standard error, if nothing goes to standard output.
@@ -21,13 +23,14 @@ fn status_of<W: Write>(alloc: Global, fault: &RunFault, err: &mut Sink<W>) -> Op
     }
 }
 
-// The fault is reported by this line and this status; and where the writer fails after six bytes, by these and this
-// status.
+// The text of the fault is this line, without its LF. The fault is reported by this line and this status; and where the
+// writer fails after six bytes, by these and this status.
 fn check(alloc: Global, fault: &RunFault, line: &str, status: u8) -> Result<(), Fail> {
     let mut err = Sink::new(Vec::new(alloc));
     let found = status_of(alloc, fault, &mut err);
     let is_line = err.into_inner().as_slice() == line.as_bytes();
     holds(found == Some(status) && is_line, line)?;
+    same(&format!(in alloc; "{fault}\n")?, line, line)?;
     check_cut(alloc, fault, line, status, Failure::Nothing)?;
     let error = Failure::Error(ErrorKind::Interrupted);
     check_cut(alloc, fault, line, status, error)
@@ -92,6 +95,62 @@ fn other_faults_of_files(rt: HostRuntime) -> Result<(), Fail> {
         "certificate line 4294967295: DuplicateKey\n",
         1,
     )
+}
+
+// A fault of rules or of a certificate.
+fn check_other(
+    alloc: Global,
+    (role, fault): (Role, FileFault),
+    text: &str,
+    status: u8,
+) -> Result<(), Fail> {
+    check(alloc, &RunFault::File { role, fault }, text, status)
+}
+
+#[test]
+fn refused_rules(rt: HostRuntime) -> Result<(), Fail> {
+    let alloc = rt.alloc();
+    let of = |byte, kind| (Role::Rules, FileFault::Rules(RuleFault { byte, kind }));
+    let syntax = of(0, RuleFaultKind::Syntax);
+    check_other(alloc, syntax, "rules byte 0: Syntax\n", 1)?;
+    let target = of(1_048_576, RuleFaultKind::DuplicateTarget);
+    check_other(alloc, target, "rules byte 1048576: DuplicateTarget\n", 1)?;
+    let memory = of(7, RuleFaultKind::Memory);
+    check_other(alloc, memory, "rules byte 7: Memory\n", 4)?;
+    let read = (Role::Rules, FileFault::RulesRead);
+    check_other(alloc, read, "rules: Read\n", 3)?;
+    let bytes = (Role::Rules, FileFault::RulesMemory);
+    check_other(alloc, bytes, "rules: Memory\n", 4)
+}
+
+// A fault of a line of a certificate.
+fn check_certificate(
+    alloc: Global,
+    (line, kind): (u32, CertificateFaultKind),
+    text: &str,
+    status: u8,
+) -> Result<(), Fail> {
+    let fault = FileFault::Certificate(CertificateFault { line, kind });
+    check_other(alloc, (Role::Certificate, fault), text, status)
+}
+
+#[test]
+fn refused_certificates(rt: HostRuntime) -> Result<(), Fail> {
+    let alloc = rt.alloc();
+    let order = (2, CertificateFaultKind::Order);
+    check_certificate(alloc, order, "certificate line 2: Order\n", 1)?;
+    let limit = (65_536, CertificateFaultKind::Limit);
+    check_certificate(alloc, limit, "certificate line 65536: Limit\n", 1)?;
+    let run = MapFault {
+        run: 3,
+        kind: MapFaultKind::OutOfRange,
+    };
+    let map = (4, CertificateFaultKind::Map(run));
+    check_certificate(alloc, map, "certificate line 4: Map OutOfRange\n", 1)?;
+    let read = (5, CertificateFaultKind::Read);
+    check_certificate(alloc, read, "certificate line 5: Read\n", 3)?;
+    let memory = (6, CertificateFaultKind::Memory);
+    check_certificate(alloc, memory, "certificate line 6: Memory\n", 4)
 }
 
 // A file that does not open.

@@ -54,7 +54,8 @@ compare --weighting shifted t d b a | Compare { weighting: Some(Shifted), depth:
 compare t d a b --weighting=non-ignorable | Compare { weighting: Some(NonIgnorable), depth: Weights, table: "t", properties: "d", left: "a", right: "b" }
 compare t d a --identical b | Compare { weighting: None, depth: Identical, table: "t", properties: "d", left: "a", right: "b" }
 compare t d  a | Compare { weighting: None, depth: Weights, table: "t", properties: "d", left: "", right: "a" }
-compare t d sort keys | Compare { weighting: None, depth: Weights, table: "t", properties: "d", left: "sort", right: "keys" }"#;
+compare t d sort keys | Compare { weighting: None, depth: Weights, table: "t", properties: "d", left: "sort", right: "keys" }
+audit b d r t c | Audit { base: "b", properties: "d", rules: "r", tailored: "t", certificate: "c" }"#;
 
 #[test]
 fn words_that_are_read(rt: HostRuntime) -> Result<(), Fail> {
@@ -76,6 +77,9 @@ sort --identical --identical t d | ArgumentConflict
 compare t d | MissingRequiredArgument
 compare t d a | MissingRequiredArgument
 compare t d a b c | UnknownArgument
+audit b d r t | MissingRequiredArgument
+audit b d r t c e | UnknownArgument
+audit --identical b d r t c | UnknownArgument
 --weighting shifted keys t d | UnknownArgument
 order t d | InvalidSubcommand
 help | InvalidSubcommand
@@ -120,6 +124,7 @@ check  | --help
 keys  | --help
 sort  | --help
 compare  | --help
+audit  | --help
 Usage: uca check <TABLE> <DATA> | check --help
 `well-formed` | check --help
 `WF5 row 8`, with status 1 | check --help
@@ -130,7 +135,9 @@ Lines of equal keys keep their order | sort --help
 Example: uca sort  | sort --help
 <LEFT> <RIGHT> | compare --help
 `<`, `=` or `>` | compare --help
-0 if none | compare --help";
+0 if none | compare --help
+<BASE> <DATA> <RULES> <TAILORED> <CERTIFICATE> | audit --help
+Example: uca audit table.txt data.txt rules.txt tailored.txt certificate.txt | audit --help";
 
 fn check_help(alloc: Global, case: &str) -> Result<(), Fail> {
     let (part, line) = halves(case)?;

@@ -31,6 +31,10 @@ struct Outcome {
     late: u32,
 }
 
+fn source<'a>(text: &'a str, pace: Pace, calls: &'a Calls) -> Source<FakeReader<'a>> {
+    Source::new(FakeReader::new(text.as_bytes(), pace, calls))
+}
+
 /// An audit of five files, each read at its pace, with a writer at another.
 fn audited(
     alloc: Global,
@@ -40,12 +44,11 @@ fn audited(
 ) -> Result<Outcome, AllocError> {
     let calls = Calls::new();
     let [base, data, rules, tailored, certificate] = texts;
-    let reader = |text: &'_ str, pace| Source::new(FakeReader::new(text.as_bytes(), pace, &calls));
-    let mut base = reader(base, paces[0]);
-    let mut data = reader(data, paces[1]);
-    let mut rules = reader(rules, paces[2]);
-    let mut tailored = reader(tailored, paces[3]);
-    let mut certificate = reader(certificate, paces[4]);
+    let mut base = source(base, paces[0], &calls);
+    let mut data = source(data, paces[1], &calls);
+    let mut rules = source(rules, paces[2], &calls);
+    let mut tailored = source(tailored, paces[3], &calls);
+    let mut certificate = source(certificate, paces[4], &calls);
     let mut out = Sink::new(FakeWriter::new(alloc, pace, &calls));
     let end = run_audit(
         alloc,
