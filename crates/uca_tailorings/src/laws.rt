@@ -11,8 +11,8 @@ pub fn accepted_tailorings_are_faithful()
     ensures { AcceptedTailoringsAreFaithful }
 {}
 
-/// The same for whoever reads texts by lookups of the two tables: `compare` answers the same under both, and keys, made
-/// under one of them, stand in the order of those made under the other.
+/// The same for whoever reads texts by lookups of the two tables: `compare` answers the same under both, and so does
+/// `compare_keys` of keys that were made under one of them and of those made under the other.
 pub fn faithful_tailorings_keep_untouched_texts()
     ensures { FaithfulTailoringsKeepUntouchedTexts }
 {}
