@@ -18,7 +18,9 @@ pub fn faithful_tailorings_keep_untouched_texts()
 {}
 
 /// The conditions accept the table `a`, `b` with `x` directly behind `a`, as the rule `&a < x` asks, and refuse it where `x`
-/// has the weight of `b`, stands behind `b`, has another weight at level 3, or has no row: as was worked out by hand.
+/// has the weight of `b`, stands behind `b`, has another weight at level 3, or has no row: as was worked out by hand. They
+/// also accept a table of `A`, `a`, `b` and `c` in which `b` moved, with the rules `&a < x`, `&A << z`, `&[before 1] c < y` and
+/// `&a = w / b`. The maps of both are those of proper runs.
 pub fn worked_tailorings()
     ensures { WorkedTailorings }
 {}
