@@ -88,7 +88,7 @@ no_fault_of_map bytes fault content h means =
     faulty_not_proper h.level (runs_at h.level h.content) h.cause h.is_fault (proper_at h.level h.content maps)
 
 -- bytes that mean a certificate are refused by a stop alone
-stops : (bytes : List ℕ) (left : Option (List ℕ)) (fault : CertificateFault) (content : CertificateContent) → Refuses bytes left fault → Means bytes content
+pub stops : (bytes : List ℕ) (left : Option (List ℕ)) (fault : CertificateFault) (content : CertificateContent) → Refuses bytes left fault → Means bytes content
     → IsStop fault.kind
 stops bytes left fault content (inl (inl read)) means = inl read.0
 stops bytes left fault content (inl (inr (inl memory))) means = inr memory.0

@@ -3,3 +3,4 @@ pub mod Texts
 pub mod FaultText
 pub mod Steps
 pub mod OneMore
+pub mod Laws

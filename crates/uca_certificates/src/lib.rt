@@ -4,6 +4,7 @@
 
 mod certificate;
 mod faults;
+mod laws;
 mod lines;
 mod read;
 mod spelling;
@@ -12,6 +13,7 @@ mod write;
 pub use certificate::Certificate;
 use faults::CertificateFaultKind as Kind;
 pub use faults::{CertificateFault, CertificateFaultKind};
+pub use laws::{bytes_mean_at_most_one_certificate, bytes_with_a_fault_mean_no_certificate};
 pub use read::read_certificate;
 use uca_files::FileForm;
 pub use write::write_certificate;

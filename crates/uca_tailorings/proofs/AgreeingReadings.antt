@@ -2,7 +2,7 @@
 use Rattle.std.proofs.Common.{◌≡◌, sym, ap, subst₂, ◌∙◌}
 use Rattle.uca_match.specs.Collations.{Collation}
 use Rattle.uca_key.specs.Depths.{read_text}
-use Rattle.uca_key.proofs.DepthOrder.{depth_order}
+use Rattle.uca_key.proofs.DepthOrder.{depth_order, depth_level}
 use Rattle.uca_tailorings.specs.Tailorings.{Tailoring, base_reading, tailored_reading}
 use Rattle.uca_tailorings.specs.Meaning.{IsFaithful}
 use Rattle.uca_tailorings.specs.Laws.{ReadsAs, UntouchedTextsStay, FaithfulTailoringsKeepUntouchedTexts}
@@ -20,6 +20,10 @@ own_lookups tailoring faithful =
           depth_order depth weighting (read_text (tailored_reading tailoring) left) (read_text (tailored_reading tailoring) right)
           ∙ ap (λ comparison. comparison.order) (faithful.untouched depth weighting left right first second untouched_left untouched_right)
           ∙ sym (depth_order depth weighting (read_text (base_reading tailoring) left) (read_text (base_reading tailoring) right));
+      levels = λ depth weighting left right first second untouched_left untouched_right.
+          depth_level depth weighting (read_text (tailored_reading tailoring) left) (read_text (tailored_reading tailoring) right)
+          ∙ ap (λ comparison. comparison.level) (faithful.untouched depth weighting left right first second untouched_left untouched_right)
+          ∙ sym (depth_level depth weighting (read_text (base_reading tailoring) left) (read_text (base_reading tailoring) right));
       keys = faithful.keys;
     }
 

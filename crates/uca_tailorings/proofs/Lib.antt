@@ -14,4 +14,7 @@ pub mod TailoredWeights
 pub mod Nearest
 pub mod Members
 pub mod WorkedTables
+pub mod WorkedRuns
+pub mod WorkedSteps
+pub mod WorkedMoves
 pub mod WorkedLaws

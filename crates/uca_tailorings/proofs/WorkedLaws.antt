@@ -1,132 +1,46 @@
 -- The worked tailoring is one, is accepted, and is refused where the row of `x` is another.
-use Rattle.std.proofs.Common.{◌≡◌, ◌≢◌, ◌⊎◌, ℕ, ◌<◌, List, [], ◌∷◌, ◌++◌, true, false, Some, Contains, inl, inr, ⊎_elim}
+use Rattle.std.proofs.Common.{◌≡◌, ◌⊎◌, ℕ, ◌<◌, List, [], ◌∷◌, ◌++◌, true, false, Some, inl, inr, ⊎_elim}
 use Rattle.std.proofs.Common.{refl, sym, ap, subst, subst₂, ◌∙◌, arith}
 use Rattle.std.specs.List.{AllByRecursion}
-use Rattle.std.specs.Char.{IsScalar}
 use Rattle.uca_weights.specs.declared.Element.{Element}
 use Rattle.uca_weights.specs.declared.Level.{Level}
 use Rattle.uca_weights.specs.declared.Level.TheVariants.{One, Two, Three}
 use Rattle.uca_weights.specs.Levels.{weight}
-use Rattle.uca_weights.specs.Maps.{IsRisingMap, KeepsFixed}
-use Rattle.uca_values.specs.Content.{Entry, IsHeader, IsEntry, AreRows}
+use Rattle.uca_weights.specs.Maps.{Sends}
 use Rattle.uca_text.specs.Occurring.{OccursInOrder}
 use Rattle.uca_rules.specs.declared.relations.Relation.{Relation}
-use Rattle.uca_rules.specs.Relations.{IsTarget, IsUsedBy, IsUntouched, IsRuleText, AreRules}
-use Rattle.uca_match.specs.WorkedTable.{plain, row, small_header, small_properties}
-use Rattle.uca_tailorings.specs.Images.{AreRisingMaps, AreImages}
+use Rattle.uca_rules.specs.Relations.{IsTarget, IsUsedBy, IsUntouched, AreRules}
+use Rattle.uca_match.specs.WorkedTable.{plain, row, small_properties}
+use Rattle.uca_tailorings.specs.Images.{IsImage}
 use Rattle.uca_tailorings.specs.Placing.{IsLow, IsAnchor, reweighted}
-use Rattle.uca_tailorings.specs.Tailorings.{IsTailoring, IsPlacedAt, IsNewWeight, IsImageOfBase, IsKnownWeight}
+use Rattle.uca_tailorings.specs.Tailorings.{IsTailoring, IsPlacedAt, IsNewWeight, IsKnownWeight}
 use Rattle.uca_tailorings.specs.Tailorings.{Meets, IsAccepted}
 use Rattle.uca_tailorings.specs.declared.conditions.Condition.TheVariants.{BaseIllFormed, TailoredIllFormed, Header, Uncovered, RowChanged, RowMissing}
 use Rattle.uca_tailorings.specs.declared.conditions.Condition.TheVariants.{RowExtra, Anchor, NotPlaced, NotFresh, NotNearest}
-use Rattle.uca_tailorings.specs.Worked.{letter, a_and_b, x_behind_a, with_rows, with_x, WorkedTailorings}
-use Rattle.uca_tailorings.proofs.Members.{only_one, each_contained}
-use Rattle.uca_tailorings.proofs.WorkedTables.{IsLetterRow, letters_well_formed}
+use Rattle.uca_tailorings.specs.Worked.{maps_of, a_and_b, x_behind_a, kept_runs, with_x, WorkedTailorings}
+use Rattle.uca_tailorings.proofs.Members.{only_one}
+use Rattle.uca_tailorings.proofs.WorkedTables.{IsLetterRow, letter_row, letters_table, letters_well_formed}
+use Rattle.uca_tailorings.proofs.WorkedRuns.{kept, moving, maps_rise}
+use Rattle.uca_tailorings.proofs.WorkedMoves as moves
+use Rattle.uca_tailorings.proofs.WorkedSteps.{header, letter_text, image_found, known_is}
 
 -- ---- A tailoring
 
--- the map of a level that changes no weight
-rising_same : (level : Level) → KeepsFixed level (λ w. Some w) → IsRisingMap level (λ w. Some w)
-rising_same level fixed =
-    record {
-      rising = λ v w x y first second less. let one : v ≡ x = cc in let two : w ≡ y = cc in omega arith;
-      zero = refl;
-      fixed = fixed;
-    }
+-- the rows of the base
+base_letters : AllByRecursion IsLetterRow a_and_b
+base_letters = (letter_row 0x61 0x1C47 0x20 2 refl refl, (letter_row 0x62 0x1C60 0x20 2 refl refl, tt))
 
--- at each level
-rising_maps : AreRisingMaps (with_rows []).maps
-rising_maps =
-    record {
-      primary = rising_same One ((λ w low high. refl), (λ w x sent low. let same : w ≡ x = cc in omega arith));
-      secondary = rising_same Two refl;
-      tertiary = rising_same Three refl;
-    }
+-- the element directly behind the anchor
+abbrev accepted_element : Element
+accepted_element = plain 0x1C48 0x20 2
 
--- the header
-header : IsHeader small_header
-header =
-    record {
-      named = refl;
-      ranges = (
-        record { first_point = refl; last_point = refl; rising = omega arith; low = omega arith; high = omega arith; short = omega arith },
-        tt,
-        tt,
-      );
-      few = omega arith;
-    }
-
--- the row of a letter
-letter_entry : (point primary : ℕ) → IsScalar point → primary < 0x1_0000 → IsEntry (row (point ∷ []) (plain primary 0x20 2))
-letter_entry point primary scalar fits =
-    record {
-      points = (scalar, tt);
-      some_points = omega arith;
-      few_points = omega arith;
-      fits = (record { primary = fits; secondary = omega arith; tertiary = omega arith }, tt);
-      some_elements = omega arith;
-      few_elements = omega arith;
-    }
+-- the rows of the tailored table
+tailored_letters : AllByRecursion IsLetterRow (a_and_b ++ row (0x78 ∷ []) (plain 0x1C48 0x20 2) ∷ [])
+tailored_letters = (letter_row 0x61 0x1C47 0x20 2 refl refl, (letter_row 0x62 0x1C60 0x20 2 refl refl, (letter_row 0x78 0x1C48 0x20 2 refl refl, tt)))
 
 -- the key of a letter
 abbrev key : ℕ → List ℕ
 key point = point ∷ []
-
--- other letters have other keys
-other_key : (b c : ℕ) → b ≢ c → ¬ (key b ≡ key c)
-other_key b c apart same = let heads : b ≡ c = cc in apart heads
-
--- `b` has another key than `a`
-b_is_not_a : ¬ (key 0x62 ≡ key 0x61)
-b_is_not_a = other_key 0x62 0x61 (λ same. omega (arith, same))
-
--- so has `x`
-x_is_not_a : ¬ (key 0x78 ≡ key 0x61)
-x_is_not_a = other_key 0x78 0x61 (λ same. omega (arith, same))
-
--- and another than `b`
-x_is_not_b : ¬ (key 0x78 ≡ key 0x62)
-x_is_not_b = other_key 0x78 0x62 (λ same. omega (arith, same))
-
--- a key that differs from each of some is none of them
-not_among : (keys : List (List ℕ)) (point : ℕ) → AllByRecursion (λ other. ¬ (other ≡ key point)) keys → ¬ (Contains keys (key point))
-not_among keys point apart h = each_contained (λ other. ¬ (other ≡ key point)) keys (key point) apart h refl
-
--- the rows of the base
-base_rows : AreRows a_and_b
-base_rows =
-    record {
-      entries = (letter_entry 0x61 0x1C47 refl (omega arith), (letter_entry 0x62 0x1C60 refl (omega arith), tt));
-      distinct = (not_among (key 0x62 ∷ []) 0x61 (b_is_not_a, tt), (not_among [] 0x62 tt, tt));
-      few = omega arith;
-    }
-
--- the rows of the tailored table
-tailored_rows : AreRows (a_and_b ++ row (0x78 ∷ []) (plain 0x1C48 0x20 2) ∷ [])
-tailored_rows =
-    record {
-      entries = (
-        letter_entry 0x61 0x1C47 refl (omega arith),
-        (letter_entry 0x62 0x1C60 refl (omega arith), (letter_entry 0x78 0x1C48 refl (omega arith), tt)),
-      );
-      distinct = (
-        not_among (key 0x62 ∷ key 0x78 ∷ []) 0x61 (b_is_not_a, (x_is_not_a, tt)),
-        (not_among (key 0x78 ∷ []) 0x62 (x_is_not_b, tt), (not_among [] 0x78 tt, tt)),
-      );
-      few = omega arith;
-    }
-
--- the text of a letter
-letter_text : (point : ℕ) → IsScalar point → IsRuleText (letter point)
-letter_text point scalar =
-    record {
-      normal = record {
-        accepted = record { same = refl; few = omega arith; short_runs = λ place run. omega (arith, run.within) };
-        scalars = (scalar, tt);
-      };
-      some = λ none. cc;
-      short = omega arith;
-    }
 
 -- the rule leaves its own anchor as it is
 anchor_untouched : (text : List ℕ) → IsUsedBy x_behind_a text → IsUntouched (x_behind_a ∷ []) text
@@ -153,19 +67,20 @@ rules =
 is_tailoring : IsTailoring (with_x (plain 0x1C48 0x20 2))
 is_tailoring =
     record {
-      base = record { header = header; rows = base_rows };
-      tailored = record { header = header; rows = tailored_rows };
+      base = record {
+        header = header;
+        rows = letters_table a_and_b base_letters (0x61, refl, omega arith, (0x62, refl, omega arith, tt)) (omega arith);
+      };
+      tailored = record {
+        header = header;
+        rows = letters_table (a_and_b ++ row (key 0x78) accepted_element ∷ []) tailored_letters
+            (0x61, refl, omega arith, (0x62, refl, omega arith, (0x78, refl, omega arith, tt))) (omega arith);
+      };
       rules = rules;
-      maps = rising_maps;
+      maps = maps_rise kept_runs kept;
     }
 
 -- ---- Where `x` is placed
-
--- an element is its own image, where no weight is changed
-own_images : (e : Element) (new : List Element) → Some (e ∷ []) ≡ Some new → AreImages (with_rows []).maps (e ∷ []) new
-own_images e new found =
-    let same : e ∷ [] ≡ new = cc in
-    subst (AreImages (with_rows []).maps (e ∷ [])) same (record { primary = refl; secondary = refl; tertiary = refl; mark = refl }, tt)
 
 -- the anchor takes a new primary
 a_is_anchor : IsAnchor One (plain 0x1C47 0x20 2 ∷ []) [] (plain 0x1C47 0x20 2) []
@@ -206,21 +121,8 @@ placed_row e Three old new placed = let no : Some One ≡ Some Three = placed.st
 
 -- the weights that the base gave at level 1
 base_weights : (e : Element) (w : ℕ) → IsKnownWeight (with_x e) One w → (w ≡ 0x1C47) ⊎ (w ≡ 0x1C60)
-base_weights e w known = ⊎_elim (λ image. of_image image) (λ none. absurd none) known
-  where
-    -- its primaries are the two of the base
-    HasKnown : Entry → Type 0
-    HasKnown r = AllByRecursion (λ (f : Element). (f.primary ≡ 0x1C47) ⊎ (f.primary ≡ 0x1C60)) r.elements
-
-    -- by the row and the element that have the weight
-    of_image : IsImageOfBase (with_x e) One w → (w ≡ 0x1C47) ⊎ (w ≡ 0x1C60)
-    of_image image =
-        let in_row = each_contained HasKnown a_and_b image.row ((inl refl, tt), ((inr refl, tt), tt)) image.is_row in
-        let weighs =
-        each_contained (λ (f : Element). (f.primary ≡ 0x1C47) ⊎ (f.primary ≡ 0x1C60)) image.row.elements image.element in_row image.is_element in
-        let sent : Some image.element.primary ≡ Some w = image.image in
-        let same : image.element.primary ≡ w = cc in
-        subst (λ v. (v ≡ 0x1C47) ⊎ (v ≡ 0x1C60)) same weighs
+base_weights e w known =
+    known_is (with_x e) (λ v. (v ≡ 0x1C47) ⊎ (v ≡ 0x1C60)) One ((inl refl, tt), ((inr refl, tt), tt)) (λ v none. absurd none) w known
 
 -- the weight of `b`
 b_weighs : (e : Element) → IsKnownWeight (with_x e) One 0x1C60
@@ -235,10 +137,6 @@ b_weighs e =
     })
 
 -- ---- Conditions
-
--- the element directly behind the anchor
-abbrev accepted_element : Element
-accepted_element = plain 0x1C48 0x20 2
 
 -- what is placed has the weight 1C48
 placed_weight : (level : Level) (old new : ℕ) → IsPlacedAt (with_x accepted_element) x_behind_a level old new → new ≡ 0x1C48
@@ -275,28 +173,22 @@ nearest before r after split level old new placed =
       earlier = λ w own between. subst (λ relations. IsNewWeight (with_x accepted_element) level w relations) parts.0 own;
     }
 
--- the row of a letter with a primary
-letter_row : (point primary : ℕ) → primary ≢ 0 → IsLetterRow (row (point ∷ []) (plain primary 0x20 2))
-letter_row point primary some = record { point = point; primary = primary; some = some; is = refl }
+-- an element whose primary stays is its own image
+kept_image : (p : ℕ) → Sends (maps_of kept_runs).primary p p → IsImage (maps_of kept_runs) (plain p 0x20 2) (plain p 0x20 2)
+kept_image p stays = record { primary = stays; secondary = refl; tertiary = refl; mark = refl }
 
 -- all conditions are met
 accepted : IsAccepted (with_x accepted_element)
-accepted BaseIllFormed =
-    letters_well_formed a_and_b (refl, (refl, tt)) small_properties.class
-    (letter_row 0x61 0x1C47 (λ none. omega (arith, none)), (letter_row 0x62 0x1C60 (λ none. omega (arith, none)), tt))
-accepted TailoredIllFormed =
-    letters_well_formed (a_and_b ++ row (0x78 ∷ []) accepted_element ∷ []) (refl, (refl, (refl, tt))) small_properties.class (
-      letter_row 0x61 0x1C47 (λ none. omega (arith, none)),
-      (letter_row 0x62 0x1C60 (λ none. omega (arith, none)), (letter_row 0x78 0x1C48 (λ none. omega (arith, none)), tt)),
-    )
+accepted BaseIllFormed = letters_well_formed a_and_b small_properties.class base_letters
+accepted TailoredIllFormed = letters_well_formed (a_and_b ++ row (key 0x78) accepted_element ∷ []) small_properties.class tailored_letters
 accepted Header = refl
 accepted Uncovered = (
   (record { primary = refl; secondary = refl; tertiary = refl }, tt),
   ((record { primary = refl; secondary = refl; tertiary = refl }, tt), tt),
 )
 accepted RowChanged = (
-  (λ other new found. own_images (plain 0x1C47 0x20 2) new found),
-  ((λ other new found. own_images (plain 0x1C60 0x20 2) new found), tt),
+  (λ other new found. image_found (maps_of kept_runs) (plain 0x1C47 0x20 2) (plain 0x1C47 0x20 2) new (kept_image 0x1C47 refl) found),
+  ((λ other new found. image_found (maps_of kept_runs) (plain 0x1C60 0x20 2) (plain 0x1C60 0x20 2) new (kept_image 0x1C60 refl) found), tt),
 )
 accepted RowMissing = ((refl, (refl, tt)), (refl, tt))
 accepted RowExtra = (inl refl, (inl refl, (inr (inl refl), tt)))
@@ -311,6 +203,8 @@ accepted NotNearest = nearest
 pub worked : WorkedTailorings
 worked =
     record {
+      kept = kept;
+      moving = moving;
       is_tailoring = is_tailoring;
       accepted = accepted;
       not_fresh = λ met.
@@ -322,4 +216,6 @@ worked =
           let same = (placed_row (plain 0x1C48 0x20 8) One met.0.0 met.0.1 met.0.2).2 in
           omega (arith, ap (λ (e : Element). e.tertiary) same);
       missing = λ met. let none : false ≡ true = met.1.0 in absurd cc;
+      is_moved_tailoring = moves.is_tailoring;
+      moved_accepted = moves.accepted;
     }

@@ -7,7 +7,8 @@ use Rattle.uca_text.specs.Limits.{IsNormal}
 use Rattle.uca_rules.specs.Relations.{IsUntouched}
 use Rattle.uca_match.specs.Collations.{Collation}
 use Rattle.uca_key.specs.Levels.{dictionary}
-use Rattle.uca_key.specs.Depths.{read_text, compared_at, key_at}
+use Rattle.uca_key.specs.Depths.{read_text, levels_at, compared_at, key_at}
+use Rattle.uca_key.specs.StoredKeys.{stored_level}
 use Rattle.uca_tailorings.specs.Images.{KeepAllWeights}
 use Rattle.uca_tailorings.specs.Tailorings.{Tailoring, IsTailoring, base_reading, tailored_reading, IsAccepted}
 use Rattle.uca_tailorings.specs.Meaning.{IsFaithful}
@@ -24,7 +25,7 @@ pub record ReadsAs (given reading : Collation) : Type 0 where
   pub properties : given.properties ≡ reading.properties
 
 -- The same for a caller who reads texts by lookups of his own, `old` of the base and `new` of the tailored table: two texts that no
--- target touches compare as before, and so do the bytes of their keys; where no weight is changed a text keeps its key.
+-- target touches compare as before, and so do the bytes of their keys, by order and level; where no weight is changed a text keeps its key.
 pub record UntouchedTextsStay (tailoring : Tailoring) (old new : Collation) : Type 0 where
   pub compared : (depth : Depth) (weighting : Weighting) (left right : Spelled) → IsNormal left → IsNormal right →
       IsUntouched tailoring.relations left.points → IsUntouched tailoring.relations right.points →
@@ -33,6 +34,10 @@ pub record UntouchedTextsStay (tailoring : Tailoring) (old new : Collation) : Ty
       IsUntouched tailoring.relations left.points → IsUntouched tailoring.relations right.points →
       dictionary (key_at depth weighting (read_text new left)) (key_at depth weighting (read_text new right))
       ≡ dictionary (key_at depth weighting (read_text old left)) (key_at depth weighting (read_text old right))
+  pub levels : (depth : Depth) (weighting : Weighting) (left right : Spelled) → IsNormal left → IsNormal right →
+      IsUntouched tailoring.relations left.points → IsUntouched tailoring.relations right.points →
+      stored_level (levels_at depth weighting) (key_at depth weighting (read_text new left)) (key_at depth weighting (read_text new right))
+      ≡ stored_level (levels_at depth weighting) (key_at depth weighting (read_text old left)) (key_at depth weighting (read_text old right))
   pub keys : KeepAllWeights tailoring.maps → (depth : Depth) (weighting : Weighting) (text : Spelled) → IsNormal text →
       IsUntouched tailoring.relations text.points → key_at depth weighting (read_text new text) ≡ key_at depth weighting (read_text old text)
 

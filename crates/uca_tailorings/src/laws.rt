@@ -11,14 +11,16 @@ pub fn accepted_tailorings_are_faithful()
     ensures { AcceptedTailoringsAreFaithful }
 {}
 
-/// The same for whoever reads texts by lookups of the two tables: `compare` answers the same under both, and keys, made
-/// under one of them, stand in the order of those made under the other.
+/// The same for whoever reads texts by lookups of the two tables: `compare` answers the same under both, and so does
+/// `compare_keys` of keys that were made under one of them and of those made under the other.
 pub fn faithful_tailorings_keep_untouched_texts()
     ensures { FaithfulTailoringsKeepUntouchedTexts }
 {}
 
 /// The conditions accept the table `a`, `b` with `x` directly behind `a`, as the rule `&a < x` asks, and refuse it where `x`
-/// has the weight of `b`, stands behind `b`, has another weight at level 3, or has no row: as was worked out by hand.
+/// has the weight of `b`, stands behind `b`, has another weight at level 3, or has no row: as was worked out by hand. They
+/// also accept a table of `A`, `a`, `b` and `c` in which `b` moved, with the rules `&a < x`, `&A << z`, `&[before 1] c < y` and
+/// `&a = w / b`. The maps of both are those of proper runs.
 pub fn worked_tailorings()
     ensures { WorkedTailorings }
 {}

@@ -1,0 +1,6 @@
+-- Bytes that mean a certificate are refused by a stop alone.
+use Rattle.uca_certificates.proofs.WholeLaws.{stops}
+use Rattle.uca_certificates.proofs.laws.bytes_with_a_fault_mean_no_certificate.Goals as goal
+
+pub returns : goal.returns
+returns c bytes left fault content refuses goes means = goes (stops bytes left fault content refuses means)
