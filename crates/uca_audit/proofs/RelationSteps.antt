@@ -54,11 +54,7 @@ pub read_alike : (given reading : Collation) → ReadsAs given reading → (text
 read_alike given reading reads text i =
     elements_of (record { rows = λ key. reads.rows key i; ranges = reads.ranges i; properties = reads.properties i }) text
 
--- a relation of identical strength asks nothing of its anchor
-pub identical_has : (t : Tailoring) (r : Relation) → level_of r.strength ≡ None → HasAnchor t r
-identical_has t r strength = subst (HasAnchorAt t r) (sym strength) tt
-
--- another has an anchor where one is found
+-- a relation with a level has an anchor where one is found
 pub found_has : (t : Tailoring) (r : Relation) (level : Level) (es : List Element) (found : Option ℕ) → level_of r.strength ≡ Some level →
     es ≡ anchor_elements t r → MatchOption found (HasNoAnchor level es) (IsAnchorAt level es) → is_some found ≡ true → HasAnchor t r
 found_has t r level es None strength read at some = cc
@@ -66,7 +62,7 @@ found_has t r level es (Some place) strength read at some =
     subst (HasAnchorAt t r) (sym strength)
     (take place es, at.last, drop (place + 1) es, subst (λ fs. IsAnchor level fs (take place es) at.last (drop (place + 1) es)) read at.anchor)
 
--- and none where none is found
+-- it has none where none is found
 pub none_has : (t : Tailoring) (r : Relation) (level : Level) (es : List Element) (found : Option ℕ) → level_of r.strength ≡ Some level →
     es ≡ anchor_elements t r → MatchOption found (HasNoAnchor level es) (IsAnchorAt level es) → is_some found ≡ false → ¬ (HasAnchor t r)
 none_has t r level es (Some place) strength read at none has = cc

@@ -25,7 +25,7 @@ pub target_row : (given : Collation) (t : Tailoring) (r : Relation) (key : List 
     key ≡ r.target.points → given.rows key ≡ row → rows_of t.tailored.rows r.target.points ≡ row
 target_row given t r key row reads same found = ap (rows_of t.tailored.rows) (sym same) ∙ sym (reads.rows key) ∙ found
 
--- the row as one of the anchor's and the expansion's elements, and the target as placed
+-- a target whose row has the anchor's and the expansion's elements is placed
 pub placed_by_row : (t : Tailoring) (r : Relation) (level : Level) (row : List Element) (old new : ℕ) → level_of r.strength ≡ Some level →
     IsTargetRow t r row → IsRowAt level r.before (anchor_elements t r) (expansion_elements t r) row old new → IsPlacedAt t r level old new
 placed_by_row t r level row old new strength found is =
@@ -40,6 +40,7 @@ placed_by_row t r level row old new strength found is =
       row = found ∙ ap Some is.is_row;
     }
 
+-- and the row of one that is placed has them
 pub row_by_placed : (t : Tailoring) (r : Relation) (level : Level) (row : List Element) (old new : ℕ) → IsTargetRow t r row →
     IsPlacedAt t r level old new → IsRowAt level r.before (anchor_elements t r) (expansion_elements t r) row old new
 row_by_placed t r level row old new found at =
@@ -67,6 +68,7 @@ by_weight t r level row (Some p) strength is at =
     let placement = placed_by_row t r level row p.old p.new strength is at.1 in
     (subst (IsPlacementBy t r p) (sym strength) (at.0, placement), subst (IsPlacedBy t r) (sym strength) (p.old, p.new, placement))
 
+-- the same of the elements that were read
 pub found_by_weight : (t : Tailoring) (r : Relation) (level : Level) (anchor expansion row : List Element) (found : Option Placement) →
     level_of r.strength ≡ Some level → anchor ≡ anchor_elements t r → expansion ≡ expansion_elements t r → IsTargetRow t r row →
     MatchOption found ((old new : ℕ) → ¬ (IsRowAt level r.before anchor expansion row old new))
@@ -79,7 +81,7 @@ found_by_weight t r level anchor expansion row found strength anchors expansions
     (subst (λ es. MatchOption found ((old new : ℕ) → ¬ (IsRowAt level r.before es expansion row old new))
     (λ p. (p.level ≡ Some level) × IsRowAt level r.before es expansion row p.old p.new)) anchors at))
 
--- and so of one of identical strength
+-- what is found of the row of a relation of identical strength is found of the relation
 pub found_by_elements : (t : Tailoring) (r : Relation) (anchor expansion row : List Element) (found : Option Placement) → level_of r.strength ≡ None →
     anchor ≡ anchor_elements t r → expansion ≡ expansion_elements t r → IsTargetRow t r row →
     MatchOption found (¬ (row ≡ anchor ++ expansion)) (λ p. (p.level ≡ None) × (row ≡ anchor ++ expansion)) → IsFoundPlacement t r found
@@ -92,11 +94,12 @@ found_by_elements t r anchor expansion row (Some p) strength anchors expansions 
     is ∙ ap Some (at.1 ∙ ap (λ es. es ++ expansion) anchors ∙ ap (λ es. anchor_elements t r ++ es) expansions) in
     (subst (IsPlacementBy t r p) (sym strength) at.0, subst (IsPlacedBy t r) (sym strength) is_row)
 
--- a placement is found of a target that is placed, and none of one that is not
+-- where a placement is found the target is placed so
 pub some_placed : (t : Tailoring) (r : Relation) (found : Option Placement) (p : Placement) → IsFoundPlacement t r found → found ≡ Some p →
     IsPlacement t r p × IsPlaced t r
 some_placed t r found p at is = subst (IsFoundPlacement t r) is at
 
+-- where none is found it is not placed
 pub none_placed : (t : Tailoring) (r : Relation) (found : Option Placement) → IsFoundPlacement t r found → ((p : Placement) → ¬ (found ≡ Some p)) →
     ¬ (IsPlaced t r)
 none_placed t r None at none = at

@@ -187,8 +187,8 @@ fn is_same(one: Element, other: Element) -> bool
 }
 
 /// Whether two lists have the same elements in the same order.
-fn are_same(one: &[Element], other: &[Element]) -> bool
-    ensures { IsTrue result ↔ (one.now ≡ other.now) }
+fn are_same(left: &[Element], right: &[Element]) -> bool
+    ensures { IsTrue result ↔ (left.now ≡ right.now) }
 {
-    one == other
+    left == right
 }
