@@ -1,7 +1,5 @@
 -- The words for a refusal of an audit: `refused 10 NotFresh relation 1`.
 use Rattle.std.specs.Prelude.{ℕ, List, ◌++◌, ◌==◌, if◌then◌else◌, codes, decimal}
-use Rattle.uca_tailorings.specs.declared.conditions.Condition.TheVariants as conditions
-use Rattle.uca_tailorings.specs.ConditionText.{condition_text}
 use Rattle.uca_audit.specs.declared.faults.AuditFault.{AuditFault}
 use Rattle.uca_audit.specs.declared.faults.Place.{Place}
 use Rattle.uca_audit.specs.declared.faults.Place.TheVariants as places
@@ -9,17 +7,17 @@ use Rattle.uca_audit.specs.declared.faults.Place.TheVariants as places
 -- the name of the condition of a number, that of a failed allocation for any other
 abbrev pub name_of : ℕ → List ℕ
 name_of number =
-    if number == 1 then condition_text conditions.BaseIllFormed else
-    if number == 2 then condition_text conditions.TailoredIllFormed else
-    if number == 3 then condition_text conditions.Header else
-    if number == 4 then condition_text conditions.Uncovered else
-    if number == 5 then condition_text conditions.RowChanged else
-    if number == 6 then condition_text conditions.RowMissing else
-    if number == 7 then condition_text conditions.RowExtra else
-    if number == 8 then condition_text conditions.Anchor else
-    if number == 9 then condition_text conditions.NotPlaced else
-    if number == 10 then condition_text conditions.NotFresh else
-    if number == 11 then condition_text conditions.NotNearest else
+    if number == 1 then codes "BaseIllFormed" else
+    if number == 2 then codes "TailoredIllFormed" else
+    if number == 3 then codes "Header" else
+    if number == 4 then codes "Uncovered" else
+    if number == 5 then codes "RowChanged" else
+    if number == 6 then codes "RowMissing" else
+    if number == 7 then codes "RowExtra" else
+    if number == 8 then codes "Anchor" else
+    if number == 9 then codes "NotPlaced" else
+    if number == 10 then codes "NotFresh" else
+    if number == 11 then codes "NotNearest" else
     codes "Memory"
 
 abbrev pub place_text : Place → List ℕ

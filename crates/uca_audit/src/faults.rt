@@ -6,7 +6,6 @@ ghost use Rattle.uca_audit.specs.FaultText.{audit_fault_text, name_of};
 use std::alloc::AllocError;
 use std::fmt;
 use thiserror::Error;
-use uca_tailorings::Condition;
 
 /// Where a condition fails.
 #[derive(Clone, Copy, Debug, PartialEq, Eq)]
@@ -37,17 +36,17 @@ impl AuditFault {
         ensures { result.now ≡ name_of self.now.number }
     {
         match self.number {
-            1 => Condition::BaseIllFormed.name(),
-            2 => Condition::TailoredIllFormed.name(),
-            3 => Condition::Header.name(),
-            4 => Condition::Uncovered.name(),
-            5 => Condition::RowChanged.name(),
-            6 => Condition::RowMissing.name(),
-            7 => Condition::RowExtra.name(),
-            8 => Condition::Anchor.name(),
-            9 => Condition::NotPlaced.name(),
-            10 => Condition::NotFresh.name(),
-            11 => Condition::NotNearest.name(),
+            1 => "BaseIllFormed",
+            2 => "TailoredIllFormed",
+            3 => "Header",
+            4 => "Uncovered",
+            5 => "RowChanged",
+            6 => "RowMissing",
+            7 => "RowExtra",
+            8 => "Anchor",
+            9 => "NotPlaced",
+            10 => "NotFresh",
+            11 => "NotNearest",
             _ => "Memory",
         }
     }

@@ -4,4 +4,3 @@ pub mod Tailorings
 pub mod Meaning
 pub mod Laws
 pub mod Worked
-pub mod ConditionText

@@ -1,8 +1,5 @@
 //! The conditions on an accepted tailoring, by the names of their failures.
 
-ghost use Rattle.std.specs.Prelude.{◌≡◌};
-ghost use Rattle.uca_tailorings.specs.ConditionText.{condition_text};
-
 /// The conditions on an accepted tailoring, in the order in which they are looked at. Each has the name of its failure.
 #[derive(Clone, Copy, Debug, PartialEq, Eq)]
 pub enum Condition {
@@ -28,25 +25,4 @@ pub enum Condition {
     NotFresh,
     /// A weight that the base gave, or the new weight of an earlier relation, lies between a new weight and its anchor's.
     NotNearest,
-}
-
-impl Condition {
-    /// The name of its failure.
-    pub fn name(self) -> &'static str
-        ensures { result.now ≡ condition_text self }
-    {
-        match self {
-            Condition::BaseIllFormed => "BaseIllFormed",
-            Condition::TailoredIllFormed => "TailoredIllFormed",
-            Condition::Header => "Header",
-            Condition::Uncovered => "Uncovered",
-            Condition::RowChanged => "RowChanged",
-            Condition::RowMissing => "RowMissing",
-            Condition::RowExtra => "RowExtra",
-            Condition::Anchor => "Anchor",
-            Condition::NotPlaced => "NotPlaced",
-            Condition::NotFresh => "NotFresh",
-            Condition::NotNearest => "NotNearest",
-        }
-    }
 }
