@@ -167,10 +167,8 @@ fn writers_that_fail(rt: HostRuntime) -> Result<(), Fail> {
             "nothing is written again",
         )?;
         let text = out.into_inner().text;
-        holds(
-            text.as_slice() == &CERTIFICATE.as_bytes()[..good],
-            "what went out",
-        )?;
+        let went_out = text.len() == good && CERTIFICATE.as_bytes().starts_with(&text);
+        holds(went_out, "what went out")?;
     }
     Ok(())
 }

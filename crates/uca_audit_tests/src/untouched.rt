@@ -50,14 +50,16 @@ impl Reading<'_> {
         (weighting, depth): (Weighting, Depth),
         pair: &[Normal; 2],
     ) -> (Ordering, u8) {
-        let collator = Collator::new(self.trie, &self.table.header, &self.files.data);
+        let (table, files) = (self.table, self.files);
+        let collator = Collator::new(self.trie, &table.header, &files.data);
         let [left, right] = pair;
         let found = compare(&collator, weighting, depth, left, right);
         (found.order, found.level)
     }
 
     fn key(&self, alloc: Global, way: (Weighting, Depth), text: &Normal) -> Result<Vec<u8>, Fail> {
-        let collator = Collator::new(self.trie, &self.table.header, &self.files.data);
+        let (table, files) = (self.table, self.files);
+        let collator = Collator::new(self.trie, &table.header, &files.data);
         Ok(key(alloc, &collator, way.0, way.1, text)?)
     }
 }
@@ -85,7 +87,8 @@ fn stay(alloc: Global, [old, new]: [Reading; 2], pair: &[Normal; 2]) -> Result<b
 fn said_of(alloc: Global, readings: [Reading; 2], pair: &[Normal; 2]) -> Result<String, Fail> {
     let [old, new] = readings;
     let [left, right] = pair;
-    let rules = &old.files.rules;
+    let files = old.files;
+    let rules = &files.rules;
     let untouched = rules.untouched(left) && rules.untouched(right);
     if untouched {
         for way in WAYS {
