@@ -13,6 +13,8 @@ pub mod Finishing
 pub mod Running
 pub mod Verdicts
 pub mod LineLaws
+pub mod NormalLines
+pub mod UntouchedLines
 pub mod OneOrder
 pub mod RuleBytes
 pub mod Refusals

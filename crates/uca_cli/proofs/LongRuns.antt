@@ -1,5 +1,5 @@
 -- The first long run of non-starters, found by a test.
-use Rattle.std.proofs.Common.{◌≡◌, ℕ, zero, suc, ◌+◌, ◌<◌, ◌≤◌, Bool, true, false, List, [], ◌∷◌, length, Some, None, option_map, get_or, refl, ap, subst, arith, ◌∙◌}
+use Rattle.std.proofs.Common.{◌≡◌, ℕ, zero, suc, ◌+◌, ◌<◌, ◌≤◌, Bool, true, false, List, [], ◌∷◌, length, Option, Some, None, option_map, get_or, refl, ap, sym, subst, arith, ◌∙◌}
 use Rattle.std.proofs.lemmas.Bool.{lt-ltb, ltb-true, and_parts, and_from}
 use Rattle.uca_text.specs.Limits.{IsLongRun, HasNoLongRun, IsFirstLongRun}
 use Rattle.uca_cli.specs.Input.{begins_with_marks, first_long_run}
@@ -84,3 +84,24 @@ no_long_run_is [] none = refl
 no_long_run_is (class ∷ classes) none =
     let later = no_long_run_is classes (λ place run. none (suc place) (run_later class classes place run)) in
     run_behind class classes (not_here (class ∷ classes) (none 0) _ refl) ∙ ap (option_map suc) later
+
+-- where none is found
+none_behind : (found : Option ℕ) → option_map suc found ≡ None → found ≡ None
+none_behind None none = refl
+none_behind (Some place) none = let never : Some (suc place) ≡ None = none in cc
+
+none_found : (class : ℕ) (classes : List ℕ) (here : Bool) → begins_with_marks 65 (class ∷ classes) ≡ here → first_long_run (class ∷ classes) ≡ None →
+    (here ≡ false) × (first_long_run classes ≡ None)
+none_found class classes true is none = let place : ℕ = 0 in let never : Some place ≡ None = sym (run_here class classes is) ∙ none in cc
+none_found class classes false is none = (refl, none_behind (first_long_run classes) (sym (run_behind class classes is) ∙ none))
+
+-- there is none
+none_at : (classes : List ℕ) → first_long_run classes ≡ None → (place : ℕ) → IsLongRun classes place → ⊥
+none_at [] none place run = let fit = run.within in absurd (omega (arith, fit))
+none_at (class ∷ classes) none zero run =
+    let clash : true ≡ false = sym (front_passes (class ∷ classes) run) ∙ (none_found class classes _ refl none).0 in cc
+none_at (class ∷ classes) none (suc place) run =
+    none_at classes (none_found class classes _ refl none).1 place (run_earlier class classes place run)
+
+pub none_is_long : (classes : List ℕ) → first_long_run classes ≡ None → HasNoLongRun classes
+none_is_long classes none = none_at classes none

@@ -1,7 +1,9 @@
 -- What bytes of rules mean and why they are refused, from the first 1,048,577 of them.
-use Rattle.std.proofs.Common.{◌≡◌, ◌⊎◌, inl, inr, ℕ, ◌<◌, ◌≤◌, List, [], ◌++◌, length, Option, Some, None, IfSome, Ok, Err, refl, ap, sym, subst, ◌∙◌, arith}
+use Rattle.std.proofs.Common.{◌≡◌, ◌⊎◌, inl, inr, ℕ, ◌+◌, ◌<◌, ◌≤◌, List, [], ◌++◌, length, Option, Some, None, IfSome, Ok, Err, refl, ap, sym, subst, ◌∙◌, arith}
 use Rattle.std.proofs.lemmas.Bool.{cases_lt}
 use Rattle.std.proofs.lemmas.List.{length-append, append-nil}
+use Rattle.std.specs.Io.KnownBytes.{Consumes}
+use Rattle.std.proofs.KnownBytes.{Consumes-trans}
 use Rattle.uca_values.specs.Content.{Properties}
 use Rattle.uca_rules.specs.declared.relations.Relation.{Relation}
 use Rattle.uca_rules.specs.declared.faults.RuleFault.{RuleFault}
@@ -13,6 +15,7 @@ use Rattle.uca_cli.specs.declared.faults.FileFault.TheVariants.{Rules}
 use Rattle.uca_cli.specs.declared.faults.Role.TheVariants as roles
 use Rattle.uca_cli.specs.declared.faults.RunFault.TheVariants.{File}
 use Rattle.uca_cli.specs.AuditFiles.{AreRead, ReadsThat}
+use Rattle.uca_cli.specs.AuditRun.{LosesAtMost, RefusesRules}
 
 -- no more bytes were read than there are
 no_more : (bytes left : Option (List ℕ)) (read all : List ℕ) → AreRead bytes left read → bytes ≡ Some all → length read ≤ length all
@@ -66,8 +69,22 @@ known_cause : (properties : Properties) (bytes : List ℕ) (left : Option (List 
 known_cause properties bytes left read place kind are (inl many) cause = too_many properties bytes read place kind (no_more (Some bytes) left read bytes are refl) many cause
 known_cause properties bytes left read place kind are (inr few) cause = subst (λ b. IsCause properties b place kind) (sym (are_all bytes left read are few)) cause
 
+-- what one more read gives comes behind what was read before
+pub one_more : (start old new : Option (List ℕ)) (before more : List ℕ) → Consumes start old before → Consumes old new more → length before + length more ≤ 1048577
+    → (part : List ℕ) × Consumes start new part × (length part ≤ 1048577)
+one_more start old new before more earlier later few =
+    (before ++ more, Consumes-trans start old new before more earlier later, omega (arith, few, length-append before more))
+
+-- of known bytes at most so many are lost
+loses_few : (most : ℕ) (bytes : List ℕ) (left : Option (List ℕ)) (part : List ℕ) → Consumes (Some bytes) left part → length part ≤ most → LosesAtMost most bytes left
+loses_few most bytes None part loses few = absurd loses
+loses_few most bytes (Some rest) part loses few = (part, loses, few)
+
 -- a cause in what was read is one in the bytes
 pub rules_refused : (properties : Properties) (known left : Option (List ℕ)) (read : List ℕ) (fault : RuleFault) → AreRead known left read
-    → IsCause properties read fault.byte fault.kind → IfSome known (λ bytes. IsCause properties bytes fault.byte fault.kind)
+    → IsCause properties read fault.byte fault.kind → IfSome known (λ bytes. RefusesRules properties bytes left (Rules fault))
 rules_refused properties None left read fault are cause = tt
-rules_refused properties (Some bytes) left read fault are cause = known_cause properties bytes left read fault.byte fault.kind are (cases_lt 1048576 (length read)) cause
+rules_refused properties (Some bytes) left read fault are cause = (
+  known_cause properties bytes left read fault.byte fault.kind are (cases_lt 1048576 (length read)) cause,
+  loses_few 1048577 bytes left read are.loses are.few,
+)

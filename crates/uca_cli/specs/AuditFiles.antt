@@ -1,5 +1,5 @@
 -- What is known of the files of an audit where they are read. Only private contracts cite it.
-use Rattle.std.specs.Prelude.{◌≡◌, ℕ, ◌<◌, ◌≤◌, List, Bool, true, false, Option, IfSome, Result, Ok, Err, MatchResult, length, ⊤}
+use Rattle.std.specs.Prelude.{◌≡◌, ℕ, ◌<◌, ◌≤◌, List, Bool, true, false, Option, IfSome, Result, Ok, Err, MatchResult, length}
 use Rattle.std.specs.Io.KnownBytes.{Consumes, IsAtEnd}
 use Rattle.uca_table.specs.Lines as tables
 use Rattle.uca_data.specs.Said as data_files
@@ -20,8 +20,8 @@ pub record AreRead (start now : Option (List ℕ)) (bytes : List ℕ) : Type 0 w
 
 -- why they were not read
 abbrev pub IsNotRead : Option (List ℕ) → Option (List ℕ) → FileFault → Type 0
-IsNotRead start now RulesRead = (part : List ℕ) × Consumes start now part × (length part ≤ 1048577)
-IsNotRead start now RulesMemory = ⊤
+IsNotRead start now RulesRead = (part : List ℕ) × Consumes start now part × (length part ≤ 1048576)
+IsNotRead start now RulesMemory = (part : List ℕ) × Consumes start now part × (length part ≤ 1048577)
 IsNotRead start now _ = ⊥
 
 -- whether it is that a read failed

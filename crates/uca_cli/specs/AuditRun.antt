@@ -27,12 +27,16 @@ use Rattle.uca_cli.specs.Verdicts.{WritesVerdict}
 
 -- ---- The files
 
--- why the bytes of a file of rules are refused: by a cause in them, or their reading failed behind at most 1,048,577 bytes, or an
--- allocation for them
+-- of the bytes at most so many were read, and the others are left
+abbrev pub LosesAtMost : ℕ → List ℕ → Option (List ℕ) → Type 0
+LosesAtMost most bytes left = IsSomeAnd left (λ rest. (part : List ℕ) × (bytes ≡ part ++ rest) × (length part ≤ most))
+
+-- Why the bytes of a file of rules are refused, and how many were read at most: by a cause in them, or reading them failed, or
+-- an allocation for them. Rules have 1,048,576 bytes at most, and one more is read of longer ones.
 abbrev pub RefusesRules : Properties → List ℕ → Option (List ℕ) → FileFault → Type 0
-RefusesRules properties bytes left (file_faults.Rules fault) = rule_faults.IsCause properties bytes fault.byte fault.kind
-RefusesRules properties bytes left file_faults.RulesRead = IsSomeAnd left (λ rest. (part : List ℕ) × (bytes ≡ part ++ rest) × (length part ≤ 1048577))
-RefusesRules properties bytes left file_faults.RulesMemory = ⊤
+RefusesRules properties bytes left (file_faults.Rules fault) = rule_faults.IsCause properties bytes fault.byte fault.kind × LosesAtMost 1048577 bytes left
+RefusesRules properties bytes left file_faults.RulesRead = LosesAtMost 1048576 bytes left
+RefusesRules properties bytes left file_faults.RulesMemory = LosesAtMost 1048577 bytes left
 RefusesRules properties bytes left _ = ⊥
 
 abbrev pub RefusesCertificate : List ℕ → Option (List ℕ) → FileFault → Type 0
@@ -111,6 +115,10 @@ IsStop _ = ⊥
 abbrev pub AcceptsOrStops : Result Bool RunFault → Type 0
 AcceptsOrStops (Ok verdict) = verdict ≡ true
 AcceptsOrStops (Err fault) = IsStop fault
+
+-- files that mean an accepted tailoring are accepted, unless the run stops
+abbrev pub AcceptsAccepted : AuditSources → Result Bool RunFault → Type 0
+AcceptsAccepted sources result = (content : AuditContent) → HaveContent sources content → IsAccepted (tailoring_by content) → AcceptsOrStops result
 
 -- ---- The verdict
 

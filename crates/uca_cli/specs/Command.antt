@@ -11,7 +11,7 @@ use Rattle.uca_cli.specs.declared.faults.Role.{Role}
 use Rattle.uca_cli.specs.declared.faults.Role.TheVariants as roles
 use Rattle.uca_cli.specs.declared.faults.RunFault.{RunFault}
 use Rattle.uca_cli.specs.declared.faults.RunFault.TheVariants.{Open, Words}
-use Rattle.uca_cli.specs.AuditRun.{AuditSources, audit_sources, AuditsOver, RunsAudit}
+use Rattle.uca_cli.specs.AuditRun.{AuditSources, audit_sources, AuditsOver, AcceptsAccepted, RunsAudit}
 use Rattle.uca_cli.specs.CheckRun.{RunsCheck}
 use Rattle.uca_cli.specs.CompareRun.{RunsCompare}
 use Rattle.uca_cli.specs.KeysRun.{RunsKeys}
@@ -96,7 +96,8 @@ DoesWords gives remaining old new (Compare weighting depth table_name data_name 
     (OverTwo (λ table table_new properties properties_new. (run : Result (Unit {0}) RunFault) × (result ≡ done_result run) × RunsOver table table_new properties properties_new (RunsCompare weighting depth left.now right.now out out_new run) run)) result
 DoesWords gives remaining old new (Audit base data_name rules tailored certificate) input input_new out out_new result = (input_new ≡ input)
     × OpensAndRuns gives remaining old new (audit_files base.now data_name.now rules.now tailored.now certificate.now) (out_new ≡ out)
-    (OverFive (λ sources sources_new. (run : Result Bool RunFault) × (result ≡ check_result run) × AuditsOver sources sources_new (RunsAudit out out_new run) run)) result
+    (OverFive (λ sources sources_new. (run : Result Bool RunFault) × (result ≡ check_result run) × AuditsOver sources sources_new (RunsAudit out out_new run) run
+    × AcceptsAccepted sources run)) result
 
 -- how the command ends after a run: with its status, or with what its fault reports
 abbrev pub EndsWith : Result ℕ RunFault → ℕ → SinkState → SinkState → SinkState → SinkState → Type 0

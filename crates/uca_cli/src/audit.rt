@@ -5,7 +5,7 @@ ghost use Rattle.uca_values.specs.Content.{properties_of};
 ghost use Rattle.uca_tailorings.specs.Tailorings.{IsAccepted};
 ghost use Rattle.uca_audit.specs.FaultText.{audit_fault_text};
 ghost use Rattle.uca_audit.specs.Inputs.{tailoring_of};
-ghost use Rattle.uca_cli.specs.AuditRun.{AcceptsOrStops, AuditContent, AuditHasFailed, AuditsOver, HaveContent, RunsAudit, audit_sources, tailoring_by};
+ghost use Rattle.uca_cli.specs.AuditRun.{AcceptsAccepted, AcceptsOrStops, AuditHasFailed, AuditsOver, RunsAudit, audit_sources};
 ghost use Rattle.uca_cli.specs.Runs.{is_before_output, is_file, is_write};
 
 use crate::audit_files::{AuditFiles, read_audit_files};
@@ -41,8 +41,7 @@ pub fn run_audit<B: Read, D: Read, U: Read, T: Read, C: Read, W: Write>(
     // Where the bytes of its files are known.
     ensures runs { AuditsOver (audit_sources base.old properties.old rules.old tailored.old certificate.old)
         (audit_sources base.new properties.new rules.new tailored.new certificate.new) (RunsAudit out.old out.new result) result }
-    ensures only { (content : AuditContent) → HaveContent (audit_sources base.old properties.old rules.old tailored.old certificate.old) content →
-        IsAccepted (tailoring_by content) → AcceptsOrStops result }
+    ensures only { AcceptsAccepted (audit_sources base.old properties.old rules.old tailored.old certificate.old) result }
 
     // Whatever the readers and the writer are.
     ensures nothing_written { is_before_output result ≡ true → out.new ≡ out.old }

@@ -2,7 +2,7 @@
 
 ghost use Rattle.std.specs.Prelude.{◌≡◌, ◌∷◌, [], ⊤, ℕ, List, Bool, Result, MatchResult};
 ghost use Rattle.clap.specs.Walk.{texts};
-ghost use Rattle.uca_cli.specs.AuditRun.{AuditsOver, RunsAudit};
+ghost use Rattle.uca_cli.specs.AuditRun.{AcceptsAccepted, AuditsOver, RunsAudit};
 ghost use Rattle.uca_cli.specs.CheckRun.{RunsCheck};
 ghost use Rattle.uca_cli.specs.CompareRun.{RunsCompare};
 ghost use Rattle.uca_cli.specs.KeysRun.{RunsKeys};
@@ -65,7 +65,7 @@ fn open_files<O: Opens>(
 
 // The sources of the files of an audit.
 #[derive(Drop)]
-struct AuditFiles<F: Read + Drop> {
+struct OpenedFiles<F: Read + Drop> {
     base: Source<F>,
     properties: Source<F>,
     rules: Source<F>,
@@ -81,7 +81,7 @@ fn open_audit_files<O: Opens>(
     rules: &str,
     tailored: &str,
     certificate: &str,
-) -> Result<AuditFiles<O::File>, Role>
+) -> Result<OpenedFiles<O::File>, Role>
     ensures { MatchResult result
         (λ files. AreOpened O.open_gives O.File.remaining opener.old opener.new (audit_files base.now data_file.now rules.now tailored.now certificate.now)
         (files.base ∷ files.properties ∷ files.rules ∷ files.tailored ∷ files.certificate ∷ []))
@@ -102,7 +102,7 @@ fn open_audit_files<O: Opens>(
     let Ok(certificate) = opener.open(certificate) else {
         return Err(Role::Certificate);
     };
-    Ok(AuditFiles {
+    Ok(OpenedFiles {
         base: Source::new(base),
         properties: Source::new(data_file),
         rules: Source::new(rules),
@@ -252,7 +252,8 @@ fn audit<O: Opens, W: Write>(
 ) -> Result<u8, RunFault>
     ensures { OpensAndRuns O.open_gives O.File.remaining opener.old opener.new
         (audit_files base.now properties.now rules.now tailored.now certificate.now) (out.new ≡ out.old)
-        (OverFive (λ s s_new. (run : Result Bool RunFault) × (result ≡ check_result run) × AuditsOver s s_new (RunsAudit out.old out.new run) run)) result }
+        (OverFive (λ s s_new. (run : Result Bool RunFault) × (result ≡ check_result run) × AuditsOver s s_new (RunsAudit out.old out.new run) run
+        × AcceptsAccepted s run)) result }
 {
     let mut files = match open_audit_files(opener, base, properties, rules, tailored, certificate) {
         Ok(files) => files,

@@ -25,7 +25,7 @@ pub use faults::{FileFault, InputKind, Role, RunFault};
 pub use keys::{print_keys, run_keys, run_keys_in};
 pub use laws::{
     canonically_equivalent_lines_have_one_key_line, identical_line_keys_are_of_equivalent_lines,
-    key_order_is_one, line_keys_compare_as_lines,
+    key_order_is_one, line_keys_compare_as_lines, untouched_lines_keep_their_order,
 };
 pub use reporting::report;
 pub use sort::{run_sort, run_sort_in, sort_lines};
