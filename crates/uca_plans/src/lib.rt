@@ -1,0 +1,11 @@
+//! Plans of tailorings: which weights the targets of rules get, and which weights of the base move for that. These are
+//! definitions, as functions that compute a plan or the first refusal, and laws of them.
+#![tactic(auto)]
+
+mod drafts;
+mod faults;
+mod laws;
+
+pub use drafts::{DraftElement, DraftWeight, Segment};
+pub use faults::{TailorFault, TailorKind};
+pub use laws::worked_plans;
