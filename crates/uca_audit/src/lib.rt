@@ -9,5 +9,7 @@ mod placements;
 
 pub use auditing::audit;
 pub use faults::{AuditFault, Place};
-pub use uca_certificates::{Certificate, CertificateFault, CertificateFaultKind, read_certificate};
+pub use uca_certificates::{
+    Certificate, CertificateFault, CertificateFaultKind, read_certificate, write_certificate,
+};
 pub use uca_tailorings::Condition;

@@ -4,8 +4,8 @@ ghost use Rattle.std.specs.Prelude.{◌≡◌, ◌-◌, length};
 ghost use Rattle.uca_canonical.specs.Canonical.{point_width, point_text};
 ghost use Rattle.uca_lines.specs.Handing.{HasRoom, Hands};
 
-use crate::digits::six_digits;
 use std::io::Write;
+use uca_fields::six_digits;
 use uca_lines::OutputBuffer;
 use uca_weights::{Sink, WriteFault};
 

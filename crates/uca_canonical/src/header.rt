@@ -7,10 +7,10 @@ ghost use Rattle.uca_canonical.specs.Canonical.{version_line, setting_line, rang
 ghost use Rattle.uca_lines.specs.Handing.{count_of, HasRoom, Hands};
 ghost use Rattle.uca_canonical.specs.LineTexts.{setting_text, range_lines, header_text};
 
-use crate::digits::four_digits;
 use crate::handing::hand_point;
 use std::alloc::Allocator;
 use std::io::Write;
+use uca_fields::four_digits;
 use uca_lines::OutputBuffer;
 use uca_values::{Header, ImplicitRange};
 use uca_weights::{Sink, Weighting, WriteFault};

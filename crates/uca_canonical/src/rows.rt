@@ -8,7 +8,7 @@ ghost use Rattle.uca_canonical.specs.Canonical.{key_point_text, key_text, row_li
 ghost use Rattle.uca_lines.specs.Handing.{HasRoom, Hands};
 ghost use Rattle.uca_canonical.specs.LineTexts.{row_lines};
 
-use crate::digits::element_text;
+use crate::elements::element_text;
 use crate::handing::hand_point;
 use std::alloc::Allocator;
 use std::io::Write;

@@ -1,1 +1,7 @@
-pub mod Stub
+pub mod LineLaws
+pub mod TakeLaws
+pub mod Exact
+pub mod Sizes
+pub mod MapLaws
+pub mod WholeLaws
+pub mod WriteLaws

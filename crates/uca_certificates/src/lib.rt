@@ -4,13 +4,17 @@
 
 mod certificate;
 mod faults;
+mod lines;
 mod read;
+mod spelling;
+mod write;
 
 pub use certificate::Certificate;
 use faults::CertificateFaultKind as Kind;
 pub use faults::{CertificateFault, CertificateFaultKind};
 pub use read::read_certificate;
 use uca_files::FileForm;
+pub use write::write_certificate;
 
 /// The form of certificates.
 pub const CERTIFICATE_FORM: FileForm<CertificateFaultKind> = FileForm {

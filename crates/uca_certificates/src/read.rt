@@ -4,9 +4,11 @@ ghost use Rattle.std.specs.Prelude.{◌≡◌, ◌||◌, IfOk, IfErr, IfSome, Ma
 ghost use Rattle.uca_certificates.specs.Certificates.{CertificateContent};
 ghost use Rattle.uca_certificates.specs.Texts.{IsStop, Means, Refuses, is_read};
 
-use crate::{Certificate, CertificateFault, CertificateFaultKind};
+use crate::lines::Lines;
+use crate::{Certificate, CertificateFault};
 use std::alloc::Global;
 use std::io::Read;
+use uca_files::read_lines;
 use uca_weights::Source;
 
 /// Reads a certificate: a line `LEVEL FROM TO COUNT` for each run, ended by LF, levels never falling. LEVEL is `1`, `2`
@@ -37,8 +39,18 @@ pub fn read_certificate<R: Read>(
     // At any source.
     ensures failed { source.new.failed ≡ (source.old.failed || is_read result) }
 {
-    Err(CertificateFault {
-        line: 1,
-        kind: CertificateFaultKind::Memory,
-    })
+    read_to_end(alloc, source)
+}
+
+fn read_to_end<R: Read>(
+    alloc: Global,
+    source: &mut Source<R>,
+) -> Result<Certificate, CertificateFault>
+    ensures found { IfSome source.old.remaining (λ bytes. IfOk result (Means bytes)) }
+    ensures fault { IfSome source.old.remaining (λ bytes. IfErr result (Refuses bytes source.new.remaining)) }
+    ensures failed { source.new.failed ≡ (source.old.failed || is_read result) }
+{
+    let mut lines = Lines::new(alloc);
+    read_lines(alloc, source, &mut lines)?;
+    lines.into_certificate()
 }

@@ -1,3 +1,4 @@
 pub mod CutLaws
 pub mod Digits
 pub mod LeadLaws
+pub mod ManyDigits

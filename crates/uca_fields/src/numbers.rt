@@ -1,7 +1,7 @@
 //! Numbers in a text.
 
-ghost use Rattle.std.specs.Prelude.{◌≡◌, ◌≤◌, ◌<◌, ◌^◌, length, IfSome, [], ◌∷◌};
-ghost use Rattle.uca_fields.specs.Number.{hex_of, code_point_of, weight_of, decimal_of, class_of, upper_digit};
+ghost use Rattle.std.specs.Prelude.{◌≡◌, ◌≤◌, ◌<◌, ◌^◌, ◌%◌, length, IfSome, [], ◌∷◌};
+ghost use Rattle.uca_fields.specs.Number.{hex_of, code_point_of, weight_of, decimal_of, class_of, upper_digit, digits};
 
 /// The code point that a word of four to six digits stands for; None where the word is another text, and
 /// for a surrogate or a number above 10FFFF.
@@ -95,4 +95,37 @@ pub fn hexadecimal_digit(value: u8) -> u8
     } else {
         b'A' + (value - 10)
     }
+}
+
+/// The last six digits of a number.
+pub fn six_digits(number: u32) -> [u8; 6]
+    ensures { result ≡ digits 6 number }
+{
+    [
+        last_digit(number / 0x10_0000),
+        last_digit(number / 0x1_0000),
+        last_digit(number / 0x1000),
+        last_digit(number / 0x100),
+        last_digit(number / 0x10),
+        last_digit(number),
+    ]
+}
+
+/// The digits of a number of 16 bits.
+pub fn four_digits(number: u16) -> [u8; 4]
+    ensures { result ≡ digits 4 number }
+{
+    let number = u32::from(number);
+    [
+        last_digit(number / 0x1000),
+        last_digit(number / 0x100),
+        last_digit(number / 0x10),
+        last_digit(number),
+    ]
+}
+
+fn last_digit(number: u32) -> u8
+    ensures { result ≡ upper_digit (number % 16) }
+{
+    hexadecimal_digit((number % 16) as u8)
 }

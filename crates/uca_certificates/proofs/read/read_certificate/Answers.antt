@@ -1,6 +1,7 @@
-use Rattle.std.specs.Prelude.{Option}
-use Rattle.uca_certificates.proofs.Stub.{some}
+-- Bytes mean one certificate at most, and none where a fault stands.
+use Rattle.uca_certificates.specs.Certificates.{CertificateContent}
+use Rattle.uca_certificates.proofs.WholeLaws.{only_known}
 use Rattle.uca_certificates.proofs.read.read_certificate.Goals as goal
 
-pub returns-clause-fault : goal.returns-clause-fault
-returns-clause-fault g c = some _ _
+pub returns-clause-only : goal.returns-clause-only
+returns-clause-only g c = only_known {X = CertificateContent} (λ content. content) _ _ c.read_to_end.result c.read_to_end.ensures.found c.read_to_end.ensures.fault

@@ -1,0 +1,206 @@
+//! The runs that the lines of a certificate say, taken one after the other.
+
+ghost use Rattle.std.specs.Prelude.{◌≡◌, ◌⊎◌, ◌++◌, [], ◌∷◌, ◌+◌, ◌≤◌, ◌<◌, length, OnOk, IfOk, IfErr};
+ghost use Rattle.uca_weights.specs.Runs.{AreProperRuns};
+ghost use Rattle.uca_certificates.specs.declared.faults.CertificateFaultKind.{CertificateFaultKind};
+ghost use Rattle.uca_certificates.specs.Steps.{RefusesRuns, fault_line};
+
+use crate::spelling::read_line;
+use crate::{CERTIFICATE_FORM, Certificate, CertificateFault, CertificateFaultKind};
+use std::alloc::Global;
+use std::marker::Model;
+use uca_files::{FileForm, TakesLines};
+use uca_weights::{Level, MapFault, MapFaultKind, Run, WeightMap};
+
+/// How many runs a level may have.
+const MOST_RUNS: usize = 0xFFFF;
+
+/// The runs of each level that the lines so far say.
+#[derive(Drop)]
+pub struct Lines {
+    primary: Vec<Run>,
+    secondary: Vec<Run>,
+    tertiary: Vec<Run>,
+}
+
+impl Model for Lines {
+    ghost use Rattle.std.specs.Prelude.{◌≤◌, length};
+    ghost use Rattle.uca_certificates.specs.Certificates.{CertificateContent};
+
+    ghost Value = { CertificateContent };
+
+    ghost view = { λ l. record {
+      primary = l.primary.items;
+      secondary = l.secondary.items;
+      tertiary = l.tertiary.items;
+    } };
+
+    ghost invariant = { λ l. (length l.primary.items ≤ 0xFFFF) × (length l.secondary.items ≤ 0xFFFF)
+        × (length l.tertiary.items ≤ 0xFFFF) };
+}
+
+impl Lines {
+    ghost use Rattle.std.specs.Prelude.{◌≡◌, ◌⊎◌, ◌<◌, ◌↔◌, [], length, IsTrue, OnOk, IfOk, IfErr};
+    ghost use Rattle.uca_certificates.specs.declared.faults.CertificateFaultKind.{CertificateFaultKind};
+    ghost use Rattle.uca_certificates.specs.Certificates.{IsCertificate, runs_at};
+    ghost use Rattle.uca_certificates.specs.Texts.{IsPassed};
+    ghost use Rattle.uca_certificates.specs.Steps.{put_last, RefusesContent};
+
+    /// Nothing is said yet. It takes no memory.
+    pub fn new(alloc: Global) -> Lines
+        ensures { result ≡ record { primary = []; secondary = []; tertiary = [] } }
+    {
+        Lines {
+            primary: Vec::new(alloc),
+            secondary: Vec::new(alloc),
+            tertiary: Vec::new(alloc),
+        }
+    }
+
+    // Whether a line of a higher level stands.
+    fn is_passed(&self, level: Level) -> bool
+        ensures { IsTrue result ↔ IsPassed self.now level }
+    {
+        match level {
+            Level::One => !self.secondary.is_empty() || !self.tertiary.is_empty(),
+            Level::Two => !self.tertiary.is_empty(),
+            Level::Three => false,
+        }
+    }
+
+    // Adds a run behind the others of its level.
+    fn add(&mut self, level: Level, run: Run) -> Result<(), CertificateFaultKind>
+        ensures room { OnOk result (length (runs_at level self.old) < 0xFFFF) }
+        ensures ok { OnOk result (self.new ≡ put_last level run self.old) }
+        ensures fault { IfErr result (λ kind. (kind ≡ CertificateFaultKind.Memory)
+            ⊎ ((kind ≡ CertificateFaultKind.Limit) × (length (runs_at level self.old) ≡ 0xFFFF))) }
+    {
+        match level {
+            Level::One => push_run(&mut self.primary, run),
+            Level::Two => push_run(&mut self.secondary, run),
+            Level::Three => push_run(&mut self.tertiary, run),
+        }
+    }
+
+    /// The certificate of the runs.
+    ///
+    /// # Errors
+    ///
+    /// `Map` for the lowest level whose runs make no map.
+    pub fn into_certificate(self) -> Result<Certificate, CertificateFault>
+        ensures certificate { IfOk result (λ certificate. certificate ≡ self) }
+        ensures maps { OnOk result (IsCertificate self) }
+        ensures fault { IfErr result (RefusesContent self) }
+    {
+        let Lines {
+            primary,
+            secondary,
+            tertiary,
+        } = self;
+        let below_two = primary.len();
+        let below_three = below_two + secondary.len();
+        let all = below_three + tertiary.len();
+        let primary = map_of(Level::One, primary, 0, all)?;
+        let secondary = map_of(Level::Two, secondary, below_two, all)?;
+        let tertiary = map_of(Level::Three, tertiary, below_three, all)?;
+        Ok(Certificate {
+            primary,
+            secondary,
+            tertiary,
+        })
+    }
+}
+
+impl TakesLines for Lines {
+    ghost use Rattle.std.specs.Prelude.{refl};
+    ghost use Rattle.uca_certificates.specs.declared.TheConstants.{CERTIFICATE_FORM};
+    ghost use Rattle.uca_certificates.specs.Texts.{Says, Cause, is_read_kind};
+    ghost use Rattle.uca_certificates.specs.Steps.{Takes};
+    ghost use Rattle.uca_certificates.specs.OneMore as one_more;
+
+    type Kind = CertificateFaultKind;
+
+    ghost form = { CERTIFICATE_FORM };
+
+    ghost is_read = { is_read_kind };
+
+    ghost says = { Says };
+
+    ghost takes = { Takes };
+
+    ghost cause = { Cause };
+
+    fn form() -> FileForm<CertificateFaultKind> {
+        CERTIFICATE_FORM
+    }
+
+    fn take(&mut self, line: &[u8]) -> Result<(), CertificateFaultKind> {
+        let Some((level, run)) = read_line(line) else {
+            return Err(CertificateFaultKind::Line);
+        };
+        if self.is_passed(level) {
+            return Err(CertificateFaultKind::Order);
+        }
+        self.add(level, run)
+    }
+
+    ghost apart = { record { failed_read = refl; too_long = refl; too_many = tt; no_lf = refl; no_memory = refl } };
+
+    ghost no_read = { λ said line kind cause. one_more.not_read said line kind cause };
+
+    ghost says_more = { λ lines old line new before taken _ _. one_more.says_more lines old line new before taken };
+
+    ghost few = { λ lines said _ says. one_more.few_lines lines said says };
+}
+
+// Adds a run to those of a level.
+fn push_run(runs: &mut Vec<Run>, run: Run) -> Result<(), CertificateFaultKind>
+    requires { length runs.old.items ≤ 0xFFFF }
+    ensures room { OnOk result (length runs.old.items < 0xFFFF) }
+    ensures ok { OnOk result (runs.new.items ≡ runs.old.items ++ run ∷ []) }
+    ensures fault { IfErr result (λ kind. (kind ≡ CertificateFaultKind.Memory)
+        ⊎ ((kind ≡ CertificateFaultKind.Limit) × (length runs.old.items ≡ 0xFFFF))) }
+    ensures few { length runs.new.items ≤ 0xFFFF }
+{
+    if runs.len() >= MOST_RUNS {
+        return Err(CertificateFaultKind::Limit);
+    }
+    runs.push(run)?;
+    Ok(())
+}
+
+// The map of the runs of a level, before which `below` runs stand among `all`.
+fn map_of(
+    level: Level,
+    runs: Vec<Run>,
+    below: usize,
+    all: usize,
+) -> Result<WeightMap, CertificateFault>
+    requires within { below + length runs.items ≤ all }
+    requires few { all ≤ 0x10_0000 }
+    ensures map { IfOk result (λ map. map ≡ record { level = level; runs = runs.items }) }
+    ensures proper { OnOk result (AreProperRuns level runs.items) }
+    ensures fault { IfErr result (RefusesRuns level runs.items below all) }
+{
+    match WeightMap::from_runs(level, runs) {
+        Ok(map) => Ok(map),
+        Err(fault) => Err(CertificateFault {
+            line: line_of(fault, below, all),
+            kind: CertificateFaultKind::Map(fault),
+        }),
+    }
+}
+
+// The line of a fault in the runs of a level, before which `below` runs stand among `all`.
+fn line_of(fault: MapFault, below: usize, all: usize) -> u32
+    requires within { below + fault.run ≤ all }
+    requires few { all ≤ 0x10_0000 }
+    ensures { result ≡ fault_line below all fault.run fault.kind }
+{
+    let before = match fault.kind {
+        MapFaultKind::Fixed => all,
+        MapFaultKind::Empty | MapFaultKind::NotRising | MapFaultKind::OutOfRange => below
+            + fault.run,
+    };
+    before as u32 + 1
+}

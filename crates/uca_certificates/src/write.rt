@@ -1,0 +1,50 @@
+//! Writing of certificates.
+
+ghost use Rattle.std.specs.Prelude.{◌≡◌, ◌||◌, ◌<◌, IfErr, length, is_err};
+ghost use Rattle.uca_weights.specs.Writes.{Writes};
+ghost use Rattle.uca_lines.specs.Handing.{HasRoom, Hands};
+ghost use Rattle.uca_certificates.specs.Texts.{certificate_text};
+ghost use Rattle.uca_certificates.specs.Steps.{level_text};
+
+use crate::Certificate;
+use crate::spelling::run_line;
+use std::io::Write;
+use uca_lines::OutputBuffer;
+use uca_weights::{Level, Run, Sink, WriteFault};
+
+/// Writes the text of a certificate: the runs of level 1, of level 2 and of level 3, each a line `LEVEL FROM TO COUNT`
+/// ended by LF.
+///
+/// # Errors
+///
+/// The writer failed: `written` says how many bytes went out, which are the first of the text.
+pub fn write_certificate<W: Write>(
+    certificate: &Certificate,
+    out: &mut Sink<W>,
+) -> Result<(), WriteFault>
+    ensures text { Writes out.old.contents out.new.contents (certificate_text certificate.now) result }
+    ensures not_all { IfErr result (λ fault. fault.written < length (certificate_text certificate.now)) }
+    ensures failed { out.new.failed ≡ (out.old.failed || is_err result) }
+{
+    let mut buffer = OutputBuffer::new();
+    hand_runs(&mut buffer, out, Level::One, certificate.primary.runs())?;
+    hand_runs(&mut buffer, out, Level::Two, certificate.secondary.runs())?;
+    hand_runs(&mut buffer, out, Level::Three, certificate.tertiary.runs())?;
+    buffer.flush(out)
+}
+
+// Hands over the runs of a level, each as a line.
+fn hand_runs<W: Write>(
+    buffer: &mut OutputBuffer,
+    out: &mut Sink<W>,
+    level: Level,
+    runs: &[Run],
+) -> Result<(), WriteFault>
+    requires { HasRoom buffer.old (length (level_text level runs.now)) }
+    ensures { Hands (level_text level runs.now) buffer.old buffer.new out.old out.new result }
+{
+    for run in runs {
+        buffer.write(out, &run_line(level, *run))?;
+    }
+    Ok(())
+}
