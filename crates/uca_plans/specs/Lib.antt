@@ -6,3 +6,4 @@ pub mod Readings
 pub mod Plans
 pub mod Runs
 pub mod WorkedPlans
+pub mod Tailors
