@@ -2,3 +2,8 @@ pub mod Inputs
 pub mod Refusals
 pub mod FaultText
 pub mod Views
+pub mod Anchors
+pub mod PlacedRows
+pub mod WeightSets
+pub mod NewWeights
+pub mod KnownWeights

@@ -4,10 +4,7 @@ use Rattle.uca_weights.specs.declared.Level.{Level}
 use Rattle.uca_weights.specs.Levels.{level_of}
 use Rattle.uca_values.specs.Content.{properties_of}
 use Rattle.uca_rules.specs.declared.relations.Relation.{Relation}
-use Rattle.uca_match.specs.Rows.{Rows}
-use Rattle.uca_match.specs.Collations.{Collation, collation_of}
-use Rattle.uca_tailorings.specs.Tailorings.{Tailoring, tailored_reading, IsPlacedAt}
-use Rattle.uca_tailorings.specs.Laws.{ReadsAs}
+use Rattle.uca_tailorings.specs.Tailorings.{Tailoring, IsPlacedAt}
 use Rattle.uca_audit.specs.declared.inputs.Inputs.{Inputs}
 use Rattle.uca_audit.specs.declared.placements.Placement.{Placement}
 use Rattle.uca_audit.specs.Inputs.{tailoring_of}

@@ -2,10 +2,15 @@
 //! say, and leaves alone every text in which no target of the rules occurs.
 #![tactic(auto)]
 
+mod anchors;
 mod auditing;
 mod faults;
 mod inputs;
+mod known;
+mod new_weights;
 mod placements;
+mod readings;
+mod weight_sets;
 
 pub use auditing::audit;
 pub use faults::{AuditFault, Place};

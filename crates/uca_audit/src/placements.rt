@@ -1,6 +1,24 @@
-//! Conditions 8 and 9: the elements that relations give their targets.
+//! Condition 9: the elements that relations give their targets.
 
-use uca_weights::Level;
+ghost use Rattle.std.specs.Prelude.{◌≡◌, ◌↔◌, ◌++◌, ℕ, suc, List, IsTrue, IfOk, OnOk, MatchOption, MatchResult};
+ghost use Rattle.std.specs.List.{AllZip};
+ghost use Rattle.uca_match.specs.Collations.{collation_of};
+ghost use Rattle.uca_tailorings.specs.Laws.{ReadsAs};
+ghost use Rattle.uca_tailorings.specs.Placing as placing;
+ghost use Rattle.uca_tailorings.specs.Placing.{placed, IsOnSide};
+ghost use Rattle.uca_tailorings.specs.Tailorings.{Tailoring, IsPlaced, Meets, tailored_reading};
+ghost use Rattle.uca_audit.specs.PlacedRows.{IsRowAt, IsFoundPlacement};
+ghost use Rattle.uca_audit.specs.Refusals.{IsFirstRelationWithout};
+ghost use Rattle.uca_audit.specs.Views.{IsPlacement, tailoring_in};
+
+use crate::Condition;
+use crate::anchors::{anchor_place, level_of, weight};
+use crate::inputs::Inputs;
+use crate::readings::Readings;
+use std::alloc::{AllocError, Global};
+use uca_match::{Collator, Lookup, Trie, row_of};
+use uca_rules::Relation;
+use uca_weights::{Element, Level};
 
 /// Where a target was placed.
 #[derive(Clone, Copy)]
@@ -11,4 +29,166 @@ pub(crate) struct Placement {
     pub old: u16,
     /// The new weight, which the target has in its place.
     pub new: u16,
+}
+
+/// How the target of each relation was placed, or else the first relation whose target was not, by its index. An error says
+/// that no memory was left.
+pub(crate) fn placements(
+    alloc: Global,
+    inputs: &Inputs,
+    collator: &Collator<Trie>,
+) -> Result<Result<Vec<Placement>, usize>, AllocError>
+    requires { ReadsAs (collation_of ⟦<Trie as Lookup>⟧.content collator.now) (tailored_reading (tailoring_in inputs.now)) }
+    ensures found { IfOk result (λ found. MatchResult found
+        (λ list. AllZip (IsPlacement (tailoring_in inputs.now)) (tailoring_in inputs.now).relations list.items)
+        (λ at. IsFirstRelationWithout (λ before r after. IsPlaced (tailoring_in inputs.now) r) (tailoring_in inputs.now).relations (suc at))) }
+    ensures met { IfOk result (λ found. OnOk found (Meets (tailoring_in inputs.now) Condition.NotPlaced)) }
+{
+    let mut list = Vec::new(alloc);
+    let mut readings = Readings::new(alloc);
+    for (at, relation) in inputs.rules.relations().iter().enumerate() {
+        let Some(placement) = placement_of(collator, relation, &mut readings)? else {
+            return Ok(Err(at));
+        };
+        list.push(placement)?;
+    }
+    Ok(Ok(list))
+}
+
+/// How the target of a relation was placed, if it was.
+fn placement_of(
+    collator: &Collator<Trie>,
+    relation: &Relation,
+    readings: &mut Readings,
+) -> Result<Option<Placement>, AllocError>
+    ensures { (tailoring : Tailoring) → ReadsAs (collation_of ⟦<Trie as Lookup>⟧.content collator.now) (tailored_reading tailoring) →
+        IfOk result (IsFoundPlacement tailoring relation.now) }
+{
+    readings.read(collator, relation)?;
+    let Some(row) = row_of(collator.lookup, relation.target.chars()) else {
+        return Ok(None);
+    };
+    let (anchor, expansion) = (&readings.anchor, &readings.expansion);
+    match level_of(relation.strength) {
+        Some(level) => Ok(weighted(level, relation.before, anchor, expansion, row)),
+        None => Ok(identical(anchor, expansion, row)),
+    }
+}
+
+/// How a row was placed at the level, if it was.
+fn weighted(
+    level: Level,
+    is_before: bool,
+    anchor: &[Element],
+    expansion: &[Element],
+    row: &[Element],
+) -> Option<Placement>
+    ensures { MatchOption result
+        ((old new : ℕ) → ¬ (IsRowAt level is_before anchor.now expansion.now row.now old new))
+        (λ p. (p.level ≡ Some level) × IsRowAt level is_before anchor.now expansion.now row.now p.old p.new) }
+{
+    let at = anchor_place(level, anchor)?;
+    let last = anchor[at];
+    let new = placed_weight(level, &anchor[..at], last, expansion, row)?;
+    let old = weight(level, last);
+    if !is_on_side(is_before, old, new) {
+        return None;
+    }
+    Some(Placement {
+        level: Some(level),
+        old,
+        new,
+    })
+}
+
+/// How a row was placed where it differs at no level, if it was.
+fn identical(anchor: &[Element], expansion: &[Element], row: &[Element]) -> Option<Placement>
+    ensures { MatchOption result (¬ (row.now ≡ anchor.now ++ expansion.now))
+        (λ p. (p.level ≡ None) × (row.now ≡ anchor.now ++ expansion.now)) }
+{
+    let rest = row.strip_prefix(anchor)?;
+    if !are_same(rest, expansion) {
+        return None;
+    }
+    Some(Placement {
+        level: None,
+        old: 0,
+        new: 0,
+    })
+}
+
+/// The weight with which a row has the elements before the anchor's last one, that one with the weight at the level, and
+/// then the expansion's, if there is one.
+fn placed_weight(
+    level: Level,
+    before: &[Element],
+    last: Element,
+    expansion: &[Element],
+    row: &[Element],
+) -> Option<u16>
+    ensures { MatchOption result
+        ((w : ℕ) → ¬ (row.now ≡ placed level before.now last expansion.now w))
+        (λ w. row.now ≡ placed level before.now last expansion.now w) }
+{
+    let rest = row.strip_prefix(before)?;
+    let (first, behind) = rest.split_first()?;
+    let new = weight(level, *first);
+    if !is_same(*first, reweighted(level, new, last)) {
+        return None;
+    }
+    if !are_same(behind, expansion) {
+        return None;
+    }
+    Some(new)
+}
+
+/// The element with a new weight at a level; its other weights at weaker levels become 0020 and 0002.
+fn reweighted(level: Level, new: u16, element: Element) -> Element
+    ensures { result ≡ placing.reweighted level new element }
+{
+    match level {
+        Level::One => Element {
+            primary: new,
+            secondary: reset(element.secondary, 0x20),
+            tertiary: reset(element.tertiary, 2),
+            ..element
+        },
+        Level::Two => Element {
+            secondary: new,
+            tertiary: reset(element.tertiary, 2),
+            ..element
+        },
+        Level::Three => Element {
+            tertiary: new,
+            ..element
+        },
+    }
+}
+
+/// A weight other than 0 becomes the default.
+fn reset(weight: u16, default: u16) -> u16
+    ensures { result ≡ placing.reset weight default }
+{
+    if weight == 0 { 0 } else { default }
+}
+
+/// Whether the new weight is greater than the old one, for a before-relation less.
+fn is_on_side(is_before: bool, old: u16, new: u16) -> bool
+    ensures { IsTrue result ↔ IsOnSide is_before old new }
+{
+    if is_before { new < old } else { old < new }
+}
+
+/// Whether two elements are the same, the mark included.
+fn is_same(one: Element, other: Element) -> bool
+    ensures { IsTrue result ↔ (one ≡ other) }
+{
+    one == other
+}
+
+/// Whether two lists have the same elements in the same order.
+fn are_same(one: &[Element], other: &[Element]) -> bool
+    ensures { IsTrue result ↔ (one.now ≡ other.now) }
+{
+    one == other
 }

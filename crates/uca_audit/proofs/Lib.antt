@@ -1,0 +1,9 @@
+pub mod AnchorSteps
+pub mod RelationSteps
+pub mod PlacedRowSteps
+pub mod TargetRows
+pub mod Passes
+pub mod PlacedWeights
+pub mod Fresh
+pub mod Nearest
+pub mod KnownImages

@@ -1,0 +1,21 @@
+use Rattle.std.proofs.Common.{ap}
+use Rattle.uca_weights.specs.declared.Level.TheVariants.{One, Two, Three}
+use Rattle.uca_certificates.specs.Certificates.{CertificateContent}
+use Rattle.uca_audit.specs.Inputs.{maps_of}
+use Rattle.uca_audit.proofs.KnownImages.{images_more, adds_by_map}
+use Rattle.uca_audit.proofs.known.add_element.Goals as goal
+
+pub returns : goal.returns
+returns c elements holds =
+    let certificate = c.args.certificate.now in
+    let maps = c.certificate.inside in
+    let e = c.args.element in
+    let view = c.certificate.view_is in
+    images_more (maps_of certificate) e c.args.known.now c.add_image.new.known c.add_image-2.new.known c.add_image-3.new.known
+    (adds_by_map c.args.known.now c.add_image.new.known One maps.primary certificate.primary e.primary c.certificate.invariant.0
+    (ap (λ (m : CertificateContent). m.primary) view) c.add_image.ensures)
+    (adds_by_map c.add_image.new.known c.add_image-2.new.known Two maps.secondary certificate.secondary e.secondary c.certificate.invariant.1
+    (ap (λ (m : CertificateContent). m.secondary) view) c.add_image-2.ensures)
+    (adds_by_map c.add_image-2.new.known c.add_image-3.new.known Three maps.tertiary certificate.tertiary e.tertiary c.certificate.invariant.2
+    (ap (λ (m : CertificateContent). m.tertiary) view) c.add_image-3.ensures)
+    elements holds

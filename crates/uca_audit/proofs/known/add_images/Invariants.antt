@@ -1,0 +1,12 @@
+use Rattle.std.proofs.Common.{take, ◌++◌}
+use Rattle.uca_check.specs.WellFormed.{elements_of}
+use Rattle.uca_audit.specs.Inputs.{maps_of}
+use Rattle.uca_audit.specs.KnownWeights.{HoldsImages}
+use Rattle.uca_audit.proofs.known.add_images.Given as goal
+
+abbrev pub invariant-loop-element : goal.invariant-loop-element
+invariant-loop-element l =
+    HoldsImages (maps_of l.certificate) (elements_of (take l.row-index l.rows) ++ take l.element-index l.element-items) l.known
+
+abbrev pub invariant-loop-row : goal.invariant-loop-row
+invariant-loop-row l = HoldsImages (maps_of l.certificate) (elements_of (take l.row-index l.rows)) l.known

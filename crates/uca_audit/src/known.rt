@@ -1,0 +1,66 @@
+//! The weights that the base gives the tailored table.
+
+ghost use Rattle.std.specs.Prelude.{◌≡◌, ◌↔◌, ◌⊎◌, ℕ, List, [], ◌∷◌, ◌++◌, IfOk};
+ghost use Rattle.uca_weights.specs.declared.Element.{Element};
+ghost use Rattle.uca_weights.specs.declared.Level.{Level};
+ghost use Rattle.uca_weights.specs.Runs.{weight_image};
+ghost use Rattle.uca_check.specs.WellFormed.{elements_of};
+ghost use Rattle.uca_audit.specs.Inputs.{maps_of};
+ghost use Rattle.uca_audit.specs.Views.{tailoring_in};
+ghost use Rattle.uca_audit.specs.WeightSets.{HasWeight};
+ghost use Rattle.uca_audit.specs.KnownWeights.{HoldsImages, IsImageOf};
+ghost use Rattle.uca_audit.specs.NewWeights.{HoldsKnown};
+
+use crate::inputs::Inputs;
+use crate::weight_sets::WeightSet;
+use std::alloc::{AllocError, Global};
+use uca_certificates::Certificate;
+use uca_values::Row;
+use uca_weights::{Element, Level, WeightMap};
+
+/// The images of the base's weights other than 0, and the weights of implicit weights at levels 2 and 3.
+pub(crate) fn known_weights(alloc: Global, inputs: &Inputs) -> Result<WeightSet, AllocError>
+    ensures { IfOk result (HoldsKnown (tailoring_in inputs.now)) }
+{
+    let mut known = WeightSet::new(alloc)?;
+    known.insert(Level::Two, 0x20);
+    known.insert(Level::Three, 2);
+    let base = inputs.base;
+    add_images(&mut known, inputs.certificate, &base.rows);
+    Ok(known)
+}
+
+/// Puts the images of the weights of all rows in.
+fn add_images(known: &mut WeightSet, certificate: &Certificate, rows: &[Row])
+    requires { HoldsImages (maps_of certificate.now) [] known.old }
+    ensures { HoldsImages (maps_of certificate.now) (elements_of rows.now) known.new }
+{
+    for row in rows {
+        for element in &row.elements {
+            add_element(known, certificate, *element);
+        }
+    }
+}
+
+/// Puts the images of the weights of an element in.
+fn add_element(known: &mut WeightSet, certificate: &Certificate, element: Element)
+    ensures { (elements : List Element) → HoldsImages (maps_of certificate.now) elements known.old →
+        HoldsImages (maps_of certificate.now) (elements ++ element ∷ []) known.new }
+{
+    add_image(known, Level::One, &certificate.primary, element.primary);
+    add_image(known, Level::Two, &certificate.secondary, element.secondary);
+    add_image(known, Level::Three, &certificate.tertiary, element.tertiary);
+}
+
+/// Puts the image of a weight in, if the weight is not 0 and has one.
+fn add_image(known: &mut WeightSet, level: Level, map: &WeightMap, weight: u16)
+    ensures { (l : Level) (w : ℕ) → HasWeight known.new l w
+        ↔ (((l ≡ level) × IsImageOf (weight_image map.now.level map.now.runs) weight w) ⊎ HasWeight known.old l w) }
+{
+    if weight == 0 {
+        return;
+    }
+    if let Some(image) = map.get(weight) {
+        known.insert(level, image);
+    }
+}

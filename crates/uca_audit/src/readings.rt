@@ -1,0 +1,67 @@
+//! The collation elements of the texts of relations, collected.
+
+ghost use Rattle.std.specs.Prelude.{◌≡◌, OnOk};
+ghost use Rattle.uca_match.specs.Collations.{collation_of, elements_of};
+ghost use Rattle.uca_tailorings.specs.Tailorings.{elements_of_expansion};
+
+use std::alloc::{AllocError, Global};
+use uca_match::{Collator, Lookup, Trie};
+use uca_rules::Relation;
+use uca_text::Normal;
+use uca_weights::Element;
+
+/// The elements of the anchor and of the expansion of a relation. The lists serve one relation after the other.
+#[derive(Drop)]
+pub(crate) struct Readings {
+    /// The elements of the anchor.
+    pub anchor: Vec<Element>,
+    /// The elements of the expansion, none where it is not there.
+    pub expansion: Vec<Element>,
+}
+
+impl Readings {
+    /// Lists that take no memory yet.
+    pub(crate) fn new(alloc: Global) -> Readings {
+        Readings {
+            anchor: Vec::new(alloc),
+            expansion: Vec::new(alloc),
+        }
+    }
+
+    /// Reads the texts of a relation. An error says that no memory was left.
+    pub(crate) fn read(
+        &mut self,
+        collator: &Collator<Trie>,
+        relation: &Relation,
+    ) -> Result<(), AllocError>
+        ensures anchor { OnOk result (self.new.anchor.items
+            ≡ elements_of (collation_of ⟦<Trie as Lookup>⟧.content collator.now) relation.now.anchor) }
+        ensures expansion { OnOk result (self.new.expansion.items
+            ≡ elements_of_expansion (collation_of ⟦<Trie as Lookup>⟧.content collator.now) relation.now.expansion) }
+    {
+        read_elements(&mut self.anchor, collator, &relation.anchor)?;
+        match &relation.expansion {
+            Some(text) => read_elements(&mut self.expansion, collator, text),
+            None => {
+                self.expansion.clear();
+                Ok(())
+            }
+        }
+    }
+}
+
+/// Puts the elements of a text in the place of those that stand in the list. An error says that no memory was left.
+pub(crate) fn read_elements(
+    elements: &mut Vec<Element>,
+    collator: &Collator<Trie>,
+    text: &Normal,
+) -> Result<(), AllocError>
+    ensures { OnOk result (elements.new.items
+        ≡ elements_of (collation_of ⟦<Trie as Lookup>⟧.content collator.now) text.now) }
+{
+    elements.clear();
+    for element in collator.elements(text) {
+        elements.push(element)?;
+    }
+    Ok(())
+}
