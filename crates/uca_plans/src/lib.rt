@@ -8,4 +8,4 @@ mod laws;
 
 pub use drafts::{DraftElement, DraftWeight, Segment};
 pub use faults::{TailorFault, TailorKind};
-pub use laws::worked_plans;
+pub use laws::{numbers_are_proper, worked_plans};
