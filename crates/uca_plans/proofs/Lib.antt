@@ -1,1 +1,5 @@
 pub mod NumberLemmas
+pub mod ListMembers
+pub mod BaseWeightLemmas
+pub mod InsertionLemmas
+pub mod RisingNumbers
