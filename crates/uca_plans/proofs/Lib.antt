@@ -3,3 +3,4 @@ pub mod ListMembers
 pub mod BaseWeightLemmas
 pub mod InsertionLemmas
 pub mod RisingNumbers
+pub mod RunImages

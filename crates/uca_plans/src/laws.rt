@@ -2,6 +2,7 @@
 
 ghost use Rattle.uca_plans.specs.Numbering.{NumbersAreProper};
 ghost use Rattle.uca_plans.specs.ListLaws.{BaseWeightsOfElements, NewWeightsStandNearest, NewWeightsTakePlaces, NothingStandsBetween, NumbersRiseAlongLists};
+ghost use Rattle.uca_plans.specs.Runs.{RunsSendBaseWeights};
 ghost use Rattle.uca_plans.specs.WorkedPlans.{WorkedPlans};
 
 /// The plans of some rules, as they were worked out by hand: new letters, accents and capitals, weights that have to move,
@@ -45,4 +46,9 @@ pub fn new_weights_take_places()
 /// the level's greatest.
 pub fn numbers_rise_along_lists()
     ensures { NumbersRiseAlongLists }
+{}
+
+/// The runs of a list in rising order rise on both sides, send each base weight to its number, and send nothing else.
+pub fn runs_send_base_weights()
+    ensures { RunsSendBaseWeights }
 {}
