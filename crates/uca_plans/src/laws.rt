@@ -1,9 +1,54 @@
 //! Laws of plans. Each is the contract of a function that does nothing.
 
+ghost use Rattle.uca_plans.specs.Numbering.{NumbersAreProper};
+ghost use Rattle.uca_plans.specs.ListLaws.{BaseWeightsOfElements, NewWeightsStandNearest, NewWeightsTakePlaces, NothingStandsBetween, NumbersRiseAlongLists};
+ghost use Rattle.uca_plans.specs.Runs.{RunsSendBaseWeights};
 ghost use Rattle.uca_plans.specs.WorkedPlans.{WorkedPlans};
 
 /// The plans of some rules, as they were worked out by hand: new letters, accents and capitals, weights that have to move,
 /// expansions, and refusals of each kind.
 pub fn worked_plans()
     ensures { WorkedPlans }
+{}
+
+/// Where a segment has places for some members, each number of the one pass is that of the closed form; they are places of
+/// the segment, in the order of the members, with no other member's number between those of neighbours; and a base weight
+/// keeps its number where there is room.
+pub fn numbers_are_proper()
+    ensures { NumbersAreProper }
+{}
+
+/// The base weights of a level are the weights of its elements that are numbered, and the one that stays, each once, in rising
+/// order.
+pub fn base_weights_of_elements()
+    ensures { BaseWeightsOfElements }
+{}
+
+/// Where a list has the anchor's weight and not the new one, the new weight is added on its side of the anchor's. All others
+/// stand as they did, and towards each of them the new weight stands as the anchor's does.
+pub fn new_weights_stand_nearest()
+    ensures { NewWeightsStandNearest }
+{}
+
+/// Then no weight stands between the anchor's and the new one, and of the weights that were there, one stands before another
+/// exactly where it did.
+pub fn nothing_stands_between()
+    ensures { NothingStandsBetween }
+{}
+
+/// Each new weight takes one place of one segment: of the low one where its anchor's weight stands below the fixed one, or is
+/// it and the new weight goes before it; and else of the high one.
+pub fn new_weights_take_places()
+    ensures { NewWeightsTakePlaces }
+{}
+
+/// Where both segments of a level have room, its numbers rise along its list, the fixed weight keeps its own, and none is above
+/// the level's greatest.
+pub fn numbers_rise_along_lists()
+    ensures { NumbersRiseAlongLists }
+{}
+
+/// The runs of a list in rising order rise on both sides, send each base weight to its number, and send nothing else.
+pub fn runs_send_base_weights()
+    ensures { RunsSendBaseWeights }
 {}
