@@ -1,1 +1,3 @@
 pub mod PlanSteps
+pub mod KeyPlaces
+pub mod DraftReading
