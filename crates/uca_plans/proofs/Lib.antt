@@ -1,3 +1,4 @@
 pub mod PlanSteps
 pub mod KeyPlaces
 pub mod DraftReading
+pub mod DraftOrigins

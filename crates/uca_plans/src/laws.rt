@@ -1,6 +1,6 @@
 //! Laws of plans. Each is the contract of a function that does nothing.
 
-ghost use Rattle.uca_plans.specs.Readings.{OneMoreRow, KeysReadAsTheirRows, DraftsReadByWhatOccurs, DraftsReadAsRows};
+ghost use Rattle.uca_plans.specs.Readings.{OneMoreRow, KeysReadAsTheirRows, DraftsReadByWhatOccurs, DraftsReadAsRows, DraftsComeFromRows};
 ghost use Rattle.uca_plans.specs.WorkedPlans.{WorkedPlans};
 
 /// The plans of some rules, as they were worked out by hand: new letters, accents and capitals, weights that have to move,
@@ -30,4 +30,9 @@ pub fn drafts_read_by_what_occurs()
 /// read under the numbered rows has its draft elements, numbered. Implicit elements have to stay as they are.
 pub fn drafts_read_as_rows()
     ensures { DraftsReadAsRows }
+{}
+
+/// Each draft element of a text is one of a row, or an implicit one of a code point of the text.
+pub fn drafts_come_from_rows()
+    ensures { DraftsComeFromRows }
 {}
