@@ -2,3 +2,4 @@ pub mod PlanSteps
 pub mod KeyPlaces
 pub mod DraftReading
 pub mod DraftOrigins
+pub mod SameReading
