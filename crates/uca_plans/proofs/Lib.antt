@@ -4,3 +4,8 @@ pub mod BaseWeightLemmas
 pub mod InsertionLemmas
 pub mod RisingNumbers
 pub mod RunImages
+pub mod PlanSteps
+pub mod KeyPlaces
+pub mod DraftReading
+pub mod DraftOrigins
+pub mod SameReading

@@ -3,6 +3,7 @@ pub mod Lists
 pub mod ListLaws
 pub mod Drafts
 pub mod Readings
+pub mod Keys
 pub mod Plans
 pub mod Runs
 pub mod WorkedPlans

@@ -1,5 +1,6 @@
 -- How the elements of a text depend on the rows: only on those whose keys occur in it, in order.
-use Rattle.std.specs.Prelude.{◌≡◌, ◌≢◌, ℕ, List, [], ◌∷◌, ◌++◌, map, true, Option, Some, None, if◌then◌else◌}
+use Rattle.std.specs.Prelude.{◌≡◌, ◌≢◌, ◌⊎◌, ℕ, List, [], ◌∷◌, ◌++◌, length, map, true, Option, Some, None, if◌then◌else◌, Contains}
+use Rattle.std.specs.List.{AllByRecursion}
 use Rattle.uca_weights.specs.declared.Element.{Element}
 use Rattle.uca_values.specs.declared.ImplicitRange.{ImplicitRange}
 use Rattle.uca_values.specs.Content.{Entry, Properties}
@@ -29,9 +30,19 @@ draft_at (row ∷ rows) key = if same_key row.key key then Some row.elements els
 abbrev pub DraftsReadByWhatOccurs : Type 0
 DraftsReadByWhatOccurs = (ranges : List ImplicitRange) (properties : Properties) (rows others : List DraftRow) (text : Spelled) → ((key : List ℕ) → OccursInOrder key (text.points) → draft_at rows key ≡ draft_at others key) → draft_elements ranges properties rows text ≡ draft_elements ranges properties others text
 
--- a text that is a key reads as its row
+-- a text that is a key, with a class for each code point, reads as its row
 abbrev pub KeysReadAsTheirRows : Type 0
-KeysReadAsTheirRows = (ranges : List ImplicitRange) (properties : Properties) (rows : List DraftRow) (text : Spelled) (row : List DraftElement) → text.points ≢ [] → draft_at rows (text.points) ≡ Some row → draft_elements ranges properties rows text ≡ row
+KeysReadAsTheirRows = (ranges : List ImplicitRange) (properties : Properties) (rows : List DraftRow) (text : Spelled) (row : List DraftElement) → length text.classes ≡ length text.points → text.points ≢ [] → draft_at rows (text.points) ≡ Some row → draft_elements ranges properties rows text ≡ row
+
+-- an element of one of the rows, or an implicit one of a code point of the text
+abbrev pub IsReadFrom : List ImplicitRange → Properties → List DraftRow → Spelled → DraftElement → Type 0
+IsReadFrom ranges properties rows text e =
+    ((row : DraftRow) × Contains rows row × Contains row.elements e)
+    ⊎ ((c : ℕ) × Contains text.points c × Contains (map (as_draft true) (implicit ranges properties c)) e)
+
+-- what a text is read as comes from rows, or is implicit: nothing else is among its elements
+abbrev pub DraftsComeFromRows : Type 0
+DraftsComeFromRows = (ranges : List ImplicitRange) (properties : Properties) (rows : List DraftRow) (text : Spelled) → AllByRecursion (IsReadFrom ranges properties rows text) (draft_elements ranges properties rows text)
 
 -- one more row: its key has its elements, all others have theirs, and the keys keep their order, with a new one at the end
 pub record IsOneMore (new : DraftRow) (rows : List DraftRow) : Type 0 where

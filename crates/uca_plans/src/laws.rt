@@ -3,6 +3,7 @@
 ghost use Rattle.uca_plans.specs.Numbering.{NumbersAreProper};
 ghost use Rattle.uca_plans.specs.ListLaws.{BaseWeightsOfElements, NewWeightsStandNearest, NewWeightsTakePlaces, NothingStandsBetween, NumbersRiseAlongLists};
 ghost use Rattle.uca_plans.specs.Runs.{RunsSendBaseWeights};
+ghost use Rattle.uca_plans.specs.Readings.{OneMoreRow, KeysReadAsTheirRows, DraftsReadByWhatOccurs, DraftsReadAsRows, DraftsComeFromRows};
 ghost use Rattle.uca_plans.specs.WorkedPlans.{WorkedPlans};
 
 /// The plans of some rules, as they were worked out by hand: new letters, accents and capitals, weights that have to move,
@@ -51,4 +52,30 @@ pub fn numbers_rise_along_lists()
 /// The runs of a list in rising order rise on both sides, send each base weight to its number, and send nothing else.
 pub fn runs_send_base_weights()
     ensures { RunsSendBaseWeights }
+/// One more draft row: its key then has its elements and every other key what it had. It replaces the row with its key in
+/// its place, or stands behind all others; each key that was there keeps its place.
+pub fn one_more_row()
+    ensures { OneMoreRow }
+{}
+
+/// A text that is the key of a draft row has the elements of that row.
+pub fn keys_read_as_their_rows()
+    ensures { KeysReadAsTheirRows }
+{}
+
+/// Drafts that agree at the keys that occur in order in a text give it the same elements: rows that come later change
+/// nothing for it, unless their target occurs in it.
+pub fn drafts_read_by_what_occurs()
+    ensures { DraftsReadByWhatOccurs }
+{}
+
+/// Numbering and reading may be done in either order: whatever elements draft elements are numbered as, a text that is
+/// read under the numbered rows has its draft elements, numbered. Implicit elements have to stay as they are.
+pub fn drafts_read_as_rows()
+    ensures { DraftsReadAsRows }
+{}
+
+/// Each draft element of a text is one of a row, or an implicit one of a code point of the text.
+pub fn drafts_come_from_rows()
+    ensures { DraftsComeFromRows }
 {}
