@@ -76,12 +76,12 @@ inserts_apart {a = a} {n = n} (behind {ms = ms}) apart fresh = (first_apart, (λ
     first_apart (inl here) = fresh (inl (sym here))
     first_apart (inr there) = apart.0 there
 inserts_apart {n = n} (later {m = m} other h) apart fresh = (
-    λ among. elim (inserts_from m h among) [
-      | inl new ↦ fresh (inl new)
-      | inr old ↦ apart.0 old
-    ],
-    inserts_apart h apart.1 (λ among. fresh (inr among)),
-  )
+  λ among. elim (inserts_from m h among) [
+    | inl new ↦ fresh (inl new)
+    | inr old ↦ apart.0 old
+  ],
+  inserts_apart h apart.1 (λ among. fresh (inr among)),
+)
 
 -- ---- The order
 
@@ -176,8 +176,8 @@ TakesOne f a b ms ns =
 
 -- one member more in front that is not the weight
 takes_later : (f a m : DraftWeight) (b : Bool) (ms ns : List DraftWeight) → same_weight f m ≡ false → TakesOne f a b ms ns → TakesOne f a b (m ∷ ms) (m ∷ ns)
-takes_later f a m b ms ns other (inl low) = rw other (inl (elim low.0 [ | inl stands ↦ inl (inr stands) | inr same ↦ inr same ], omega (arith, low.1), low.2))
-takes_later f a m b ms ns other (inr high) = rw other (inr (elim high.0 [ | inl stands ↦ inl (inr stands) | inr same ↦ inr same ], omega (arith, high.1), high.2))
+takes_later f a m b ms ns other (inl low) = rw other (inl (elim low.0 [ inl stands ↦ inl (inr stands) | inr same ↦ inr same ], omega (arith, low.1), low.2))
+takes_later f a m b ms ns other (inr high) = rw other (inr (elim high.0 [ inl stands ↦ inl (inr stands) | inr same ↦ inr same ], omega (arith, high.1), high.2))
 
 -- an insertion adds one before the weight or one behind it
 takes_one : {a n : DraftWeight} {b : Bool} {ms ns : List DraftWeight} (f : DraftWeight) → Inserts a n b ms ns → IsAmong ms f → (n ≡ f → ⊥) → TakesOne f a b ms ns
@@ -207,10 +207,13 @@ stands_nearest i members apart among fresh =
     record {
       apart = inserts_apart h apart fresh;
       more = inserts_more h;
-      each = λ w. (inserts_from w h, λ either. elim either [
-        | inl new ↦ among_same (inserted i members) i.new w (sym new) (inserts_new h)
-        | inr old ↦ inserts_old w h old
-      ]);
+      each = λ w. (
+        inserts_from w h,
+        λ either. elim either [
+          | inl new ↦ among_same (inserted i members) i.new w (sym new) (inserts_new h)
+          | inr old ↦ inserts_old w h old
+        ],
+      );
       beside = inserts_beside h;
       kept = λ v w. inserts_kept v w h;
       below = λ v. inserts_below v h apart;

@@ -73,10 +73,10 @@ pub number_here : (segment : Segment) (before : List DraftWeight) (m : DraftWeig
     → number segment (before ++ m ∷ behind) (length before + 1) ≡ min (one_further m (reached segment before)) (segment.top - length behind)
 number_here segment before m behind =
     let same : take (length before + 1) (before ++ m ∷ behind) ≡ before ++ m ∷ [] =
-        ap (λ xs. take (length before + 1) xs) (sym (append_assoc before (m ∷ []) behind))
-        ∙ take_at (before ++ m ∷ []) behind (length before + 1) (length-append before (m ∷ [])) in
+    ap (λ xs. take (length before + 1) xs) (sym (append_assoc before (m ∷ []) behind))
+    ∙ take_at (before ++ m ∷ []) behind (length before + 1) (length-append before (m ∷ [])) in
     let place : reached segment (take (length before + 1) (before ++ m ∷ behind)) ≡ one_further m (reached segment before) =
-        ap (λ xs. reached segment xs) same ∙ reached_more segment before m in
+    ap (λ xs. reached segment xs) same ∙ reached_more segment before m in
     let long : length (before ++ m ∷ behind) ≡ length before + suc (length behind) = length-append before (m ∷ behind) in
     let left : length (before ++ m ∷ behind) - (length before + 1) ≡ length behind = omega arith in
     rw (place, left)
@@ -128,9 +128,9 @@ less_number : (segment : Segment) (members : List DraftWeight) → HasPlaces seg
 less_number segment members places i m i_within m_within less = elim (cases_lt i m) [
   | inl before ↦ before
   | inr not_before ↦ elim (cases_lt m i) [
-      | inl behind ↦ let back = number_order segment members places m i behind i_within in absurd (omega arith)
-      | inr not_behind ↦ let same : i ≡ m = omega arith in absurd (omega (arith, less, ap (λ n. number segment members n) same))
-    ]
+    | inl behind ↦ let back = number_order segment members places m i behind i_within in absurd (omega arith)
+    | inr not_behind ↦ let same : i ≡ m = omega arith in absurd (omega (arith, less, ap (λ n. number segment members n) same))
+  ]
 ]
 
 -- the same, by the members before it and behind it
@@ -139,8 +139,8 @@ kept_here : (segment : Segment) (before behind : List DraftWeight) (weight : ℕ
 kept_here segment before behind weight room =
     let low : segment.below + length before < weight = omega (arith, room.below) in
     let most = pushed_most (segment.below + length before) weight before low (λ j w at.
-        let further = room.before j w (omega (arith, at.3, ap length at.2, length-append at.0 (Base w ∷ at.1))) (base_longer before (Base weight ∷ behind) j w at) in
-        omega (arith, at.3, ap length at.2, length-append at.0 (Base w ∷ at.1))) in
+    let further = room.before j w (omega (arith, at.3, ap length at.2, length-append at.0 (Base w ∷ at.1))) (base_longer before (Base weight ∷ behind) j w at) in
+    omega (arith, at.3, ap length at.2, length-append at.0 (Base w ∷ at.1))) in
     let long : length (before ++ Base weight ∷ behind) ≡ length before + suc (length behind) = length-append before (Base weight ∷ behind) in
     let above = room.above in
     number_here segment before (Base weight) behind ∙ omega arith

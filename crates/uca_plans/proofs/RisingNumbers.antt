@@ -29,21 +29,20 @@ numbers_above top place [] room = tt
 numbers_above top place (m ∷ ms) room =
     let further = further_above m place in
     let rest = numbers_above top (one_further m place) ms (omega arith) in
-    let low : min place (top - length (m ∷ ms)) < min (one_further m place) (top - length ms) = omega arith in
-    (
+    let low : min place (top - length (m ∷ ms)) < min (one_further m place) (top - length ms) = omega arith in (
       (low, omega arith),
       each_weaker (λ n. (min (one_further m place) (top - length ms) < n) × (n ≤ top)) (λ n. (min place (top - length (m ∷ ms)) < n) × (n ≤ top))
-      (λ n h. (omega (arith, low, h.0), h.1)) (numbers_from top (one_further m place) ms) rest,
+          (λ n h. (omega (arith, low, h.0), h.1)) (numbers_from top (one_further m place) ms) rest,
     )
 
 -- numbers from a place rise
 pub numbers_rising : (top place : ℕ) (ms : List DraftWeight) → length ms ≤ top → IsRising (numbers_from top place ms)
 numbers_rising top place [] room = tt
 numbers_rising top place (m ∷ ms) room = (
-    each_weaker (λ n. (min (one_further m place) (top - length ms) < n) × (n ≤ top)) (λ n. min (one_further m place) (top - length ms) < n)
-    (λ n h. h.0) (numbers_from top (one_further m place) ms) (numbers_above top (one_further m place) ms (omega arith)),
-    numbers_rising top (one_further m place) ms (omega arith),
-  )
+  each_weaker (λ n. (min (one_further m place) (top - length ms) < n) × (n ≤ top)) (λ n. min (one_further m place) (top - length ms) < n)
+      (λ n h. h.0) (numbers_from top (one_further m place) ms) (numbers_above top (one_further m place) ms (omega arith)),
+  numbers_rising top (one_further m place) ms (omega arith),
+)
 
 -- there is a number for each member
 pub numbers_length : (top place : ℕ) (ms : List DraftWeight) → length (numbers_from top place ms) ≡ length ms
@@ -68,9 +67,9 @@ each_joined P (y ∷ xs) x ys first it second = (first.0, each_joined P xs x ys 
 pub rising_joined : (xs : List ℕ) (x : ℕ) (ys : List ℕ) → IsRising xs → AllByRecursion (λ v. v < x) xs → AllByRecursion (λ v. x < v) ys → IsRising ys → IsRising (xs ++ x ∷ ys)
 rising_joined [] x ys first below above second = (above, second)
 rising_joined (y ∷ xs) x ys first below above second = (
-    each_joined (λ v. y < v) xs x ys first.0 below.0 (each_weaker (λ v. x < v) (λ v. y < v) (λ v h. omega (arith, below.0, h)) ys above),
-    rising_joined xs x ys first.1 below.1 above second,
-  )
+  each_joined (λ v. y < v) xs x ys first.0 below.0 (each_weaker (λ v. x < v) (λ v. y < v) (λ v h. omega (arith, below.0, h)) ys above),
+  rising_joined xs x ys first.1 below.1 above second,
+)
 
 -- ---- The number of a member
 
@@ -104,9 +103,9 @@ numbers_in_order (m ∷ ms) (n ∷ ns) v w same apart rising (inl here) = elim (
 numbers_in_order (m ∷ ms) (n ∷ ns) v w same apart rising (inr there) = elim (same_or_other v m) [
   | inl twice ↦ absurd (apart.0 (among_same ms v m twice.1 (first_among ms v w there)))
   | inr first ↦ elim (same_or_other w m) [
-      | inl twice ↦ absurd (apart.0 (among_same ms w m twice.1 (second_among ms v w there)))
-      | inr second ↦ rw (first.0, second.0) (numbers_in_order ms ns v w (omega arith) apart.1 rising.1 there)
-    ]
+    | inl twice ↦ absurd (apart.0 (among_same ms w m twice.1 (second_among ms v w there)))
+    | inr second ↦ rw (first.0, second.0) (numbers_in_order ms ns v w (omega arith) apart.1 rising.1 there)
+  ]
 ]
 
 -- the number at the place of a member
@@ -165,9 +164,9 @@ level_rising level ms room =
     rising_joined (numbers_of (low_segment level) (low_members level ms)) (fixed_weight level) (numbers_of (high_segment level) (high_members level ms))
     (numbers_rising (low_segment level).top (low_segment level).below (low_members level ms) (omega arith))
     (each_weaker (λ n. (0 < n) × (n < fixed_weight level)) (λ n. n < fixed_weight level) (λ n h. h.1)
-      (numbers_of (low_segment level) (low_members level ms)) (low_numbers level ms room))
+    (numbers_of (low_segment level) (low_members level ms)) (low_numbers level ms room))
     (each_weaker (λ n. (fixed_weight level < n) × (n ≤ top_weight level)) (λ n. fixed_weight level < n) (λ n h. h.0)
-      (numbers_of (high_segment level) (high_members level ms)) (high_numbers level ms room))
+    (numbers_of (high_segment level) (high_members level ms)) (high_numbers level ms room))
     (numbers_rising (high_segment level).top (high_segment level).below (high_members level ms) (omega arith))
 
 -- with room the numbers of a level are not above its top
@@ -176,10 +175,10 @@ level_within level ms room =
     let fixed = fixed_within level in
     each_joined (λ n. n ≤ top_weight level) (numbers_of (low_segment level) (low_members level ms)) (fixed_weight level) (numbers_of (high_segment level) (high_members level ms))
     (each_weaker (λ n. (0 < n) × (n < fixed_weight level)) (λ n. n ≤ top_weight level) (λ n h. omega (arith, fixed, h.1))
-      (numbers_of (low_segment level) (low_members level ms)) (low_numbers level ms room))
+    (numbers_of (low_segment level) (low_members level ms)) (low_numbers level ms room))
     fixed
     (each_weaker (λ n. (fixed_weight level < n) × (n ≤ top_weight level)) (λ n. n ≤ top_weight level) (λ n h. h.1)
-      (numbers_of (high_segment level) (high_members level ms)) (high_numbers level ms room))
+    (numbers_of (high_segment level) (high_members level ms)) (high_numbers level ms room))
 
 -- a level has a number for each member
 pub level_length : (level : Level) (ms : List DraftWeight) → IsAmong ms (Base (fixed_weight level)) → length (level_numbers level ms) ≡ length ms
