@@ -4,3 +4,7 @@ pub mod BaseWeightLemmas
 pub mod InsertionLemmas
 pub mod RisingNumbers
 pub mod RunImages
+pub mod PlanSteps
+pub mod GoodLists
+pub mod LevelRuns
+pub mod PlanLists
