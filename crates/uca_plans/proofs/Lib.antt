@@ -9,3 +9,6 @@ pub mod KeyPlaces
 pub mod DraftReading
 pub mod DraftOrigins
 pub mod SameReading
+pub mod GoodLists
+pub mod LevelRuns
+pub mod PlanLists
