@@ -3,3 +3,5 @@ pub mod KeyPlaces
 pub mod DraftReading
 pub mod DraftOrigins
 pub mod SameReading
+pub mod PlanKeys
+pub mod RowSizes

@@ -9,9 +9,8 @@ use Rattle.uca_values.specs.Implicit.{implicit}
 use Rattle.uca_text.specs.Texts.{Spelled, code_points, letters_of}
 use Rattle.uca_text.specs.Occurring.{OccursInOrder}
 use Rattle.uca_rules.specs.declared.relations.Relation.{Relation}
-use Rattle.uca_rules.specs.Relations.{IsTarget, IsUntouched, IsUsedBy, IsRuleText, HasRuleTexts, AreRules}
+use Rattle.uca_rules.specs.Relations.{IsTarget, IsUntouched, IsUsedBy, IsRuleText, HasRuleTexts}
 use Rattle.uca_match.specs.Rows.{Rows, rows_of, same_key}
-use Rattle.uca_match.specs.Reading.{read}
 use Rattle.uca_match.specs.Laws.{AreRelatedRows}
 use Rattle.uca_match.proofs.RelatedReading.{read_related}
 use Rattle.uca_match.proofs.ReadingLemmas.{key_reads_as_row, some_row}

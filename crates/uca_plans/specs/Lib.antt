@@ -6,4 +6,5 @@ pub mod Readings
 pub mod Keys
 pub mod Plans
 pub mod Runs
+pub mod Sizes
 pub mod WorkedPlans

@@ -8,4 +8,8 @@ mod laws;
 
 pub use drafts::{DraftElement, DraftWeight, Segment};
 pub use faults::{TailorFault, TailorKind};
-pub use laws::{drafts_come_from_rows, drafts_read_as_rows, drafts_read_by_what_occurs, keys_read_as_their_rows, one_more_row, worked_plans};
+pub use laws::{
+    drafts_come_from_rows, drafts_read_as_rows, drafts_read_by_what_occurs,
+    keys_read_as_their_rows, one_more_row, places_read_as_rows, plans_have_sized_rows,
+    worked_plans,
+};
