@@ -1,5 +1,6 @@
 -- Draft elements: how they depend on the rows.
-use Rattle.std.proofs.Common.{◌≡◌, ◌≢◌, ℕ, suc, ◌+◌, ◌-◌, ◌/◌, ◌%◌, List, [], ◌∷◌, ◌++◌, length, map, Bool, true, false, cond, Option, Some, None, refl, sym, ap, ap₂, ◌∙◌, append-nil, arith, inl}
+use Rattle.std.proofs.Common.{◌≡◌, ◌≢◌, ℕ, suc, ◌+◌, ◌-◌, ◌/◌, ◌%◌, List, [], ◌∷◌, ◌++◌, length, map, Bool, true, false, cond, Option, Some, None, refl, sym}
+use Rattle.std.proofs.Common.{ap, ap₂, ◌∙◌, append-nil, arith, inl}
 use Rattle.std.specs.List.{AllByRecursion, flat_map}
 use Rattle.std.proofs.lemmas.Simd.{map-map}
 use Rattle.std.proofs.lemmas.List.{map-append}
@@ -76,7 +77,8 @@ abbrev pub valued : List DraftRow → Option (List Element) → Option (List Dra
 valued rows None = None
 valued rows (Some es) = Some (flat_map (resolved rows) es)
 
-referred_to : (place : ℕ) → referred (reference place) ≡ place
+-- the place that is referred to
+pub referred_to : (place : ℕ) → referred (reference place) ≡ place
 referred_to place = div-add-mod' place 0x1_0000
 
 place_valued : (all : List DraftRow) (place : ℕ) (rows : List DraftRow) → ((i j : ℕ) → j ≡ place + i → elements_at j all ≡ elements_at i rows) →

@@ -5,3 +5,4 @@ pub mod DraftOrigins
 pub mod SameReading
 pub mod PlanKeys
 pub mod RowSizes
+pub mod PlaceRows

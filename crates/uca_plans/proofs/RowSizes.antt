@@ -1,5 +1,6 @@
 -- The sizes of a plan's rows.
-use Rattle.std.proofs.Common.{◌≡◌, ◌≢◌, ℕ, zero, suc, ◌+◌, ◌≤◌, List, [], ◌∷◌, ◌++◌, length, take, drop, map, Bool, true, false, cond, ltb, Option, Some, None, unwrap_or, refl, sym, ap, subst, ◌∙◌, arith, length-append}
+use Rattle.std.proofs.Common.{◌≡◌, ◌≢◌, ℕ, zero, suc, ◌+◌, ◌≤◌, List, [], ◌∷◌, ◌++◌, length, take, drop, map, Bool, true, false, cond, ltb, Option, Some}
+use Rattle.std.proofs.Common.{None, unwrap_or, refl, sym, ap, subst, ◌∙◌, arith, length-append}
 use Rattle.std.specs.List.{AllByRecursion, flat_map}
 use Rattle.std.specs.Char.{IsScalar}
 use Rattle.std.proofs.lemmas.Bool.{or_parts, ltb-false}
@@ -22,8 +23,10 @@ use Rattle.uca_match.proofs.ReadingLemmas.{some_row, read_of_none, read_of_longe
 use Rattle.uca_plans.specs.declared.drafts.DraftElement.{DraftElement}
 use Rattle.uca_plans.specs.declared.drafts.DraftWeight.{DraftWeight}
 use Rattle.uca_plans.specs.declared.drafts.DraftWeight.TheVariants.{New}
-use Rattle.uca_plans.specs.Drafts.{DraftRow, as_draft, row_as_draft, with_row, references_from, resolved, draft_elements, AnchorPart, anchor_part, accepted_part, reweighted}
-use Rattle.uca_plans.specs.Plans.{Basis, Drafting, Drafted, drafted_at, placed_behind, placed_if_accepted, draft_expansion, begun, LevelPlans, numbered, numbered_row, Plan}
+use Rattle.uca_plans.specs.Drafts.{DraftRow, as_draft, row_as_draft, with_row, references_from, resolved, draft_elements, AnchorPart, anchor_part}
+use Rattle.uca_plans.specs.Drafts.{accepted_part, reweighted}
+use Rattle.uca_plans.specs.Plans.{Basis, Drafting, Drafted, drafted_at, placed_behind, placed_if_accepted, draft_expansion, begun, LevelPlans, numbered}
+use Rattle.uca_plans.specs.Plans.{numbered_row, Plan}
 use Rattle.uca_plans.specs.Keys.{keys_in}
 use Rattle.uca_plans.specs.Sizes.{IsSizedRow, AreSizedRows, PlansHaveSizedRows}
 use Rattle.uca_plans.proofs.KeyPlaces.{keys_with_row}

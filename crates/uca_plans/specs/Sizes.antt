@@ -23,4 +23,5 @@ pub record AreSizedRows (rows : List Entry) : Type 0 where
 
 -- the rows of a plan have the sizes that the rows of a table have
 abbrev pub PlansHaveSizedRows : Type 0
-PlansHaveSizedRows = (basis : Basis) (relations : List Relation) (plan : Plan) → AreRows basis.base → AreRules relations → planned basis relations ≡ Ok plan → AreSizedRows plan.rows
+PlansHaveSizedRows = (basis : Basis) (relations : List Relation) (plan : Plan) → AreRows basis.base → AreRules relations →
+    planned basis relations ≡ Ok plan → AreSizedRows plan.rows
