@@ -12,3 +12,6 @@ pub mod SameReading
 pub mod GoodLists
 pub mod LevelRuns
 pub mod PlanLists
+pub mod PlanKeys
+pub mod RowSizes
+pub mod PlaceRows
