@@ -1,5 +1,6 @@
 -- New weights that are fresh: which weights are new twice.
-use Rattle.std.proofs.Common.{◌≡◌, ◌⊎◌, inl, inr, ⊎_elim, ◌↔◌, ℕ, suc, ◌+◌, ◌<◌, ◌≤◌, Bool, IsTrue, length, take, drop, get_or, List, [], ◌∷◌, ◌++◌, Option, Some, None, MatchOption, cond, true, false, refl, sym, ap, subst, ◌∙◌, arith}
+use Rattle.std.proofs.Common.{◌≡◌, ◌⊎◌, inl, inr, ⊎_elim, ◌↔◌, ℕ, suc, ◌+◌, ◌<◌, ◌≤◌, Bool, IsTrue, length, take, drop, get_or, List, [], ◌∷◌, ◌++◌}
+use Rattle.std.proofs.Common.{Option, Some, None, MatchOption, cond, true, false, refl, sym, ap, subst, ◌∙◌, arith}
 use Rattle.std.specs.Prelude.{⊤}
 use Rattle.std.specs.List.{AllZip}
 use Rattle.std.proofs.lemmas.Bool.{cases_lt, false≢true}
@@ -49,6 +50,7 @@ shared_same placements p level seen old there once twice was_not l w = ⊎_elim
 
 -- ---- A placement among all
 
+-- a sum above 0 has a part above 0
 either : (m n : ℕ) → 1 ≤ m + n → (1 ≤ m) ⊎ (1 ≤ n)
 either m n some = ⊎_elim (λ (less : 0 < m). inl (omega arith)) (λ (not : m ≤ 0). inr (omega arith)) (cases_lt 0 m)
 
@@ -64,7 +66,7 @@ module _ (tailoring : Tailoring) (known shared : Flags) (before : List Relation)
       ∙ ap (λ b. times_new level p.new front + (cond b 1 0 + times_new level p.new back))
       (⊎_elim (λ put. put.0) (λ other. absurd (other.1 (refl, refl))) (puts_cases p level level p.new there))
 
-  -- the test of a placement is right of its relation
+  -- where the placement passes the test its relation is fresh
   pub fresh_placement : IsFreshPlacement known shared p → IsFresh tailoring before r after
   fresh_placement fresh level old new at =
       let there = placed_there tailoring r p level old new is at in
@@ -81,6 +83,7 @@ module _ (tailoring : Tailoring) (known shared : Flags) (before : List Relation)
         low = found.low;
       })
 
+  -- and where its relation is fresh it passes the test
   pub fresh_relation : IsFresh tailoring before r after → IsFreshPlacement known shared p
   fresh_relation fresh = by_level p.level refl
     where

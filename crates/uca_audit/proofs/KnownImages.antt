@@ -1,5 +1,6 @@
 -- The images of the weights of elements.
-use Rattle.std.proofs.Common.{◌≡◌, ◌⊎◌, inl, inr, ⊎_elim, ◌↔◌, ℕ, ◌+◌, ◌<◌, ◌≤◌, length, take, get_or, ◌∙◌, List, [], ◌∷◌, ◌++◌, Contains, refl, sym, ap, subst, arith}
+use Rattle.std.proofs.Common.{◌≡◌, ◌⊎◌, inl, inr, ⊎_elim, ◌↔◌, ℕ, ◌+◌, ◌<◌, ◌≤◌, length, take, get_or, ◌∙◌, List, [], ◌∷◌, ◌++◌, Contains, refl, sym}
+use Rattle.std.proofs.Common.{ap, subst, arith}
 use Rattle.std.proofs.lemmas.List.{take_all, flat_map_more}
 use Rattle.std.proofs.lemmas.List.Elements.{Contains-push, Contains-push_cases, Contains-append_left, Contains-append_right, Contains-append_cases}
 use Rattle.uca_weights.specs.declared.Element.{Element}
@@ -14,12 +15,13 @@ use Rattle.uca_check.specs.WellFormed.{elements_of}
 use Rattle.uca_check.proofs.Elements.{taken_more}
 use Rattle.uca_tailorings.specs.Images.{Maps, map_of}
 use Rattle.uca_tailorings.specs.Tailorings.{Tailoring, IsPairWeight}
-use Rattle.uca_audit.specs.WeightSets.{Flags, HasWeight, AddsWeight}
+use Rattle.uca_audit.specs.WeightSets.{Flags, HasWeight}
 use Rattle.uca_audit.specs.KnownWeights.{IsImageOf, HoldsImages}
 use Rattle.uca_audit.specs.NewWeights.{HoldsKnown}
 
 -- ---- Elements of rows
 
+-- an empty list has no element
 none_contained : {X : Type 0} (x : X) → ¬ (Contains [] x)
 none_contained x (k, within, there) = absurd (omega arith)
 
@@ -31,6 +33,7 @@ row_of_element (r ∷ rows) e is = ⊎_elim
     (λ later. let (row, is_row, there) = row_of_element rows e later in (row, Contains-append_right (r ∷ []) rows row is_row, there))
     (Contains-append_cases r.elements (elements_of rows) e is)
 
+-- and an element of a row is one of all rows
 element_of_row : (rows : List Entry) (row : Entry) (e : Element) → Contains rows row → Contains row.elements e → Contains (elements_of rows) e
 element_of_row [] row e is there = absurd (none_contained row is)
 element_of_row (r ∷ rows) row e is there = ⊎_elim
@@ -67,23 +70,11 @@ known_of_images tailoring set holds level w = (
 -- ---- The weights of implicit weights
 
 -- they alone are the known weights of no elements
-pub pairs_alone : (maps : Maps) (none one two : Flags) → ((l : Level) (w : ℕ) → ¬ (HasWeight none l w)) →
-    AddsWeight none one Two 0x20 → AddsWeight one two Three 2 → HoldsImages maps [] two
-pairs_alone maps none one two empty second third level w = (
-  (λ has. ⊎_elim
-      (λ own. inr (subst (λ l. IsPairWeight l w) (sym own.0) own.1))
-      (λ had. ⊎_elim
-      (λ own. inr (subst (λ l. IsPairWeight l w) (sym own.0) own.1))
-      (λ before. absurd (empty level w before))
-      ((second level w).0 had))
-      ((third level w).0 has)),
-  λ is_one. ⊎_elim (λ image. absurd (none_contained image.0 image.1)) (by_level level) is_one,
+pub pairs_alone : (maps : Maps) (set : Flags) → ((level : Level) (w : ℕ) → HasWeight set level w ↔ IsPairWeight level w) → HoldsImages maps [] set
+pairs_alone maps set pairs level w = (
+  (λ has. inr ((pairs level w).0 has)),
+  λ is_one. (pairs level w).1 (⊎_elim (λ image. absurd (none_contained image.0 image.1)) (λ pair. pair) is_one),
 )
-  where
-    by_level : (l : Level) → IsPairWeight l w → HasWeight two l w
-    by_level One pair = absurd pair
-    by_level Two pair = (third Two w).1 (inr ((second Two w).1 (inl (refl, pair))))
-    by_level Three pair = (third Three w).1 (inl (refl, pair))
 
 -- ---- One more element
 
@@ -98,7 +89,7 @@ adds_by_map old new level map runs v same_level same_runs adds =
     subst (λ rs. AddsImage old new level (weight_image level rs) v) same_runs
     (subst (λ l. AddsImage old new level (weight_image l map.runs) v) same_level adds)
 
--- at that level, and at others
+-- what is added at that level
 added_here : (old new : Flags) (level : Level) (images : WeightImages) (v : ℕ) → AddsImage old new level images v → (w : ℕ) →
     HasWeight new level w ↔ (IsImageOf images v w ⊎ HasWeight old level w)
 added_here old new level images v adds w = (
@@ -106,6 +97,7 @@ added_here old new level images v adds w = (
   λ is_one. (adds level w).1 (⊎_elim (λ own. inl (refl, own)) (λ had. inr had) is_one),
 )
 
+-- at another level nothing changes
 same_there : (old new : Flags) (level : Level) (images : WeightImages) (v : ℕ) → AddsImage old new level images v → (l : Level) →
     ¬ (level_number l ≡ level_number level) → (w : ℕ) → HasWeight new l w ↔ HasWeight old l w
 same_there old new level images v adds l other w = (

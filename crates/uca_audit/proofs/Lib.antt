@@ -1,3 +1,8 @@
+pub mod TargetSets
+pub mod FirstRelations
+pub mod ImageLists
+pub mod Chaining
+pub mod NotAccepted
 pub mod AnchorSteps
 pub mod RelationSteps
 pub mod PlacedRowSteps

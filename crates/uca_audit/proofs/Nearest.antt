@@ -1,5 +1,6 @@
 -- New weights that are nearest: the weights that are known so far.
-use Rattle.std.proofs.Common.{◌≡◌, ◌⊎◌, inl, inr, ⊎_elim, ◌↔◌, ℕ, suc, ◌<◌, Bool, true, false, length, take, drop, get_or, ◌∙◌, List, [], ◌∷◌, ◌++◌, Option, Some, None, MatchOption, IsTrue, refl, sym, subst}
+use Rattle.std.proofs.Common.{◌≡◌, ◌⊎◌, inl, inr, ⊎_elim, ◌↔◌, ℕ, suc, ◌<◌, Bool, true, false, length, take, drop, get_or, ◌∙◌, List, [], ◌∷◌, ◌++◌}
+use Rattle.std.proofs.Common.{Option, Some, None, MatchOption, IsTrue, refl, sym, subst}
 use Rattle.std.specs.Prelude.{⊤}
 use Rattle.std.specs.List.{AllZip}
 use Rattle.std.proofs.lemmas.Bool.{false≢true}
@@ -23,12 +24,13 @@ known_alone tailoring set known level w = (
   λ is. (known level w).1 (⊎_elim (λ known. known) (λ none. absurd none) is),
 )
 
--- the new weights of one more relation
+-- a new weight stays one with one more relation
 new_earlier : (tailoring : Tailoring) (level : Level) (w : ℕ) (before : List Relation) (r : Relation) → IsNewWeight tailoring level w before →
     IsNewWeight tailoring level w (before ++ r ∷ [])
 new_earlier tailoring level w [] r none = absurd none
 new_earlier tailoring level w (q ∷ before) r new = ⊎_elim (λ here. inl here) (λ later. inr (new_earlier tailoring level w before r later)) new
 
+-- that relation's own one
 new_last : (tailoring : Tailoring) (level : Level) (w : ℕ) (before : List Relation) (r : Relation) → (old : ℕ) × IsPlacedAt tailoring r level old w →
     IsNewWeight tailoring level w (before ++ r ∷ [])
 new_last tailoring level w [] r own = inl own
@@ -53,7 +55,7 @@ known_more tailoring before r p old new holds is adds level w = (
       is_one),
 )
 
--- the test of a placement is right of its relation
+-- where a placement passes the test its relation is nearest
 pub nearest_placement : (tailoring : Tailoring) (set : Flags) (before : List Relation) (r : Relation) (after : List Relation) (p : Placement) →
     HoldsKnownAndNew tailoring before set → IsPlacement tailoring r p → IsNearestPlacement set p → IsNearest tailoring before r after
 nearest_placement tailoring set before r after p holds is nearest level old new at =
@@ -68,6 +70,7 @@ nearest_placement tailoring set before r after p holds is nearest level old new 
       earlier = λ w earlier between. none (w, (holds level w).1 (inr earlier), between);
     }
 
+-- and where its relation is nearest a placement passes the test
 pub nearest_relation : (tailoring : Tailoring) (set : Flags) (before : List Relation) (r : Relation) (after : List Relation) (p : Placement) →
     HoldsKnownAndNew tailoring before set → IsPlacement tailoring r p → IsNearest tailoring before r after → IsNearestPlacement set p
 nearest_relation tailoring set before r after p holds is nearest = by_level p.level refl

@@ -1,5 +1,6 @@
 -- One pass over the relations of rules and what was found of each, in step.
-use Rattle.std.proofs.Common.{◌≡◌, ◌⊎◌, inl, inr, ⊎_elim, ℕ, zero, suc, ◌<◌, ◌≤◌, List, [], ◌∷◌, ◌++◌, length, take, drop, get_or, refl, sym, ap, subst, ◌∙◌, append_assoc, length-append, arith}
+use Rattle.std.proofs.Common.{◌≡◌, ◌⊎◌, inl, inr, ⊎_elim, ℕ, zero, suc, ◌<◌, ◌≤◌, List, [], ◌∷◌, ◌++◌, length, take, drop, get_or, refl, sym, ap}
+use Rattle.std.proofs.Common.{subst, ◌∙◌, append_assoc, length-append, arith}
 use Rattle.std.specs.List.{AllZip}
 use Rattle.std.proofs.lemmas.List.{same_from_push, take-append-drop, take_all, drop_all, append-nil}
 use Rattle.uca_rules.specs.declared.relations.Relation.{Relation}
@@ -18,6 +19,7 @@ pub record AreInStep {A B : Type 0} (R : A → B → Type 0) (xs : List A) (ys :
   pub here : R x (get_or ys i d)
   pub after : AllZip R (drop (suc i) xs) (drop (suc i) ys)
 
+-- two lists in step have an element each at every index
 pub in_step : {A B : Type 0} (R : A → B → Type 0) (xs : List A) (ys : List B) → AllZip R xs ys → (i : ℕ) (d : B) → i < length ys → AreInStep R xs ys i d
 in_step R [] [] are i d within = absurd (omega arith)
 in_step R [] (y ∷ ys) are i d within = absurd are
@@ -35,12 +37,13 @@ in_step R (x ∷ xs) (y ∷ ys) are (suc i) d within =
       after = next.after;
     }
 
--- the placements stand around the one at an index
+-- a list is what stands before an index, there, and after it
 pub split_at : {B : Type 0} (ys : List B) (i : ℕ) (d : B) → i < length ys → ys ≡ take i ys ++ get_or ys i d ∷ drop (suc i) ys
 split_at [] i d within = absurd (omega arith)
 split_at (y ∷ ys) zero d within = refl
 split_at (y ∷ ys) (suc i) d within = ap (λ zs. y ∷ zs) (split_at ys i d (omega arith))
 
+-- they are equally long
 pub length_in_step : {A B : Type 0} (R : A → B → Type 0) (xs : List A) (ys : List B) → AllZip R xs ys → length xs ≡ length ys
 length_in_step R [] [] are = refl
 length_in_step R [] (y ∷ ys) are = absurd are
@@ -53,6 +56,7 @@ length_in_step R (x ∷ xs) (y ∷ ys) are = ap suc (length_in_step R xs ys are.
 abbrev pub AllBelow : (List Relation → Relation → List Relation → Type 0) → List Relation → ℕ → Type 0
 AllBelow P relations i = (front : List Relation) (s : Relation) (back : List Relation) → take i relations ≡ front ++ s ∷ back → P front s (back ++ drop i relations)
 
+-- a list with an element is not empty
 not_nil : (xs : List Relation) (x : Relation) (ys : List Relation) → [] ≡ xs ++ x ∷ ys → ⊥
 not_nil xs x ys same = let e = ap length same in omega (arith, e, length-append xs (x ∷ ys))
 
@@ -61,10 +65,11 @@ by_last : (xs : List Relation) → (xs ≡ []) ⊎ ((front : List Relation) × (
 by_last [] = inl refl
 by_last (x ∷ xs) = inr (⊎_elim (λ e. ([], x, ap (λ zs. x ∷ zs) e)) (λ h. (x ∷ h.0, h.1, ap (λ zs. x ∷ zs) h.2)) (by_last xs))
 
+-- no relation stands before the first
 pub below_none : (P : List Relation → Relation → List Relation → Type 0) (relations : List Relation) → AllBelow P relations 0
 below_none P relations front s back same = absurd (not_nil front s back same)
 
--- one more relation
+-- one more relation with the property
 pub below_one_more : (P : List Relation → Relation → List Relation → Type 0) (relations : List Relation) (i : ℕ) (r : Relation) →
     take (suc i) relations ≡ take i relations ++ r ∷ [] → drop i relations ≡ r ∷ drop (suc i) relations →
     AllBelow P relations i → P (take i relations) r (drop (suc i) relations) → AllBelow P relations (suc i)
@@ -83,7 +88,7 @@ below_one_more P relations i r more rest below here front s back same = ⊎_elim
     subst (P front s) (sym whole) (below front s b parts.0))
     (by_last back)
 
--- all relations
+-- at the end all relations have it
 pub below_whole : (P : List Relation → Relation → List Relation → Type 0) (relations : List Relation) (i : ℕ) → length relations ≤ i →
     AllBelow P relations i → AllRelations P relations
 below_whole P relations i whole below before r after same =

@@ -1,5 +1,6 @@
 -- Placements of relations: the new weights that they put at each level.
-use Rattle.std.proofs.Common.{◌≡◌, ◌⊎◌, inl, inr, ⊎_elim, ◌↔◌, ℕ, ◌+◌, ◌≤◌, ◌&&◌, ◌==◌, List, [], ◌∷◌, ◌++◌, Option, Some, None, Bool, true, false, cond, IsTrue, refl, sym, ap, subst, ◌∙◌, arith}
+use Rattle.std.proofs.Common.{◌≡◌, ◌⊎◌, inl, inr, ⊎_elim, ◌↔◌, ℕ, ◌+◌, ◌≤◌, ◌&&◌, ◌==◌, List, [], ◌∷◌, ◌++◌, Option, Some, None, Bool, true, false}
+use Rattle.std.proofs.Common.{cond, IsTrue, refl, sym, ap, subst, ◌∙◌, arith}
 use Rattle.std.specs.List.{AllZip}
 use Rattle.std.proofs.lemmas.List.Sums.{sum_by-append, sum_by-cons}
 use Rattle.std.proofs.lemmas.Bool.{false≢true}
@@ -43,6 +44,7 @@ puts_there tailoring r p level is there = by_strength (level_of r.strength) is
 
 -- ---- Levels
 
+-- levels are told apart by their numbers
 level_same : (level other : Level) → level_number level ≡ level_number other → level ≡ other
 level_same One One e = refl
 level_same One Two e = absurd (omega arith)
@@ -105,6 +107,7 @@ times_split l w before p after =
     sum_by-append (λ q. cond (puts l w q) 1 0) before (p ∷ after)
     ∙ ap (λ n. times_new l w before + n) (sum_by-cons (λ q. cond (puts l w q) 1 0) p after)
 
+-- a test is true or false
 true_or_false : (b : Bool) → (b ≡ true) ⊎ (b ≡ false)
 true_or_false true = inl refl
 true_or_false false = inr refl

@@ -2,6 +2,7 @@ pub mod Inputs
 pub mod Refusals
 pub mod FaultText
 pub mod Views
+pub mod Chaining
 pub mod Anchors
 pub mod PlacedRows
 pub mod WeightSets

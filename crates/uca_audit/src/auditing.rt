@@ -1,18 +1,29 @@
 //! The audit.
 
 ghost use Rattle.std.specs.Prelude.{◌⊎◌, IfErr, OnOk};
-ghost use Rattle.uca_values.specs.Content.{properties_of};
-ghost use Rattle.uca_tailorings.specs.Tailorings.{IsAccepted};
+ghost use Rattle.uca_values.specs.Content.{properties_of, IsHeader, IsTable};
+ghost use Rattle.uca_tailorings.specs.Images.{AreRisingMaps};
+ghost use Rattle.uca_tailorings.specs.Tailorings.{IsTailoring, IsAccepted};
 ghost use Rattle.uca_tailorings.specs.Meaning.{IsFaithful};
-ghost use Rattle.uca_audit.specs.Inputs.{tailoring_of};
+ghost use Rattle.uca_audit.specs.Inputs.{maps_of, tailoring_of};
 ghost use Rattle.uca_audit.specs.Views.{tailoring_in};
 ghost use Rattle.uca_audit.specs.Refusals.{IsFirstRefusal, IsMemory};
+ghost use Rattle.uca_audit.specs.Chaining.{FindsRowsOf, MeetsBelow, Passes};
 
+use crate::conditions::{
+    anchors_are_there, base_is_well_formed, headers_are_same, new_weights_are_fresh,
+    rows_are_expected, rows_are_present, rows_are_unchanged, tailored_is_well_formed,
+    targets_are_nearest, targets_are_placed, weights_are_covered,
+};
 use crate::inputs::Inputs;
-use crate::{AuditFault, Certificate, Place};
+use crate::known::known_weights;
+use crate::targets::Targets;
+use crate::{AuditFault, Certificate};
 use std::alloc::Global;
+use uca_match::{Collator, Lookup, Trie};
 use uca_rules::Rules;
-use uca_values::{Data, Table};
+use uca_tailorings::accepted_tailorings_are_faithful;
+use uca_values::{Data, Header, Table};
 
 /// Audits a tailoring: accepts exactly where its eleven conditions are met, and then promises what follows from them.
 ///
@@ -51,14 +62,96 @@ pub fn audit(
     )
 }
 
-// The same of what is handed in, as one value.
+// The same of what is handed in, as one value. The tailored table's lookup serves all conditions from the fifth on.
 fn audit_inputs(alloc: Global, inputs: &Inputs) -> Result<(), AuditFault>
     ensures accepted { OnOk result (IsAccepted (tailoring_in inputs.now)) }
     ensures faithful { OnOk result (IsFaithful (tailoring_in inputs.now)) }
     ensures refused { IfErr result (λ fault. IsFirstRefusal (tailoring_in inputs.now) fault ⊎ IsMemory fault) }
 {
-    Err(AuditFault {
-        number: 12,
-        place: Place::Nowhere,
-    })
+    audit_tables(inputs)?;
+    let tailored = Trie::new(alloc, inputs.tailored)?;
+    audit_rows(alloc, inputs, &tailored)?;
+    audit_relations(alloc, inputs, &tailored)?;
+    meaning(inputs);
+    Ok(())
+}
+
+// Conditions 1 to 4, which need no memory.
+fn audit_tables(inputs: &Inputs) -> Result<(), AuditFault>
+    ensures { Passes (tailoring_in inputs.now) 5 result }
+{
+    base_is_well_formed(inputs)?;
+    tailored_is_well_formed(inputs)?;
+    headers_are_same(inputs)?;
+    weights_are_covered(inputs)?;
+    Ok(())
+}
+
+// Conditions 5 to 7, by a lookup of the tailored table.
+fn audit_rows(alloc: Global, inputs: &Inputs, tailored: &Trie) -> Result<(), AuditFault>
+    requires rows { FindsRowsOf (tailoring_in inputs.now).tailored (⟦<Trie as Lookup>⟧.content tailored.now) }
+    requires met { MeetsBelow (tailoring_in inputs.now) 5 }
+    ensures { Passes (tailoring_in inputs.now) 8 result }
+{
+    let targets = Targets::new(alloc, inputs.rules.relations())?;
+    rows_are_unchanged(inputs, tailored, &targets)?;
+    rows_are_present(inputs, tailored)?;
+    rows_are_expected(alloc, inputs, &targets)?;
+    Ok(())
+}
+
+// Conditions 8 to 11, by a lookup of the tailored table.
+fn audit_relations(alloc: Global, inputs: &Inputs, tailored: &Trie) -> Result<(), AuditFault>
+    requires rows { FindsRowsOf (tailoring_in inputs.now).tailored (⟦<Trie as Lookup>⟧.content tailored.now) }
+    requires met { MeetsBelow (tailoring_in inputs.now) 8 }
+    ensures { Passes (tailoring_in inputs.now) 12 result }
+{
+    let table = inputs.tailored;
+    let collator = Collator::new(tailored, &table.header, inputs.properties);
+    anchors_are_there(alloc, inputs, &collator)?;
+    let placements = targets_are_placed(alloc, inputs, &collator)?;
+    let known = known_weights(alloc, inputs)?;
+    new_weights_are_fresh(alloc, inputs, &placements, &known)?;
+    targets_are_nearest(inputs, &placements, known)?;
+    Ok(())
+}
+
+// What follows where all conditions are met.
+fn meaning(inputs: &Inputs)
+    requires { IsAccepted (tailoring_in inputs.now) }
+    ensures { IsFaithful (tailoring_in inputs.now) }
+{
+    know(inputs);
+    accepted_tailorings_are_faithful();
+}
+
+// What the values that are handed in keep: none of it has to be looked at again.
+fn know(inputs: &Inputs)
+    ensures { IsTailoring (tailoring_in inputs.now) }
+{
+    know_table(inputs.base);
+    know_table(inputs.tailored);
+    know_certificate(inputs.certificate);
+    let _ = inputs.rules.relations();
+}
+
+fn know_table(table: &Table)
+    ensures { IsTable table.now }
+{
+    know_header(&table.header);
+    let _ = &table.rows;
+}
+
+fn know_header(header: &Header)
+    ensures { IsHeader header.now }
+{
+    let _ = &header.ranges;
+}
+
+fn know_certificate(certificate: &Certificate)
+    ensures { AreRisingMaps (maps_of certificate.now) }
+{
+    let _ = certificate.primary.runs();
+    let _ = certificate.secondary.runs();
+    let _ = certificate.tertiary.runs();
 }

@@ -3,6 +3,7 @@
 ghost use Rattle.std.specs.Prelude.{◌≡◌, Some};
 ghost use Rattle.uca_audit.specs.FaultText.{audit_fault_text, name_of};
 
+use std::alloc::AllocError;
 use std::fmt;
 use thiserror::Error;
 use uca_tailorings::Condition;
@@ -62,6 +63,19 @@ impl fmt::Display for AuditFault {
             Place::BaseRow(row) => write!(f, " base row {}", row),
             Place::TailoredRow(row) => write!(f, " tailored row {}", row),
             Place::Relation(number) => write!(f, " relation {}", number),
+        }
+    }
+}
+
+impl From<AllocError> for AuditFault {
+    ghost use Rattle.uca_audit.specs.Refusals.{IsMemory};
+
+    ghost from_gives = { λ _ fault. IsMemory fault };
+
+    fn from(_error: AllocError) -> AuditFault {
+        AuditFault {
+            number: 12,
+            place: Place::Nowhere,
         }
     }
 }

@@ -5,6 +5,7 @@ ghost use Rattle.uca_weights.specs.declared.Element.{Element};
 ghost use Rattle.uca_weights.specs.declared.Level.{Level};
 ghost use Rattle.uca_weights.specs.Runs.{weight_image};
 ghost use Rattle.uca_check.specs.WellFormed.{elements_of};
+ghost use Rattle.uca_tailorings.specs.Tailorings.{IsPairWeight};
 ghost use Rattle.uca_audit.specs.Inputs.{maps_of};
 ghost use Rattle.uca_audit.specs.Views.{tailoring_in};
 ghost use Rattle.uca_audit.specs.WeightSets.{HasWeight};
@@ -22,12 +23,20 @@ use uca_weights::{Element, Level, WeightMap};
 pub(crate) fn known_weights(alloc: Global, inputs: &Inputs) -> Result<WeightSet, AllocError>
     ensures { IfOk result (HoldsKnown (tailoring_in inputs.now)) }
 {
-    let mut known = WeightSet::new(alloc)?;
-    known.insert(Level::Two, 0x20);
-    known.insert(Level::Three, 2);
+    let mut known = pair_weights(alloc)?;
     let base = inputs.base;
     add_images(&mut known, inputs.certificate, &base.rows);
     Ok(known)
+}
+
+/// The weights that implicit weights have at levels 2 and 3.
+fn pair_weights(alloc: Global) -> Result<WeightSet, AllocError>
+    ensures { IfOk result (λ set. (level : Level) (w : ℕ) → HasWeight set level w ↔ IsPairWeight level w) }
+{
+    let mut pairs = WeightSet::new(alloc)?;
+    pairs.insert(Level::Two, 0x20);
+    pairs.insert(Level::Three, 2);
+    Ok(pairs)
 }
 
 /// Puts the images of the weights of all rows in.

@@ -4,16 +4,21 @@
 
 mod anchors;
 mod auditing;
+mod conditions;
 mod faults;
 mod inputs;
 mod known;
+mod laws;
 mod new_weights;
 mod placements;
 mod readings;
+mod rows;
+mod targets;
 mod weight_sets;
 
 pub use auditing::audit;
 pub use faults::{AuditFault, Place};
+pub use laws::refused_tailorings_are_not_accepted;
 pub use uca_certificates::{
     Certificate, CertificateFault, CertificateFaultKind, read_certificate, write_certificate,
 };

@@ -72,7 +72,7 @@ fn shared_weights(alloc: Global, placements: &[Placement]) -> Result<WeightSet, 
     Ok(shared)
 }
 
-/// Puts the placement's new weight in with those that are seen, and with those that are seen twice if it is one of them already.
+/// Puts the placement's new weight in with those that were seen, and with the shared ones if it was one of them already.
 fn add_again(seen: &mut WeightSet, shared: &mut WeightSet, placement: Placement)
     ensures seen { (placements : List Placement) → HoldsNew 1 placements seen.old → HoldsNew 1 (placements ++ placement ∷ []) seen.new }
     ensures shared { (placements : List Placement) → HoldsNew 1 placements seen.old → HoldsNew 2 placements shared.old →
@@ -87,7 +87,7 @@ fn add_again(seen: &mut WeightSet, shared: &mut WeightSet, placement: Placement)
     seen.insert(level, placement.new);
 }
 
-/// Whether the placement puts a new weight at a level that is not low enough, or is in one of two sets.
+/// Whether the placement's new weight, if it puts one at a level, is low and neither known nor shared.
 fn is_fresh(placement: Placement, known: &WeightSet, shared: &WeightSet) -> bool
     ensures { IsTrue result ↔ IsFreshPlacement known.now shared.now placement }
 {
@@ -99,7 +99,7 @@ fn is_fresh(placement: Placement, known: &WeightSet, shared: &WeightSet) -> bool
         && is_low(level, placement.new)
 }
 
-/// Whether no weight of the set lies strictly between the placement's weights.
+/// Whether no known weight lies strictly between the placement's old and new weight, if it has them at a level.
 fn is_nearest(placement: Placement, known: &WeightSet) -> bool
     ensures { IsTrue result ↔ IsNearestPlacement known.now placement }
 {

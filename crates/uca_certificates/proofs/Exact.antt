@@ -17,10 +17,12 @@ use Rattle.uca_certificates.proofs.LineLaws.{line_same}
 
 -- ---- The runs of a level among lines
 
+-- the runs of the lines of one level
 abbrev pub runs_of : Level → List RunLine → List Run
 runs_of level [] = []
 runs_of level (l ∷ ls) = if level_number l.level == level_number level then l.run ∷ runs_of level ls else runs_of level ls
 
+-- those of two texts, one after the other
 runs_of-append : (level : Level) (xs ys : List RunLine) → runs_of level (xs ++ ys) ≡ runs_of level xs ++ runs_of level ys
 runs_of-append level [] ys = refl
 runs_of-append level (x ∷ xs) ys = cases (level_number x.level == level_number level) refl (runs_of-append level xs ys)
@@ -42,11 +44,13 @@ runs_of-other : (level other : Level) (runs : List Run) → (level_number other 
 runs_of-other level other [] e = refl
 runs_of-other level other (r ∷ runs) e = rw e (runs_of-other level other runs e)
 
+-- those of the three levels
 runs_of-three : (level : Level) (content : CertificateContent) → runs_of level (run_lines content) ≡ runs_of level (of_level One content.primary)
     ++ (runs_of level (of_level Two content.secondary) ++ runs_of level (of_level Three content.tertiary))
 runs_of-three level content = runs_of-append level (of_level One content.primary) (of_level Two content.secondary ++ of_level Three content.tertiary)
     ∙ ap (λ rs. runs_of level (of_level One content.primary) ++ rs) (runs_of-append level (of_level Two content.secondary) (of_level Three content.tertiary))
 
+-- of the lines of a certificate they are its runs
 pub runs_of-lines : (level : Level) (content : CertificateContent) → runs_of level (run_lines content) ≡ runs_at level content
 runs_of-lines One content = runs_of-three One content
     ∙ rw (runs_of-same One content.primary, runs_of-other One Two content.secondary refl, runs_of-other One Three content.tertiary refl)
@@ -57,6 +61,7 @@ runs_of-lines Two content = runs_of-three Two content
 runs_of-lines Three content = runs_of-three Three content
     ∙ rw (runs_of-other Three One content.primary refl, runs_of-other Three Two content.secondary refl, runs_of-same Three content.tertiary) refl
 
+-- a certificate is its runs
 same_content : (c d : CertificateContent) → c.primary ≡ d.primary → c.secondary ≡ d.secondary → c.tertiary ≡ d.tertiary → c ≡ d
 same_content c d p s t = λ i. record { primary = p i; secondary = s i; tertiary = t i }
 
@@ -68,6 +73,7 @@ content_same c d e =
 
 -- ---- Lines as texts
 
+-- lines of the same texts are the same
 texts_same : (xs ys : List RunLine) → AllByRecursion IsRunLine xs → AllByRecursion IsRunLine ys → map run_text xs ≡ map run_text ys → xs ≡ ys
 texts_same [] [] h k e = refl
 texts_same [] (y ∷ ys) h k e = absurd (cc)
@@ -79,6 +85,7 @@ texts_same (x ∷ xs) (y ∷ ys) h k e =
     let there : xs ≡ ys = texts_same xs ys h.1 k.1 others in
     cc
 
+-- lines say one certificate
 pub says_same : (lines : List (List ℕ)) (s t : CertificateContent) → Says lines s → Says lines t → s ≡ t
 says_same lines s t h k = content_same s t (texts_same (run_lines s) (run_lines t) h.fit k.fit (sym h.text ∙ k.text))
 
@@ -89,6 +96,7 @@ record IsCut (front whole : List RunLine) (line : List ℕ) : Type 0 where
   parts : whole ≡ front ++ next ∷ rest
   is_line : IsLine line next
 
+-- of the texts of lines, the next says the next line
 cut : (front whole : List RunLine) (line : List ℕ) (more : List (List ℕ)) → AllByRecursion IsRunLine front → AllByRecursion IsRunLine whole
     → map run_text whole ≡ map run_text front ++ line ∷ more → IsCut front whole line
 cut [] [] line more h k e = absurd (cc)
@@ -109,25 +117,30 @@ abbrev AreSorted : ℕ → List RunLine → Type 0
 AreSorted low [] = ⊤
 AreSorted low (l ∷ ls) = (low ≤ level_number l.level) × AreSorted (level_number l.level) ls
 
+-- from a lower number on, too
 sorted_lower : (low high : ℕ) (ls : List RunLine) → low ≤ high → AreSorted high ls → AreSorted low ls
 sorted_lower low high [] e h = tt
 sorted_lower low high (l ∷ ls) e h = (omega arith, h.1)
 
+-- the lines of a level may stand before those of higher ones
 sorted_level : (level : Level) (runs : List Run) (rest : List RunLine) → AreSorted (level_number level) rest
     → AreSorted (level_number level) (of_level level runs ++ rest)
 sorted_level level [] rest h = h
 sorted_level level (r ∷ runs) rest h = (omega arith, sorted_level level runs rest h)
 
+-- or alone
 sorted_last : (level : Level) (runs : List Run) → AreSorted (level_number level) (of_level level runs)
 sorted_last level [] = tt
 sorted_last level (r ∷ runs) = (omega arith, sorted_last level runs)
 
+-- in a certificate no level falls
 sorted_lines : (content : CertificateContent) → AreSorted 1 (run_lines content)
 sorted_lines content =
     let third = sorted_last Three content.tertiary in
     let second = sorted_level Two content.secondary _ (sorted_lower 2 3 (of_level Three content.tertiary) (omega arith) third) in
     sorted_level One content.primary _ (sorted_lower 1 2 (of_level Two content.secondary ++ of_level Three content.tertiary) (omega arith) second)
 
+-- each line is of that number or a higher one
 sorted_at : (low : ℕ) (front : List RunLine) (l : RunLine) (rest : List RunLine) → AreSorted low (front ++ l ∷ rest) → low ≤ level_number l.level
 sorted_at low [] l rest h = h.0
 sorted_at low (f ∷ fs) l rest h = omega (arith, h.0, sorted_at (level_number f.level) fs l rest h.1)
@@ -163,6 +176,7 @@ one_more front next rest =
     itself Two run ls = refl
     itself Three run ls = refl
 
+-- lines in one of which a cause stands say no certificate
 excluded : (before : List (List ℕ)) (s : CertificateContent) (line : List ℕ) (kind : CertificateFaultKind) (more : List (List ℕ))
     (t : CertificateContent) → Says before s → Cause s line kind → Says (before ++ line ∷ more) t → ⊥
 excluded before s line kind more t h cause k =
@@ -195,5 +209,6 @@ excluded before s line kind more t h cause k =
     by_kind kinds.Read c cause = cause
     by_kind kinds.Memory c cause = cause
 
+-- so lines are exact
 pub exact : IsExact Says Cause
 exact = record { same = says_same; excluded = excluded }

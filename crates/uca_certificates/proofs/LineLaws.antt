@@ -30,10 +30,12 @@ some_pair {A = A} {B = B} x y a b h =
     let k : ◌≡◌ {A = A × B} (x, a) (y, b) = same_Some {A = A × B} (x, a) (y, b) h in
     (ap (λ (r : A × B). r.0) k, ap (λ (r : A × B). r.1) k)
 
+-- what a map of an option gives, it makes of something
 map_some : {A B : Type 0} (f : A → B) (o : Option A) (r : B) → option_map f o ≡ Some r → (x : A) × (o ≡ Some x) × (f x ≡ r)
 map_some f (Some x) r h = (x, refl, (let k : Some (f x) ≡ Some r = h in cc))
 map_some f None r h = cc
 
+-- the digit of the level that is read
 level_at_takes : (text : List ℕ) (level : Level) (rest : List ℕ) → level_at text ≡ Some (level, rest) → text ≡ (48 + level_number level) ∷ rest
 unfolding level_at
 level_at_takes [] level rest h = cc
@@ -49,12 +51,14 @@ level_at_takes (b ∷ bs) level rest h = cases (b == 49) refl (b == 50) refl (b 
     cases false e false f true k = found 51 Three (eqb-true b 51 k) refl (rw (e, f, k) at h)
     cases false e false f false k = let n = rw (e, f, k) at h in cc
 
+-- the digits of the number that is read
 number_at_takes : (text : List ℕ) (n : ℕ) (rest : List ℕ) → number_at text ≡ Some (n, rest) → (text ≡ 32 ∷ (digits 4 n ++ rest)) × (n < 0x1_0000)
 unfolding number_at
 number_at_takes [] n rest h = cc
 number_at_takes (b ∷ bs) n rest h = cases (b == 32) refl
   where
-    found : b ≡ 32 → option_map {U = ℕ × List ℕ} (λ (m : ℕ). (m, drop 4 bs)) (weight_of (take 4 bs)) ≡ Some (n, rest) → (b ∷ bs ≡ 32 ∷ (digits 4 n ++ rest)) × (n < 0x1_0000)
+    found : b ≡ 32 → option_map {U = ℕ × List ℕ} (λ (m : ℕ). (m, drop 4 bs)) (weight_of (take 4 bs)) ≡ Some (n, rest)
+        → (b ∷ bs ≡ 32 ∷ (digits 4 n ++ rest)) × (n < 0x1_0000)
     found e k =
         let f = map_some (λ (m : ℕ). (m, drop 4 bs)) (weight_of (take 4 bs)) (n, rest) k in
         let same : f.0 ≡ n = ap (λ (r : ℕ × List ℕ). r.0) f.2 in
@@ -82,6 +86,7 @@ line_from t0 t1 t2 t3 [] level from to count l h0 h1 h2 h3 h =
     subst P same (record { text = spelled; fits = record { from = h1.1; to = h2.1; count = h3.1 } })
 line_from t0 t1 t2 t3 (b ∷ bs) level from to count l h0 h1 h2 h3 h = cc
 
+-- the run that is read is what the line says
 pub line_takes : (text : List ℕ) (l : RunLine) → line_of text ≡ Some l → IsLine text l
 unfolding line_of
 line_takes text l h =
@@ -94,23 +99,27 @@ line_takes text l h =
 
 -- ---- What stands there is read
 
+-- the front of two texts, and what follows it
 take_front : (xs ys : List ℕ) (k : ℕ) → length xs ≡ k → (take k (xs ++ ys) ≡ xs) × (drop k (xs ++ ys) ≡ ys)
 take_front xs ys k h =
     let P : ℕ → Type 0 = λ n. (take n (xs ++ ys) ≡ xs) × (drop n (xs ++ ys) ≡ ys) in
     subst P h (take-append_seam xs ys, drop-append_seam xs ys)
 
+-- a digit of a level is read
 level_at-digit : (level : Level) (rest : List ℕ) → level_at ((48 + level_number level) ∷ rest) ≡ Some (level, rest)
 unfolding level_at
 level_at-digit One rest = refl
 level_at-digit Two rest = refl
 level_at-digit Three rest = refl
 
+-- four digits are read
 number_at-digits : (n : ℕ) (rest : List ℕ) → n < 0x1_0000 → number_at (32 ∷ (digits 4 n ++ rest)) ≡ Some (n, rest)
 unfolding number_at
 number_at-digits n rest h =
     let cut = take_front (digits 4 n) rest 4 (length-digits 4 n) in
     rw (cut.0, cut.1, weight_of-digits n h) refl
 
+-- what a line says is read
 pub line_again : (text : List ℕ) (l : RunLine) → IsLine text l → line_of text ≡ Some l
 unfolding line_of run_text
 line_again text l h =
@@ -140,6 +149,7 @@ pub run_line_is : (level : Level) (run : Run) (digit : ℕ) (f t c : List ℕ) �
 unfolding run_text
 run_line_is level run digit f t c d hf ht hc = rw (d, hf, ht, hc, four_digits_are run.from, four_digits_are run.to, four_digits_are run.count) refl
 
+-- it has 16 bytes
 pub length-run_text : (l : RunLine) → length (run_text l) ≡ 16
 unfolding run_text
 length-run_text l =
@@ -153,21 +163,26 @@ length-run_text l =
       length-digits 4 l.run.count,
     )
 
+-- what two texts lack, both together lack
 lacks_append : (p : ℕ → Bool) (xs ys : List ℕ) → Lacks p xs → Lacks p ys → Lacks p (xs ++ ys)
 lacks_append p [] ys h k = k
 lacks_append p (x ∷ xs) ys h k = (h.0, lacks_append p xs ys h.1 k)
 
+-- a byte above LF is none
 not_lf : (b : ℕ) → 10 < b → is_lf b ≡ false
 not_lf b h = grind (arith, nat_tests)
 
+-- digits lie above it
 upper_digit_is_high : (d : ℕ) → 10 < upper_digit d
 upper_digit_is_high d = grind (arith, nat_tests)
 
+-- so no LF stands among digits
 digits_lack_lf : (n : ℕ) → Lacks is_lf (digits 4 n)
 digits_lack_lf n =
     let digit = λ (m : ℕ). not_lf (last_digit m) (upper_digit_is_high (m % 16)) in
     rw (four_digits_are n) (digit (n / 0x1000), (digit (n / 0x100), (digit (n / 16), (digit n, tt))))
 
+-- nor is one the digit of a level
 level_lacks_lf : (level : Level) → is_lf (48 + level_number level) ≡ false
 level_lacks_lf One = refl
 level_lacks_lf Two = refl

@@ -14,6 +14,7 @@ use Rattle.uca_certificates.specs.Texts.{run_lines, lines_below, map_line}
 use Rattle.uca_certificates.specs.Steps.{fault_line, RefusesRuns, RefusesContent}
 use Rattle.uca_certificates.specs.OneMore.{length-run_lines}
 
+-- the first run that is refused is one of the runs
 refused_within : (level : Level) (previous : Option Run) (runs : List Run) (index : ℕ) (kind : MapFaultKind)
     → IsFirstRefused level previous runs index kind → index ≤ length runs
 refused_within level previous [] index kind h = absurd h
@@ -25,6 +26,7 @@ pub fault_within : (level : Level) (runs : List Run) (fault : MapFault) → IsMa
 fault_within level runs fault (inl h) = refused_within level None runs fault.run fault.kind h
 fault_within level runs fault (inr h) = omega (arith, h.run)
 
+-- the line of a fault, by how many lines stand before and how many there are
 place_is : (content : CertificateContent) (level : Level) (below all run : ℕ) (kind : MapFaultKind) → below ≡ lines_below level content
     → all ≡ length (run_lines content) → fault_line below all run kind ≡ map_line content level run kind
 place_is content level below all run map_kinds.Empty b a = rw b refl
@@ -32,6 +34,7 @@ place_is content level below all run map_kinds.NotRising b a = rw b refl
 place_is content level below all run map_kinds.OutOfRange b a = rw b refl
 place_is content level below all run map_kinds.Fixed b a = rw a refl
 
+-- the runs of the lowest level that make no map
 refuses_content : (content : CertificateContent) (level : Level) (runs : List Run) (below all : ℕ) (fault : CertificateFault)
     → ((other : Level) → level_number other < level_number level → AreProperRuns other (runs_at other content)) → runs ≡ runs_at level content
     → below ≡ lines_below level content → all ≡ length (run_lines content) → RefusesRuns level runs below all fault → RefusesContent content fault
@@ -44,11 +47,23 @@ refuses_content content level runs below all fault lower is b a h = record {
   place = h.place ∙ place_is content level below all h.cause.run h.cause.kind b a;
 }
 
+-- the runs of level 1 make no map
+pub refuses_primary : (content : CertificateContent) (runs : List Run) (all : ℕ) (fault : CertificateFault) → runs ≡ content.primary
+    → all ≡ length content.primary + (length content.secondary + length content.tertiary) → RefusesRuns One runs 0 all fault → RefusesContent content fault
+refuses_primary content runs all fault is a h =
+    refuses_content content One runs 0 all fault lower is refl (omega (arith, a, length-run_lines content)) h
+  where
+    lower : (other : Level) → level_number other < 1 → AreProperRuns other (runs_at other content)
+    lower One l = absurd (omega arith)
+    lower Two l = absurd (omega arith)
+    lower Three l = absurd (omega arith)
+
 -- the runs of level 2 make no map, and those of level 1 do
 pub refuses_secondary : (content : CertificateContent) (runs : List Run) (below all : ℕ) (fault : CertificateFault) → AreProperRuns One content.primary
     → runs ≡ content.secondary → below ≡ length content.primary
     → all ≡ length content.primary + (length content.secondary + length content.tertiary) → RefusesRuns Two runs below all fault → RefusesContent content fault
-refuses_secondary content runs below all fault first is b a h = refuses_content content Two runs below all fault lower is b (omega (arith, a, length-run_lines content)) h
+refuses_secondary content runs below all fault first is b a h =
+    refuses_content content Two runs below all fault lower is b (omega (arith, a, length-run_lines content)) h
   where
     lower : (other : Level) → level_number other < 2 → AreProperRuns other (runs_at other content)
     lower One l = first

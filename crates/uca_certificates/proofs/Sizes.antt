@@ -14,6 +14,7 @@ few_behind level s [] end h = omega arith
 few_behind level s (r ∷ runs) end h =
     omega (arith, few_behind level r runs h.0.range.from_end h.1, h.0.above.0, h.0.some)
 
+-- so a level has at most 65,535
 pub few_proper : (level : Level) (runs : List Run) → AreProperRuns level runs → length runs ≤ 0xFFFF
 few_proper level runs h = few level runs h.rise
   where
@@ -22,6 +23,7 @@ few_proper level runs h = few level runs h.rise
     few level (r ∷ runs) h =
         omega (arith, few_behind level r runs h.0.range.from_end h.1, h.0.range.from_zero, h.0.some, ends_fit level)
 
+-- a proper run has numbers of 16 bits
 run_fits : (level : Level) (previous : Option Run) (r : Run) → IsProperRun level previous r → IsRunLine (record { level = level; run = r })
 run_fits level previous r h = record {
   from = omega (arith, h.range.from_end, h.some, ends_fit level);
@@ -29,9 +31,11 @@ run_fits level previous r h = record {
   count = omega (arith, h.range.from_end, h.range.from_zero, ends_fit level);
 }
 
+-- and so has each of some
 rising_fit : (level : Level) (previous : Option Run) (runs : List Run) → AreRising level previous runs → AllByRecursion IsRunLine (of_level level runs)
 rising_fit level previous [] h = tt
 rising_fit level previous (r ∷ runs) h = (run_fits level previous r h.0, rising_fit level (Some r) runs h.1)
 
+-- in a map too
 pub proper_fit : (level : Level) (runs : List Run) → AreProperRuns level runs → AllByRecursion IsRunLine (of_level level runs)
 proper_fit level runs h = rising_fit level None runs h.rise

@@ -22,13 +22,16 @@ use Rattle.uca_certificates.proofs.Sizes.{few_proper, proper_fit}
 
 -- ---- The text of a certificate is its lines
 
+-- lines with LF, as texts or as lines
 text_is : (ls : List RunLine) → flat_map (λ l. ended (run_text l)) ls ≡ flat_map ended (map run_text ls)
 text_is ls = sym (flat_map-map ended run_text ls)
 
+-- a file may have them
 file_lines : (ls : List RunLine) → AllByRecursion (IsFileLine CERTIFICATE_FORM) (map run_text ls)
 file_lines [] = tt
 file_lines (l ∷ ls) = (record { lacks = run_text_lacks_lf l; short = omega (arith, length-run_text l) }, file_lines ls)
 
+-- what holds in two lists, one after the other
 all_append : {X : Type 0} (P : X → Type 0) (xs ys : List X) → AllByRecursion P xs → AllByRecursion P ys → AllByRecursion P (xs ++ ys)
 all_append P [] ys h k = k
 all_append P (x ∷ xs) ys h k = (h.0, all_append P xs ys h.1 k)
@@ -67,14 +70,17 @@ reads_means bytes count content h maps =
 
 -- ---- What bytes mean
 
+-- bytes mean one certificate
 pub means_same : (bytes : List ℕ) (c d : CertificateContent) → Means bytes c → Means bytes d → c ≡ d
 means_same bytes c d h k = one_meaning CERTIFICATE_FORM Says says_same bytes c d (means_reads bytes c h) (means_reads bytes d k)
 
+-- the runs of each level of a certificate make a map
 proper_at : (level : Level) (content : CertificateContent) → IsCertificate content → AreProperRuns level (runs_at level content)
 proper_at One content h = h.primary
 proper_at Two content h = h.secondary
 proper_at Three content h = h.tertiary
 
+-- so where runs make no map the bytes mean no certificate
 no_fault_of_map : (bytes : List ℕ) (fault : CertificateFault) (content : CertificateContent) → FaultOfMap bytes fault → Means bytes content → ⊥
 no_fault_of_map bytes fault content h means =
     let same : content ≡ h.content = one_meaning CERTIFICATE_FORM Says says_same bytes content h.content (means_reads bytes content means) h.reads in
@@ -87,7 +93,8 @@ stops : (bytes : List ℕ) (left : Option (List ℕ)) (fault : CertificateFault)
 stops bytes left fault content (inl (inl read)) means = inl read.0
 stops bytes left fault content (inl (inr (inl memory))) means = inr memory.0
 stops bytes left fault content (inl (inr (inr line))) means =
-    absurd (no_meaning CERTIFICATE_FORM Says Cause (λ s. ⊥) exact bytes fault.line fault.kind content (inl line) (means_reads bytes content means) (λ none. none))
+    absurd (no_meaning CERTIFICATE_FORM Says Cause (λ s. ⊥) exact bytes fault.line fault.kind content (inl line)
+    (means_reads bytes content means) (λ none. none))
 stops bytes left fault content (inr map) means = absurd (no_fault_of_map bytes fault content map means)
 
 -- what bytes mean is answered, unless reading stops

@@ -21,6 +21,7 @@ use Rattle.uca_certificates.proofs.Sizes.{few_proper}
 abbrev pub line_at : Level → Run → List ℕ
 line_at level run = ended (run_text (record { level = level; run = run }))
 
+-- the text of a level, line by line
 pub level_text_is : (level : Level) (runs : List Run) → level_text level runs ≡ flat_map (line_at level) runs
 unfolding level_text
 level_text_is level runs = refl
@@ -29,10 +30,12 @@ level_text_is level runs = refl
 abbrev pub certificate_parts : CertificateContent → List (List ℕ)
 certificate_parts content = level_text One content.primary ∷ level_text Two content.secondary ∷ level_text Three content.tertiary ∷ []
 
+-- it is that of its lines
 lines_text : (level : Level) (runs : List Run) → flat_map (λ (l : RunLine). ended (run_text l)) (of_level level runs) ≡ level_text level runs
 unfolding level_text
 lines_text level runs = flat_map-map (λ (l : RunLine). ended (run_text l)) (λ (run : Run). record { level = level; run = run }) runs
 
+-- the text of a certificate is those of its levels
 pub certificate_text_is : (content : CertificateContent) → certificate_text content ≡ flat_map part (certificate_parts content)
 certificate_text_is content =
     let text = λ (l : RunLine). ended (run_text l) in
@@ -43,6 +46,7 @@ certificate_text_is content =
     split ∙ rw (lines_text One content.primary, lines_text Two content.secondary, lines_text Three content.tertiary)
     (ap (λ t. level_text One content.primary ++ (level_text Two content.secondary ++ t)) (sym (append-nil (level_text Three content.tertiary))))
 
+-- each line has 17 bytes
 length-lines : (ls : List RunLine) → length (flat_map (λ (l : RunLine). ended (run_text l)) ls) ≡ length ls * 17
 length-lines [] = refl
 length-lines (l ∷ ls) = omega (

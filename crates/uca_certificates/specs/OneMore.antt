@@ -24,19 +24,22 @@ not_read said line kinds.Memory h = refl
 
 -- ---- The lines
 
--- where no run stands at a higher level, the next run is that of the next line
+-- a list that cannot but be empty
 none_unless : {X : Type 0} (xs : List X) → ¬ (xs ≢ []) → xs ≡ []
 none_unless [] h = refl
 none_unless (x ∷ xs) h = absurd (h (λ e. cc))
 
+-- above a level that is not passed no runs stand
 pub none_above : (content : CertificateContent) (level higher : Level) → ¬ (IsPassed content level) → level_number level < level_number higher
     → runs_at higher content ≡ []
 none_above content level higher due h = none_unless (runs_at higher content) (λ some. due (higher, h, some))
 
+-- one run more is one line more
 level_more : (level : Level) (runs : List Run) (run : Run) → of_level level (runs ++ run ∷ []) ≡ of_level level runs ++ record { level = level; run = run } ∷ []
 level_more level [] run = refl
 level_more level (r ∷ runs) run = ap (λ (ls : List RunLine). record { level = level; run = r } ∷ ls) (level_more level runs run)
 
+-- and the last of all, where the level is not passed
 pub run_lines_more : (content : CertificateContent) (level : Level) (run : Run) → ¬ (IsPassed content level)
     → run_lines (put_last level run content) ≡ run_lines content ++ record { level = level; run = run } ∷ []
 run_lines_more content One run due =
@@ -50,10 +53,13 @@ run_lines_more content Three run due = rw (level_more Three content.tertiary run
 
 -- ---- How many there are
 
+-- each run is a line
 length-of_level : (level : Level) (runs : List Run) → length (of_level level runs) ≡ length runs
 length-of_level level runs = length-map runs (λ (run : Run). record { level = level; run = run })
 
-pub length-run_lines : (content : CertificateContent) → length (run_lines content) ≡ length content.primary + (length content.secondary + length content.tertiary)
+-- of each level
+pub length-run_lines : (content : CertificateContent)
+    → length (run_lines content) ≡ length content.primary + (length content.secondary + length content.tertiary)
 length-run_lines content = omega (
   arith,
   length-append (of_level One content.primary) (of_level Two content.secondary ++ of_level Three content.tertiary),
@@ -75,7 +81,9 @@ few_lines lines said says = omega (
   says.few Three,
 )
 
-few_more : (old : CertificateContent) (level : Level) (run : Run) → ((other : Level) → length (runs_at other old) ≤ 0xFFFF) → length (runs_at level old) < 0xFFFF
+-- with room for it a run may be added
+few_more : (old : CertificateContent) (level : Level) (run : Run) → ((other : Level) → length (runs_at other old) ≤ 0xFFFF)
+    → length (runs_at level old) < 0xFFFF
     → (other : Level) → length (runs_at other (put_last level run old)) ≤ 0xFFFF
 few_more old One run few room One = omega (arith, length-append old.primary (run ∷ []))
 few_more old One run few room Two = few Two
@@ -89,6 +97,7 @@ few_more old Three run few room Three = omega (arith, length-append old.tertiary
 
 -- ---- One line more
 
+-- lines and one more say the runs with one more
 pub says_more : (lines : List (List ℕ)) (old : CertificateContent) (line : List ℕ) (new : CertificateContent) → Says lines old → Takes old line new
     → Says (lines ++ line ∷ []) new
 says_more lines old line new says takes =

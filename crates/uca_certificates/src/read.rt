@@ -19,9 +19,10 @@ use uca_weights::Source;
 ///
 /// The first line that is refused, and why: of several causes in a line the first in this order.
 ///
-/// - `Line`: the line has another form, or no LF ends it.
+/// - `Line`: the line has another form.
 /// - `Order`: its level is lower than that of the line before.
 /// - `Limit`: it is run 65,536 of its level.
+/// - `Line`: no LF ends it.
 ///
 /// Where all lines are acceptable, `Map` for the lowest level whose runs make no map, by its first fault: at the line of
 /// the run, for `Fixed` at the number of lines plus one. `Read` where the source failed, and `Memory` where an allocation

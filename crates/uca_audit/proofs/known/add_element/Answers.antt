@@ -1,3 +1,4 @@
+-- The maps of a certificate are those of its levels.
 use Rattle.std.proofs.Common.{ap}
 use Rattle.uca_weights.specs.declared.Level.TheVariants.{One, Two, Three}
 use Rattle.uca_certificates.specs.Certificates.{CertificateContent}

@@ -1,3 +1,4 @@
+-- The elements so far are those of the rows before, and of this one.
 use Rattle.std.proofs.Common.{take, ap, sym, subst, ◌∙◌, arith}
 use Rattle.std.proofs.lemmas.List.{append-nil, take_all}
 use Rattle.uca_values.specs.Content.{Entry}

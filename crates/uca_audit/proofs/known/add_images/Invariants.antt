@@ -1,3 +1,4 @@
+-- The set has the images of the elements so far.
 use Rattle.std.proofs.Common.{take, ◌++◌}
 use Rattle.uca_check.specs.WellFormed.{elements_of}
 use Rattle.uca_audit.specs.Inputs.{maps_of}

@@ -1,3 +1,4 @@
+-- The images of all elements are added to the weights of implicit weights.
 use Rattle.std.proofs.Common.{ap, subst, ◌∙◌}
 use Rattle.uca_values.specs.Content.{TableContent}
 use Rattle.uca_check.specs.WellFormed.{elements_of}
@@ -7,8 +8,7 @@ use Rattle.uca_audit.proofs.KnownImages.{pairs_alone, known_of_images}
 use Rattle.uca_audit.proofs.known.known_weights.Goals as goal
 
 pub add_images-requires : goal.add_images-requires
-add_images-requires c =
-    pairs_alone (tailoring_in c.args.inputs.now).maps c.in_ok-known.known c.insert.new.self c.insert-2.new.self c.in_ok-known.ensures c.insert.ensures c.insert-2.ensures
+add_images-requires c = pairs_alone (tailoring_in c.args.inputs.now).maps c.in_ok-known.known c.in_ok-known.ensures
 
 pub returns : goal.returns
 returns c =

@@ -1,3 +1,4 @@
+-- A new weight that was seen is put in with those that are new twice.
 use Rattle.std.proofs.Common.{sym, subst}
 use Rattle.std.proofs.lemmas.Bool.{false≢true}
 use Rattle.std.proofs.Common.{◌++◌, ◌∷◌, [], ◌∙◌}

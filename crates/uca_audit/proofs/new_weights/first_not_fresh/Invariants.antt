@@ -1,3 +1,4 @@
+-- The relations so far are fresh.
 use Rattle.uca_tailorings.specs.Tailorings.{IsFresh}
 use Rattle.uca_audit.specs.Views.{tailoring_in}
 use Rattle.uca_audit.proofs.Passes.{AllBelow}

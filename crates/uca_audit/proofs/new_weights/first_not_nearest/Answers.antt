@@ -1,3 +1,4 @@
+-- The tests of placements tell which relations are nearest, and the set goes on with their new weights.
 use Rattle.std.proofs.Common.{add-one, arith}
 use Rattle.uca_tailorings.specs.Tailorings.{IsNearest}
 use Rattle.uca_audit.specs.Views.{tailoring_in, IsPlacement}

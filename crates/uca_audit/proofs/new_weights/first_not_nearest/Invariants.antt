@@ -1,3 +1,4 @@
+-- The relations so far are nearest, and the set has their new weights.
 use Rattle.std.proofs.Common.{take}
 use Rattle.uca_tailorings.specs.Tailorings.{IsNearest}
 use Rattle.uca_audit.specs.Views.{tailoring_in}

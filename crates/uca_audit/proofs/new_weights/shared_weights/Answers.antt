@@ -1,3 +1,4 @@
+-- The sets of all placements are those of the last one.
 use Rattle.std.proofs.Common.{subst, sym, take, arith}
 use Rattle.std.proofs.lemmas.List.{take_more, take_all}
 use Rattle.uca_audit.specs.NewWeights.{HoldsNew}

@@ -1,3 +1,4 @@
+-- The sets have the weights that are new once, and twice, so far.
 use Rattle.std.proofs.Common.{take}
 use Rattle.uca_audit.specs.NewWeights.{HoldsNew}
 use Rattle.uca_audit.proofs.new_weights.shared_weights.Given as goal

@@ -4,4 +4,5 @@ use Rattle.uca_certificates.proofs.WholeLaws.{only_known}
 use Rattle.uca_certificates.proofs.read.read_certificate.Goals as goal
 
 pub returns-clause-only : goal.returns-clause-only
-returns-clause-only g c = only_known {X = CertificateContent} (λ content. content) _ _ c.read_to_end.result c.read_to_end.ensures.found c.read_to_end.ensures.fault
+returns-clause-only g c =
+    only_known {X = CertificateContent} (λ content. content) _ _ c.read_to_end.result c.read_to_end.ensures.found c.read_to_end.ensures.fault

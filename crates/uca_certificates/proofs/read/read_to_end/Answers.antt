@@ -3,4 +3,5 @@ use Rattle.uca_certificates.proofs.WholeLaws.{found_content}
 use Rattle.uca_certificates.proofs.read.read_to_end.Goals as goal
 
 pub returns-clause-found : goal.returns-clause-found
-returns-clause-found g c = found_content _ _ _ c.into_certificate.result c.in_ok-read_lines.ensures.found c.into_certificate.ensures.certificate c.into_certificate.ensures.maps
+returns-clause-found g c =
+    found_content _ _ _ c.into_certificate.result c.in_ok-read_lines.ensures.found c.into_certificate.ensures.certificate c.into_certificate.ensures.maps

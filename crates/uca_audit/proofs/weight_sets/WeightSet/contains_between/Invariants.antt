@@ -1,3 +1,4 @@
+-- No weight so far is in the set.
 use Rattle.std.proofs.Common.{◌≡◌, ℕ, ◌<◌, false, slice_index_or}
 use Rattle.uca_audit.proofs.weight_sets.WeightSet.contains_between.Given as goal
 

@@ -4,8 +4,16 @@ use Rattle.std.proofs.lemmas.Result.{err_from_is_err_and}
 use Rattle.uca_weights.specs.declared.Level.TheVariants.{One, Two}
 use Rattle.uca_weights.specs.Runs.{AreProperRuns}
 use Rattle.uca_certificates.specs.Certificates.{CertificateContent}
-use Rattle.uca_certificates.proofs.MapLaws.{refuses_secondary, refuses_tertiary}
+use Rattle.uca_certificates.proofs.MapLaws.{refuses_primary, refuses_secondary, refuses_tertiary}
 use Rattle.uca_certificates.proofs.lines.Lines.into_certificate.Goals as goal
+
+pub returns-in_err-primary-clause-fault : goal.returns-in_err-primary-clause-fault
+returns-in_err-primary-clause-fault c =
+    let p = err_from_is_err_and c.from_residual.result c.from_residual.ensures.1 in
+    let first = ap (λ (s : CertificateContent). s.primary) c.self.view_is in
+    let second = ap (λ (s : CertificateContent). s.secondary) c.self.view_is in
+    let third = ap (λ (s : CertificateContent). s.tertiary) c.self.view_is in
+    rw (p.1, p.2) (refuses_primary c.args.self _ _ _ first (rw (← first, ← second, ← third) (omega arith)) c.in_err-primary.ensures.fault)
 
 pub returns-in_err-secondary-clause-fault : goal.returns-in_err-secondary-clause-fault
 returns-in_err-secondary-clause-fault c =

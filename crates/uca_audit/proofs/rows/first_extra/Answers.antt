@@ -1,0 +1,14 @@
+use Rattle.std.proofs.Common.{rules, tests, ap, ◌∙◌}
+use Rattle.std.proofs.lemmas.Iterator.{IsFirst-from_position, YieldsList-from_slice}
+use Rattle.uca_values.specs.Content.{TableContent, Entry}
+use Rattle.uca_check.proofs.Firsts.{first_found}
+use Rattle.uca_tailorings.specs.Tailorings.{IsExpectedRow}
+use Rattle.uca_audit.specs.Views.{tailoring_in}
+use Rattle.uca_audit.proofs.rows.first_extra.Goals as goal
+
+pub returns : goal.returns
+returns c =
+    let rows = c.args.inputs.now.tailored.now.rows in
+    let P : Entry → Type 0 = IsExpectedRow (tailoring_in c.args.inputs.now) in
+    let all = c.iter.ensures.rest ∙ (c.deref.ensures.value ∙ ap (λ (t : TableContent). t.rows) c.tailored.view_is) in
+    first_found P rows _ (IsFirst-from_position _ _ _ (λ row. P row → ⊥) P c.position-extra.ensures.ran (YieldsList-from_slice rows all) (λ x q k. search (rules, tests)) (λ x q k. search (rules, tests)))

@@ -1,0 +1,231 @@
+//! The conditions one by one: each function finds its condition met, or the fault at the first place where it fails.
+
+ghost use Rattle.std.specs.Prelude.{◌≡◌, ◌<◌, ◌+◌, suc, length, IfOk};
+ghost use Rattle.std.specs.List.{AllZip};
+ghost use Rattle.uca_match.specs.Collations.{collation_of};
+ghost use Rattle.uca_tailorings.specs.Laws.{ReadsAs};
+ghost use Rattle.uca_tailorings.specs.Tailorings.{tailored_reading};
+ghost use Rattle.uca_audit.specs.Views.{tailoring_in, IsPlacement};
+ghost use Rattle.uca_audit.specs.Chaining.{AreTargetsOf, FindsRowsOf, Settles};
+ghost use Rattle.uca_audit.specs.NewWeights.{HoldsKnown};
+
+use crate::anchors::first_without_anchor;
+use crate::inputs::Inputs;
+use crate::new_weights::{first_not_fresh, first_not_nearest};
+use crate::placements::{Placement, placements};
+use crate::rows::{
+    are_same_headers, first_changed, first_extra, first_missing_row, first_missing_target,
+    first_uncovered,
+};
+use crate::targets::Targets;
+use crate::weight_sets::WeightSet;
+use crate::{AuditFault, Condition, Place};
+use std::alloc::Global;
+use uca_check::check;
+use uca_match::{Collator, Lookup, Trie};
+use uca_rules::Rules;
+use uca_values::Table;
+
+/// Condition 1.
+pub(crate) fn base_is_well_formed(inputs: &Inputs) -> Result<(), AuditFault>
+    ensures { Settles (tailoring_in inputs.now) Condition.BaseIllFormed result }
+{
+    match check(inputs.base, inputs.properties) {
+        Ok(()) => Ok(()),
+        Err(fault) => Err(AuditFault {
+            number: 1,
+            place: Place::BaseRow(fault.row),
+        }),
+    }
+}
+
+/// Condition 2.
+pub(crate) fn tailored_is_well_formed(inputs: &Inputs) -> Result<(), AuditFault>
+    ensures { Settles (tailoring_in inputs.now) Condition.TailoredIllFormed result }
+{
+    match check(inputs.tailored, inputs.properties) {
+        Ok(()) => Ok(()),
+        Err(fault) => Err(AuditFault {
+            number: 2,
+            place: Place::TailoredRow(fault.row),
+        }),
+    }
+}
+
+/// Condition 3.
+pub(crate) fn headers_are_same(inputs: &Inputs) -> Result<(), AuditFault>
+    ensures { Settles (tailoring_in inputs.now) Condition.Header result }
+{
+    let (base, tailored) = (inputs.base, inputs.tailored);
+    if are_same_headers(&base.header, &tailored.header) {
+        return Ok(());
+    }
+    Err(AuditFault {
+        number: 3,
+        place: Place::Nowhere,
+    })
+}
+
+/// Condition 4.
+pub(crate) fn weights_are_covered(inputs: &Inputs) -> Result<(), AuditFault>
+    ensures { Settles (tailoring_in inputs.now) Condition.Uncovered result }
+{
+    match first_uncovered(inputs) {
+        None => Ok(()),
+        Some(at) => Err(at_base_row(inputs, 4, at)),
+    }
+}
+
+/// Condition 5.
+pub(crate) fn rows_are_unchanged(
+    inputs: &Inputs,
+    tailored: &Trie,
+    targets: &Targets,
+) -> Result<(), AuditFault>
+    requires rows { FindsRowsOf (tailoring_in inputs.now).tailored (⟦<Trie as Lookup>⟧.content tailored.now) }
+    requires targets { AreTargetsOf (tailoring_in inputs.now).relations targets.now }
+    ensures { Settles (tailoring_in inputs.now) Condition.RowChanged result }
+{
+    match first_changed(inputs, tailored, targets) {
+        None => Ok(()),
+        Some(at) => Err(at_base_row(inputs, 5, at)),
+    }
+}
+
+/// Condition 6.
+pub(crate) fn rows_are_present(inputs: &Inputs, tailored: &Trie) -> Result<(), AuditFault>
+    requires { FindsRowsOf (tailoring_in inputs.now).tailored (⟦<Trie as Lookup>⟧.content tailored.now) }
+    ensures { Settles (tailoring_in inputs.now) Condition.RowMissing result }
+{
+    if let Some(at) = first_missing_row(inputs, tailored) {
+        return Err(at_base_row(inputs, 6, at));
+    }
+    match first_missing_target(inputs, tailored) {
+        None => Ok(()),
+        Some(at) => Err(at_relation(inputs, 6, at)),
+    }
+}
+
+/// Condition 7.
+pub(crate) fn rows_are_expected(
+    alloc: Global,
+    inputs: &Inputs,
+    targets: &Targets,
+) -> Result<(), AuditFault>
+    requires { AreTargetsOf (tailoring_in inputs.now).relations targets.now }
+    ensures { Settles (tailoring_in inputs.now) Condition.RowExtra result }
+{
+    match first_extra(alloc, inputs, targets)? {
+        None => Ok(()),
+        Some(at) => Err(AuditFault {
+            number: 7,
+            place: Place::TailoredRow(row_number(inputs.tailored, at)),
+        }),
+    }
+}
+
+/// Condition 8.
+pub(crate) fn anchors_are_there(
+    alloc: Global,
+    inputs: &Inputs,
+    collator: &Collator<Trie>,
+) -> Result<(), AuditFault>
+    requires { ReadsAs (collation_of ⟦<Trie as Lookup>⟧.content collator.now) (tailored_reading (tailoring_in inputs.now)) }
+    ensures { Settles (tailoring_in inputs.now) Condition.Anchor result }
+{
+    match first_without_anchor(alloc, inputs, collator)? {
+        None => Ok(()),
+        Some(at) => Err(at_relation(inputs, 8, at)),
+    }
+}
+
+/// Condition 9, and where the targets were placed.
+pub(crate) fn targets_are_placed(
+    alloc: Global,
+    inputs: &Inputs,
+    collator: &Collator<Trie>,
+) -> Result<Vec<Placement>, AuditFault>
+    requires { ReadsAs (collation_of ⟦<Trie as Lookup>⟧.content collator.now) (tailored_reading (tailoring_in inputs.now)) }
+    ensures placed { IfOk result (λ list. AllZip (IsPlacement (tailoring_in inputs.now)) (tailoring_in inputs.now).relations list.items) }
+    ensures settled { Settles (tailoring_in inputs.now) Condition.NotPlaced result }
+{
+    match placements(alloc, inputs, collator)? {
+        Ok(list) => Ok(list),
+        Err(at) => Err(at_relation(inputs, 9, at)),
+    }
+}
+
+/// Condition 10.
+pub(crate) fn new_weights_are_fresh(
+    alloc: Global,
+    inputs: &Inputs,
+    placements: &[Placement],
+    known: &WeightSet,
+) -> Result<(), AuditFault>
+    requires placed { AllZip (IsPlacement (tailoring_in inputs.now)) (tailoring_in inputs.now).relations placements.now }
+    requires known { HoldsKnown (tailoring_in inputs.now) known.now }
+    ensures { Settles (tailoring_in inputs.now) Condition.NotFresh result }
+{
+    match first_not_fresh(alloc, inputs, placements, known)? {
+        None => Ok(()),
+        Some(at) => Err(at_relation(inputs, 10, at)),
+    }
+}
+
+/// Condition 11.
+pub(crate) fn targets_are_nearest(
+    inputs: &Inputs,
+    placements: &[Placement],
+    known: WeightSet,
+) -> Result<(), AuditFault>
+    requires placed { AllZip (IsPlacement (tailoring_in inputs.now)) (tailoring_in inputs.now).relations placements.now }
+    requires known { HoldsKnown (tailoring_in inputs.now) known }
+    ensures { Settles (tailoring_in inputs.now) Condition.NotNearest result }
+{
+    match first_not_nearest(inputs, placements, known) {
+        None => Ok(()),
+        Some(at) => Err(at_relation(inputs, 11, at)),
+    }
+}
+
+/// The fault of a condition at the row of the base with this index.
+fn at_base_row(inputs: &Inputs, number: u8, at: usize) -> AuditFault
+    requires { at < length (tailoring_in inputs.now).base.rows }
+    ensures { result ≡ record { number = number; place = Place.BaseRow (at + 1) } }
+{
+    AuditFault {
+        number,
+        place: Place::BaseRow(row_number(inputs.base, at)),
+    }
+}
+
+/// The fault of a condition at the relation with this index.
+fn at_relation(inputs: &Inputs, number: u8, at: usize) -> AuditFault
+    requires { at < length (tailoring_in inputs.now).relations }
+    ensures { result ≡ record { number = number; place = Place.Relation (suc at) } }
+{
+    AuditFault {
+        number,
+        place: Place::Relation(relation_number(inputs.rules, at)),
+    }
+}
+
+/// The number of the row with this index.
+fn row_number(table: &Table, at: usize) -> u32
+    requires { at < length table.now.rows }
+    ensures { result ≡ at + 1 }
+{
+    // Looked at, so that the proof knows how many rows there are at most.
+    let _ = &table.rows;
+    at as u32 + 1
+}
+
+/// The number of the relation with this index.
+fn relation_number(rules: &Rules, at: usize) -> u32
+    requires { at < length rules.now }
+    ensures { result ≡ suc at }
+{
+    // Looked at, so that the proof knows how many relations there are at most.
+    let _ = rules.relations();
+    at as u32 + 1
+}
