@@ -9,3 +9,4 @@ pub mod Runs
 pub mod Sizes
 pub mod WorkedPlans
 pub mod Tailors
+pub mod FaultText

@@ -44,6 +44,10 @@ pub record IsRejected (base : TableContent) (properties : Properties) (relations
   pub is_plan : planned (basis_of base properties) relations ≡ Ok plan
   pub refused : IsFirstRefusal (tailoring_of base properties relations (table_of base plan) (certificate_of plan)) refusal
 
+-- an allocation failed
+abbrev pub out_of_memory : TailorFault
+out_of_memory = record { kind = kinds.Memory; relation = 0 }
+
 -- why there is no tailored table, by the kind of the fault; any allocation may fail
 abbrev pub CauseOf : TableContent → Properties → List Relation → TailorFault → TailorKind → Type 0
 CauseOf base properties relations fault kinds.BaseIllFormed = (fault.relation ≡ 0) × ¬ (IsWellFormed properties.class base.rows)
