@@ -52,6 +52,8 @@ pub fn numbers_rise_along_lists()
 /// The runs of a list in rising order rise on both sides, send each base weight to its number, and send nothing else.
 pub fn runs_send_base_weights()
     ensures { RunsSendBaseWeights }
+{}
+
 /// One more draft row: its key then has its elements and every other key what it had. It replaces the row with its key in
 /// its place, or stands behind all others; each key that was there keeps its place.
 pub fn one_more_row()
