@@ -1,1 +1,2 @@
 pub mod MarkLaws
+pub mod PlaceLaws
