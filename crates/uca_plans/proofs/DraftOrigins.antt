@@ -1,5 +1,5 @@
 -- What holds of the elements of all rows and of implicit elements holds of what is read.
-use Rattle.std.proofs.Common.{◌≡◌, ℕ, List, [], ◌∷◌, ◌++◌, length, map, get_or, Bool, true, false, cond, Option, Some, None, Contains, inl, inr, refl, sym, subst, ◌∙◌}
+use Rattle.std.proofs.Common.{◌≡◌, ℕ, List, [], ◌∷◌, ◌++◌, map, get_or, Bool, true, false, cond, Option, Some, None, Contains, inl, inr, sym, subst}
 use Rattle.std.specs.List.{AllByRecursion, flat_map}
 use Rattle.std.specs.Char.{IsScalar}
 use Rattle.std.proofs.lemmas.List.Elements.{recursion_from_All, All-contains_itself}
@@ -17,7 +17,7 @@ use Rattle.uca_match.proofs.RelatedReading.{read_related}
 use Rattle.uca_plans.specs.declared.drafts.DraftElement.{DraftElement}
 use Rattle.uca_plans.specs.Drafts.{DraftRow, as_draft, references_from, resolved, draft_elements}
 use Rattle.uca_plans.specs.Readings.{draft_at, IsReadFrom, DraftsComeFromRows}
-use Rattle.uca_plans.proofs.DraftReading.{occurs_in_text, each_of, implicit_drafts, valued, row_gives}
+use Rattle.uca_plans.proofs.DraftReading.{occurs_in_text, implicit_drafts, valued, row_gives}
 
 -- what holds of each member of two lists holds of each of both together
 pub each_append : {A : Type 0} (P : A → Type 0) (xs ys : List A) → AllByRecursion P xs → AllByRecursion P ys → AllByRecursion P (xs ++ ys)

@@ -1,5 +1,6 @@
 -- Draft elements: how they depend on the rows.
-use Rattle.std.proofs.Common.{◌≡◌, ◌≢◌, ◌⊎◌, ℕ, zero, suc, ◌+◌, ◌-◌, ◌*◌, ◌/◌, ◌%◌, List, [], ◌∷◌, ◌++◌, length, map, Bool, true, false, cond, Option, Some, None, Contains, refl, sym, ap, ap₂, subst, ◌∙◌, append-nil, arith, inl}
+use Rattle.std.proofs.Common.{◌≡◌, ◌≢◌, ℕ, suc, ◌+◌, ◌-◌, ◌/◌, ◌%◌, List, [], ◌∷◌, ◌++◌, length, map, Bool, true, false, cond, Option, Some, None, refl, sym}
+use Rattle.std.proofs.Common.{ap, ap₂, ◌∙◌, append-nil, arith, inl}
 use Rattle.std.specs.List.{AllByRecursion, flat_map}
 use Rattle.std.proofs.lemmas.Simd.{map-map}
 use Rattle.std.proofs.lemmas.List.{map-append}
@@ -7,13 +8,12 @@ use Rattle.std.proofs.lemmas.List.Concat.{flat_map-append}
 use Rattle.std.proofs.lemmas.Nat.{div-add-mod'}
 use Rattle.uca_weights.specs.declared.Element.{Element}
 use Rattle.uca_values.specs.declared.ImplicitRange.{ImplicitRange}
-use Rattle.uca_values.specs.Content.{Entry, Properties}
+use Rattle.uca_values.specs.Content.{Properties}
 use Rattle.uca_values.specs.Implicit.{lead_of, base_of, implicit_pair, block_pair, unlisted_pair, pair_by_lead, implicit}
-use Rattle.uca_text.specs.Texts.{Text, Spelled, code_points, letters, letters_of}
+use Rattle.uca_text.specs.Texts.{Spelled, code_points, letters, letters_of}
 use Rattle.uca_text.specs.Occurring.{OccursInOrder}
-use Rattle.uca_text.proofs.Occurring.{occurs_refl, occurs_trans}
+use Rattle.uca_text.proofs.Occurring.{occurs_trans}
 use Rattle.uca_match.specs.Rows.{rows_of, same_key}
-use Rattle.uca_match.specs.Reading.{read}
 use Rattle.uca_match.specs.Laws.{AreRelatedRows}
 use Rattle.uca_match.proofs.RelatedReading.{read_related}
 use Rattle.uca_match.proofs.ReadingLemmas.{key_reads_as_row}
@@ -77,7 +77,8 @@ abbrev pub valued : List DraftRow → Option (List Element) → Option (List Dra
 valued rows None = None
 valued rows (Some es) = Some (flat_map (resolved rows) es)
 
-referred_to : (place : ℕ) → referred (reference place) ≡ place
+-- the place that is referred to
+pub referred_to : (place : ℕ) → referred (reference place) ≡ place
 referred_to place = div-add-mod' place 0x1_0000
 
 place_valued : (all : List DraftRow) (place : ℕ) (rows : List DraftRow) → ((i j : ℕ) → j ≡ place + i → elements_at j all ≡ elements_at i rows) →

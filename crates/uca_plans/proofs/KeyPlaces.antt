@@ -1,8 +1,7 @@
 -- The places of keys, and what one more key changes.
-use Rattle.std.proofs.Common.{◌≡◌, ◌≢◌, ◌⊎◌, ℕ, ◌+◌, List, [], ◌∷◌, ◌++◌, Bool, true, false, cond, ◌||◌, map, Option, Some, None, refl, sym, ap, subst, ◌∙◌, inl, inr, ⊎_elim}
+use Rattle.std.proofs.Common.{◌≡◌, ◌≢◌, ◌⊎◌, ℕ, ◌+◌, List, [], ◌∷◌, ◌++◌, Bool, true, false, cond, ◌||◌, Some, None, refl, sym, ap, ◌∙◌, inl, inr, ⊎_elim}
 use Rattle.std.specs.List.{AllByRecursion}
-use Rattle.std.proofs.lemmas.Bool.{false≢true, false_from_ne_true, cond-true, cond-false, or_left, or_right, cases_Bool}
-use Rattle.uca_weights.specs.declared.Element.{Element}
+use Rattle.std.proofs.lemmas.Bool.{false≢true, false_from_ne_true, cond-true, cond-false, or_left, cases_Bool}
 use Rattle.uca_rules.specs.declared.relations.Relation.{Relation}
 use Rattle.uca_match.specs.Rows.{rows_of, same_key}
 use Rattle.uca_match.proofs.RowsByKey.{same_key-true, same_key-itself}

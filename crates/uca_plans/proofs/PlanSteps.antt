@@ -11,7 +11,7 @@ use Rattle.uca_plans.specs.declared.faults.TailorFault.{TailorFault}
 use Rattle.uca_plans.specs.Lists.{Insertion, level_has_room}
 use Rattle.uca_plans.specs.Drafts.{DraftRow, with_row}
 use Rattle.uca_plans.specs.Plans.{Basis, Drafting, Drafted, drafted, needs_prefix, passes_limit, accepted_row, one_drafted, with_relation, and_then}
-use Rattle.uca_plans.specs.Plans.{with_relations, begun, level_plan, LevelPlans, Plan, plan_of, plan_with_room, plan_drafted, no_room, planned}
+use Rattle.uca_plans.specs.Plans.{with_relations, begun, level_plan, LevelPlans, Plan, plan_of, plan_drafted, no_room, planned}
 
 -- the row of a relation's target
 abbrev pub target_row : Relation → Drafted → DraftRow

@@ -1,5 +1,6 @@
 -- Texts of relations read alike over the places of all keys and over the rows so far.
-use Rattle.std.proofs.Common.{◌≡◌, ◌≢◌, ◌⊎◌, ℕ, List, [], ◌∷◌, ◌++◌, length, Bool, true, false, ◌||◌, Option, Some, None, IfSome, IsSomeAnd, refl, sym, ap, subst, ◌∙◌, inl, inr, ⊎_elim, is_some, ap₂, cond, ◌+◌}
+use Rattle.std.proofs.Common.{◌≡◌, ◌≢◌, ◌⊎◌, ℕ, List, [], ◌∷◌, ◌++◌, length, Bool, true, false, ◌||◌, Option, Some, None, IfSome, IsSomeAnd, refl, sym, ap}
+use Rattle.std.proofs.Common.{subst, ◌∙◌, inl, inr, ⊎_elim, is_some, ap₂, cond, ◌+◌}
 use Rattle.std.specs.List.{AllByRecursion, flat_map}
 use Rattle.std.proofs.lemmas.Bool.{false≢true, or_left, or_right, cases_Bool}
 use Rattle.uca_weights.specs.declared.Element.{Element}
@@ -9,9 +10,8 @@ use Rattle.uca_values.specs.Implicit.{implicit}
 use Rattle.uca_text.specs.Texts.{Spelled, code_points, letters_of}
 use Rattle.uca_text.specs.Occurring.{OccursInOrder}
 use Rattle.uca_rules.specs.declared.relations.Relation.{Relation}
-use Rattle.uca_rules.specs.Relations.{IsTarget, IsUntouched, IsUsedBy, IsRuleText, HasRuleTexts, AreRules}
+use Rattle.uca_rules.specs.Relations.{IsTarget, IsUntouched, IsUsedBy, IsRuleText, HasRuleTexts}
 use Rattle.uca_match.specs.Rows.{Rows, rows_of, same_key}
-use Rattle.uca_match.specs.Reading.{read}
 use Rattle.uca_match.specs.Laws.{AreRelatedRows}
 use Rattle.uca_match.proofs.RelatedReading.{read_related}
 use Rattle.uca_match.proofs.ReadingLemmas.{key_reads_as_row, some_row}
@@ -37,14 +37,16 @@ target_or_not (r ∷ relations) text =
     (cases_Bool (same_key r.target.points text))
 
 -- keys are kept where targets come behind them
-pub among_kept : (relations : List Relation) (keys : List (List ℕ)) (key : List ℕ) → is_among keys key ≡ true → is_among (with_targets relations keys) key ≡ true
+pub among_kept : (relations : List Relation) (keys : List (List ℕ)) (key : List ℕ) → is_among keys key ≡ true →
+    is_among (with_targets relations keys) key ≡ true
 among_kept [] keys key there = there
 among_kept (r ∷ relations) keys key there =
     among_kept relations (with_key r.target.points keys) key
     (among_with_key r.target.points keys key ∙ or_left (is_among keys key) (same_key r.target.points key) there)
 
 -- each target is then a key
-pub target_among : (relations : List Relation) (keys : List (List ℕ)) (key : List ℕ) → IsTarget relations key → is_among (with_targets relations keys) key ≡ true
+pub target_among : (relations : List Relation) (keys : List (List ℕ)) (key : List ℕ) → IsTarget relations key →
+    is_among (with_targets relations keys) key ≡ true
 target_among [] keys key h = absurd h
 target_among (r ∷ relations) keys key h =
     ⊎_elim
@@ -114,7 +116,9 @@ at_front P (x ∷ xs) ys h = (h.0, at_front P xs ys h.1)
 
 -- a text of a relation is used by it, and is a text of rules
 pub text_used : (r : Relation) (text : Spelled) → IsTextOf r text → IsUsedBy r text.points
-text_used r text h = ⊎_elim (λ is_anchor. inl (ap (λ s. s.points) is_anchor)) (λ expands. inr (subst (λ o. IsSomeAnd o (λ expansion. text.points ≡ expansion.points)) (sym expands) refl)) h
+text_used r text h =
+    ⊎_elim (λ is_anchor. inl (ap (λ s. s.points) is_anchor))
+    (λ expands. inr (subst (λ o. IsSomeAnd o (λ expansion. text.points ≡ expansion.points)) (sym expands) refl)) h
 
 pub text_of_rules : (r : Relation) (text : Spelled) → HasRuleTexts r → IsTextOf r text → IsRuleText text
 text_of_rules r text texts h =
@@ -141,7 +145,9 @@ same_reading ranges properties keys before after later rest r rows places text r
     let untouched : IsUntouched (later ++ rest) text.points =
     subst (λ rs. IsUntouched rs text.points) whole (rules.none_late before after r text.points refl (text_used r text is_text) free) in
     read_over_same ranges properties rows places text
-    (λ key occurs. placed key (inr (no_keys later text.points key (at_front (λ s. OccursInOrder s.target.points text.points → ⊥) later rest untouched) occurs))))
+    (λ key occurs. placed key
+    (inr (no_keys later text.points key
+    (at_front (λ s. OccursInOrder s.target.points text.points → ⊥) later rest untouched) occurs))))
     (target_or_not before text.points)
   where
     in_rules : IsRuleText text

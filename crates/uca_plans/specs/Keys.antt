@@ -49,7 +49,8 @@ IsTextOf r text = (text ≡ r.anchor) ⊎ (r.expansion ≡ Some text)
 -- The places of all keys may be listed before any relation is read, those of later targets too: each relation's texts are
 -- read over them as over the rows so far. This is so where the later targets are listed to the end, and where only some are.
 abbrev pub PlacesReadAsRows : Type 0
-PlacesReadAsRows = (ranges : List ImplicitRange) (properties : Properties) (keys : List (List ℕ)) (before after later rest : List Relation) (r : Relation) (rows : List DraftRow) (places : Rows) (text : Spelled) →
+PlacesReadAsRows = (ranges : List ImplicitRange) (properties : Properties) (keys : List (List ℕ)) (before after later rest : List Relation)
+    (r : Relation) (rows : List DraftRow) (places : Rows) (text : Spelled) →
     AreRules (before ++ r ∷ after) → r ∷ after ≡ later ++ rest → keys_in rows ≡ with_targets before keys →
     ((key : List ℕ) → places key ≡ place_at 0 (with_targets (before ++ later) keys) key) → IsTextOf r text →
     read_over ranges properties places rows text ≡ draft_elements ranges properties rows text

@@ -6,5 +6,6 @@ pub mod Readings
 pub mod Keys
 pub mod Plans
 pub mod Runs
+pub mod Sizes
 pub mod WorkedPlans
 pub mod Tailors

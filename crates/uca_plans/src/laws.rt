@@ -4,6 +4,8 @@ ghost use Rattle.uca_plans.specs.Numbering.{NumbersAreProper};
 ghost use Rattle.uca_plans.specs.ListLaws.{BaseWeightsOfElements, NewWeightsStandNearest, NewWeightsTakePlaces, NothingStandsBetween, NumbersRiseAlongLists};
 ghost use Rattle.uca_plans.specs.Runs.{RunsSendBaseWeights};
 ghost use Rattle.uca_plans.specs.Readings.{OneMoreRow, KeysReadAsTheirRows, DraftsReadByWhatOccurs, DraftsReadAsRows, DraftsComeFromRows};
+ghost use Rattle.uca_plans.specs.Keys.{PlacesReadAsRows};
+ghost use Rattle.uca_plans.specs.Sizes.{PlansHaveSizedRows};
 ghost use Rattle.uca_plans.specs.WorkedPlans.{WorkedPlans};
 
 /// The plans of some rules, as they were worked out by hand: new letters, accents and capitals, weights that have to move,
@@ -80,4 +82,17 @@ pub fn drafts_read_as_rows()
 /// Each draft element of a text is one of a row, or an implicit one of a code point of the text.
 pub fn drafts_come_from_rows()
     ensures { DraftsComeFromRows }
+{}
+
+/// The places of all keys may be listed before any relation is read: those of the base, and then those of the targets, of
+/// which the later ones have no row yet. Each relation's anchor and expansion is read over these places as over the rows so
+/// far.
+pub fn places_read_as_rows()
+    ensures { PlacesReadAsRows }
+{}
+
+/// The rows of a plan have the sizes that the rows of every table have: 1 to 16 code points, 1 to 32 elements, no key
+/// twice, and at most 200,000 rows.
+pub fn plans_have_sized_rows()
+    ensures { PlansHaveSizedRows }
 {}
