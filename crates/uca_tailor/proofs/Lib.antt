@@ -1,2 +1,3 @@
 pub mod MarkLaws
 pub mod PlaceLaws
+pub mod AnchorParts

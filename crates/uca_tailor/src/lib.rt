@@ -1,9 +1,11 @@
 //! The planner: a tailored table and its certificate, made from a base and rules, and audited before they are given away.
 #![tactic(auto)]
 
+mod elements;
 mod insertions;
 mod lists;
 mod numbers;
+mod row_drafts;
 mod tailoring;
 
 pub use tailoring::tailor;
