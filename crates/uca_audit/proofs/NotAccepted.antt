@@ -36,7 +36,7 @@ each_meets class rows (suc (suc (suc (suc zero)))) low high formed = formed.wf4
 each_meets class rows (suc (suc (suc (suc (suc zero))))) low high formed = formed.wf5
 each_meets class rows (suc (suc (suc (suc (suc (suc n)))))) low high formed = absurd (omega arith)
 
-no_form_fails : (class : ℕ → ℕ) (rows : List Entry) (wf row : ℕ) → IsWellFormed class rows → IsFirstFailure class rows wf row → ⊥
+pub no_form_fails : (class : ℕ → ℕ) (rows : List Entry) (wf row : ℕ) → IsWellFormed class rows → IsFirstFailure class rows wf row → ⊥
 no_form_fails class rows wf row formed fails =
     no_row_without (MeetsForm class rows wf) rows row (each_meets class rows wf fails.number.0 fails.number.1 formed) fails.first
 

@@ -1,3 +1,4 @@
 pub mod MarkLaws
 pub mod PlaceLaws
 pub mod AnchorParts
+pub mod PartLaws

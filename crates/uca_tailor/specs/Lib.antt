@@ -1,3 +1,4 @@
 pub mod Marks
 pub mod MemberPlaces
 pub mod RowDrafts
+pub mod PlanParts

@@ -1,10 +1,12 @@
 //! The planner: a tailored table and its certificate, made from a base and rules, and audited before they are given away.
 #![tactic(auto)]
 
+mod drafting;
 mod elements;
 mod insertions;
 mod lists;
 mod numbers;
+mod plan;
 mod row_drafts;
 mod tailoring;
 

@@ -2,6 +2,7 @@
 
 ghost use Rattle.std.specs.Prelude.{◌≡◌, ◌++◌, OnOk, map, false};
 ghost use Rattle.uca_plans.specs.Drafts.{as_draft, row_as_draft};
+ghost use Rattle.uca_tailor.specs.RowDrafts.{row_elements};
 
 use crate::elements::as_draft;
 use std::alloc::AllocError;
@@ -63,6 +64,13 @@ impl<'a> RowDraft<'a> {
         ensures { result.now ≡ self.now.key }
     {
         self.key
+    }
+
+    /// The elements: those of the base, or those of a target.
+    pub(crate) fn elements(&self) -> &RowElements<'a>
+        ensures { row_elements result.now ≡ self.now.elements }
+    {
+        &self.elements
     }
 
     /// Puts the elements behind those of a list.

@@ -1,0 +1,10 @@
+use Rattle.uca_values.specs.Content.{properties_of}
+use Rattle.uca_plans.specs.Tailors.{basis_of}
+use Rattle.uca_tailor.proofs.PartLaws.{planned_by, certificate_planned}
+use Rattle.uca_tailor.proofs.plan.plan.Goals as goal
+
+pub certificate-requires : goal.certificate-requires
+certificate-requires c =
+    let basis = basis_of c.args.base.now (properties_of c.args.properties.now) in
+    certificate_planned basis c.args.rules.now c.in_ok-drafting.drafting.rows c.in_ok-numbers.numbers
+    (planned_by basis c.args.rules.now c.in_ok-drafting.drafting c.in_ok-numbers.numbers ? ?)
