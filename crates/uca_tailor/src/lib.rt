@@ -2,6 +2,7 @@
 #![tactic(auto)]
 
 mod insertions;
+mod levels;
 mod lists;
 mod numbers;
 mod tailoring;
