@@ -1,2 +1,4 @@
 pub mod MarkLaws
 pub mod PlaceLaws
+pub mod RunLaws
+pub mod LevelLaws

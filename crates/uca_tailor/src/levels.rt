@@ -61,7 +61,7 @@ pub(crate) fn level_numbers(
     ensures { IfOk result (λ found. MatchOption found
         (lists.level_has_room level (members_of level (elements_of rows.now) insertions.now) ≡ false)
         (λ n. (lists.level_has_room level (members_of level (elements_of rows.now) insertions.now) ≡ true)
-            × (n ≡ level_plan level (elements_of rows.now) insertions.now))) }
+        × (n ≡ level_plan level (elements_of rows.now) insertions.now))) }
 {
     let members = members(alloc, level, rows, insertions)?;
     if !level_has_room(level, &members) {
@@ -160,12 +160,7 @@ fn no_numbers(alloc: Global, count: usize) -> Result<Vec<u16>, AllocError>
 }
 
 /// Fills the tables with the numbers of the members, from the last to the first.
-fn fill_tables(
-    by_base: &mut [u16],
-    by_new: &mut [u16],
-    members: &[DraftWeight],
-    numbers: &[u16],
-)
+fn fill_tables(by_base: &mut [u16], by_new: &mut [u16], members: &[DraftWeight], numbers: &[u16])
     requires same { length numbers.now ≡ length members.now }
     requires bases { length by_base.old ≡ 0x1_0000 }
     requires names { AllByRecursion (IsNamedBelow (length by_new.old)) members.now }
@@ -185,11 +180,7 @@ fn fill_tables(
 }
 
 /// The runs of a list with its numbers, made from the last to the first.
-fn runs_of(
-    alloc: Global,
-    members: &[DraftWeight],
-    numbers: &[u16],
-) -> Result<Vec<Run>, AllocError>
+fn runs_of(alloc: Global, members: &[DraftWeight], numbers: &[u16]) -> Result<Vec<Run>, AllocError>
     requires { length numbers.now ≡ length members.now }
     ensures { IfOk result (λ runs. runs.items ≡ plans.runs_of members.now numbers.now) }
 {
