@@ -2,3 +2,5 @@ pub mod MarkLaws
 pub mod PlaceLaws
 pub mod AnchorParts
 pub mod PartLaws
+pub mod RunLaws
+pub mod LevelLaws

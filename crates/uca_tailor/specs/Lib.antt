@@ -2,3 +2,4 @@ pub mod Marks
 pub mod MemberPlaces
 pub mod RowDrafts
 pub mod PlanParts
+pub mod NumberTables

@@ -4,6 +4,7 @@
 mod drafting;
 mod elements;
 mod insertions;
+mod levels;
 mod lists;
 mod numbers;
 mod plan;

@@ -15,7 +15,7 @@ ghost use Rattle.uca_tailor.specs.RowDrafts.{row_elements};
 use crate::drafting::draft;
 use crate::elements::as_draft;
 use crate::insertions::Insertion;
-use crate::lists::{LevelNumbers, level_numbers};
+use crate::levels::{LevelNumbers, level_numbers};
 use crate::row_drafts::{RowDraft, RowElements};
 use std::alloc::{AllocError, Global};
 use std::marker::Model;
