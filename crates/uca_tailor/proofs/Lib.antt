@@ -4,3 +4,4 @@ pub mod AnchorParts
 pub mod PartLaws
 pub mod RunLaws
 pub mod LevelLaws
+pub mod InsertionNames

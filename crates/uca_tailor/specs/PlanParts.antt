@@ -14,16 +14,6 @@ use Rattle.uca_plans.specs.Tailors.{basis_of, plan_in, certificate_of, out_of_me
 abbrev pub certificate_by : LevelPlans → CertificateContent
 certificate_by numbers = certificate_of (plan_of [] numbers)
 
--- drafts with these insertions have a plan, by these numbers
-abbrev pub HasNumbers : List Element → List Insertion → LevelPlans → Type 0
-HasNumbers base insertions numbers =
-    (rows : List DraftRow) → plan_drafted base (Ok (record { rows = rows; insertions = insertions })) ≡ Ok (plan_of rows numbers)
-
--- drafts with these insertions have none, for this reason
-abbrev pub HasNoNumbers : List Element → List Insertion → TailorFault → Type 0
-HasNoNumbers base insertions fault =
-    (rows : List DraftRow) → plan_drafted base (Ok (record { rows = rows; insertions = insertions })) ≡ Err fault
-
 -- a table with the base's header and a certificate are the plan
 abbrev pub IsMade : TableContent → Properties → List Relation → TableContent → CertificateContent → Type 0
 IsMade base properties relations table certificate =

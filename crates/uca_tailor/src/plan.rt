@@ -1,18 +1,20 @@
 //! The table and the certificate of a plan.
 
-ghost use Rattle.std.specs.Prelude.{◌≡◌, ◌⊎◌, List, map, true, false, IfOk, IfErr};
+ghost use Rattle.std.specs.Prelude.{◌≡◌, ◌⊎◌, map, true, false, IfOk, IfErr, Ok, Err};
+ghost use Rattle.std.specs.List.{AllByRecursion};
 ghost use Rattle.uca_weights.specs.Runs.{AreProperRuns};
-ghost use Rattle.uca_values.specs.Content.{properties_of};
+ghost use Rattle.uca_values.specs.Content.{AreRows, properties_of};
 ghost use Rattle.uca_check.specs.WellFormed.{elements_of};
 ghost use Rattle.uca_certificates.specs.Certificates.{IsCertificate};
-ghost use Rattle.uca_plans.specs.Drafts.{as_draft};
 ghost use Rattle.uca_plans.specs.Lists as lists;
 ghost use Rattle.uca_plans.specs.Plans as plans;
-ghost use Rattle.uca_plans.specs.Tailors.{out_of_memory};
-ghost use Rattle.uca_tailor.specs.PlanParts.{HasNumbers, HasNoNumbers, IsMade, IsNotMade, certificate_by};
+ghost use Rattle.uca_plans.specs.Plans.{plan_drafted, plan_of};
+ghost use Rattle.uca_plans.specs.Tailors.{out_of_memory, table_of};
+ghost use Rattle.uca_tailor.specs.NumberTables.{InsertsBelow};
+ghost use Rattle.uca_tailor.specs.PlanParts.{IsMade, IsNotMade, certificate_by};
 ghost use Rattle.uca_tailor.specs.RowDrafts.{row_elements};
 
-use crate::drafting::draft;
+use crate::drafting::{Drafting, draft};
 use crate::elements::as_draft;
 use crate::insertions::Insertion;
 use crate::levels::{LevelNumbers, level_numbers};
@@ -39,13 +41,12 @@ pub(crate) fn plan(
     ensures made { IfOk result (λ answer. IsMade base.now (properties_of properties.now) rules.now answer.0 answer.1) }
     ensures not_made { IfErr result (IsNotMade base.now (properties_of properties.now) rules.now) }
 {
-    let relations = rules.relations().len();
     let drafting = draft(alloc, base, properties, rules)??;
-    let numbers = number_levels(alloc, &base.rows, &drafting.insertions, relations)?;
-    let header = copy_header(alloc, &base.header)?;
-    let rows = number_rows(alloc, &numbers, &drafting.rows)?;
+    let relations = rules.relations().len();
+    let numbers = number_levels(alloc, base, &drafting, relations)?;
+    let table = number_table(alloc, base, &drafting, &numbers)?;
     let certificate = certificate(alloc, &numbers)?;
-    Ok((Table { header, rows }, certificate))
+    Ok((table, certificate))
 }
 
 /// The numbers of the weights of all levels.
@@ -67,17 +68,22 @@ impl Model for Numbers {
 // The numbers of the weights of all levels. Where a level has no room, the fault names the lowest such level.
 fn number_levels(
     alloc: Global,
-    base: &[Row],
-    insertions: &[Insertion],
+    base: &Table,
+    drafting: &Drafting,
     relations: usize,
 ) -> Result<Numbers, TailorFault>
-    ensures numbers { IfOk result (HasNumbers (elements_of base.now) insertions.now) }
-    ensures none { IfErr result (λ fault. HasNoNumbers (elements_of base.now) insertions.now fault ⊎ (fault ≡ out_of_memory)) }
+    requires { AllByRecursion (InsertsBelow relations) drafting.now.insertions }
+    ensures numbers { IfOk result (λ numbers.
+        plan_drafted (elements_of base.now.rows) (Ok drafting.now) ≡ Ok (plan_of drafting.now.rows numbers)) }
+    ensures none { IfErr result (λ fault.
+        (plan_drafted (elements_of base.now.rows) (Ok drafting.now) ≡ Err fault) ⊎ (fault ≡ out_of_memory)) }
 {
+    let rows = &base.rows;
+    let insertions = &drafting.insertions;
     Ok(Numbers {
-        primary: number_level(alloc, Level::One, base, insertions, relations)?,
-        secondary: number_level(alloc, Level::Two, base, insertions, relations)?,
-        tertiary: number_level(alloc, Level::Three, base, insertions, relations)?,
+        primary: number_level(alloc, Level::One, rows, insertions, relations)?,
+        secondary: number_level(alloc, Level::Two, rows, insertions, relations)?,
+        tertiary: number_level(alloc, Level::Three, rows, insertions, relations)?,
     })
 }
 
@@ -89,6 +95,7 @@ fn number_level(
     insertions: &[Insertion],
     relations: usize,
 ) -> Result<LevelNumbers, TailorFault>
+    requires { AllByRecursion (InsertsBelow relations) insertions.now }
     ensures room { IfOk result (λ numbers.
         (lists.level_has_room level (lists.members_of level (elements_of base.now) insertions.now) ≡ true)
         × (numbers ≡ plans.level_plan level (elements_of base.now) insertions.now)) }
@@ -103,6 +110,21 @@ fn number_level(
             relation: 0,
         }),
     }
+}
+
+// The base's header, and the rows with their weights numbered.
+fn number_table(
+    alloc: Global,
+    base: &Table,
+    drafting: &Drafting,
+    numbers: &Numbers,
+) -> Result<Table, AllocError>
+    requires { AreRows (plan_of drafting.now.rows numbers.now).rows }
+    ensures { IfOk result (λ table. table ≡ table_of base.now (plan_of drafting.now.rows numbers.now)) }
+{
+    let header = copy_header(alloc, &base.header)?;
+    let rows = number_rows(alloc, numbers, &drafting.rows)?;
+    Ok(Table { header, rows })
 }
 
 // The header in memory of its own.
