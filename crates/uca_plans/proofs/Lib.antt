@@ -8,3 +8,4 @@ pub mod PlanSteps
 pub mod GoodLists
 pub mod LevelRuns
 pub mod PlanLists
+pub mod DraftReading
