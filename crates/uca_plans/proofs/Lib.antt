@@ -9,3 +9,5 @@ pub mod GoodLists
 pub mod LevelRuns
 pub mod PlanLists
 pub mod DraftReading
+pub mod DraftKinds
+pub mod DraftGaps
