@@ -11,3 +11,5 @@ pub mod PlanLists
 pub mod DraftReading
 pub mod DraftKinds
 pub mod DraftGaps
+pub mod PlanHolds
+pub mod PlanCarried
