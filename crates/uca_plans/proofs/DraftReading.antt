@@ -65,7 +65,7 @@ each_letter P (c ∷ points) [] all = tt
 each_letter P (c ∷ points) (k ∷ classes) all = (all.0, each_letter P points classes all.1)
 
 -- what holds of each pair holds of all implicit weights
-every_pair : (P : List Element → Type 0) → ((lead low : ℕ) → P (implicit_pair lead low)) → (ranges : List ImplicitRange) (properties : Properties) (point : ℕ)
+pub every_pair : (P : List Element → Type 0) → ((lead low : ℕ) → P (implicit_pair lead low)) → (ranges : List ImplicitRange) (properties : Properties) (point : ℕ)
     → P (implicit ranges properties point)
 every_pair P pair ranges properties point = by_lead (lead_of ranges point)
   where

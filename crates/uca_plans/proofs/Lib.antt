@@ -13,3 +13,6 @@ pub mod DraftKinds
 pub mod DraftGaps
 pub mod PlanHolds
 pub mod PlanCarried
+pub mod SomeElements
+pub mod DistinctRows
+pub mod PlanRows
