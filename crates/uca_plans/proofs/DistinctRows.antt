@@ -1,8 +1,7 @@
 -- No key of the rows comes twice, also with one more row.
-use Rattle.std.proofs.Common.{◌≡◌, ◌⊎◌, inl, inr, ℕ, Bool, true, false, ◌||◌, List, [], ◌∷◌, map, is_some, Some, refl, sym, ap, ◌∙◌, subst, Contains, if◌then◌else◌}
+use Rattle.std.proofs.Common.{◌≡◌, ℕ, Bool, true, false, ◌||◌, List, [], ◌∷◌, map, is_some, Some, refl, sym, ◌∙◌, subst, if◌then◌else◌}
 use Rattle.std.specs.Bool.{⊤}
-use Rattle.uca_weights.specs.declared.Element.{Element}
-use Rattle.uca_values.specs.Content.{Entry, keys_of, AreDistinct}
+use Rattle.uca_values.specs.Content.{Entry, AreDistinct}
 use Rattle.uca_match.specs.Rows.{rows_of, same_key}
 use Rattle.uca_match.proofs.RowsByKey.{same_key-true, same_key-itself, key_iff}
 use Rattle.uca_plans.specs.Drafts.{DraftRow, row_as_draft, with_row, has_key}
@@ -24,7 +23,8 @@ both_false true b none = absurd (cc)
 both_false false b none = (refl, none)
 
 -- a key that is not there and is not the new row's is not there with it
-has_not_with : (new : DraftRow) (rows : List DraftRow) (key : List ℕ) → same_key new.key key ≡ false → has_key rows key ≡ false → has_key (with_row new rows) key ≡ false
+has_not_with : (new : DraftRow) (rows : List DraftRow) (key : List ℕ) → same_key new.key key ≡ false → has_key rows key ≡ false
+    → has_key (with_row new rows) key ≡ false
 has_not_with new [] key other none = either_false (same_key new.key key) false other refl
 has_not_with new (row ∷ rows) key other none =
     let parts = both_false (same_key row.key key) (has_key rows key) none in
@@ -54,7 +54,8 @@ distinct_with new [] distinct = (refl, tt)
 distinct_with new (row ∷ rows) distinct = go (distinct_with new rows distinct.1) (same_key row.key new.key) refl
   where
     -- by the test of the first key
-    go : AreDistinctDrafts (with_row new rows) → (b : Bool) → same_key row.key new.key ≡ b → AreDistinctDrafts (if b then new ∷ rows else row ∷ with_row new rows)
+    go : AreDistinctDrafts (with_row new rows) → (b : Bool) → same_key row.key new.key ≡ b
+        → AreDistinctDrafts (if b then new ∷ rows else row ∷ with_row new rows)
     go rest true e = (subst (λ key. has_key rows key ≡ false) (same_key-true row.key new.key e) distinct.0, distinct.1)
     go rest false e = (has_not_with new rows row.key (other_way row.key new.key e) distinct.0, rest)
 
@@ -96,9 +97,9 @@ distinct_drafts (row ∷ rows) distinct = (not_there (has_key (map row_as_draft 
 pub distinct_numbered : (plans : LevelPlans) (rows : List DraftRow) → AreDistinctDrafts rows → AreDistinct (map (numbered_row plans) rows)
 distinct_numbered plans [] distinct = tt
 distinct_numbered plans (row ∷ rows) distinct = (
-    (λ contained. twice (sym (numbered_key plans rows row.key) ∙ (key_iff (map (numbered_row plans) rows) row.key).1 contained)),
-    distinct_numbered plans rows distinct.1,
-  )
+  (λ contained. twice (sym (numbered_key plans rows row.key) ∙ (key_iff (map (numbered_row plans) rows) row.key).1 contained)),
+  distinct_numbered plans rows distinct.1,
+)
   where
     -- the first key is not among the others
     twice : has_key rows row.key ≡ true → ⊥

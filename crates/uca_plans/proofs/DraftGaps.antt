@@ -1,7 +1,7 @@
 -- Drafts without gaps: only a continuation directly behind a lead has one.
-use Rattle.std.proofs.Common.{◌≡◌, ◌≢◌, ◌⊎◌, inl, inr, ℕ, ◌+◌, ◌<◌, ◌≤◌, true, false, List, [], ◌∷◌, ◌++◌, map, Option, Some, None, refl, sym, ap, ◌∙◌, arith, subst, append_assoc}
+use Rattle.std.proofs.Common.{◌≡◌, ◌⊎◌, inl, inr, ℕ, ◌+◌, ◌<◌, ◌≤◌, true, false, List, [], ◌∷◌, ◌++◌, map, Option, Some, None, refl, sym, ap, ◌∙◌}
+use Rattle.std.proofs.Common.{arith, subst, append_assoc}
 use Rattle.std.specs.Bool.{⊤}
-use Rattle.std.specs.List.{AllByRecursion}
 use Rattle.uca_weights.specs.declared.Element.{Element}
 use Rattle.uca_weights.specs.declared.Level.{Level}
 use Rattle.uca_weights.specs.Kinds.{IsContinuation}
@@ -11,7 +11,7 @@ use Rattle.uca_check.specs.WellFormed.{HasGap, IsLead, EndsWithLead, MeetsWF1}
 use Rattle.uca_plans.specs.declared.drafts.DraftWeight.{DraftWeight}
 use Rattle.uca_plans.specs.declared.drafts.DraftWeight.TheVariants.{Base, New}
 use Rattle.uca_plans.specs.declared.drafts.DraftElement.{DraftElement}
-use Rattle.uca_plans.specs.Drafts.{as_draft, draft_weight, is_silent, is_refused, AnchorPart, reweighted}
+use Rattle.uca_plans.specs.Drafts.{as_draft, draft_weight, is_refused, AnchorPart, reweighted}
 use Rattle.uca_plans.proofs.DraftKinds.{IsZero, IsDraftContinuation, HasDraftGap, IsAnchorPart, sounding, reweighted_whole, accepted_no_continuation}
 
 -- a primary from FB00 to FBFF
@@ -42,24 +42,28 @@ gaps_joined before [] fs first second = gaps_behind before fs second
 gaps_joined before (e ∷ es) fs first second = (first.0, gaps_joined (Some e) es fs first.1 second)
 
 -- in a list without gaps an element that is no continuation has no gap
-pub whole_in : (before : Option DraftElement) (front : List DraftElement) (e : DraftElement) (es : List DraftElement) → HasNoGaps before (front ++ e ∷ es)
+pub whole_in : (before : Option DraftElement) (front : List DraftElement) (e : DraftElement) (es : List DraftElement)
+    → HasNoGaps before (front ++ e ∷ es)
     → (IsDraftContinuation e → ⊥) → HasDraftGap e → ⊥
 whole_in before [] e es whole none gap = none (whole.0 gap).0
 whole_in before (f ∷ front) e es whole none gap = whole_in (Some f) front e es whole.1 none gap
 
 -- an element without a gap and a list without gaps in place of the rest
-pub gaps_replaced : (before : Option DraftElement) (front : List DraftElement) (e f : DraftElement) (es fs : List DraftElement) → HasNoGaps before (front ++ e ∷ es)
+pub gaps_replaced : (before : Option DraftElement) (front : List DraftElement) (e f : DraftElement) (es fs : List DraftElement)
+    → HasNoGaps before (front ++ e ∷ es)
     → (HasDraftGap f → ⊥) → HasNoGaps None fs → HasNoGaps before (front ++ f ∷ fs)
 gaps_replaced before [] e f es fs whole none second = (λ gap. absurd (none gap), gaps_behind (Some f) fs second)
 gaps_replaced before (x ∷ front) e f es fs whole none second = (whole.0, gaps_replaced (Some x) front e f es fs whole.1 none second)
 
 -- the last element of an accepted part has no gap
-pub part_whole : (level : Level) (es : List DraftElement) (part : AnchorPart) → HasNoGaps None es → IsAnchorPart level es part → is_refused level part.last ≡ false → HasDraftGap part.last → ⊥
+pub part_whole : (level : Level) (es : List DraftElement) (part : AnchorPart) → HasNoGaps None es → IsAnchorPart level es part
+    → is_refused level part.last ≡ false → HasDraftGap part.last → ⊥
 part_whole level es part whole found accepted =
     whole_in None part.front part.last found.trailing (subst (HasNoGaps None) found.split whole) (accepted_no_continuation level part.last accepted)
 
 -- and a weight at the level
-pub part_sounds : (level : Level) (es : List DraftElement) (part : AnchorPart) → HasNoGaps None es → IsAnchorPart level es part → is_refused level part.last ≡ false → IsZero (draft_weight level part.last) → ⊥
+pub part_sounds : (level : Level) (es : List DraftElement) (part : AnchorPart) → HasNoGaps None es → IsAnchorPart level es part
+    → is_refused level part.last ≡ false → IsZero (draft_weight level part.last) → ⊥
 part_sounds level es part whole found accepted = sounding level part.last found.sounds (part_whole level es part whole found accepted)
 
 -- a target's elements have no gaps
@@ -102,14 +106,15 @@ last_more (f ∷ []) e = refl
 last_more (f ∷ g ∷ es) e = last_more (g ∷ es) e
 
 -- elements without gaps behind others, as drafts
-gapless_from : (done es : List Element) → ((before : List Element) (e : Element) (after : List Element) → done ++ es ≡ before ++ e ∷ after → HasGap e → IsContinuation e × EndsWithLead before)
+gapless_from : (done es : List Element)
+    → ((before : List Element) (e : Element) (after : List Element) → done ++ es ≡ before ++ e ∷ after → HasGap e → IsContinuation e × EndsWithLead before)
     → HasNoGaps (last_draft done) (map (as_draft false) es)
 gapless_from done [] whole = tt
 gapless_from done (e ∷ es) whole = (
-    λ gap. here (whole done e es refl (draft_gap e gap)),
-    subst (λ before. HasNoGaps before (map (as_draft false) es)) (last_more done e)
-    (gapless_from (done ++ e ∷ []) es (λ before f after same. whole before f after (sym (append_assoc done (e ∷ []) es) ∙ same))),
-  )
+  λ gap. here (whole done e es refl (draft_gap e gap)),
+  subst (λ before. HasNoGaps before (map (as_draft false) es)) (last_more done e)
+      (gapless_from (done ++ e ∷ []) es (λ before f after same. whole before f after (sym (append_assoc done (e ∷ []) es) ∙ same))),
+)
   where
     -- the lead that it ends with
     here : IsContinuation e × EndsWithLead done → IsDraftContinuation (as_draft false e) × IsDraftLead (last_draft done)
@@ -130,9 +135,9 @@ base_some w some none = let same = base_zero w none in omega arith
 -- an implicit pair has no gaps
 pub pair_gapless : (lead low : ℕ) → 0xFB00 ≤ lead → lead ≤ 0xFBFF → HasNoGaps None (map (as_draft true) (implicit_pair lead low))
 pair_gapless lead low above below = (
-    λ gap. absurd (first gap),
-    ((λ gap. ((base_some (0x8000 + low) (omega arith), refl, refl), ((above, below), base_some 0x20 (omega arith), base_some 2 (omega arith)))), tt),
-  )
+  λ gap. absurd (first gap),
+  ((λ gap. ((base_some (0x8000 + low) (omega arith), refl, refl), ((above, below), base_some 0x20 (omega arith), base_some 2 (omega arith)))), tt),
+)
   where
     -- the lead has all three weights
     first : ((IsZero (Base lead) → ⊥) × IsZero (Base 0x20)) ⊎ ((IsZero (Base 0x20) → ⊥) × IsZero (Base 2)) → ⊥

@@ -1,5 +1,6 @@
 -- Kinds of weights and elements of drafts, and an anchor's part.
-use Rattle.std.proofs.Common.{◌≡◌, ◌⊎◌, inl, inr, ℕ, zero, suc, ◌<◌, ◌≤◌, Bool, true, false, ◌&&◌, ◌||◌, not, nat_eq, nat_le, List, [], ◌∷◌, ◌++◌, Option, Some, None, refl, sym, ap, ◌∙◌, arith, subst, if◌then◌else◌}
+use Rattle.std.proofs.Common.{◌≡◌, ◌⊎◌, inl, inr, ℕ, ◌<◌, ◌≤◌, Bool, true, false, ◌||◌, not, List, [], ◌∷◌, ◌++◌, Option, Some, None, refl, sym, ap}
+use Rattle.std.proofs.Common.{◌∙◌, arith, subst, if◌then◌else◌}
 use Rattle.std.proofs.lemmas.Bool.{cases_eq}
 use Rattle.std.proofs.lemmas.Bool.Decides.{nat_tests}
 use Rattle.uca_weights.specs.declared.Level.{Level}
@@ -7,7 +8,8 @@ use Rattle.uca_weights.specs.declared.Level.TheVariants.{One, Two, Three}
 use Rattle.uca_plans.specs.declared.drafts.DraftWeight.{DraftWeight}
 use Rattle.uca_plans.specs.declared.drafts.DraftWeight.TheVariants.{Base, New}
 use Rattle.uca_plans.specs.declared.drafts.DraftElement.{DraftElement}
-use Rattle.uca_plans.specs.Drafts.{is_zero, draft_weight, is_silent, AnchorPart, behind_front, anchor_part, is_high, is_continuation, is_refused, accepted_part, reset, reweighted}
+use Rattle.uca_plans.specs.Drafts.{is_zero, draft_weight, is_silent, AnchorPart, behind_front, anchor_part, is_high, is_continuation, is_refused}
+use Rattle.uca_plans.specs.Drafts.{accepted_part, reset, reweighted}
 use Rattle.uca_plans.specs.Plans.{Drafted, placed_behind, placed_if_accepted, drafted_at}
 
 -- ---- Kinds
@@ -47,12 +49,12 @@ pub continuation_tested : (e : DraftElement) → is_continuation e ≡ false →
 continuation_tested e tested is = elim (zero_or_not e.primary) [
   | inl none ↦ is.0 none.1
   | inr some ↦ elim (zero_or_not e.secondary) [
-      | inr second ↦ second.1 is.1
-      | inl second ↦ elim (zero_or_not e.tertiary) [
-          | inr third ↦ third.1 is.2
-          | inl third ↦ let test : true ≡ false = rw (some.0, second.0, third.0) at tested in cc
-        ]
+    | inr second ↦ second.1 is.1
+    | inl second ↦ elim (zero_or_not e.tertiary) [
+      | inr third ↦ third.1 is.2
+      | inl third ↦ let test : true ≡ false = rw (some.0, second.0, third.0) at tested in cc
     ]
+  ]
 ]
 
 -- a weight at level 2 or 3 is none, and there is one at the level before
@@ -61,14 +63,14 @@ HasDraftGap e = ((IsZero e.primary → ⊥) × IsZero e.secondary) ⊎ ((IsZero 
 
 -- no weight up to the level is silent
 silent_one : (e : DraftElement) → IsZero e.primary → is_silent One e ≡ true
-silent_one e none = elim (zero_or_not e.primary) [ | inl is ↦ is.0 | inr not ↦ absurd (not.1 none) ]
+silent_one e none = elim (zero_or_not e.primary) [ inl is ↦ is.0 | inr not ↦ absurd (not.1 none) ]
 
 silent_two : (e : DraftElement) → IsZero e.primary → IsZero e.secondary → is_silent Two e ≡ true
-silent_two e first second = elim (zero_or_not e.secondary) [ | inl is ↦ rw (silent_one e first, is.0) refl | inr not ↦ absurd (not.1 second) ]
+silent_two e first second = elim (zero_or_not e.secondary) [ inl is ↦ rw (silent_one e first, is.0) refl | inr not ↦ absurd (not.1 second) ]
 
 silent_three : (e : DraftElement) → IsZero e.primary → IsZero e.secondary → IsZero e.tertiary → is_silent Three e ≡ true
 silent_three e first second third = elim (zero_or_not e.secondary) [
-  | inl is ↦ elim (zero_or_not e.tertiary) [ | inl also ↦ rw (silent_one e first, is.0, also.0) refl | inr not ↦ absurd (not.1 third) ]
+  | inl is ↦ elim (zero_or_not e.tertiary) [ inl also ↦ rw (silent_one e first, is.0, also.0) refl | inr not ↦ absurd (not.1 third) ]
   | inr not ↦ absurd (not.1 second)
 ]
 
@@ -82,9 +84,9 @@ sounding Two e tested whole none = elim (zero_or_not e.primary) [
 sounding Three e tested whole none = elim (zero_or_not e.secondary) [
   | inr second ↦ whole (inr (second.1, none))
   | inl second ↦ elim (zero_or_not e.primary) [
-      | inl first ↦ let silent = silent_three e first.1 second.1 none in cc
-      | inr first ↦ whole (inl (first.1, second.1))
-    ]
+    | inl first ↦ let silent = silent_three e first.1 second.1 none in cc
+    | inr first ↦ whole (inl (first.1, second.1))
+  ]
 ]
 
 -- a weight is reset where there is one
@@ -102,7 +104,8 @@ reset_not_zero w weight some not none = elim (reset_cases w weight) [
 ]
 
 -- with a new weight in place of one an element without a gap has none
-pub reweighted_whole : (level : Level) (n : ℕ) (e : DraftElement) → (HasDraftGap e → ⊥) → (IsZero (draft_weight level e) → ⊥) → HasDraftGap (reweighted level (New n) e) → ⊥
+pub reweighted_whole : (level : Level) (n : ℕ) (e : DraftElement) → (HasDraftGap e → ⊥) → (IsZero (draft_weight level e) → ⊥)
+    → HasDraftGap (reweighted level (New n) e) → ⊥
 reweighted_whole One n e whole some (inl gap) = reset_not_zero e.secondary 0x20 (omega arith) (λ none. whole (inl (some, none))) gap.1
 reweighted_whole One n e whole some (inr gap) = reset_not_zero e.tertiary 2 (omega arith) (λ none. whole (inr ((λ also. whole (inl (some, also))), none))) gap.1
 reweighted_whole Two n e whole some (inl gap) = new_not_zero n gap.1
@@ -155,7 +158,8 @@ part_is level (e ∷ es) part found = go (anchor_part level es) refl (λ p. part
     go None is more joined = by_test (is_silent level e) refl joined
       where
         -- by whether the element is silent
-        by_test : (b : Bool) → is_silent level e ≡ b → (if b then None else Some (record { front = []; last = e })) ≡ Some part → IsAnchorPart level (e ∷ es) part
+        by_test : (b : Bool) → is_silent level e ≡ b → (if b then None else Some (record { front = []; last = e })) ≡ Some part
+            → IsAnchorPart level (e ∷ es) part
         by_test true silent chosen = absurd (cc)
         by_test false sounds chosen =
             let alone : AnchorPart = record { front = []; last = e } in
@@ -170,22 +174,26 @@ pub record IsPlacedDraft (level : Level) (before : Bool) (n : ℕ) (anchor expan
   pub is : new ≡ placed_behind level before (New n) part expansion
 
 -- the part that is accepted
-pub accepted_is : (level : Level) (found : Option AnchorPart) (part : AnchorPart) → accepted_part level found ≡ Some part → (found ≡ Some part) × (is_refused level part.last ≡ false)
+pub accepted_is : (level : Level) (found : Option AnchorPart) (part : AnchorPart) → accepted_part level found ≡ Some part
+    → (found ≡ Some part) × (is_refused level part.last ≡ false)
 accepted_is level None part accepted = absurd (cc)
 accepted_is level (Some p) part accepted = by_test (is_refused level p.last) refl accepted
   where
     -- by whether it is refused
-    by_test : (b : Bool) → is_refused level p.last ≡ b → (if b then None else Some p) ≡ Some part → (Some p ≡ Some part) × (is_refused level part.last ≡ false)
+    by_test : (b : Bool) → is_refused level p.last ≡ b → (if b then None else Some p) ≡ Some part
+        → (Some p ≡ Some part) × (is_refused level part.last ≡ false)
     by_test true refused chosen = absurd (cc)
     by_test false is chosen = let same : p ≡ part = cc in (chosen, subst (λ q. is_refused level q.last ≡ false) same is)
 
 -- what is drafted at a level is so
-pub placed_is : (level : Level) (before : Bool) (n : ℕ) (anchor expansion : List DraftElement) (new : Drafted) → drafted_at (Some level) before (New n) anchor expansion ≡ Some new
+pub placed_is : (level : Level) (before : Bool) (n : ℕ) (anchor expansion : List DraftElement) (new : Drafted)
+    → drafted_at (Some level) before (New n) anchor expansion ≡ Some new
     → IsPlacedDraft level before n anchor expansion new
 placed_is level before n anchor expansion new drafted = go (accepted_part level (anchor_part level anchor)) refl drafted
   where
     -- by the accepted part
-    go : (part : Option AnchorPart) → accepted_part level (anchor_part level anchor) ≡ part → placed_if_accepted level before (New n) part expansion ≡ Some new
+    go : (part : Option AnchorPart) → accepted_part level (anchor_part level anchor) ≡ part
+        → placed_if_accepted level before (New n) part expansion ≡ Some new
         → IsPlacedDraft level before n anchor expansion new
     go None is placed = absurd (cc)
     go (Some part) is placed =
@@ -194,7 +202,8 @@ placed_is level before n anchor expansion new drafted = go (accepted_part level 
         record { part = part; found = part_is level anchor part accepted.0; accepted = accepted.1; is = sym same }
 
 -- what is drafted at no level: the elements of the anchor and of the expansion
-pub joined_is : (before : Bool) (n : ℕ) (anchor expansion : List DraftElement) (new : Drafted) → drafted_at None before (New n) anchor expansion ≡ Some new → new.elements ≡ anchor ++ expansion
+pub joined_is : (before : Bool) (n : ℕ) (anchor expansion : List DraftElement) (new : Drafted)
+    → drafted_at None before (New n) anchor expansion ≡ Some new → new.elements ≡ anchor ++ expansion
 joined_is before n anchor expansion new drafted =
     let both : Drafted = record { elements = anchor ++ expansion; insertions = [] } in
     let same : both ≡ new = cc in sym (ap (λ d. d.elements) same)

@@ -1,12 +1,13 @@
 -- What holds of the elements of each draft row and of each implicit pair holds of the draft elements of a text.
-use Rattle.std.proofs.Common.{◌≡◌, ℕ, ◌+◌, ◌*◌, ◌/◌, ◌%◌, ◌-◌, ◌<◌, ◌≤◌, zero, suc, Bool, true, false, cond, leb, ◌&&◌, List, [], ◌∷◌, ◌++◌, map, Option, Some, None, refl, sym, ap, ◌∙◌, subst, arith, if◌then◌else◌}
+use Rattle.std.proofs.Common.{◌≡◌, ℕ, ◌+◌, ◌/◌, ◌%◌, ◌-◌, ◌<◌, ◌≤◌, zero, suc, Bool, true, false, cond, leb, ◌&&◌, List, [], ◌∷◌, ◌++◌, map, Option}
+use Rattle.std.proofs.Common.{Some, None, refl, sym, subst, arith, if◌then◌else◌}
 use Rattle.std.proofs.lemmas.Bool.{cond_both}
 use Rattle.std.proofs.lemmas.List.{append-nil}
 use Rattle.std.proofs.lemmas.List.Concat.{flat_map-append}
 use Rattle.std.specs.List.{AllByRecursion, flat_map}
 use Rattle.uca_weights.specs.declared.Element.{Element}
 use Rattle.uca_values.specs.declared.ImplicitRange.{ImplicitRange}
-use Rattle.uca_values.specs.Content.{Entry, Properties, AreImplicitRanges}
+use Rattle.uca_values.specs.Content.{Properties, AreImplicitRanges}
 use Rattle.uca_values.specs.Implicit.{lead_of, base_of, implicit_pair, block_pair, unlisted_pair, pair_by_lead, implicit}
 use Rattle.uca_values.proofs.Leads.{near_base}
 use Rattle.uca_text.specs.Texts.{Spelled, code_points, letters, letters_of}
@@ -20,7 +21,8 @@ use Rattle.uca_plans.specs.Drafts.{DraftRow, as_draft, reference, referred, refe
 -- ---- Implicit pairs
 
 -- the lead of a range is one of those for implicit weights
-range_lead : (ranges : List ImplicitRange) (point lead : ℕ) → AreImplicitRanges ranges → lead_of ranges point ≡ Some lead → (0xFB00 ≤ lead) × (lead ≤ 0xFB3F)
+range_lead : (ranges : List ImplicitRange) (point lead : ℕ) → AreImplicitRanges ranges → lead_of ranges point ≡ Some lead
+    → (0xFB00 ≤ lead) × (lead ≤ 0xFB3F)
 range_lead [] point lead are found = cc
 range_lead (r ∷ ranges) point lead are at_point =
     cond_both (leb r.first point && leb point r.last) (Some r.lead) (lead_of ranges point) (λ o. o ≡ Some lead → (0xFB00 ≤ lead) × (lead ≤ 0xFB3F))
@@ -65,7 +67,8 @@ each_letter P (c ∷ points) [] all = tt
 each_letter P (c ∷ points) (k ∷ classes) all = (all.0, each_letter P points classes all.1)
 
 -- what holds of each pair holds of all implicit weights
-pub every_pair : (P : List Element → Type 0) → ((lead low : ℕ) → P (implicit_pair lead low)) → (ranges : List ImplicitRange) (properties : Properties) (point : ℕ)
+pub every_pair : (P : List Element → Type 0) → ((lead low : ℕ) → P (implicit_pair lead low))
+    → (ranges : List ImplicitRange) (properties : Properties) (point : ℕ)
     → P (implicit ranges properties point)
 every_pair P pair ranges properties point = by_lead (lead_of ranges point)
   where
@@ -92,7 +95,8 @@ module _ (P : List DraftElement → Type 0) (none : P []) (append : (es fs : Lis
   at_place (row ∷ rows) (suc place) all = at_place rows place all.1
 
   -- what a row's reference stands for
-  at_reference : (rows : List DraftRow) (place : ℕ) → AllByRecursion (λ row. P row.elements) rows → P (flat_map (resolved rows) (reference place ∷ []))
+  at_reference : (rows : List DraftRow) (place : ℕ) → AllByRecursion (λ row. P row.elements) rows
+      → P (flat_map (resolved rows) (reference place ∷ []))
   at_reference rows place all =
       subst P (sym (append-nil (elements_at (referred (reference place)) rows))) (at_place rows (referred (reference place)) all)
 

@@ -1,5 +1,6 @@
 -- The invariant is carried from relation to relation.
-use Rattle.std.proofs.Common.{◌≡◌, ◌⊎◌, inl, inr, ℕ, zero, suc, ◌+◌, ◌<◌, ◌≤◌, Bool, true, false, List, [], ◌∷◌, ◌++◌, map, length, Option, Some, None, refl, sym, ap, ◌∙◌, arith, subst, if◌then◌else◌}
+use Rattle.std.proofs.Common.{◌≡◌, ◌⊎◌, inl, inr, ℕ, suc, ◌+◌, ◌<◌, Bool, true, false, List, [], ◌∷◌, ◌++◌, length, Option, Some, None, refl, sym, ap}
+use Rattle.std.proofs.Common.{◌∙◌, arith, subst, if◌then◌else◌}
 use Rattle.std.specs.Prelude.{IfSome}
 use Rattle.std.specs.Char.{IsScalar}
 use Rattle.std.specs.List.{AllByRecursion}
@@ -16,23 +17,24 @@ use Rattle.uca_rules.specs.Relations.{IsRuleText, HasRuleTexts}
 use Rattle.uca_plans.specs.declared.drafts.DraftWeight.{DraftWeight}
 use Rattle.uca_plans.specs.declared.drafts.DraftWeight.TheVariants.{Base, New}
 use Rattle.uca_plans.specs.declared.drafts.DraftElement.{DraftElement}
-use Rattle.uca_plans.specs.Lists.{fixed_weight, Insertion, same_level, inserted, all_inserted}
+use Rattle.uca_plans.specs.Lists.{Insertion, same_level, inserted, all_inserted}
 use Rattle.uca_plans.specs.ListLaws.{IsAmong}
 use Rattle.uca_plans.specs.Drafts.{DraftRow, with_row, draft_elements, draft_weight, is_refused, AnchorPart, reset, reweighted}
-use Rattle.uca_plans.specs.Plans.{Basis, Drafting, Drafted, drafted_at, draft_expansion, drafted}
+use Rattle.uca_plans.specs.Plans.{Basis, Drafting, drafted_at, draft_expansion}
 use Rattle.uca_plans.proofs.ListMembers.{each_append, each_parts}
 use Rattle.uca_plans.proofs.InsertionLemmas.{inserts, inserts_new}
-use Rattle.uca_plans.proofs.GoodLists.{IsGoodList, IsGrown, good_fixed, grown_through, grown_same}
+use Rattle.uca_plans.proofs.GoodLists.{good_fixed, grown_through, grown_same}
 use Rattle.uca_plans.proofs.PlanSteps.{IsStep, AreSteps}
 use Rattle.uca_plans.proofs.PlanLists.{list_at, HasGoodLists, HasGrownLists, good_step, step_list}
-use Rattle.uca_plans.proofs.DraftKinds.{IsZero, IsHigh, reset_cases, accepted_low, IsAnchorPart, IsPlacedDraft, placed_is, joined_is}
+use Rattle.uca_plans.proofs.DraftKinds.{IsZero, reset_cases, accepted_low, IsAnchorPart, IsPlacedDraft, placed_is, joined_is}
 use Rattle.uca_plans.proofs.DraftGaps.{HasNoGaps, gaps_joined, part_sounds, placed_gapless}
-use Rattle.uca_plans.proofs.PlanHolds.{IsListed, FitsWeight, IsFitting, IsReadImplicit, Holds, Carries, read_held}
+use Rattle.uca_plans.proofs.PlanHolds.{IsListed, FitsWeight, IsFitting, Holds, Carries, read_held}
 
 -- ---- Rows
 
 -- what holds of a row and of others holds of each with it in its place
-pub with_row_each : (P : DraftRow → Type 0) (new : DraftRow) (rows : List DraftRow) → P new → AllByRecursion P rows → AllByRecursion P (with_row new rows)
+pub with_row_each : (P : DraftRow → Type 0) (new : DraftRow) (rows : List DraftRow) → P new → AllByRecursion P rows
+    → AllByRecursion P (with_row new rows)
 with_row_each P new [] it all = (it, tt)
 with_row_each P new (row ∷ rows) it all = go (with_row_each P new rows it all.1) (same_key row.key new.key)
   where
@@ -45,18 +47,20 @@ with_row_each P new (row ∷ rows) it all = go (with_row_each P new rows it all.
 
 -- listed elements are listed in lists that have grown
 pub listed_grown : (basis : Basis) (n : ℕ) (a b : Drafting) → HasGrownLists basis n a b → (e : DraftElement)
-    → IsListed (list_at One basis a) (list_at Two basis a) (list_at Three basis a) e → IsListed (list_at One basis b) (list_at Two basis b) (list_at Three basis b) e
+    → IsListed (list_at One basis a) (list_at Two basis a) (list_at Three basis a) e
+    → IsListed (list_at One basis b) (list_at Two basis b) (list_at Three basis b) e
 listed_grown basis n a b grown e listed = record {
   primary = elim listed.primary [
     | inl none ↦ inl none
-    | inr some ↦ elim some [ | inl there ↦ inr (inl ((grown One).old e.primary there)) | inr high ↦ inr (inr high) ]
+    | inr some ↦ elim some [ inl there ↦ inr (inl ((grown One).old e.primary there)) | inr high ↦ inr (inr high) ]
   ];
-  secondary = elim listed.secondary [ | inl none ↦ inl none | inr there ↦ inr ((grown Two).old e.secondary there) ];
-  tertiary = elim listed.tertiary [ | inl none ↦ inl none | inr there ↦ inr ((grown Three).old e.tertiary there) ];
+  secondary = elim listed.secondary [ inl none ↦ inl none | inr there ↦ inr ((grown Two).old e.secondary there) ];
+  tertiary = elim listed.tertiary [ inl none ↦ inl none | inr there ↦ inr ((grown Three).old e.tertiary there) ];
 }
 
 -- a reset weight is none or the one that it is reset to
-reset_listed : (ms : List DraftWeight) (w : DraftWeight) (weight : ℕ) → IsAmong ms (Base weight) → IsZero (reset w weight) ⊎ IsAmong ms (reset w weight)
+reset_listed : (ms : List DraftWeight) (w : DraftWeight) (weight : ℕ) → IsAmong ms (Base weight)
+    → IsZero (reset w weight) ⊎ IsAmong ms (reset w weight)
 reset_listed ms w weight there = elim (reset_cases w weight) [
   | inl none ↦ inl none.1
   | inr some ↦ inr (subst (λ x. IsAmong ms x) (sym some.1) there)
@@ -95,14 +99,15 @@ reweighted_fits Three n e fits = record { primary = fits.primary; secondary = fi
 
 -- the weight of a listed element that is accepted and has a weight at the level is in the level's list
 pub anchor_member : (level : Level) (basis : Basis) (a : Drafting) (e : DraftElement)
-    → IsListed (list_at One basis a) (list_at Two basis a) (list_at Three basis a) e → is_refused level e ≡ false → (IsZero (draft_weight level e) → ⊥)
+    → IsListed (list_at One basis a) (list_at Two basis a) (list_at Three basis a) e → is_refused level e ≡ false
+    → (IsZero (draft_weight level e) → ⊥)
     → IsAmong (list_at level basis a) (draft_weight level e)
 anchor_member One basis a e listed accepted some = elim listed.primary [
   | inl none ↦ absurd (some none)
-  | inr other ↦ elim other [ | inl there ↦ there | inr high ↦ absurd (accepted_low e accepted high) ]
+  | inr other ↦ elim other [ inl there ↦ there | inr high ↦ absurd (accepted_low e accepted high) ]
 ]
-anchor_member Two basis a e listed accepted some = elim listed.secondary [ | inl none ↦ absurd (some none) | inr there ↦ there ]
-anchor_member Three basis a e listed accepted some = elim listed.tertiary [ | inl none ↦ absurd (some none) | inr there ↦ there ]
+anchor_member Two basis a e listed accepted some = elim listed.secondary [ inl none ↦ absurd (some none) | inr there ↦ there ]
+anchor_member Three basis a e listed accepted some = elim listed.tertiary [ inl none ↦ absurd (some none) | inr there ↦ there ]
 
 -- the elements that a relation's anchor and expansion have before it
 abbrev pub anchor_at : Basis → Drafting → Relation → List DraftElement
@@ -124,7 +129,8 @@ pub record IsPlacedStep (basis : Basis) (n : ℕ) (rule : Relation) (a b : Draft
   pub new_there : IsAmong (list_at level basis b) (New n)
 
 -- the last element of a part is one of the elements
-part_each : (P : DraftElement → Type 0) (level : Level) (es : List DraftElement) (part : AnchorPart) → IsAnchorPart level es part → AllByRecursion P es
+part_each : (P : DraftElement → Type 0) (level : Level) (es : List DraftElement) (part : AnchorPart) → IsAnchorPart level es part
+    → AllByRecursion P es
     → AllByRecursion P part.front × P part.last
 part_each P level es part found all =
     let parts = each_parts P part.front (part.last ∷ found.trailing) (subst (AllByRecursion P) found.split all) in (parts.0, parts.1.0)
@@ -136,9 +142,9 @@ new_member basis n rule a b step level before anchor expansion placed there =
     let i : Insertion = record { level = level; before = before; anchor = draft_weight level placed.part.last; new = New n } in
     let insertions : step.new.insertions ≡ i ∷ [] = ap (λ d. d.insertions) placed.is in
     let list : list_at level basis b ≡ all_inserted level (i ∷ []) (list_at level basis a) =
-        step_list basis n rule a b step level ∙ ap (λ is. all_inserted level is (list_at level basis a)) insertions in
+    step_list basis n rule a b step level ∙ ap (λ is. all_inserted level is (list_at level basis a)) insertions in
     let here : all_inserted level (i ∷ []) (list_at level basis a) ≡ inserted i (list_at level basis a) =
-        ap (λ b. if b then inserted i (list_at level basis a) else list_at level basis a) (same_level_itself level) in
+    ap (λ b. if b then inserted i (list_at level basis a) else list_at level basis a) (same_level_itself level) in
     subst (λ ms. IsAmong ms (New n)) (sym (list ∙ here)) (inserts_new (inserts i (list_at level basis a) there))
 
 -- ---- Texts of relations
@@ -152,7 +158,8 @@ text_points : (text : Spelled) → IsRuleText text → AllByRecursion (λ c. c <
 text_points text is = each_weaker IsScalar (λ c. c < 0x11_0000) scalar_below text.points is.normal.scalars
 
 -- the elements of an expansion are held, without gaps
-expansion_held : (basis : Basis) (n : ℕ) (a : Drafting) (holds : Holds basis n a) → AreImplicitRanges basis.ranges → (expansion : Option Spelled) → IfSome expansion IsRuleText
+expansion_held : (basis : Basis) (n : ℕ) (a : Drafting) (holds : Holds basis n a) → AreImplicitRanges basis.ranges → (expansion : Option Spelled)
+    → IfSome expansion IsRuleText
     → AllByRecursion holds.E (draft_expansion basis a expansion) × HasNoGaps None (draft_expansion basis a expansion)
 expansion_held basis n a holds ranges None texts = (tt, tt)
 expansion_held basis n a holds ranges (Some text) texts = read_held basis n a holds ranges text (text_points text texts)
@@ -172,7 +179,7 @@ step_holds : (basis : Basis) (n : ℕ) (rule : Relation) (a b : Drafting) (holds
 step_holds basis n rule a b holds step F keeps listed fits made whole =
     let good = good_step basis n rule a b step holds.lists in
     let old : AllByRecursion (λ row. AllByRecursion F row.elements) a.rows =
-        each_weaker (λ row. AllByRecursion holds.E row.elements) (λ row. AllByRecursion F row.elements) (λ row all. each_weaker holds.E F keeps row.elements all) a.rows holds.held in
+    each_weaker (λ row. AllByRecursion holds.E row.elements) (λ row. AllByRecursion F row.elements) (λ row all. each_weaker holds.E F keeps row.elements all) a.rows holds.held in
     record {
       behind = record {
         E = F;
@@ -190,8 +197,10 @@ step_holds basis n rule a b holds step F keeps listed fits made whole =
     }
 
 -- a step at a level is placed
-pub placed_step : (basis : Basis) (n : ℕ) (rule : Relation) (a b : Drafting) (holds : Holds basis n a) → AreImplicitRanges basis.ranges → HasRuleTexts rule
-    → (step : IsStep basis n rule a b) (level : Level) → drafted_at (Some level) rule.before (New n) (anchor_at basis a rule) (draft_expansion basis a rule.expansion) ≡ Some step.new
+pub placed_step : (basis : Basis) (n : ℕ) (rule : Relation) (a b : Drafting) (holds : Holds basis n a) → AreImplicitRanges basis.ranges
+    → HasRuleTexts rule
+    → (step : IsStep basis n rule a b) (level : Level)
+    → drafted_at (Some level) rule.before (New n) (anchor_at basis a rule) (draft_expansion basis a rule.expansion) ≡ Some step.new
     → IsPlacedStep basis n rule a b holds step level
 placed_step basis n rule a b holds ranges texts step level is =
     let placed = placed_is level rule.before n (anchor_at basis a rule) (draft_expansion basis a rule.expansion) step.new is in
@@ -212,7 +221,8 @@ abbrev pub WithElement : (DraftElement → Type 0) → DraftElement → DraftEle
 WithElement E x e = E e ⊎ (e ≡ x)
 
 -- the invariant is carried over a step at a level
-carried_placed : (basis : Basis) (n : ℕ) (rule : Relation) (a b : Drafting) (holds : Holds basis n a) → AreImplicitRanges basis.ranges → HasRuleTexts rule
+carried_placed : (basis : Basis) (n : ℕ) (rule : Relation) (a b : Drafting) (holds : Holds basis n a) → AreImplicitRanges basis.ranges
+    → HasRuleTexts rule
     → (step : IsStep basis n rule a b) (level : Level) → IsPlacedStep basis n rule a b holds step level → Carries basis n (n + 1) a b holds
 carried_placed basis n rule a b holds ranges texts step level at =
     let good = good_step basis n rule a b step holds.lists in
@@ -235,14 +245,16 @@ carried_placed basis n rule a b holds ranges texts step level at =
       | inr same ↦ subst IsFitting (sym same) (reweighted_fits level n part.last (holds.fits part.last at.last_held))
     ])
     (subst (AllByRecursion F) (sym elements)
-      (each_append F part.front (new ∷ draft_expansion basis a rule.expansion) (each_weaker holds.E F (λ e old. inl old) part.front front)
-        (inr refl, each_weaker holds.E F (λ e old. inl old) (draft_expansion basis a rule.expansion) expands.0)))
+    (each_append F part.front (new ∷ draft_expansion basis a rule.expansion) (each_weaker holds.E F (λ e old. inl old) part.front front)
+    (inr refl, each_weaker holds.E F (λ e old. inl old) (draft_expansion basis a rule.expansion) expands.0)))
     (subst (HasNoGaps None) (sym elements)
-      (placed_gapless level n (anchor_at basis a rule) (draft_expansion basis a rule.expansion) part anchors.1 expands.1 at.placed.found at.placed.accepted))
+    (placed_gapless level n (anchor_at basis a rule) (draft_expansion basis a rule.expansion) part anchors.1 expands.1 at.placed.found at.placed.accepted))
 
 -- and over one at no level
-carried_joined : (basis : Basis) (n : ℕ) (rule : Relation) (a b : Drafting) (holds : Holds basis n a) → AreImplicitRanges basis.ranges → HasRuleTexts rule
-    → (step : IsStep basis n rule a b) → step.new.elements ≡ anchor_at basis a rule ++ draft_expansion basis a rule.expansion → Carries basis n (n + 1) a b holds
+carried_joined : (basis : Basis) (n : ℕ) (rule : Relation) (a b : Drafting) (holds : Holds basis n a) → AreImplicitRanges basis.ranges
+    → HasRuleTexts rule
+    → (step : IsStep basis n rule a b) → step.new.elements ≡ anchor_at basis a rule ++ draft_expansion basis a rule.expansion
+    → Carries basis n (n + 1) a b holds
 carried_joined basis n rule a b holds ranges texts step elements =
     let good = good_step basis n rule a b step holds.lists in
     let anchors = read_held basis n a holds ranges rule.anchor (text_points rule.anchor texts.anchors) in
@@ -253,12 +265,15 @@ carried_joined basis n rule a b holds ranges texts step elements =
     (subst (HasNoGaps None) (sym elements) (gaps_joined None (anchor_at basis a rule) (draft_expansion basis a rule.expansion) anchors.1 expands.1))
 
 -- the invariant is carried over a step
-pub carried_step : (basis : Basis) (n : ℕ) (rule : Relation) (a b : Drafting) (holds : Holds basis n a) → AreImplicitRanges basis.ranges → HasRuleTexts rule
+pub carried_step : (basis : Basis) (n : ℕ) (rule : Relation) (a b : Drafting) (holds : Holds basis n a) → AreImplicitRanges basis.ranges
+    → HasRuleTexts rule
     → IsStep basis n rule a b → Carries basis n (n + 1) a b holds
 carried_step basis n rule a b holds ranges texts step = go (level_of rule.strength) step.is_drafted
   where
     -- by the level
-    go : (level : Option Level) → drafted_at level rule.before (New n) (anchor_at basis a rule) (draft_expansion basis a rule.expansion) ≡ Some step.new → Carries basis n (n + 1) a b holds
+    go : (level : Option Level)
+        → drafted_at level rule.before (New n) (anchor_at basis a rule) (draft_expansion basis a rule.expansion) ≡ Some step.new
+        → Carries basis n (n + 1) a b holds
     go None is = carried_joined basis n rule a b holds ranges texts step (joined_is rule.before n (anchor_at basis a rule) (draft_expansion basis a rule.expansion) step.new is)
     go (Some level) is = carried_placed basis n rule a b holds ranges texts step level (placed_step basis n rule a b holds ranges texts step level is)
 
@@ -271,7 +286,8 @@ same_drafts basis n m a b holds place same =
     subst (λ d. Carries basis n m a d holds) same (subst (λ k. Carries basis n k a a holds) place unmoved)
 
 -- the invariant is carried over all steps
-pub carried : (basis : Basis) (n : ℕ) (relations : List Relation) (a b : Drafting) (holds : Holds basis n a) → AreImplicitRanges basis.ranges → AllByRecursion HasRuleTexts relations
+pub carried : (basis : Basis) (n : ℕ) (relations : List Relation) (a b : Drafting) (holds : Holds basis n a) → AreImplicitRanges basis.ranges
+    → AllByRecursion HasRuleTexts relations
     → AreSteps basis n relations a b → Carries basis n (n + length relations) a b holds
 carried basis n [] a b holds ranges texts steps = same_drafts basis n (n + 0) a b holds (omega arith) steps
 carried basis n (r ∷ relations) a b holds ranges texts steps =

@@ -1,28 +1,27 @@
 -- What holds of drafts behind some relations, and how texts are read then.
-use Rattle.std.proofs.Common.{◌≡◌, ◌⊎◌, inl, inr, ℕ, zero, suc, ◌+◌, ◌<◌, ◌≤◌, Bool, true, false, List, [], ◌∷◌, ◌++◌, map, length, Option, Some, None, refl, sym, ap, ◌∙◌, arith, subst, if◌then◌else◌}
-use Rattle.std.proofs.lemmas.Bool.{cases_eq, cases_lt}
+use Rattle.std.proofs.Common.{◌≡◌, ◌⊎◌, inl, inr, ℕ, ◌+◌, ◌<◌, ◌≤◌, true, false, List, [], ◌∷◌, ◌++◌, map, None, refl, sym, ap, arith, subst}
+use Rattle.std.proofs.lemmas.Bool.{cases_lt}
 use Rattle.std.specs.Bool.{⊤}
-use Rattle.std.specs.List.{AllByRecursion, flat_map}
+use Rattle.std.specs.List.{AllByRecursion}
 use Rattle.uca_weights.specs.declared.Element.{Element}
 use Rattle.uca_weights.specs.declared.Level.{Level}
 use Rattle.uca_weights.specs.declared.Level.TheVariants.{One, Two, Three}
 use Rattle.uca_weights.specs.Levels.{weight}
-use Rattle.uca_values.specs.Content.{Entry, Fits, IsEntry, AreRows, AreImplicitRanges}
-use Rattle.uca_values.specs.Implicit.{implicit, implicit_pair}
+use Rattle.uca_values.specs.Content.{Entry, Fits, IsEntry, AreImplicitRanges}
+use Rattle.uca_values.specs.Implicit.{implicit}
 use Rattle.uca_check.specs.WellFormed.{elements_of, MeetsWF1}
 use Rattle.uca_check.proofs.Elements.{each_weaker}
 use Rattle.uca_text.specs.Texts.{Spelled}
-use Rattle.uca_match.specs.Rows.{same_key}
 use Rattle.uca_plans.specs.declared.drafts.DraftWeight.{DraftWeight}
 use Rattle.uca_plans.specs.declared.drafts.DraftWeight.TheVariants.{Base, New}
 use Rattle.uca_plans.specs.declared.drafts.DraftElement.{DraftElement}
-use Rattle.uca_plans.specs.Lists.{fixed_weight, top_weight, base_weights}
+use Rattle.uca_plans.specs.Lists.{top_weight, base_weights}
 use Rattle.uca_plans.specs.ListLaws.{IsAmong, HasWeight}
-use Rattle.uca_plans.specs.Drafts.{DraftRow, as_draft, row_as_draft, with_row, draft_elements}
+use Rattle.uca_plans.specs.Drafts.{as_draft, row_as_draft, draft_elements}
 use Rattle.uca_plans.specs.Plans.{Basis, Drafting, begun}
 use Rattle.uca_plans.proofs.ListMembers.{each_append, of_each}
 use Rattle.uca_plans.proofs.BaseWeightLemmas.{base_to}
-use Rattle.uca_plans.proofs.GoodLists.{IsGoodList, IsGrown, bases_among, good_fixed}
+use Rattle.uca_plans.proofs.GoodLists.{good_fixed}
 use Rattle.uca_plans.proofs.PlanLists.{list_at, HasGoodLists, HasGrownLists, good_begun}
 use Rattle.uca_plans.proofs.DraftReading.{each_pair, read_each}
 use Rattle.uca_plans.proofs.DraftKinds.{IsZero, IsHigh}
@@ -87,16 +86,16 @@ pub read_held : (basis : Basis) (n : ℕ) (a : Drafting) (holds : Holds basis n 
     → AllByRecursion (λ c. c < 0x11_0000) text.points
     → AllByRecursion holds.E (draft_elements basis.ranges basis.properties a.rows text) × HasNoGaps None (draft_elements basis.ranges basis.properties a.rows text)
 read_held basis n a holds ranges text points = (
-    read_each (λ es. AllByRecursion holds.E es) tt (each_append holds.E) basis.ranges basis.properties a.rows text holds.held
-    (each_weaker (λ c. c < 0x11_0000) (λ c. AllByRecursion holds.E (map (as_draft true) (implicit basis.ranges basis.properties c)))
+  read_each (λ es. AllByRecursion holds.E es) tt (each_append holds.E) basis.ranges basis.properties a.rows text holds.held
+      (each_weaker (λ c. c < 0x11_0000) (λ c. AllByRecursion holds.E (map (as_draft true) (implicit basis.ranges basis.properties c)))
       (λ c within. each_pair (λ es. AllByRecursion holds.E (map (as_draft true) es))
-        (λ lead low above below near. (holds.implicits (lead_draft lead) (inl (lead, above, below, refl)), (holds.implicits (low_draft low) (inr (low, near, refl)), tt)))
-        basis.ranges basis.properties ranges c within) text.points points),
-    read_each (HasNoGaps None) tt (gaps_joined None) basis.ranges basis.properties a.rows text holds.gapless
-    (each_weaker (λ c. c < 0x11_0000) (λ c. HasNoGaps None (map (as_draft true) (implicit basis.ranges basis.properties c)))
+      (λ lead low above below near. (holds.implicits (lead_draft lead) (inl (lead, above, below, refl)), (holds.implicits (low_draft low) (inr (low, near, refl)), tt)))
+      basis.ranges basis.properties ranges c within) text.points points),
+  read_each (HasNoGaps None) tt (gaps_joined None) basis.ranges basis.properties a.rows text holds.gapless
+      (each_weaker (λ c. c < 0x11_0000) (λ c. HasNoGaps None (map (as_draft true) (implicit basis.ranges basis.properties c)))
       (λ c within. each_pair (λ es. HasNoGaps None (map (as_draft true) es)) (λ lead low above below near. pair_gapless lead low above below)
-        basis.ranges basis.properties ranges c within) text.points points),
-  )
+      basis.ranges basis.properties ranges c within) text.points points),
+)
 
 -- ---- The beginning
 
@@ -127,9 +126,9 @@ element_listed : (basis : Basis) (e : Element) → IsAmong (elements_of basis.ba
 element_listed basis e among fits = record {
   primary = elim (cases_lt e.primary 0x8000) [
     | inl low ↦ elim (base_listed One basis e among (omega arith)) [
-        | inl none ↦ inl none
-        | inr there ↦ inr (inl there)
-      ]
+      | inl none ↦ inl none
+      | inr there ↦ inr (inl there)
+    ]
     | inr high ↦ inr (inr high)
   ];
   secondary = base_listed Two basis e among (omega (arith, fits.secondary));
@@ -169,9 +168,9 @@ base_held : (E : DraftElement → Type 0) (rows : List Entry) → ((x : Element)
     → AllByRecursion (λ row. AllByRecursion E row.elements) (map row_as_draft rows)
 base_held E [] each = tt
 base_held E (row ∷ rows) each = (
-    in_row row.elements (λ x among. each x (in_front row.elements x among)),
-    base_held E rows (λ x among. each x (in_rest row.elements x among)),
-  )
+  in_row row.elements (λ x among. each x (in_front row.elements x among)),
+  base_held E rows (λ x among. each x (in_rest row.elements x among)),
+)
   where
     -- in the first row
     in_row : (es : List Element) → ((x : Element) → IsAmong es x → E (as_draft false x)) → AllByRecursion E (map (as_draft false) es)

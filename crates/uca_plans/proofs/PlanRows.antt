@@ -1,5 +1,6 @@
 -- The rows of a plan are those of a table.
-use Rattle.std.proofs.Common.{◌≡◌, ◌≢◌, ◌⊎◌, inl, inr, ℕ, zero, suc, ◌+◌, ◌<◌, ◌≤◌, Bool, true, false, ◌||◌, nat_eq, nat_le, nat_lt, List, [], ◌∷◌, ◌++◌, map, length, Option, Some, None, Result, Ok, refl, sym, ap, ◌∙◌, arith, subst, if◌then◌else◌}
+use Rattle.std.proofs.Common.{◌≡◌, ◌≢◌, ℕ, ◌+◌, ◌<◌, ◌≤◌, Bool, true, false, ◌||◌, nat_eq, nat_le, nat_lt, List, [], ◌∷◌, map, length, Option, Some}
+use Rattle.std.proofs.Common.{None, Ok, refl, sym, ap, arith, subst, if◌then◌else◌}
 use Rattle.std.proofs.lemmas.Bool.Decides.{nat_tests}
 use Rattle.std.proofs.lemmas.List.{length-append, length-map}
 use Rattle.std.specs.Char.{IsScalar}
@@ -8,7 +9,7 @@ use Rattle.uca_weights.specs.declared.Element.{Element}
 use Rattle.uca_weights.specs.declared.Level.{Level}
 use Rattle.uca_weights.specs.declared.Level.TheVariants.{One, Two, Three}
 use Rattle.uca_weights.specs.Levels.{level_of}
-use Rattle.uca_values.specs.Content.{Entry, Fits, IsEntry, AreRows, AreDistinct, AreImplicitRanges}
+use Rattle.uca_values.specs.Content.{Entry, Fits, IsEntry, AreRows, AreImplicitRanges}
 use Rattle.uca_check.specs.WellFormed.{elements_of, MeetsWF1}
 use Rattle.uca_check.proofs.Elements.{each_weaker}
 use Rattle.uca_rules.specs.declared.relations.Relation.{Relation}
@@ -17,13 +18,13 @@ use Rattle.uca_plans.specs.declared.drafts.DraftWeight.{DraftWeight}
 use Rattle.uca_plans.specs.declared.drafts.DraftWeight.TheVariants.{Base, New}
 use Rattle.uca_plans.specs.declared.drafts.DraftElement.{DraftElement}
 use Rattle.uca_plans.specs.Lists.{Insertion, top_weight, level_has_room, level_numbers, number_in, members_of}
-use Rattle.uca_plans.specs.Drafts.{DraftRow, as_draft, row_as_draft, with_row, draft_elements, reweighted}
-use Rattle.uca_plans.specs.Plans.{Basis, Drafting, Drafted, drafted_at, draft_expansion, passes_limit, begun, LevelPlan, level_plan, LevelPlans, numbered_weight, numbered, numbered_row, Plan, planned}
+use Rattle.uca_plans.specs.Drafts.{DraftRow, as_draft, row_as_draft, with_row, reweighted}
+use Rattle.uca_plans.specs.Plans.{Basis, Drafting, Drafted, drafted_at, draft_expansion, passes_limit, begun, LevelPlan, level_plan, LevelPlans}
+use Rattle.uca_plans.specs.Plans.{numbered_weight, numbered, numbered_row, Plan, planned}
 use Rattle.uca_plans.proofs.RisingNumbers.{number_bound, level_within}
 use Rattle.uca_plans.proofs.PlanSteps.{IsStep, AreSteps, IsPlanned, planned_is, plans_of}
-use Rattle.uca_plans.proofs.PlanLists.{list_at}
 use Rattle.uca_plans.proofs.DraftKinds.{placed_is, joined_is}
-use Rattle.uca_plans.proofs.PlanHolds.{FitsWeight, IsFitting, Holds, Carries, start}
+use Rattle.uca_plans.proofs.PlanHolds.{FitsWeight, Holds, start}
 use Rattle.uca_plans.proofs.PlanCarried.{anchor_at, with_row_each, carried}
 use Rattle.uca_plans.proofs.SomeElements.{some_drafts}
 use Rattle.uca_plans.proofs.DistinctRows.{AreDistinctDrafts, distinct_with, distinct_drafts, distinct_numbered}
@@ -43,7 +44,8 @@ chosen_fits false true w number small bound = small
 chosen_fits false false w number small bound = bound
 
 -- a numbered weight is a number of 16 bits, where all numbers are
-weight_fits : (level : Level) (plan : LevelPlan) → ((w : DraftWeight) → number_in plan.members plan.numbers w < 0x1_0000) → (w : DraftWeight) → FitsWeight w → numbered_weight level plan w < 0x1_0000
+weight_fits : (level : Level) (plan : LevelPlan) → ((w : DraftWeight) → number_in plan.members plan.numbers w < 0x1_0000) → (w : DraftWeight)
+    → FitsWeight w → numbered_weight level plan w < 0x1_0000
 weight_fits One plan bound (Base w) small = chosen_fits (nat_eq w 0) (nat_le 0x8000 w) w (number_in plan.members plan.numbers (Base w)) small (bound (Base w))
 weight_fits Two plan bound (Base w) small = chosen_fits (nat_eq w 0) false w (number_in plan.members plan.numbers (Base w)) small (bound (Base w))
 weight_fits Three plan bound (Base w) small = chosen_fits (nat_eq w 0) false w (number_in plan.members plan.numbers (Base w)) small (bound (Base w))
@@ -60,14 +62,16 @@ number_fits level es is room w =
     omega (arith, within, top)
 
 -- what holds of a plan's drafts
-pub holds_planned : (basis : Basis) (relations : List Relation) (plan : Plan) (made : IsPlanned basis relations plan) → AreRows basis.base → AllByRecursion MeetsWF1 basis.base
+pub holds_planned : (basis : Basis) (relations : List Relation) (plan : Plan) (made : IsPlanned basis relations plan) → AreRows basis.base
+    → AllByRecursion MeetsWF1 basis.base
     → AreImplicitRanges basis.ranges → AllByRecursion HasRuleTexts relations → Holds basis (0 + length relations) made.drafting
 holds_planned basis relations plan made rows whole ranges texts =
     (carried basis 0 relations (begun basis) made.drafting (start basis rows.entries whole) ranges texts made.steps).behind
 
 -- what holds of each element of rows holds of each of the numbered ones
 numbered_each : (P : DraftElement → Type 0) (plans : LevelPlans) → ((e : DraftElement) → P e → Fits (numbered plans e)) → (rows : List DraftRow)
-    → AllByRecursion (λ row. AllByRecursion P row.elements) rows → AllByRecursion (λ row. AllByRecursion Fits row.elements) (map (numbered_row plans) rows)
+    → AllByRecursion (λ row. AllByRecursion P row.elements) rows
+    → AllByRecursion (λ row. AllByRecursion Fits row.elements) (map (numbered_row plans) rows)
 numbered_each P plans fits [] all = tt
 numbered_each P plans fits (row ∷ rows) all = (in_row row.elements all.0, numbered_each P plans fits rows all.1)
   where
@@ -77,7 +81,8 @@ numbered_each P plans fits (row ∷ rows) all = (in_row row.elements all.0, numb
     in_row (e ∷ es) each = (fits e each.0, in_row es each.1)
 
 -- the weights of a plan's rows are numbers of 16 bits
-made_fits : (basis : Basis) (relations : List Relation) (plan : Plan) (made : IsPlanned basis relations plan) → AreRows basis.base → AllByRecursion MeetsWF1 basis.base
+made_fits : (basis : Basis) (relations : List Relation) (plan : Plan) (made : IsPlanned basis relations plan) → AreRows basis.base
+    → AllByRecursion MeetsWF1 basis.base
     → AreImplicitRanges basis.ranges → AllByRecursion HasRuleTexts relations
     → AllByRecursion (λ row. AllByRecursion Fits row.elements) (map (numbered_row (plans_of basis made.drafting)) made.drafting.rows)
 made_fits basis relations plan made rows whole ranges texts =
@@ -94,7 +99,8 @@ made_fits basis relations plan made rows whole ranges texts =
     made.drafting.rows holds.held
 
 -- and so are those of every plan
-pub numbered_fits : (basis : Basis) (relations : List Relation) (plan : Plan) → planned basis relations ≡ Ok plan → AreRows basis.base → AllByRecursion MeetsWF1 basis.base
+pub numbered_fits : (basis : Basis) (relations : List Relation) (plan : Plan) → planned basis relations ≡ Ok plan → AreRows basis.base
+    → AllByRecursion MeetsWF1 basis.base
     → AreImplicitRanges basis.ranges → AllByRecursion HasRuleTexts relations → AllByRecursion (λ row. AllByRecursion Fits row.elements) plan.rows
 numbered_fits basis relations plan planned_so rows whole ranges texts =
     let made = planned_is basis relations plan planned_so in
@@ -142,8 +148,7 @@ sized_begun basis rows = record {
     each_sized [] all = tt
     each_sized (row ∷ entries) all =
         let long = length-map row.elements (as_draft false) in
-        let first = all.0 in
-        (
+        let first = all.0 in (
           record {
             points = first.points;
             some_points = first.some_points;
@@ -155,8 +160,10 @@ sized_begun basis rows = record {
         )
 
 -- a target has some elements
-target_some : (basis : Basis) (n : ℕ) (rule : Relation) (a : Drafting) (new : Drafted) → HasRuleTexts rule → AllByRecursion (λ row. 1 ≤ length row.elements) a.rows
-    → (level : Option Level) → drafted_at level rule.before (New n) (anchor_at basis a rule) (draft_expansion basis a rule.expansion) ≡ Some new → 1 ≤ length new.elements
+target_some : (basis : Basis) (n : ℕ) (rule : Relation) (a : Drafting) (new : Drafted) → HasRuleTexts rule
+    → AllByRecursion (λ row. 1 ≤ length row.elements) a.rows
+    → (level : Option Level) → drafted_at level rule.before (New n) (anchor_at basis a rule) (draft_expansion basis a rule.expansion) ≡ Some new
+    → 1 ≤ length new.elements
 target_some basis n rule a new texts all None is =
     let some = some_drafts basis.ranges basis.properties a.rows rule.anchor texts.anchors.normal.accepted.same texts.anchors.some all in
     let whole = ap length (joined_is rule.before n (anchor_at basis a rule) (draft_expansion basis a rule.expansion) new is) in
@@ -186,19 +193,20 @@ sized_step basis n rule a b texts step sized =
     }
 
 -- and behind all steps
-sized_along : (basis : Basis) (n : ℕ) (relations : List Relation) (a b : Drafting) → AllByRecursion HasRuleTexts relations → AreSteps basis n relations a b → AreSized a → AreSized b
+sized_along : (basis : Basis) (n : ℕ) (relations : List Relation) (a b : Drafting) → AllByRecursion HasRuleTexts relations
+    → AreSteps basis n relations a b → AreSized a → AreSized b
 sized_along basis n [] a b texts steps sized = subst AreSized steps sized
 sized_along basis n (r ∷ relations) a b texts steps sized =
     sized_along basis (n + 1) relations steps.0 b texts.1 steps.2 (sized_step basis n r a steps.0 texts.0 steps.1 sized)
 
 -- sized rows with weights of 16 bits are rows of a table when they are numbered
-numbered_entries : (plans : LevelPlans) (rows : List DraftRow) → AllByRecursion IsSized rows → AllByRecursion (λ row. AllByRecursion Fits row.elements) (map (numbered_row plans) rows)
+numbered_entries : (plans : LevelPlans) (rows : List DraftRow) → AllByRecursion IsSized rows
+    → AllByRecursion (λ row. AllByRecursion Fits row.elements) (map (numbered_row plans) rows)
     → AllByRecursion IsEntry (map (numbered_row plans) rows)
 numbered_entries plans [] sizes fits = tt
 numbered_entries plans (row ∷ rows) sizes fits =
     let long = length-map row.elements (numbered plans) in
-    let first = sizes.0 in
-    (
+    let first = sizes.0 in (
       record {
         points = first.points;
         some_points = first.some_points;
@@ -211,7 +219,8 @@ numbered_entries plans (row ∷ rows) sizes fits =
     )
 
 -- the rows of a plan are those of a table
-pub rows_in : (basis : Basis) (relations : List Relation) (plan : Plan) → planned basis relations ≡ Ok plan → AreRows basis.base → AllByRecursion MeetsWF1 basis.base
+pub rows_in : (basis : Basis) (relations : List Relation) (plan : Plan) → planned basis relations ≡ Ok plan → AreRows basis.base
+    → AllByRecursion MeetsWF1 basis.base
     → AreImplicitRanges basis.ranges → AllByRecursion HasRuleTexts relations → AreRows plan.rows
 rows_in basis relations plan planned_so rows whole ranges texts =
     let made = planned_is basis relations plan planned_so in

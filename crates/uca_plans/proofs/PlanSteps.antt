@@ -1,21 +1,17 @@
 -- A plan taken apart: the steps of its relations, the room at each level, and what is planned of them.
-use Rattle.std.proofs.Common.{◌≡◌, ◌⊎◌, inl, inr, ℕ, ◌+◌, Bool, true, false, not, List, [], ◌∷◌, ◌++◌, map, Option, Some, None, Result, Ok, Err, refl, sym, ap, ◌∙◌, if◌then◌else◌}
-use Rattle.uca_weights.specs.declared.Element.{Element}
+use Rattle.std.proofs.Common.{◌≡◌, ℕ, ◌+◌, Bool, true, false, not, List, [], ◌∷◌, ◌++◌, Option, Some, None, Result, Ok, Err, refl, ap, if◌then◌else◌}
 use Rattle.uca_weights.specs.declared.Level.{Level}
 use Rattle.uca_weights.specs.declared.Level.TheVariants.{One, Two, Three}
-use Rattle.uca_weights.specs.Levels.{level_of}
-use Rattle.uca_values.specs.Content.{Entry}
 use Rattle.uca_check.specs.WellFormed.{elements_of}
 use Rattle.uca_rules.specs.declared.relations.Relation.{Relation}
-use Rattle.uca_plans.specs.declared.drafts.DraftWeight.{DraftWeight}
 use Rattle.uca_plans.specs.declared.drafts.DraftWeight.TheVariants.{New}
-use Rattle.uca_plans.specs.declared.drafts.DraftElement.{DraftElement}
 use Rattle.uca_plans.specs.declared.faults.TailorKind.{TailorKind}
 use Rattle.uca_plans.specs.declared.faults.TailorKind.TheVariants as kinds
 use Rattle.uca_plans.specs.declared.faults.TailorFault.{TailorFault}
 use Rattle.uca_plans.specs.Lists.{Insertion, members_of, level_has_room}
-use Rattle.uca_plans.specs.Drafts.{DraftRow, with_row, draft_elements, draft_weight, AnchorPart, anchor_part, accepted_part}
-use Rattle.uca_plans.specs.Plans.{Basis, Drafting, Drafted, placed_behind, placed_if_accepted, drafted_at, draft_expansion, drafted, needs_prefix, passes_limit, accepted_row, one_drafted, with_relation, and_then, with_relations, begun, level_plan, LevelPlans, Plan, plan_of, no_room, plan_with_room, plan_drafted, planned}
+use Rattle.uca_plans.specs.Drafts.{DraftRow, with_row}
+use Rattle.uca_plans.specs.Plans.{Basis, Drafting, Drafted, drafted, needs_prefix, passes_limit, accepted_row, one_drafted, with_relation, and_then}
+use Rattle.uca_plans.specs.Plans.{with_relations, begun, level_plan, LevelPlans, Plan, plan_of, no_room, plan_with_room, plan_drafted, planned}
 
 -- ---- One relation
 
@@ -61,7 +57,8 @@ step_of basis n rule a b with_it = go (drafted basis a (New n) rule) refl with_i
         record { new = new; is_drafted = e; prefix = is.0; limit = is.1; rows = ap (λ d. d.rows) is.2; insertions = ap (λ d. d.insertions) is.2 }
 
 -- relations that are not refused make steps
-pub steps_of : (basis : Basis) (n : ℕ) (relations : List Relation) (a b : Drafting) → with_relations basis n relations a ≡ Ok b → AreSteps basis n relations a b
+pub steps_of : (basis : Basis) (n : ℕ) (relations : List Relation) (a b : Drafting) → with_relations basis n relations a ≡ Ok b
+    → AreSteps basis n relations a b
 steps_of basis n [] a b with_them = cc
 steps_of basis n (r ∷ relations) a b with_them = go (λ next more. steps_of basis (n + 1) relations next b more) (with_relation basis a n r) refl with_them
   where
@@ -104,7 +101,8 @@ with_room rows plans plan made =
         Ok (plan_of rows plans)
 
     -- by the three tests
-    go : (one two three : Bool) → level_has_room One plans.primary.members ≡ one → level_has_room Two plans.secondary.members ≡ two → level_has_room Three plans.tertiary.members ≡ three
+    go : (one two three : Bool) → level_has_room One plans.primary.members ≡ one → level_has_room Two plans.secondary.members ≡ two
+        → level_has_room Three plans.tertiary.members ≡ three
         → chosen one two three ≡ Ok plan
         → (level_has_room One plans.primary.members ≡ true) × (level_has_room Two plans.secondary.members ≡ true) × (level_has_room Three plans.tertiary.members ≡ true) × (plan ≡ plan_of rows plans)
     go false two three e f g chosen = absurd (cc)
@@ -117,7 +115,8 @@ pub planned_is : (basis : Basis) (relations : List Relation) (plan : Plan) → p
 planned_is basis relations plan made = go (with_relations basis 0 relations (begun basis)) refl made
   where
     -- by the drafts
-    go : (drafts : Result Drafting TailorFault) → with_relations basis 0 relations (begun basis) ≡ drafts → plan_drafted (elements_of basis.base) drafts ≡ Ok plan → IsPlanned basis relations plan
+    go : (drafts : Result Drafting TailorFault) → with_relations basis 0 relations (begun basis) ≡ drafts
+        → plan_drafted (elements_of basis.base) drafts ≡ Ok plan → IsPlanned basis relations plan
     go (Err fault) e refused = absurd (cc)
     go (Ok drafting) e rest =
         let room = with_room drafting.rows (plans_of basis drafting) plan rest in

@@ -1,5 +1,6 @@
 -- The runs of a list rise and send each base weight to its number.
-use Rattle.std.proofs.Common.{◌≡◌, ◌⊎◌, inl, inr, ℕ, zero, suc, ◌+◌, ◌-◌, ◌<◌, ◌≤◌, Bool, true, false, ◌&&◌, List, [], ◌∷◌, length, Option, Some, None, nat_eq, nat_le, nat_lt, if◌then◌else◌, refl, sym, ap, ◌∙◌, arith, subst}
+use Rattle.std.proofs.Common.{◌≡◌, ◌⊎◌, inl, inr, ℕ, ◌+◌, ◌-◌, ◌<◌, ◌≤◌, Bool, true, false, ◌&&◌, List, [], ◌∷◌, length, Some, None, nat_eq}
+use Rattle.std.proofs.Common.{if◌then◌else◌, refl, sym, ap, ◌∙◌, arith, subst}
 use Rattle.std.proofs.lemmas.Bool.{cases_eq, cases_lt}
 use Rattle.std.proofs.lemmas.Bool.Decides.{nat_tests}
 use Rattle.std.specs.List.{AllByRecursion}
@@ -11,7 +12,7 @@ use Rattle.uca_plans.specs.declared.drafts.DraftWeight.TheVariants.{Base, New}
 use Rattle.uca_plans.specs.Lists.{number_in}
 use Rattle.uca_plans.specs.ListLaws.{IsRising, IsAmong}
 use Rattle.uca_plans.specs.Plans.{run_before, runs_of}
-use Rattle.uca_plans.specs.Runs.{AreRunsFrom, bases, AreRunsOf, HasZeroFirstOrNone, RunsSendBaseWeights}
+use Rattle.uca_plans.specs.Runs.{AreRunsFrom, bases, HasZeroFirstOrNone, RunsSendBaseWeights}
 
 -- ---- One weight more in front
 
@@ -45,7 +46,8 @@ alone_here from to runs =
     let r : Run = record { from = from; to = to; count = 1 } in
     image_here r runs from (omega arith) (omega arith) ∙ ap Some (omega arith)
 
-alone_elsewhere : (from to : ℕ) (runs : List Run) (w : ℕ) → (w ≡ from → ⊥) → run_image (record { from = from; to = to; count = 1 } ∷ runs) w ≡ run_image runs w
+alone_elsewhere : (from to : ℕ) (runs : List Run) (w : ℕ) → (w ≡ from → ⊥)
+    → run_image (record { from = from; to = to; count = 1 } ∷ runs) w ≡ run_image runs w
 alone_elsewhere from to runs w other =
     let r : Run = record { from = from; to = to; count = 1 } in
     elim (cases_lt w from) [
@@ -81,11 +83,11 @@ before_elsewhere from to (r ∷ runs) w other = elim (before_cases from to r run
         elim (cases_lt w from) [
           | inl below ↦ image_below s runs w below ∙ sym (image_below r runs w (omega arith))
           | inr not_below ↦ elim (cases_lt w (r.from + r.count)) [
-              | inl within ↦
-                  let beyond : from < w = above w not_below other in
-                  image_here s runs w (omega arith) (omega arith) ∙ ap Some (omega arith) ∙ sym (image_here r runs w (omega arith) within)
-              | inr past ↦ image_above s runs w (omega arith) ∙ sym (image_above r runs w past)
-            ]
+            | inl within ↦
+                let beyond : from < w = above w not_below other in
+                image_here s runs w (omega arith) (omega arith) ∙ ap Some (omega arith) ∙ sym (image_here r runs w (omega arith) within)
+            | inr past ↦ image_above s runs w (omega arith) ∙ sym (image_above r runs w past)
+          ]
         ]
       where
         -- not below it and not it is above it
@@ -115,7 +117,7 @@ runs_rise top f t [] ns some f_low t_low f_rise t_rise f_top t_top = tt
 runs_rise top f t (m ∷ ms) [] some f_low t_low f_rise t_rise f_top t_top = tt
 runs_rise top f t (Base w ∷ ms) (n ∷ ns) some f_low t_low f_rise t_rise f_top t_top =
     let rest = runs_rise top (w + 1) (n + 1) ms ns (omega arith) (each_weaker (λ v. w < v) (λ v. w + 1 ≤ v) (λ v h. omega (arith, h)) (bases ms) f_rise.0)
-        (each_weaker (λ v. n < v) (λ v. n + 1 ≤ v) (λ v h. omega (arith, h)) ns t_rise.0) f_rise.1 t_rise.1 f_top.1 t_top.1 in
+    (each_weaker (λ v. n < v) (λ v. n + 1 ≤ v) (λ v h. omega (arith, h)) ns t_rise.0) f_rise.1 t_rise.1 f_top.1 t_top.1 in
     let not_zero : nat_eq w 0 ≡ false = positive w (omega (arith, f_low.0)) in
     rw not_zero (before_rises (top + 1) f t w n (runs_of ms ns) f_low.0 t_low.0 (omega (arith, f_top.0)) (omega (arith, t_top.0)) rest)
   where
@@ -157,12 +159,12 @@ runs_send [] ns w same some among = absurd among
 runs_send (m ∷ ms) [] w same some among = absurd (omega arith)
 runs_send (Base v ∷ ms) (n ∷ ns) w same some among = elim (cases_eq w v) [
   | inl here ↦ elim (first_base v n ms ns) [
-      | inl none ↦ absurd (omega (arith, none.0, some, here))
-      | inr put ↦ ap (λ runs. run_image runs w) put ∙ (rw here (before_here v n (runs_of ms ns)) ∙ ap Some (sym (number_first w v n ms ns here)))
-    ]
+    | inl none ↦ absurd (omega (arith, none.0, some, here))
+    | inr put ↦ ap (λ runs. run_image runs w) put ∙ (rw here (before_here v n (runs_of ms ns)) ∙ ap Some (sym (number_first w v n ms ns here)))
+  ]
   | inr other ↦
       let later : run_image (runs_of ms ns) w ≡ Some (number_in (Base v ∷ ms) (n ∷ ns) (Base w)) =
-          runs_send ms ns w (omega arith) some (behind other among) ∙ ap Some (sym (number_later w v n ms ns other)) in
+      runs_send ms ns w (omega arith) some (behind other among) ∙ ap Some (sym (number_later w v n ms ns other)) in
       elim (first_base v n ms ns) [
         | inl none ↦ ap (λ runs. run_image runs w) none.1 ∙ later
         | inr put ↦ ap (λ runs. run_image runs w) put ∙ (before_elsewhere v n (runs_of ms ns) w other ∙ later)
@@ -202,7 +204,7 @@ runs_from_one top ms ns (inr first) f_rise t_rise f_top t_top =
     let f_top_here : AllByRecursion (λ w. w ≤ top) (bases (Base 0 ∷ rest)) = subst (λ xs. AllByRecursion (λ w. w ≤ top) (bases xs)) first.2 f_top in
     let t_top_here : AllByRecursion (λ n. n ≤ top) (0 ∷ others) = subst (λ xs. AllByRecursion (λ n. n ≤ top) xs) first.3 t_top in
     let behind = runs_rise top 1 1 rest others (omega arith) (each_weaker (λ w. 0 < w) (λ w. 1 ≤ w) (λ w h. omega (arith, h)) (bases rest) f_rise_here.0)
-        (each_weaker (λ n. 0 < n) (λ n. 1 ≤ n) (λ n h. omega (arith, h)) others t_rise_here.0) f_rise_here.1 t_rise_here.1 f_top_here.1 t_top_here.1 in
+    (each_weaker (λ n. 0 < n) (λ n. 1 ≤ n) (λ n h. omega (arith, h)) others t_rise_here.0) f_rise_here.1 t_rise_here.1 f_top_here.1 t_top_here.1 in
     rw (first.2, first.3) behind
 
 -- runs send base weights to their numbers

@@ -8,7 +8,7 @@ use Rattle.uca_values.specs.declared.ImplicitRange.{ImplicitRange}
 use Rattle.uca_values.specs.Content.{Entry, Properties}
 use Rattle.uca_text.specs.Texts.{Spelled}
 use Rattle.uca_match.specs.Rows.{rows_of, same_key}
-use Rattle.uca_match.specs.Collations.{Collation, elements_of}
+use Rattle.uca_match.specs.Collations.{elements_of}
 use Rattle.uca_plans.specs.declared.drafts.DraftWeight.{DraftWeight}
 use Rattle.uca_plans.specs.declared.drafts.DraftWeight.TheVariants.{Base, New}
 use Rattle.uca_plans.specs.declared.drafts.DraftElement.{DraftElement}

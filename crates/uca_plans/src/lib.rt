@@ -8,4 +8,8 @@ mod laws;
 
 pub use drafts::{DraftElement, DraftWeight, Segment};
 pub use faults::{TailorFault, TailorKind};
-pub use laws::{base_weights_of_elements, new_weights_stand_nearest, new_weights_take_places, nothing_stands_between, numbers_are_proper, numbers_rise_along_lists, runs_send_base_weights, worked_plans};
+pub use laws::{
+    base_weights_of_elements, new_weights_stand_nearest, new_weights_take_places,
+    nothing_stands_between, numbers_are_proper, numbers_rise_along_lists, runs_send_base_weights,
+    worked_plans,
+};
