@@ -107,9 +107,11 @@ module _ (P : List DraftElement → Type 0) (none : P []) (append : (es fs : Lis
   at_key rows (row ∷ some) place key all = go (at_key rows some (place + 1) key all) (same_key row.key key)
     where
       -- by the test of the first key
-      go : AreRelatedRows (λ es _. P (flat_map (resolved rows) es)) (rows_of (references_from (place + 1) some) key) (rows_of (references_from (place + 1) some) key)
+      go : AreRelatedRows (λ es _. P (flat_map (resolved rows) es))
+          (rows_of (references_from (place + 1) some) key) (rows_of (references_from (place + 1) some) key)
           → (b : Bool) → AreRelatedRows (λ es _. P (flat_map (resolved rows) es))
-          (if b then Some (reference place ∷ []) else rows_of (references_from (place + 1) some) key) (if b then Some (reference place ∷ []) else rows_of (references_from (place + 1) some) key)
+          (if b then Some (reference place ∷ []) else rows_of (references_from (place + 1) some) key)
+          (if b then Some (reference place ∷ []) else rows_of (references_from (place + 1) some) key)
       go rest true = at_reference rows place all
       go rest false = rest
 
@@ -120,8 +122,9 @@ module _ (P : List DraftElement → Type 0) (none : P []) (append : (es fs : Lis
       → P (draft_elements ranges properties rows text)
   read_each ranges properties rows text at_rows at_points =
       let related : List Element → List Element → Type 0 = λ es _. P (flat_map (resolved rows) es) in
+      let of = flat_map (resolved rows) in
       read_related related none
-      (λ es fs gs hs first second. subst P (sym (flat_map-append (resolved rows) es gs)) (append (flat_map (resolved rows) es) (flat_map (resolved rows) gs) first second))
+      (λ es fs gs hs first second. subst P (sym (flat_map-append (resolved rows) es gs)) (append (of es) (of gs) first second))
       (implicit ranges properties) (implicit ranges properties) (rows_of (references_from 0 rows)) (rows_of (references_from 0 rows)) (letters_of text)
       (record {
         at_keys = λ key _. at_key rows rows 0 key at_rows;

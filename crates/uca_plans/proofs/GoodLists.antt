@@ -160,7 +160,8 @@ grown_inserted level es n i ms named good = elim (among_or_not ms i.anchor) [
       record {
         old = λ w. inserts_old w h;
         kept = λ v w. inserts_kept v w h;
-        stood = λ v w among_v among_w. inserts_stood v w h (λ new. fresh (subst (λ x. IsAmong ms x) new among_v)) (λ new. fresh (subst (λ x. IsAmong ms x) new among_w));
+        stood = λ v w among_v among_w.
+            inserts_stood v w h (λ new. fresh (subst (λ x. IsAmong ms x) new among_v)) (λ new. fresh (subst (λ x. IsAmong ms x) new among_w));
         names = λ k less member. elim (inserts_from (New k) h member) [
           | inl new ↦ absurd (omega (arith, less, same_name k n new))
           | inr old ↦ old

@@ -27,7 +27,10 @@ later_among m ms w other (inr there) = there
 pub inserts : (i : Insertion) (ms : List DraftWeight) → IsAmong ms i.anchor → Inserts i.anchor i.new i.before ms (inserted i ms)
 inserts i [] among = absurd among
 inserts i (m ∷ ms) among = elim (same_or_other i.anchor m) [
-  | inl same ↦ rw same.0 (subst (λ x. Inserts i.anchor i.new i.before (x ∷ ms) (if i.before then i.new ∷ x ∷ ms else x ∷ i.new ∷ ms)) same.1 (inserts_here i.anchor i.new i.before ms))
+  | inl same ↦
+      rw same.0
+      (subst (λ x. Inserts i.anchor i.new i.before (x ∷ ms) (if i.before then i.new ∷ x ∷ ms else x ∷ i.new ∷ ms)) same.1
+      (inserts_here i.anchor i.new i.before ms))
   | inr other ↦ rw other.0 (later other.1 (inserts i ms (later_among m ms i.anchor other.1 among)))
 ]
 
@@ -175,8 +178,10 @@ not_same f n other = elim (same_or_other f n) [
 -- what an insertion adds to the members before a weight and to those behind it
 abbrev TakesOne : DraftWeight → DraftWeight → Bool → List DraftWeight → List DraftWeight → Type 0
 TakesOne f a b ms ns =
-    ((StandsBefore ms a f ⊎ ((a ≡ f) × (b ≡ true))) × (length (before_weight f ns) ≡ length (before_weight f ms) + 1) × (length (behind_weight f ns) ≡ length (behind_weight f ms)))
-    ⊎ ((StandsBefore ms f a ⊎ ((a ≡ f) × (b ≡ false))) × (length (before_weight f ns) ≡ length (before_weight f ms)) × (length (behind_weight f ns) ≡ length (behind_weight f ms) + 1))
+    ((StandsBefore ms a f ⊎ ((a ≡ f) × (b ≡ true)))
+    × (length (before_weight f ns) ≡ length (before_weight f ms) + 1) × (length (behind_weight f ns) ≡ length (behind_weight f ms)))
+    ⊎ ((StandsBefore ms f a ⊎ ((a ≡ f) × (b ≡ false)))
+    × (length (before_weight f ns) ≡ length (before_weight f ms)) × (length (behind_weight f ns) ≡ length (behind_weight f ms) + 1))
 
 -- one member more in front that is not the weight
 takes_later : (f a m : DraftWeight) (b : Bool) (ms ns : List DraftWeight) → same_weight f m ≡ false → TakesOne f a b ms ns

@@ -11,14 +11,14 @@ use Rattle.uca_check.proofs.Elements.{each_weaker}
 use Rattle.uca_plans.specs.declared.drafts.DraftWeight.{DraftWeight}
 use Rattle.uca_plans.specs.declared.drafts.DraftWeight.TheVariants.{Base}
 use Rattle.uca_plans.specs.Numbering.{numbers_of}
-use Rattle.uca_plans.specs.Lists.{fixed_weight, top_weight, base_weights, low_segment, high_segment, low_members, high_members, has_room}
+use Rattle.uca_plans.specs.Lists.{fixed_weight, top_weight, base_weights, low_segment, high_segment, low_members, high_members}
 use Rattle.uca_plans.specs.Lists.{level_has_room, level_numbers}
 use Rattle.uca_plans.specs.ListLaws.{IsRising, IsWeightOf}
 use Rattle.uca_plans.specs.Runs.{AreRunsFrom, AreRunsOf, HasZeroFirstOrNone}
 use Rattle.uca_plans.specs.Plans.{runs_of}
 use Rattle.uca_plans.proofs.ListMembers.{each_of, weight_split}
 use Rattle.uca_plans.proofs.BaseWeightLemmas.{bases_rising, base_from}
-use Rattle.uca_plans.proofs.RisingNumbers.{each_joined, both_true, room_places, fixed_within, low_numbers, high_numbers, level_rising, level_within}
+use Rattle.uca_plans.proofs.RisingNumbers.{each_joined, level_places, lows, highs, fixed_within, low_numbers, high_numbers, level_rising, level_within}
 use Rattle.uca_plans.proofs.RisingNumbers.{level_length, level_fixed}
 use Rattle.uca_plans.proofs.RunImages.{send_base_weights}
 use Rattle.uca_plans.proofs.GoodLists.{IsGoodList, good_fixed}
@@ -56,11 +56,13 @@ rising_from_one level (r ∷ runs) rise = (
 none_zero : (level : Level) (es : List Element) (n : ℕ) (ms : List DraftWeight) → 0 < fixed_weight level → IsGoodList level es n ms
     → level_has_room level ms ≡ true → HasZeroFirstOrNone ms (level_numbers level ms)
 none_zero level es n ms some good room = inl (
-  subst (λ ws. AllByRecursion (λ w. 0 < w) ws) (sym good.base) (each_of (λ w. 0 < w) (base_weights level es) (λ w among. positive w (base_from level es w among))),
-  each_joined (λ k. 0 < k) (numbers_of (low_segment level) (low_members level ms)) (fixed_weight level) (numbers_of (high_segment level) (high_members level ms))
-      (each_weaker (λ k. (0 < k) × (k < fixed_weight level)) (λ k. 0 < k) (λ k h. h.0) (numbers_of (low_segment level) (low_members level ms)) (low_numbers level ms room))
+  subst (λ ws. AllByRecursion (λ w. 0 < w) ws) (sym good.base)
+      (each_of (λ w. 0 < w) (base_weights level es) (λ w among. positive w (base_from level es w among))),
+  each_joined (λ k. 0 < k) (lows level ms) (fixed_weight level) (highs level ms)
+      (each_weaker (λ k. (0 < k) × (k < fixed_weight level)) (λ k. 0 < k) (λ k h. h.0) (lows level ms) (low_numbers level ms room))
       some
-      (each_weaker (λ k. (fixed_weight level < k) × (k ≤ top_weight level)) (λ k. 0 < k) (λ k h. omega (arith, h.0)) (numbers_of (high_segment level) (high_members level ms)) (high_numbers level ms room)),
+      (each_weaker (λ k. (fixed_weight level < k) × (k ≤ top_weight level)) (λ k. 0 < k) (λ k h. omega (arith, h.0))
+      (highs level ms) (high_numbers level ms room)),
 )
   where
     -- a base weight is not 0
@@ -72,7 +74,7 @@ none_zero level es n ms some good room = inl (
 zero_first : (es : List Element) (n : ℕ) (ms : List DraftWeight) → IsGoodList One es n ms → level_has_room One ms ≡ true
     → HasZeroFirstOrNone ms (level_numbers One ms)
 zero_first es n ms good room =
-    let low = room_places (low_segment One) (low_members One ms) (both_true (has_room (low_segment One) (low_members One ms)) (has_room (high_segment One) (high_members One ms)) room).0 in
+    let low = (level_places One ms room).0 in
     let none : low_members One ms ≡ [] = nil_from_length (low_members One ms) (omega arith) in
     let split : low_members One ms ++ Base 0 ∷ high_members One ms ≡ ms = weight_split (Base 0) ms (good_fixed One es n ms good) in
     let first : ms ≡ Base 0 ∷ high_members One ms = sym split ∙ ap (λ xs. xs ++ Base 0 ∷ high_members One ms) none in
@@ -102,7 +104,8 @@ bases_within level es = each_of (λ w. w ≤ top_weight level) (base_weights lev
 pub good_runs : (level : Level) (es : List Element) (n : ℕ) (ms : List DraftWeight) → IsGoodList level es n ms → level_has_room level ms ≡ true
     → AreRunsOf (top_weight level) ms (level_numbers level ms)
 good_runs level es n ms good room =
-    send_base_weights (top_weight level) ms (level_numbers level ms) (level_length level ms (good_fixed level es n ms good)) (zero_first_or_none level es n ms good room)
+    send_base_weights (top_weight level) ms (level_numbers level ms)
+    (level_length level ms (good_fixed level es n ms good)) (zero_first_or_none level es n ms good room)
     (subst IsRising (sym good.base) (bases_rising level es)) (level_rising level ms room)
     (subst (λ ws. AllByRecursion (λ w. w ≤ top_weight level) ws) (sym good.base) (bases_within level es)) (level_within level ms room)
 

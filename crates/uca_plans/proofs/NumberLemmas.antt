@@ -142,8 +142,9 @@ kept_here : (segment : Segment) (before behind : List DraftWeight) (weight : ℕ
 kept_here segment before behind weight room =
     let low : segment.below + length before < weight = omega (arith, room.below) in
     let most = pushed_most (segment.below + length before) weight before low (λ j w at.
-    let further = room.before j w (omega (arith, at.3, ap length at.2, length-append at.0 (Base w ∷ at.1))) (base_longer before (Base weight ∷ behind) j w at) in
-    omega (arith, at.3, ap length at.2, length-append at.0 (Base w ∷ at.1))) in
+    let parts = length-append at.0 (Base w ∷ at.1) in
+    let further = room.before j w (omega (arith, at.3, ap length at.2, parts)) (base_longer before (Base weight ∷ behind) j w at) in
+    omega (arith, at.3, ap length at.2, parts)) in
     let long : length (before ++ Base weight ∷ behind) ≡ length before + suc (length behind) = length-append before (Base weight ∷ behind) in
     let above = room.above in
     number_here segment before (Base weight) behind ∙ omega arith

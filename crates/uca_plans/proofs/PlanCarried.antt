@@ -24,7 +24,7 @@ use Rattle.uca_plans.specs.Plans.{Basis, Drafting, drafted_at, draft_expansion}
 use Rattle.uca_plans.proofs.ListMembers.{each_append, each_parts}
 use Rattle.uca_plans.proofs.InsertionLemmas.{inserts, inserts_new}
 use Rattle.uca_plans.proofs.GoodLists.{good_fixed, grown_through, grown_same}
-use Rattle.uca_plans.proofs.PlanSteps.{IsStep, AreSteps}
+use Rattle.uca_plans.proofs.PlanSteps.{target_row, IsStep, AreSteps}
 use Rattle.uca_plans.proofs.PlanLists.{list_at, HasGoodLists, HasGrownLists, good_step, step_list}
 use Rattle.uca_plans.proofs.DraftKinds.{IsZero, reset_cases, accepted_low, IsAnchorPart, IsPlacedDraft, placed_is, joined_is}
 use Rattle.uca_plans.proofs.DraftGaps.{HasNoGaps, gaps_joined, part_sounds, placed_gapless}
@@ -91,8 +91,16 @@ reset_fits w weight small fits = elim (reset_cases w weight) [
 
 -- an element with a new weight has weights of 16 bits
 reweighted_fits : (level : Level) (n : ℕ) (e : DraftElement) → IsFitting e → IsFitting (reweighted level (New n) e)
-reweighted_fits One n e fits = record { primary = tt; secondary = reset_fits e.secondary 0x20 (omega arith) fits.secondary; tertiary = reset_fits e.tertiary 2 (omega arith) fits.tertiary }
-reweighted_fits Two n e fits = record { primary = fits.primary; secondary = tt; tertiary = reset_fits e.tertiary 2 (omega arith) fits.tertiary }
+reweighted_fits One n e fits = record {
+  primary = tt;
+  secondary = reset_fits e.secondary 0x20 (omega arith) fits.secondary;
+  tertiary = reset_fits e.tertiary 2 (omega arith) fits.tertiary;
+}
+reweighted_fits Two n e fits = record {
+  primary = fits.primary;
+  secondary = tt;
+  tertiary = reset_fits e.tertiary 2 (omega arith) fits.tertiary;
+}
 reweighted_fits Three n e fits = record { primary = fits.primary; secondary = fits.secondary; tertiary = tt }
 
 -- ---- The anchor
@@ -121,7 +129,8 @@ same_level_itself Three = refl
 
 -- What a step at a level does: an accepted part of the anchor is found; its last element was held, is no gap's, and has a weight
 -- of the level's list; and the new weight is in the list behind it.
-pub record IsPlacedStep (basis : Basis) (n : ℕ) (rule : Relation) (a b : Drafting) (holds : Holds basis n a) (step : IsStep basis n rule a b) (level : Level) : Type 1 where
+pub record IsPlacedStep (basis : Basis) (n : ℕ) (rule : Relation) (a b : Drafting) (holds : Holds basis n a) (step : IsStep basis n rule a b)
+    (level : Level) : Type 1 where
   pub placed : IsPlacedDraft level rule.before n (anchor_at basis a rule) (draft_expansion basis a rule.expansion) step.new
   pub last_held : holds.E placed.part.last
   pub sounds : IsZero (draft_weight level placed.part.last) → ⊥
@@ -136,8 +145,9 @@ part_each P level es part found all =
     let parts = each_parts P part.front (part.last ∷ found.trailing) (subst (AllByRecursion P) found.split all) in (parts.0, parts.1.0)
 
 -- the new weight is in the list behind a step
-new_member : (basis : Basis) (n : ℕ) (rule : Relation) (a b : Drafting) (step : IsStep basis n rule a b) (level : Level) (before : Bool) (anchor expansion : List DraftElement)
-    (placed : IsPlacedDraft level before n anchor expansion step.new) → IsAmong (list_at level basis a) (draft_weight level placed.part.last) → IsAmong (list_at level basis b) (New n)
+new_member : (basis : Basis) (n : ℕ) (rule : Relation) (a b : Drafting) (step : IsStep basis n rule a b) (level : Level) (before : Bool)
+    (anchor expansion : List DraftElement) (placed : IsPlacedDraft level before n anchor expansion step.new)
+    → IsAmong (list_at level basis a) (draft_weight level placed.part.last) → IsAmong (list_at level basis b) (New n)
 new_member basis n rule a b step level before anchor expansion placed there =
     let i : Insertion = record { level = level; before = before; anchor = draft_weight level placed.part.last; new = New n } in
     let insertions : step.new.insertions ≡ i ∷ [] = ap (λ d. d.insertions) placed.is in
@@ -166,10 +176,6 @@ expansion_held basis n a holds ranges (Some text) texts = read_held basis n a ho
 
 -- ---- One step
 
--- the row that a step puts in
-abbrev pub row_of : {basis : Basis} {n : ℕ} {a b : Drafting} (rule : Relation) → IsStep basis n rule a b → DraftRow
-row_of rule step = record { key = rule.target.points; elements = step.new.elements }
-
 -- the invariant holds behind a step, of any elements that are listed and fit, where the new row is made of them
 step_holds : (basis : Basis) (n : ℕ) (rule : Relation) (a b : Drafting) (holds : Holds basis n a) (step : IsStep basis n rule a b) (F : DraftElement → Type 0)
     → ((e : DraftElement) → holds.E e → F e)
@@ -179,7 +185,8 @@ step_holds : (basis : Basis) (n : ℕ) (rule : Relation) (a b : Drafting) (holds
 step_holds basis n rule a b holds step F keeps listed fits made whole =
     let good = good_step basis n rule a b step holds.lists in
     let old : AllByRecursion (λ row. AllByRecursion F row.elements) a.rows =
-    each_weaker (λ row. AllByRecursion holds.E row.elements) (λ row. AllByRecursion F row.elements) (λ row all. each_weaker holds.E F keeps row.elements all) a.rows holds.held in
+    each_weaker (λ row. AllByRecursion holds.E row.elements) (λ row. AllByRecursion F row.elements)
+    (λ row all. each_weaker holds.E F keeps row.elements all) a.rows holds.held in
     record {
       behind = record {
         E = F;
@@ -188,9 +195,9 @@ step_holds basis n rule a b holds step F keeps listed fits made whole =
         fits = fits;
         implicits = λ e read. keeps e (holds.implicits e read);
         held = subst (λ rows. AllByRecursion (λ row. AllByRecursion F row.elements) rows) (sym step.rows)
-            (with_row_each (λ row. AllByRecursion F row.elements) (row_of rule step) a.rows made old);
+            (with_row_each (λ row. AllByRecursion F row.elements) (target_row rule step.new) a.rows made old);
         gapless = subst (λ rows. AllByRecursion (λ row. HasNoGaps None row.elements) rows) (sym step.rows)
-            (with_row_each (λ row. HasNoGaps None row.elements) (row_of rule step) a.rows whole holds.gapless);
+            (with_row_each (λ row. HasNoGaps None row.elements) (target_row rule step.new) a.rows whole holds.gapless);
       };
       elements = keeps;
       grown = good.1;
@@ -238,7 +245,8 @@ carried_placed basis n rule a b holds ranges texts step level at =
     (λ e either. elim either [
       | inl old ↦ listed_grown basis n a b good.1 e (holds.listed e old)
       | inr same ↦ subst (IsListed (list_at One basis b) (list_at Two basis b) (list_at Three basis b)) (sym same)
-          (reweighted_listed level basis n (n + 1) b part.last good.0 (listed_grown basis n a b good.1 part.last (holds.listed part.last at.last_held)) at.new_there)
+          (reweighted_listed level basis n (n + 1) b part.last good.0
+          (listed_grown basis n a b good.1 part.last (holds.listed part.last at.last_held)) at.new_there)
     ])
     (λ e either. elim either [
       | inl old ↦ holds.fits e old
@@ -274,7 +282,9 @@ carried_step basis n rule a b holds ranges texts step = go (level_of rule.streng
     go : (level : Option Level)
         → drafted_at level rule.before (New n) (anchor_at basis a rule) (draft_expansion basis a rule.expansion) ≡ Some step.new
         → Carries basis n (n + 1) a b holds
-    go None is = carried_joined basis n rule a b holds ranges texts step (joined_is rule.before n (anchor_at basis a rule) (draft_expansion basis a rule.expansion) step.new is)
+    go None is =
+        carried_joined basis n rule a b holds ranges texts step
+        (joined_is rule.before n (anchor_at basis a rule) (draft_expansion basis a rule.expansion) step.new is)
     go (Some level) is = carried_placed basis n rule a b holds ranges texts step level (placed_step basis n rule a b holds ranges texts step level is)
 
 -- ---- All steps
@@ -298,5 +308,7 @@ carried basis n (r ∷ relations) a b holds ranges texts steps =
     subst (λ k. Carries basis n k a b holds) place (record {
       behind = rest.behind;
       elements = λ e old. rest.elements e (first.elements e old);
-      grown = λ level. grown_through n (n + 1) (list_at level basis a) (list_at level basis next) (list_at level basis b) (omega arith) (first.grown level) (rest.grown level);
+      grown = λ level.
+          grown_through n (n + 1) (list_at level basis a) (list_at level basis next) (list_at level basis b) (omega arith)
+          (first.grown level) (rest.grown level);
     })

@@ -84,12 +84,14 @@ pub record Carries (basis : Basis) (n m : ℕ) (a b : Drafting) (holds : Holds b
 -- the elements of a text are held, without gaps
 pub read_held : (basis : Basis) (n : ℕ) (a : Drafting) (holds : Holds basis n a) → AreImplicitRanges basis.ranges → (text : Spelled)
     → AllByRecursion (λ c. c < 0x11_0000) text.points
-    → AllByRecursion holds.E (draft_elements basis.ranges basis.properties a.rows text) × HasNoGaps None (draft_elements basis.ranges basis.properties a.rows text)
+    → AllByRecursion holds.E (draft_elements basis.ranges basis.properties a.rows text)
+    × HasNoGaps None (draft_elements basis.ranges basis.properties a.rows text)
 read_held basis n a holds ranges text points = (
   read_each (λ es. AllByRecursion holds.E es) tt (each_append holds.E) basis.ranges basis.properties a.rows text holds.held
       (each_weaker (λ c. c < 0x11_0000) (λ c. AllByRecursion holds.E (map (as_draft true) (implicit basis.ranges basis.properties c)))
       (λ c within. each_pair (λ es. AllByRecursion holds.E (map (as_draft true) es))
-      (λ lead low above below near. (holds.implicits (lead_draft lead) (inl (lead, above, below, refl)), (holds.implicits (low_draft low) (inr (low, near, refl)), tt)))
+      (λ lead low above below near.
+      (holds.implicits (lead_draft lead) (inl (lead, above, below, refl)), (holds.implicits (low_draft low) (inr (low, near, refl)), tt)))
       basis.ranges basis.properties ranges c within) text.points points),
   read_each (HasNoGaps None) tt (gaps_joined None) basis.ranges basis.properties a.rows text holds.gapless
       (each_weaker (λ c. c < 0x11_0000) (λ c. HasNoGaps None (map (as_draft true) (implicit basis.ranges basis.properties c)))

@@ -72,7 +72,8 @@ HasGrownLists basis n a b = (level : Level) → IsGrown n (list_at level basis a
 -- the insertions of a step are named
 pub step_named : (basis : Basis) (n : ℕ) (rule : Relation) (a b : Drafting) (step : IsStep basis n rule a b) → AreNamed n step.new.insertions
 step_named basis n rule a b step =
-    named_at (level_of rule.strength) rule.before n (draft_elements basis.ranges basis.properties a.rows rule.anchor) (draft_expansion basis a rule.expansion) step.new step.is_drafted
+    named_at (level_of rule.strength) rule.before n
+    (draft_elements basis.ranges basis.properties a.rows rule.anchor) (draft_expansion basis a rule.expansion) step.new step.is_drafted
 
 -- the lists behind a step are those before it with its insertions
 pub step_list : (basis : Basis) (n : ℕ) (rule : Relation) (a b : Drafting) (step : IsStep basis n rule a b) (level : Level)

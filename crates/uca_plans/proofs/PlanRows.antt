@@ -9,11 +9,11 @@ use Rattle.uca_weights.specs.declared.Element.{Element}
 use Rattle.uca_weights.specs.declared.Level.{Level}
 use Rattle.uca_weights.specs.declared.Level.TheVariants.{One, Two, Three}
 use Rattle.uca_weights.specs.Levels.{level_of}
-use Rattle.uca_values.specs.Content.{Entry, Fits, IsEntry, AreRows, AreImplicitRanges}
-use Rattle.uca_check.specs.WellFormed.{elements_of, MeetsWF1}
+use Rattle.uca_values.specs.Content.{Entry, Properties, TableContent, IsTable, Fits, IsEntry, AreRows, AreImplicitRanges}
+use Rattle.uca_check.specs.WellFormed.{elements_of, MeetsWF1, IsWellFormed}
 use Rattle.uca_check.proofs.Elements.{each_weaker}
 use Rattle.uca_rules.specs.declared.relations.Relation.{Relation}
-use Rattle.uca_rules.specs.Relations.{HasRuleTexts}
+use Rattle.uca_rules.specs.Relations.{HasRuleTexts, AreRules}
 use Rattle.uca_plans.specs.declared.drafts.DraftWeight.{DraftWeight}
 use Rattle.uca_plans.specs.declared.drafts.DraftWeight.TheVariants.{Base, New}
 use Rattle.uca_plans.specs.declared.drafts.DraftElement.{DraftElement}
@@ -22,7 +22,7 @@ use Rattle.uca_plans.specs.Drafts.{DraftRow, as_draft, row_as_draft, with_row, r
 use Rattle.uca_plans.specs.Plans.{Basis, Drafting, Drafted, drafted_at, draft_expansion, passes_limit, begun, LevelPlan, level_plan, LevelPlans}
 use Rattle.uca_plans.specs.Plans.{numbered_weight, numbered, numbered_row, Plan, planned}
 use Rattle.uca_plans.proofs.RisingNumbers.{number_bound, level_within}
-use Rattle.uca_plans.proofs.PlanSteps.{IsStep, AreSteps, IsPlanned, planned_is, plans_of}
+use Rattle.uca_plans.proofs.PlanSteps.{target_row, IsStep, AreSteps, IsPlanned, planned_is, plans_of}
 use Rattle.uca_plans.proofs.DraftKinds.{placed_is, joined_is}
 use Rattle.uca_plans.proofs.PlanHolds.{FitsWeight, Holds, start}
 use Rattle.uca_plans.proofs.PlanCarried.{anchor_at, with_row_each, carried}
@@ -57,7 +57,8 @@ weight_fits Three plan bound (New n) small = bound (New n)
 number_fits : (level : Level) (es : List Element) (is : List Insertion) → level_has_room level (members_of level es is) ≡ true → (w : DraftWeight)
     → number_in (level_plan level es is).members (level_plan level es is).numbers w < 0x1_0000
 number_fits level es is room w =
-    let within = number_bound (top_weight level) (members_of level es is) (level_numbers level (members_of level es is)) w (level_within level (members_of level es is) room) in
+    let ms : List DraftWeight = members_of level es is in
+    let within = number_bound (top_weight level) ms (level_numbers level ms) w (level_within level ms room) in
     let top = top_fits level in
     omega (arith, within, top)
 
@@ -176,7 +177,7 @@ target_some basis n rule a new texts all (Some level) is =
 -- rows are so behind a step
 sized_step : (basis : Basis) (n : ℕ) (rule : Relation) (a b : Drafting) → HasRuleTexts rule → IsStep basis n rule a b → AreSized a → AreSized b
 sized_step basis n rule a b texts step sized =
-    let row : DraftRow = record { key = rule.target.points; elements = step.new.elements } in
+    let row : DraftRow = target_row rule step.new in
     let bounds = no_limit row (with_row row a.rows) step.limit in
     let each = each_weaker IsSized (λ r. 1 ≤ length r.elements) (λ r h. h.some_elements) a.rows sized.sizes in
     let it : IsSized row = record {
@@ -231,3 +232,11 @@ rows_in basis relations plan planned_so rows whole ranges texts =
       distinct = distinct_numbered plans made.drafting.rows sized.distinct;
       few = omega (arith, sized.few, length-map made.drafting.rows (numbered_row plans));
     })
+
+-- so the rows of a plan over a well-formed table are those of a table with its header
+pub table_in : (base : TableContent) (properties : Properties) (relations : List Relation) (plan : Plan)
+    → planned (record { ranges = base.header.ranges; properties = properties; base = base.rows }) relations ≡ Ok plan
+    → IsTable base → IsWellFormed properties.class base.rows → AreRules relations → IsTable (record { header = base.header; rows = plan.rows })
+table_in base properties relations plan planned_so table well rules =
+    let basis : Basis = record { ranges = base.header.ranges; properties = properties; base = base.rows } in
+    record { header = table.header; rows = rows_in basis relations plan planned_so table.rows well.wf1 table.header.ranges rules.texts }

@@ -15,13 +15,17 @@ use Rattle.uca_plans.specs.Plans.{with_relations, begun, level_plan, LevelPlans,
 
 -- ---- One relation
 
+-- the row that a relation puts in
+abbrev pub target_row : Relation → Drafted → DraftRow
+target_row rule new = record { key = rule.target.points; elements = new.elements }
+
 -- what a relation's step answered, and the drafts behind it
 pub record IsStep (basis : Basis) (n : ℕ) (rule : Relation) (a b : Drafting) : Type 0 where
   pub new : Drafted
   pub is_drafted : drafted basis a (New n) rule ≡ Some new
   pub prefix : needs_prefix basis.properties.class a.rows rule.target.points ≡ false
-  pub limit : passes_limit (record { key = rule.target.points; elements = new.elements }) (with_row (record { key = rule.target.points; elements = new.elements }) a.rows) ≡ false
-  pub rows : b.rows ≡ with_row (record { key = rule.target.points; elements = new.elements }) a.rows
+  pub limit : passes_limit (target_row rule new) (with_row (target_row rule new) a.rows) ≡ false
+  pub rows : b.rows ≡ with_row (target_row rule new) a.rows
   pub insertions : b.insertions ≡ a.insertions ++ new.insertions
 
 -- the steps of relations, of which n come before them
@@ -29,20 +33,31 @@ abbrev pub AreSteps : Basis → ℕ → List Relation → Drafting → Drafting 
 AreSteps basis n [] a b = a ≡ b
 AreSteps basis n (r ∷ relations) a b = (next : Drafting) × IsStep basis n r a next × AreSteps basis (n + 1) relations next b
 
--- a row is accepted where it needs no prefix and passes no limit
+-- what holds where a row is accepted: it needs no prefix and passes no limit, and these are the drafts with it
+record IsAccepted (basis : Basis) (a b : Drafting) (target : List ℕ) (row : DraftRow) (insertions : List Insertion) (rows : List DraftRow) : Type 0 where
+  prefix : needs_prefix basis.properties.class a.rows target ≡ false
+  limit : passes_limit row rows ≡ false
+  is : b ≡ record { rows = rows; insertions = a.insertions ++ insertions }
+
+-- a row that is accepted is so
 accepted_is : (basis : Basis) (a b : Drafting) (target : List ℕ) (row : DraftRow) (insertions : List Insertion) (rows : List DraftRow)
-    → accepted_row basis a target row insertions rows ≡ Ok b
-    → (needs_prefix basis.properties.class a.rows target ≡ false) × (passes_limit row rows ≡ false) × (b ≡ record { rows = rows; insertions = a.insertions ++ insertions })
+    → accepted_row basis a target row insertions rows ≡ Ok b → IsAccepted basis a b target row insertions rows
 accepted_is basis a b target row insertions rows accepted =
     go (needs_prefix basis.properties.class a.rows target) (passes_limit row rows) refl refl accepted
   where
+    -- what the two tests choose
+    chosen : Bool → Bool → Result Drafting TailorKind
+    chosen prefix limit =
+        if prefix then Err kinds.NeedsPrefix else
+        if limit then Err kinds.Limit else
+        Ok (record { rows = rows; insertions = a.insertions ++ insertions })
+
     -- by the two tests
     go : (prefix limit : Bool) → needs_prefix basis.properties.class a.rows target ≡ prefix → passes_limit row rows ≡ limit
-        → (if prefix then Err kinds.NeedsPrefix else if limit then Err kinds.Limit else Ok (record { rows = rows; insertions = a.insertions ++ insertions })) ≡ Ok b
-        → (needs_prefix basis.properties.class a.rows target ≡ false) × (passes_limit row rows ≡ false) × (b ≡ record { rows = rows; insertions = a.insertions ++ insertions })
+        → chosen prefix limit ≡ Ok b → IsAccepted basis a b target row insertions rows
     go true limit e f chosen_is = absurd (cc)
     go false true e f chosen_is = absurd (cc)
-    go false false e f chosen_is = (e, f, cc)
+    go false false e f chosen_is = record { prefix = e; limit = f; is = cc }
 
 -- a relation that is not refused makes a step
 pub step_of : (basis : Basis) (n : ℕ) (rule : Relation) (a b : Drafting) → with_relation basis a n rule ≡ Ok b → IsStep basis n rule a b
@@ -52,9 +67,16 @@ step_of basis n rule a b with_it = go (drafted basis a (New n) rule) refl with_i
     go : (new : Option Drafted) → drafted basis a (New n) rule ≡ new → one_drafted basis a rule.target.points new ≡ Ok b → IsStep basis n rule a b
     go None e refused = absurd (cc)
     go (Some new) e accepted =
-        let row : DraftRow = record { key = rule.target.points; elements = new.elements } in
+        let row : DraftRow = target_row rule new in
         let is = accepted_is basis a b rule.target.points row new.insertions (with_row row a.rows) accepted in
-        record { new = new; is_drafted = e; prefix = is.0; limit = is.1; rows = ap (λ d. d.rows) is.2; insertions = ap (λ d. d.insertions) is.2 }
+        record {
+          new = new;
+          is_drafted = e;
+          prefix = is.prefix;
+          limit = is.limit;
+          rows = ap (λ d. d.rows) is.is;
+          insertions = ap (λ d. d.insertions) is.is;
+        }
 
 -- relations that are not refused make steps
 pub steps_of : (basis : Basis) (n : ℕ) (relations : List Relation) (a b : Drafting) → with_relations basis n relations a ≡ Ok b
@@ -86,9 +108,16 @@ pub record IsPlanned (basis : Basis) (relations : List Relation) (plan : Plan) :
   pub room : (level : Level) → level_has_room level (members_of level (elements_of basis.base) drafting.insertions) ≡ true
   pub is : plan ≡ plan_of drafting.rows (plans_of basis drafting)
 
+-- each level has room
+abbrev HasRooms : LevelPlans → Type 0
+HasRooms plans =
+    (level_has_room One plans.primary.members ≡ true)
+    × (level_has_room Two plans.secondary.members ≡ true)
+    × (level_has_room Three plans.tertiary.members ≡ true)
+
 -- a plan with room, by the tests of the levels
 with_room : (rows : List DraftRow) (plans : LevelPlans) (plan : Plan) → plan_with_room rows plans ≡ Ok plan
-    → (level_has_room One plans.primary.members ≡ true) × (level_has_room Two plans.secondary.members ≡ true) × (level_has_room Three plans.tertiary.members ≡ true) × (plan ≡ plan_of rows plans)
+    → HasRooms plans × (plan ≡ plan_of rows plans)
 with_room rows plans plan made =
     go (level_has_room One plans.primary.members) (level_has_room Two plans.secondary.members) (level_has_room Three plans.tertiary.members) refl refl refl made
   where
@@ -104,11 +133,11 @@ with_room rows plans plan made =
     go : (one two three : Bool) → level_has_room One plans.primary.members ≡ one → level_has_room Two plans.secondary.members ≡ two
         → level_has_room Three plans.tertiary.members ≡ three
         → chosen one two three ≡ Ok plan
-        → (level_has_room One plans.primary.members ≡ true) × (level_has_room Two plans.secondary.members ≡ true) × (level_has_room Three plans.tertiary.members ≡ true) × (plan ≡ plan_of rows plans)
+        → HasRooms plans × (plan ≡ plan_of rows plans)
     go false two three e f g chosen = absurd (cc)
     go true false three e f g chosen = absurd (cc)
     go true true false e f g chosen = absurd (cc)
-    go true true true e f g chosen = (e, f, g, cc)
+    go true true true e f g chosen = ((e, f, g), cc)
 
 -- a plan is planned so
 pub planned_is : (basis : Basis) (relations : List Relation) (plan : Plan) → planned basis relations ≡ Ok plan → IsPlanned basis relations plan
@@ -123,8 +152,8 @@ planned_is basis relations plan made = go (with_relations basis 0 relations (beg
         record {
           drafting = drafting;
           steps = steps_of basis 0 relations (begun basis) drafting e;
-          room = each_level room.0 room.1 room.2;
-          is = room.3;
+          room = each_level room.0.0 room.0.1 room.0.2;
+          is = room.1;
         }
       where
         -- by the level

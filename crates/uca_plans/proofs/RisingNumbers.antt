@@ -141,6 +141,23 @@ both_true false b h = absurd (cc)
 pub room_places : (segment : Segment) (ms : List DraftWeight) → has_room segment ms ≡ true → segment.below + length ms ≤ segment.top
 room_places segment ms room = grind (arith, nat_tests)
 
+-- the places of a level's segments
+pub level_places : (level : Level) (ms : List DraftWeight) → level_has_room level ms ≡ true
+    → ((low_segment level).below + length (low_members level ms) ≤ (low_segment level).top)
+    × ((high_segment level).below + length (high_members level ms) ≤ (high_segment level).top)
+level_places level ms room =
+    let low = has_room (low_segment level) (low_members level ms) in
+    let high = has_room (high_segment level) (high_members level ms) in
+    let both = both_true low high room in
+    (room_places (low_segment level) (low_members level ms) both.0, room_places (high_segment level) (high_members level ms) both.1)
+
+-- the numbers of the lower members, and of the higher ones
+abbrev pub lows : Level → List DraftWeight → List ℕ
+lows level ms = numbers_of (low_segment level) (low_members level ms)
+
+abbrev pub highs : Level → List DraftWeight → List ℕ
+highs level ms = numbers_of (high_segment level) (high_members level ms)
+
 -- the fixed weight is not above the top
 pub fixed_within : (level : Level) → fixed_weight level ≤ top_weight level
 fixed_within One = omega arith
@@ -149,15 +166,14 @@ fixed_within Three = omega arith
 
 -- with room the numbers of the lower members stand between 0 and the fixed weight
 pub low_numbers : (level : Level) (ms : List DraftWeight) → level_has_room level ms ≡ true
-    → AllByRecursion (λ n. (0 < n) × (n < fixed_weight level)) (numbers_of (low_segment level) (low_members level ms))
+    → AllByRecursion (λ n. (0 < n) × (n < fixed_weight level)) (lows level ms)
 low_numbers level ms room =
-    let low = (both_true (has_room (low_segment level) (low_members level ms)) (has_room (high_segment level) (high_members level ms)) room).0 in
     each_weaker (λ n. (0 < n) × (n ≤ fixed_weight level - 1)) (λ n. (0 < n) × (n < fixed_weight level)) (λ n h. (h.0, omega (arith, h.0, h.1)))
-    (numbers_of (low_segment level) (low_members level ms)) (segment_numbers (low_segment level) (low_members level ms) (room_places (low_segment level) (low_members level ms) low))
+    (lows level ms) (segment_numbers (low_segment level) (low_members level ms) (level_places level ms room).0)
 
 -- and those of the higher members above the fixed weight, up to the top
 pub high_numbers : (level : Level) (ms : List DraftWeight) → level_has_room level ms ≡ true
-    → AllByRecursion (λ n. (fixed_weight level < n) × (n ≤ top_weight level)) (numbers_of (high_segment level) (high_members level ms))
+    → AllByRecursion (λ n. (fixed_weight level < n) × (n ≤ top_weight level)) (highs level ms)
 high_numbers level ms room =
     let high = (both_true (has_room (low_segment level) (low_members level ms)) (has_room (high_segment level) (high_members level ms)) room).1 in
     segment_numbers (high_segment level) (high_members level ms) (room_places (high_segment level) (high_members level ms) high)
@@ -168,12 +184,12 @@ level_rising level ms room =
     let both = both_true (has_room (low_segment level) (low_members level ms)) (has_room (high_segment level) (high_members level ms)) room in
     let low = room_places (low_segment level) (low_members level ms) both.0 in
     let high = room_places (high_segment level) (high_members level ms) both.1 in
-    rising_joined (numbers_of (low_segment level) (low_members level ms)) (fixed_weight level) (numbers_of (high_segment level) (high_members level ms))
+    rising_joined (lows level ms) (fixed_weight level) (highs level ms)
     (numbers_rising (low_segment level).top (low_segment level).below (low_members level ms) (omega arith))
     (each_weaker (λ n. (0 < n) × (n < fixed_weight level)) (λ n. n < fixed_weight level) (λ n h. h.1)
-    (numbers_of (low_segment level) (low_members level ms)) (low_numbers level ms room))
+    (lows level ms) (low_numbers level ms room))
     (each_weaker (λ n. (fixed_weight level < n) × (n ≤ top_weight level)) (λ n. fixed_weight level < n) (λ n h. h.0)
-    (numbers_of (high_segment level) (high_members level ms)) (high_numbers level ms room))
+    (highs level ms) (high_numbers level ms room))
     (numbers_rising (high_segment level).top (high_segment level).below (high_members level ms) (omega arith))
 
 -- with room the numbers of a level are not above its top
@@ -181,19 +197,19 @@ pub level_within : (level : Level) (ms : List DraftWeight) → level_has_room le
     → AllByRecursion (λ n. n ≤ top_weight level) (level_numbers level ms)
 level_within level ms room =
     let fixed = fixed_within level in
-    each_joined (λ n. n ≤ top_weight level) (numbers_of (low_segment level) (low_members level ms)) (fixed_weight level) (numbers_of (high_segment level) (high_members level ms))
+    each_joined (λ n. n ≤ top_weight level) (lows level ms) (fixed_weight level) (highs level ms)
     (each_weaker (λ n. (0 < n) × (n < fixed_weight level)) (λ n. n ≤ top_weight level) (λ n h. omega (arith, fixed, h.1))
-    (numbers_of (low_segment level) (low_members level ms)) (low_numbers level ms room))
+    (lows level ms) (low_numbers level ms room))
     fixed
     (each_weaker (λ n. (fixed_weight level < n) × (n ≤ top_weight level)) (λ n. n ≤ top_weight level) (λ n h. h.1)
-    (numbers_of (high_segment level) (high_members level ms)) (high_numbers level ms room))
+    (highs level ms) (high_numbers level ms room))
 
 -- a level has a number for each member
 pub level_length : (level : Level) (ms : List DraftWeight) → IsAmong ms (Base (fixed_weight level)) → length (level_numbers level ms) ≡ length ms
 level_length level ms among =
     let low = numbers_length (low_segment level).top (low_segment level).below (low_members level ms) in
     let high = numbers_length (high_segment level).top (high_segment level).below (high_members level ms) in
-    let numbers = length-append (numbers_of (low_segment level) (low_members level ms)) (fixed_weight level ∷ numbers_of (high_segment level) (high_members level ms)) in
+    let numbers = length-append (lows level ms) (fixed_weight level ∷ highs level ms) in
     let members = length-append (low_members level ms) (Base (fixed_weight level) ∷ high_members level ms) in
     let split = ap length (weight_split (Base (fixed_weight level)) ms among) in
     omega arith
@@ -202,7 +218,7 @@ level_length level ms among =
 pub level_fixed : (level : Level) (ms : List DraftWeight) → IsAmong ms (Base (fixed_weight level))
     → number_in ms (level_numbers level ms) (Base (fixed_weight level)) ≡ fixed_weight level
 level_fixed level ms among =
-    number_at (Base (fixed_weight level)) ms (numbers_of (low_segment level) (low_members level ms)) (fixed_weight level) (numbers_of (high_segment level) (high_members level ms))
+    number_at (Base (fixed_weight level)) ms (lows level ms) (fixed_weight level) (highs level ms)
     among (numbers_length (low_segment level).top (low_segment level).below (low_members level ms))
 
 -- numbers rise along the list of a level

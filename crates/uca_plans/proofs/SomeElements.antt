@@ -64,7 +64,8 @@ letters_some ranges properties rows c t all = go (longest_key (rows_of (referenc
         → 1 ≤ length (flat_map (resolved rows) (read (implicit ranges properties) (rows_of (references_from 0 rows)) (c ∷ t)))
     go zero found =
         subst (λ es. 1 ≤ length (flat_map (resolved rows) es)) (sym (read_of_none (implicit ranges properties) (rows_of (references_from 0 rows)) c t found))
-        (front_some rows (implicit ranges properties c.code) (read (implicit ranges properties) (rows_of (references_from 0 rows)) t) (pair_some rows ranges properties c.code))
+        (front_some rows (implicit ranges properties c.code) (read (implicit ranges properties) (rows_of (references_from 0 rows)) t)
+        (pair_some rows ranges properties c.code))
     go (suc n) found =
         let keys : Rows = rows_of (references_from 0 rows) in
         let front : Text = take (suc n) (c ∷ t) in
