@@ -1,16 +1,16 @@
 -- What holds of a level's list from relation to relation.
-use Rattle.std.proofs.Common.{◌≡◌, ◌⊎◌, inl, inr, ℕ, ◌+◌, ◌<◌, ◌≤◌, Bool, true, false, List, [], ◌∷◌, ◌++◌, length, map, refl, sym, ap, ◌∙◌, subst, arith, if◌then◌else◌}
-use Rattle.std.specs.List.{AllByRecursion}
+use Rattle.std.proofs.Common.{◌≡◌, ◌⊎◌, inl, inr, ℕ, ◌+◌, ◌<◌, ◌≤◌, Bool, List, [], ◌∷◌, map, refl, sym, ap, ◌∙◌, subst, arith}
 use Rattle.uca_weights.specs.declared.Element.{Element}
 use Rattle.uca_weights.specs.declared.Level.{Level}
 use Rattle.uca_plans.specs.declared.drafts.DraftWeight.{DraftWeight}
 use Rattle.uca_plans.specs.declared.drafts.DraftWeight.TheVariants.{Base, New}
-use Rattle.uca_plans.specs.Lists.{fixed_weight, top_weight, base_weights, same_weight, Insertion, inserted}
+use Rattle.uca_plans.specs.Lists.{fixed_weight, base_weights, Insertion, inserted}
 use Rattle.uca_plans.specs.ListLaws.{IsRising, IsAmong, StandsBefore, AreApart}
 use Rattle.uca_plans.specs.Runs.{bases}
 use Rattle.uca_plans.proofs.ListMembers.{same_or_other, of_each}
 use Rattle.uca_plans.proofs.BaseWeightLemmas.{bases_rising, fixed_base}
-use Rattle.uca_plans.proofs.InsertionLemmas.{Inserts, ahead, behind, later, inserts, inserts_from, inserts_old, inserts_apart, inserts_kept, inserts_stood, later_among}
+use Rattle.uca_plans.proofs.InsertionLemmas.{Inserts, ahead, behind, later, inserts, inserts_from, inserts_old, inserts_apart, inserts_kept}
+use Rattle.uca_plans.proofs.InsertionLemmas.{inserts_stood, later_among}
 
 -- ---- Base members
 
@@ -50,9 +50,9 @@ among_or_not [] w = inr (λ among. among)
 among_or_not (m ∷ ms) w = elim (same_or_other w m) [
   | inl same ↦ inl (inl (sym same.1))
   | inr other ↦ elim (among_or_not ms w) [
-      | inl there ↦ inl (inr there)
-      | inr not ↦ inr (λ among. not (later_among m ms w other.1 among))
-    ]
+    | inl there ↦ inl (inr there)
+    | inr not ↦ inr (λ among. not (later_among m ms w other.1 among))
+  ]
 ]
 
 -- beside a weight that is no member nothing is put in
@@ -80,7 +80,8 @@ pub record IsGrown (n : ℕ) (ms ns : List DraftWeight) : Type 0 where
   pub names : (k : ℕ) → k < n → IsAmong ns (New k) → IsAmong ms (New k)
 
 -- a good list has the fixed weight
-pub good_fixed : (level : Level) (es : List Element) (n : ℕ) (ms : List DraftWeight) → IsGoodList level es n ms → IsAmong ms (Base (fixed_weight level))
+pub good_fixed : (level : Level) (es : List Element) (n : ℕ) (ms : List DraftWeight) → IsGoodList level es n ms
+    → IsAmong ms (Base (fixed_weight level))
 good_fixed level es n ms good = bases_among ms (fixed_weight level) (subst (λ ws. IsAmong ws (fixed_weight level)) (sym good.base) (fixed_base level es))
 
 -- base weights are apart
@@ -132,7 +133,8 @@ same_name : (j k : ℕ) → New j ≡ New k → j ≡ k
 same_name j k same = cc
 
 -- a good list is good with the next new weight put in
-pub good_inserted : (level : Level) (es : List Element) (n : ℕ) (i : Insertion) (ms : List DraftWeight) → i.new ≡ New n → IsGoodList level es n ms → IsGoodList level es (n + 1) (inserted i ms)
+pub good_inserted : (level : Level) (es : List Element) (n : ℕ) (i : Insertion) (ms : List DraftWeight) → i.new ≡ New n → IsGoodList level es n ms
+    → IsGoodList level es (n + 1) (inserted i ms)
 good_inserted level es n i ms named good = elim (among_or_not ms i.anchor) [
   | inr not ↦ rw (not_inserted i ms not) (good_more level es n ms good)
   | inl among ↦
@@ -148,7 +150,8 @@ good_inserted level es n i ms named good = elim (among_or_not ms i.anchor) [
 ]
 
 -- and has grown so
-pub grown_inserted : (level : Level) (es : List Element) (n : ℕ) (i : Insertion) (ms : List DraftWeight) → i.new ≡ New n → IsGoodList level es n ms → IsGrown n ms (inserted i ms)
+pub grown_inserted : (level : Level) (es : List Element) (n : ℕ) (i : Insertion) (ms : List DraftWeight) → i.new ≡ New n → IsGoodList level es n ms
+    → IsGrown n ms (inserted i ms)
 grown_inserted level es n i ms named good = elim (among_or_not ms i.anchor) [
   | inr not ↦ rw (not_inserted i ms not) (grown_same n ms)
   | inl among ↦
@@ -157,7 +160,8 @@ grown_inserted level es n i ms named good = elim (among_or_not ms i.anchor) [
       record {
         old = λ w. inserts_old w h;
         kept = λ v w. inserts_kept v w h;
-        stood = λ v w among_v among_w. inserts_stood v w h (λ new. fresh (subst (λ x. IsAmong ms x) new among_v)) (λ new. fresh (subst (λ x. IsAmong ms x) new among_w));
+        stood = λ v w among_v among_w.
+            inserts_stood v w h (λ new. fresh (subst (λ x. IsAmong ms x) new among_v)) (λ new. fresh (subst (λ x. IsAmong ms x) new among_w));
         names = λ k less member. elim (inserts_from (New k) h member) [
           | inl new ↦ absurd (omega (arith, less, same_name k n new))
           | inr old ↦ old

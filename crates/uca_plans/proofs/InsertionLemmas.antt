@@ -1,9 +1,9 @@
 -- What an insertion makes of a level's list.
-use Rattle.std.proofs.Common.{◌≡◌, ◌⊎◌, inl, inr, ◌↔◌, ℕ, ◌+◌, ◌<◌, ◌≤◌, Bool, true, false, List, [], ◌∷◌, length, if◌then◌else◌, refl, sym, ap, ◌∙◌, arith, subst}
+use Rattle.std.proofs.Common.{◌≡◌, ◌⊎◌, inl, inr, ◌+◌, Bool, true, false, List, [], ◌∷◌, length, if◌then◌else◌, refl, sym, arith, subst}
 use Rattle.uca_plans.specs.declared.drafts.DraftWeight.{DraftWeight}
 use Rattle.uca_plans.specs.Lists.{Insertion, inserted, same_weight, before_weight, behind_weight}
-use Rattle.uca_plans.specs.ListLaws.{IsAmong, StandsBefore, AreApart, StandsBeside, IsInserted, NewWeightsStandNearest, StandsNext, NothingStandsBetween, GoesLow, GoesHigh, TakesOnePlace, NewWeightsTakePlaces}
-use Rattle.uca_plans.proofs.ListMembers.{same_or_other, same_itself, first_among, second_among, behind_first, among_same, not_before_itself}
+use Rattle.uca_plans.specs.ListLaws.{IsAmong, StandsBefore, AreApart, NewWeightsStandNearest, NothingStandsBetween, NewWeightsTakePlaces}
+use Rattle.uca_plans.proofs.ListMembers.{same_or_other, second_among, behind_first, among_same}
 
 -- a new weight put directly before or behind the first place of another
 pub data Inserts (a n : DraftWeight) : Bool → List DraftWeight → List DraftWeight → Type 0 where
@@ -27,7 +27,10 @@ later_among m ms w other (inr there) = there
 pub inserts : (i : Insertion) (ms : List DraftWeight) → IsAmong ms i.anchor → Inserts i.anchor i.new i.before ms (inserted i ms)
 inserts i [] among = absurd among
 inserts i (m ∷ ms) among = elim (same_or_other i.anchor m) [
-  | inl same ↦ rw same.0 (subst (λ x. Inserts i.anchor i.new i.before (x ∷ ms) (if i.before then i.new ∷ x ∷ ms else x ∷ i.new ∷ ms)) same.1 (inserts_here i.anchor i.new i.before ms))
+  | inl same ↦
+      rw same.0
+      (subst (λ x. Inserts i.anchor i.new i.before (x ∷ ms) (if i.before then i.new ∷ x ∷ ms else x ∷ i.new ∷ ms)) same.1
+      (inserts_here i.anchor i.new i.before ms))
   | inr other ↦ rw other.0 (later other.1 (inserts i ms (later_among m ms i.anchor other.1 among)))
 ]
 
@@ -40,7 +43,8 @@ inserts_more (behind {ms = ms}) = omega arith
 inserts_more (later {ms = ms} {ns = ns} other h) = let more = inserts_more h in omega arith
 
 -- a member is the new one or an old one
-pub inserts_from : {a n : DraftWeight} {b : Bool} {ms ns : List DraftWeight} (w : DraftWeight) → Inserts a n b ms ns → IsAmong ns w → (w ≡ n) ⊎ IsAmong ms w
+pub inserts_from : {a n : DraftWeight} {b : Bool} {ms ns : List DraftWeight} (w : DraftWeight) → Inserts a n b ms ns → IsAmong ns w
+    → (w ≡ n) ⊎ IsAmong ms w
 inserts_from w ahead (inl here) = inl (sym here)
 inserts_from w ahead (inr there) = inr there
 inserts_from w behind (inl here) = inr (inl here)
@@ -96,7 +100,8 @@ inserts_beside (later other h) = elim (inserts_beside h) [
 ]
 
 -- the old ones stand as they did
-pub inserts_kept : {a n : DraftWeight} {b : Bool} {ms ns : List DraftWeight} (v w : DraftWeight) → Inserts a n b ms ns → StandsBefore ms v w → StandsBefore ns v w
+pub inserts_kept : {a n : DraftWeight} {b : Bool} {ms ns : List DraftWeight} (v w : DraftWeight) → Inserts a n b ms ns → StandsBefore ms v w
+    → StandsBefore ns v w
 inserts_kept v w ahead stands = inr stands
 inserts_kept v w behind (inl here) = inl (here.0, inr here.1)
 inserts_kept v w behind (inr there) = inr (inr there)
@@ -104,14 +109,16 @@ inserts_kept v w (later other h) (inl here) = inl (here.0, inserts_old w h here.
 inserts_kept v w (later other h) (inr there) = inr (inserts_kept v w h there)
 
 -- what stands before the anchor's weight stands before the new one
-inserts_below : {a n : DraftWeight} {b : Bool} {ms ns : List DraftWeight} (v : DraftWeight) → Inserts a n b ms ns → AreApart ms → StandsBefore ms v a → StandsBefore ns v n
+inserts_below : {a n : DraftWeight} {b : Bool} {ms ns : List DraftWeight} (v : DraftWeight) → Inserts a n b ms ns → AreApart ms → StandsBefore ms v a
+    → StandsBefore ns v n
 inserts_below {a = a} v (ahead {ms = ms}) apart stands = absurd (apart.0 (behind_first a ms v a stands))
 inserts_below {a = a} v (behind {ms = ms}) apart stands = absurd (apart.0 (behind_first a ms v a stands))
 inserts_below v (later other h) apart (inl here) = inl (here.0, inserts_new h)
 inserts_below v (later other h) apart (inr there) = inr (inserts_below v h apart.1 there)
 
 -- what stands behind the anchor's weight stands behind the new one
-inserts_above : {a n : DraftWeight} {b : Bool} {ms ns : List DraftWeight} (w : DraftWeight) → Inserts a n b ms ns → StandsBefore ms a w → StandsBefore ns n w
+inserts_above : {a n : DraftWeight} {b : Bool} {ms ns : List DraftWeight} (w : DraftWeight) → Inserts a n b ms ns → StandsBefore ms a w
+    → StandsBefore ns n w
 inserts_above {a = a} w (ahead {ms = ms}) stands = inl (refl, inr (behind_first a ms a w stands))
 inserts_above {a = a} w (behind {ms = ms}) stands = inr (inl (refl, behind_first a ms a w stands))
 inserts_above w (later other h) (inl here) = absurd (other (sym here.0))
@@ -171,16 +178,20 @@ not_same f n other = elim (same_or_other f n) [
 -- what an insertion adds to the members before a weight and to those behind it
 abbrev TakesOne : DraftWeight → DraftWeight → Bool → List DraftWeight → List DraftWeight → Type 0
 TakesOne f a b ms ns =
-    ((StandsBefore ms a f ⊎ ((a ≡ f) × (b ≡ true))) × (length (before_weight f ns) ≡ length (before_weight f ms) + 1) × (length (behind_weight f ns) ≡ length (behind_weight f ms)))
-    ⊎ ((StandsBefore ms f a ⊎ ((a ≡ f) × (b ≡ false))) × (length (before_weight f ns) ≡ length (before_weight f ms)) × (length (behind_weight f ns) ≡ length (behind_weight f ms) + 1))
+    ((StandsBefore ms a f ⊎ ((a ≡ f) × (b ≡ true)))
+    × (length (before_weight f ns) ≡ length (before_weight f ms) + 1) × (length (behind_weight f ns) ≡ length (behind_weight f ms)))
+    ⊎ ((StandsBefore ms f a ⊎ ((a ≡ f) × (b ≡ false)))
+    × (length (before_weight f ns) ≡ length (before_weight f ms)) × (length (behind_weight f ns) ≡ length (behind_weight f ms) + 1))
 
 -- one member more in front that is not the weight
-takes_later : (f a m : DraftWeight) (b : Bool) (ms ns : List DraftWeight) → same_weight f m ≡ false → TakesOne f a b ms ns → TakesOne f a b (m ∷ ms) (m ∷ ns)
+takes_later : (f a m : DraftWeight) (b : Bool) (ms ns : List DraftWeight) → same_weight f m ≡ false → TakesOne f a b ms ns
+    → TakesOne f a b (m ∷ ms) (m ∷ ns)
 takes_later f a m b ms ns other (inl low) = rw other (inl (elim low.0 [ inl stands ↦ inl (inr stands) | inr same ↦ inr same ], omega (arith, low.1), low.2))
 takes_later f a m b ms ns other (inr high) = rw other (inr (elim high.0 [ inl stands ↦ inl (inr stands) | inr same ↦ inr same ], omega (arith, high.1), high.2))
 
 -- an insertion adds one before the weight or one behind it
-takes_one : {a n : DraftWeight} {b : Bool} {ms ns : List DraftWeight} (f : DraftWeight) → Inserts a n b ms ns → IsAmong ms f → (n ≡ f → ⊥) → TakesOne f a b ms ns
+takes_one : {a n : DraftWeight} {b : Bool} {ms ns : List DraftWeight} (f : DraftWeight) → Inserts a n b ms ns → IsAmong ms f → (n ≡ f → ⊥)
+    → TakesOne f a b ms ns
 takes_one {a = a} {n = n} f (ahead {ms = ms}) among new =
     let not_new = not_same f n new in
     elim (same_or_other f a) [

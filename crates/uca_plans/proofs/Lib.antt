@@ -15,3 +15,9 @@ pub mod PlanLists
 pub mod PlanKeys
 pub mod RowSizes
 pub mod PlaceRows
+pub mod DraftKinds
+pub mod DraftGaps
+pub mod DraftPairs
+pub mod PlanHolds
+pub mod PlanCarried
+pub mod PlanRows

@@ -1,12 +1,13 @@
 -- The numbers of a segment: one pass gives the closed form, and they are proper.
-use Rattle.std.proofs.Common.{◌≡◌, ◌⊎◌, inl, inr, ℕ, zero, suc, ◌+◌, ◌-◌, ◌<◌, ◌≤◌, List, [], ◌∷◌, ◌++◌, length, take, drop, min, max, get_or, refl, sym, ap, ◌∙◌, arith, append_assoc}
-use Rattle.std.proofs.lemmas.List.{length-append, take_at, take_more, take-append-drop, length-take-le, length-drop, take-take}
+use Rattle.std.proofs.Common.{◌≡◌, inl, inr, ℕ, zero, suc, ◌+◌, ◌-◌, ◌<◌, ◌≤◌, List, [], ◌∷◌, ◌++◌, length, take, drop, min, get_or, refl, sym, ap}
+use Rattle.std.proofs.Common.{◌∙◌, arith, append_assoc}
+use Rattle.std.proofs.lemmas.List.{length-append, take_at, take-append-drop, length-take-le, length-drop, take-take}
 use Rattle.std.proofs.lemmas.Bool.{cases_lt}
-use Rattle.std.specs.Prelude.{slice_index}
 use Rattle.uca_plans.specs.declared.drafts.DraftWeight.{DraftWeight}
 use Rattle.uca_plans.specs.declared.drafts.DraftWeight.TheVariants.{Base, New}
 use Rattle.uca_plans.specs.declared.drafts.Segment.{Segment}
-use Rattle.uca_plans.specs.Numbering.{pushed_up, reached, number, one_further, numbers_from, numbers_of, InOnePass, IsBaseAt, HasRoomAt, AreNumbers, HasPlaces, NumbersAreProper}
+use Rattle.uca_plans.specs.Numbering.{pushed_up, reached, number, one_further, numbers_from, InOnePass, IsBaseAt, HasRoomAt, HasPlaces}
+use Rattle.uca_plans.specs.Numbering.{NumbersAreProper}
 
 -- ---- One member more
 
@@ -57,7 +58,8 @@ base_longer : (xs ys : List DraftWeight) (j w : ℕ) → IsBaseAt xs j w → IsB
 base_longer xs ys j w at = (at.0, at.1 ++ ys, ap (λ rest. rest ++ ys) at.2 ∙ append_assoc at.0 (Base w ∷ at.1) ys, at.3)
 
 -- the last place is the least that leaves each base member room
-pub pushed_most : (least top : ℕ) (xs : List DraftWeight) → least < top → ((j w : ℕ) → IsBaseAt xs j w → w + (length xs - j) < top) → pushed_up least xs < top
+pub pushed_most : (least top : ℕ) (xs : List DraftWeight) → least < top → ((j w : ℕ) → IsBaseAt xs j w → w + (length xs - j) < top)
+    → pushed_up least xs < top
 pushed_most least top [] low each = low
 pushed_most least top (Base v ∷ xs) low each =
     let here = each 1 v (base_first v xs) in
@@ -134,25 +136,29 @@ less_number segment members places i m i_within m_within less = elim (cases_lt i
 ]
 
 -- the same, by the members before it and behind it
-kept_here : (segment : Segment) (before behind : List DraftWeight) (weight : ℕ) → HasRoomAt segment (before ++ Base weight ∷ behind) (length before + 1) weight
+kept_here : (segment : Segment) (before behind : List DraftWeight) (weight : ℕ)
+    → HasRoomAt segment (before ++ Base weight ∷ behind) (length before + 1) weight
     → number segment (before ++ Base weight ∷ behind) (length before + 1) ≡ weight
 kept_here segment before behind weight room =
     let low : segment.below + length before < weight = omega (arith, room.below) in
     let most = pushed_most (segment.below + length before) weight before low (λ j w at.
-    let further = room.before j w (omega (arith, at.3, ap length at.2, length-append at.0 (Base w ∷ at.1))) (base_longer before (Base weight ∷ behind) j w at) in
-    omega (arith, at.3, ap length at.2, length-append at.0 (Base w ∷ at.1))) in
+    let parts = length-append at.0 (Base w ∷ at.1) in
+    let further = room.before j w (omega (arith, at.3, ap length at.2, parts)) (base_longer before (Base weight ∷ behind) j w at) in
+    omega (arith, at.3, ap length at.2, parts)) in
     let long : length (before ++ Base weight ∷ behind) ≡ length before + suc (length behind) = length-append before (Base weight ∷ behind) in
     let above = room.above in
     number_here segment before (Base weight) behind ∙ omega arith
 
 -- a base member keeps its weight where there is room
-number_kept : (segment : Segment) (members : List DraftWeight) (i weight : ℕ) → IsBaseAt members i weight → HasRoomAt segment members i weight → number segment members i ≡ weight
+number_kept : (segment : Segment) (members : List DraftWeight) (i weight : ℕ) → IsBaseAt members i weight → HasRoomAt segment members i weight
+    → number segment members i ≡ weight
 number_kept segment members i weight at room =
     let here : HasRoomAt segment (at.0 ++ Base weight ∷ at.1) (length at.0 + 1) weight = rw (at.2, at.3) at room in
     rw (at.2, at.3) (kept_here segment at.0 at.1 weight here)
 
 -- a number stands above the segment's beginning
-number_above : (segment : Segment) (members : List DraftWeight) → HasPlaces segment members → (i : ℕ) → 1 ≤ i → i ≤ length members → segment.below < number segment members i
+number_above : (segment : Segment) (members : List DraftWeight) → HasPlaces segment members → (i : ℕ) → 1 ≤ i → i ≤ length members
+    → segment.below < number segment members i
 number_above segment members places i first within =
     let least = pushed_least (segment.below + length (take i members)) (take i members) in
     let long = length-take-le i members within in

@@ -1,5 +1,6 @@
 -- The lists of a plan are good at each level, and its runs are proper.
-use Rattle.std.proofs.Common.{◌≡◌, ◌⊎◌, inl, inr, ℕ, zero, suc, ◌+◌, ◌<◌, ◌≤◌, Bool, true, false, List, [], ◌∷◌, ◌++◌, length, map, Option, Some, None, Result, Ok, Err, refl, sym, ap, ◌∙◌, subst, arith, if◌then◌else◌}
+use Rattle.std.proofs.Common.{◌≡◌, ◌⊎◌, inl, inr, ℕ, suc, ◌+◌, Bool, true, false, List, [], ◌∷◌, ◌++◌, length, map, Option, Some, None, Ok, refl, sym}
+use Rattle.std.proofs.Common.{ap, ◌∙◌, arith, if◌then◌else◌}
 use Rattle.uca_weights.specs.declared.Element.{Element}
 use Rattle.uca_weights.specs.declared.Level.{Level}
 use Rattle.uca_weights.specs.declared.Level.TheVariants.{One, Two, Three}
@@ -12,7 +13,7 @@ use Rattle.uca_plans.specs.declared.drafts.DraftWeight.TheVariants.{Base, New}
 use Rattle.uca_plans.specs.declared.drafts.DraftElement.{DraftElement}
 use Rattle.uca_plans.specs.Lists.{Insertion, base_weights, same_level, inserted, all_inserted, members_of}
 use Rattle.uca_plans.specs.Drafts.{AnchorPart, anchor_part, accepted_part, draft_weight, draft_elements}
-use Rattle.uca_plans.specs.Plans.{Basis, Drafting, Drafted, placed_behind, placed_if_accepted, drafted_at, draft_expansion, drafted, begun, Plan, planned}
+use Rattle.uca_plans.specs.Plans.{Basis, Drafting, Drafted, placed_behind, placed_if_accepted, drafted_at, draft_expansion, begun, Plan, planned}
 use Rattle.uca_plans.proofs.GoodLists.{IsGoodList, IsGrown, good_base, good_more, good_inserted, grown_same, grown_through, grown_inserted}
 use Rattle.uca_plans.proofs.LevelRuns.{good_proper}
 use Rattle.uca_plans.proofs.PlanSteps.{IsStep, AreSteps, IsPlanned, planned_is}
@@ -20,7 +21,8 @@ use Rattle.uca_plans.proofs.PlanSteps.{IsStep, AreSteps, IsPlanned, planned_is}
 -- ---- Insertions
 
 -- insertions one after the other
-pub inserted_behind : (level : Level) (is js : List Insertion) (ms : List DraftWeight) → all_inserted level (is ++ js) ms ≡ all_inserted level js (all_inserted level is ms)
+pub inserted_behind : (level : Level) (is js : List Insertion) (ms : List DraftWeight)
+    → all_inserted level (is ++ js) ms ≡ all_inserted level js (all_inserted level is ms)
 inserted_behind level [] js ms = refl
 inserted_behind level (i ∷ is) js ms = inserted_behind level is js (if same_level i.level level then inserted i ms else ms)
 
@@ -70,7 +72,8 @@ HasGrownLists basis n a b = (level : Level) → IsGrown n (list_at level basis a
 -- the insertions of a step are named
 pub step_named : (basis : Basis) (n : ℕ) (rule : Relation) (a b : Drafting) (step : IsStep basis n rule a b) → AreNamed n step.new.insertions
 step_named basis n rule a b step =
-    named_at (level_of rule.strength) rule.before n (draft_elements basis.ranges basis.properties a.rows rule.anchor) (draft_expansion basis a rule.expansion) step.new step.is_drafted
+    named_at (level_of rule.strength) rule.before n
+    (draft_elements basis.ranges basis.properties a.rows rule.anchor) (draft_expansion basis a rule.expansion) step.new step.is_drafted
 
 -- the lists behind a step are those before it with its insertions
 pub step_list : (basis : Basis) (n : ℕ) (rule : Relation) (a b : Drafting) (step : IsStep basis n rule a b) (level : Level)
@@ -80,11 +83,13 @@ step_list basis n rule a b step level =
     ∙ inserted_behind level a.insertions step.new.insertions (map Base (base_weights level (elements_of basis.base)))
 
 -- good lists are good behind a step, and have grown so
-pub good_step : (basis : Basis) (n : ℕ) (rule : Relation) (a b : Drafting) → IsStep basis n rule a b → HasGoodLists basis n a → HasGoodLists basis (n + 1) b × HasGrownLists basis n a b
+pub good_step : (basis : Basis) (n : ℕ) (rule : Relation) (a b : Drafting) → IsStep basis n rule a b → HasGoodLists basis n a
+    → HasGoodLists basis (n + 1) b × HasGrownLists basis n a b
 good_step basis n rule a b step good = (λ level. (both level).0, λ level. (both level).1)
   where
     -- at one level
-    both : (level : Level) → IsGoodList level (elements_of basis.base) (n + 1) (list_at level basis b) × IsGrown n (list_at level basis a) (list_at level basis b)
+    both : (level : Level)
+        → IsGoodList level (elements_of basis.base) (n + 1) (list_at level basis b) × IsGrown n (list_at level basis a) (list_at level basis b)
     both level =
         rw (step_list basis n rule a b step level)
         (good_all level (elements_of basis.base) n step.new.insertions (list_at level basis a) (step_named basis n rule a b step) (good level))
@@ -99,8 +104,7 @@ good_steps basis n (r ∷ relations) a b steps good =
     let next = steps.0 in
     let first = good_step basis n r a next steps.1 good in
     let rest = good_steps basis (n + 1) relations next b steps.2 first.0 in
-    let place : (n + 1) + length relations ≡ n + suc (length relations) = omega arith in
-    (
+    let place : (n + 1) + length relations ≡ n + suc (length relations) = omega arith in (
       λ level. rw (← place) (rest.0 level),
       λ level. grown_through n (n + 1) (list_at level basis a) (list_at level basis next) (list_at level basis b) (omega arith) (first.1 level) (rest.1 level),
     )
@@ -112,7 +116,8 @@ good_begun basis level = good_base level (elements_of basis.base)
 -- ---- The plan
 
 -- the lists of a plan are good
-pub good_planned : (basis : Basis) (relations : List Relation) (plan : Plan) (made : IsPlanned basis relations plan) → HasGoodLists basis (0 + length relations) made.drafting
+pub good_planned : (basis : Basis) (relations : List Relation) (plan : Plan) (made : IsPlanned basis relations plan)
+    → HasGoodLists basis (0 + length relations) made.drafting
 good_planned basis relations plan made = (good_steps basis 0 relations (begun basis) made.drafting made.steps (good_begun basis)).0
 
 -- the runs of each level of a plan are proper

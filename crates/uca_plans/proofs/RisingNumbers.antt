@@ -1,5 +1,6 @@
 -- The numbers of a level with room rise along its list.
-use Rattle.std.proofs.Common.{◌≡◌, ◌⊎◌, inl, inr, ℕ, zero, suc, ◌+◌, ◌-◌, ◌<◌, ◌≤◌, Bool, true, false, ◌&&◌, List, [], ◌∷◌, ◌++◌, length, min, nat_le, refl, sym, ap, ◌∙◌, arith, subst}
+use Rattle.std.proofs.Common.{◌≡◌, inl, inr, ℕ, suc, ◌+◌, ◌-◌, ◌<◌, ◌≤◌, Bool, true, false, ◌&&◌, List, [], ◌∷◌, ◌++◌, length, min, refl, sym, ap}
+use Rattle.std.proofs.Common.{arith}
 use Rattle.std.proofs.lemmas.Bool.Decides.{nat_tests}
 use Rattle.std.proofs.lemmas.List.{length-append}
 use Rattle.std.specs.List.{AllByRecursion}
@@ -10,8 +11,9 @@ use Rattle.uca_plans.specs.declared.drafts.DraftWeight.{DraftWeight}
 use Rattle.uca_plans.specs.declared.drafts.DraftWeight.TheVariants.{Base, New}
 use Rattle.uca_plans.specs.declared.drafts.Segment.{Segment}
 use Rattle.uca_plans.specs.Numbering.{one_further, numbers_from, numbers_of}
-use Rattle.uca_plans.specs.Lists.{fixed_weight, top_weight, low_segment, high_segment, same_weight, before_weight, behind_weight, low_members, high_members, has_room, level_has_room, level_numbers, number_in}
-use Rattle.uca_plans.specs.ListLaws.{IsRising, IsAmong, StandsBefore, AreApart, AreLevelNumbers, NumbersRiseAlongLists}
+use Rattle.uca_plans.specs.Lists.{fixed_weight, top_weight, low_segment, high_segment, before_weight, low_members, high_members, has_room}
+use Rattle.uca_plans.specs.Lists.{level_has_room, level_numbers, number_in}
+use Rattle.uca_plans.specs.ListLaws.{IsRising, IsAmong, StandsBefore, AreApart, NumbersRiseAlongLists}
 use Rattle.uca_plans.proofs.ListMembers.{same_or_other, same_itself, first_among, second_among, among_same, weight_split}
 use Rattle.uca_plans.proofs.InsertionLemmas.{later_among}
 
@@ -59,12 +61,14 @@ segment_numbers segment ms room =
 -- ---- Joined lists
 
 -- what holds of each of two lists and of one between holds of each
-pub each_joined : {A : Type 0} (P : A → Type 0) (xs : List A) (x : A) (ys : List A) → AllByRecursion P xs → P x → AllByRecursion P ys → AllByRecursion P (xs ++ x ∷ ys)
+pub each_joined : {A : Type 0} (P : A → Type 0) (xs : List A) (x : A) (ys : List A) → AllByRecursion P xs → P x → AllByRecursion P ys
+    → AllByRecursion P (xs ++ x ∷ ys)
 each_joined P [] x ys first it second = (it, second)
 each_joined P (y ∷ xs) x ys first it second = (first.0, each_joined P xs x ys first.1 it second)
 
 -- rising weights below one, that one, and rising weights above it rise
-pub rising_joined : (xs : List ℕ) (x : ℕ) (ys : List ℕ) → IsRising xs → AllByRecursion (λ v. v < x) xs → AllByRecursion (λ v. x < v) ys → IsRising ys → IsRising (xs ++ x ∷ ys)
+pub rising_joined : (xs : List ℕ) (x : ℕ) (ys : List ℕ) → IsRising xs → AllByRecursion (λ v. v < x) xs → AllByRecursion (λ v. x < v) ys → IsRising ys
+    → IsRising (xs ++ x ∷ ys)
 rising_joined [] x ys first below above second = (above, second)
 rising_joined (y ∷ xs) x ys first below above second = (
   each_joined (λ v. y < v) xs x ys first.0 below.0 (each_weaker (λ v. x < v) (λ v. y < v) (λ v h. omega (arith, below.0, h)) ys above),
@@ -74,7 +78,8 @@ rising_joined (y ∷ xs) x ys first below above second = (
 -- ---- The number of a member
 
 -- what holds of each number holds of a member's
-pub number_each : (P : ℕ → Type 0) (ms : List DraftWeight) (ns : List ℕ) (w : DraftWeight) → length ns ≡ length ms → IsAmong ms w → AllByRecursion P ns → P (number_in ms ns w)
+pub number_each : (P : ℕ → Type 0) (ms : List DraftWeight) (ns : List ℕ) (w : DraftWeight) → length ns ≡ length ms → IsAmong ms w
+    → AllByRecursion P ns → P (number_in ms ns w)
 number_each P [] ns w same among all = absurd among
 number_each P (m ∷ ms) [] w same among all = absurd (omega arith)
 number_each P (m ∷ ms) (n ∷ ns) w same among all = elim (same_or_other w m) [
@@ -92,7 +97,8 @@ number_bound top (m ∷ ms) (n ∷ ns) w all = elim (same_or_other w m) [
 ]
 
 -- rising numbers rise along a list in which none comes twice
-pub numbers_in_order : (ms : List DraftWeight) (ns : List ℕ) (v w : DraftWeight) → length ns ≡ length ms → AreApart ms → IsRising ns → StandsBefore ms v w
+pub numbers_in_order : (ms : List DraftWeight) (ns : List ℕ) (v w : DraftWeight) → length ns ≡ length ms → AreApart ms → IsRising ns
+    → StandsBefore ms v w
     → number_in ms ns v < number_in ms ns w
 numbers_in_order [] ns v w same apart rising stands = absurd stands
 numbers_in_order (m ∷ ms) [] v w same apart rising stands = absurd (omega arith)
@@ -109,7 +115,8 @@ numbers_in_order (m ∷ ms) (n ∷ ns) v w same apart rising (inr there) = elim 
 ]
 
 -- the number at the place of a member
-pub number_at : (w : DraftWeight) (ms : List DraftWeight) (lows : List ℕ) (n : ℕ) (highs : List ℕ) → IsAmong ms w → length lows ≡ length (before_weight w ms)
+pub number_at : (w : DraftWeight) (ms : List DraftWeight) (lows : List ℕ) (n : ℕ) (highs : List ℕ) → IsAmong ms w
+    → length lows ≡ length (before_weight w ms)
     → number_in ms (lows ++ n ∷ highs) w ≡ n
 number_at w [] lows n highs among same = absurd among
 number_at w (m ∷ ms) [] n highs among same = elim (same_or_other w m) [
@@ -134,6 +141,23 @@ both_true false b h = absurd (cc)
 pub room_places : (segment : Segment) (ms : List DraftWeight) → has_room segment ms ≡ true → segment.below + length ms ≤ segment.top
 room_places segment ms room = grind (arith, nat_tests)
 
+-- the places of a level's segments
+pub level_places : (level : Level) (ms : List DraftWeight) → level_has_room level ms ≡ true
+    → ((low_segment level).below + length (low_members level ms) ≤ (low_segment level).top)
+    × ((high_segment level).below + length (high_members level ms) ≤ (high_segment level).top)
+level_places level ms room =
+    let low = has_room (low_segment level) (low_members level ms) in
+    let high = has_room (high_segment level) (high_members level ms) in
+    let both = both_true low high room in
+    (room_places (low_segment level) (low_members level ms) both.0, room_places (high_segment level) (high_members level ms) both.1)
+
+-- the numbers of the lower members, and of the higher ones
+abbrev pub lows : Level → List DraftWeight → List ℕ
+lows level ms = numbers_of (low_segment level) (low_members level ms)
+
+abbrev pub highs : Level → List DraftWeight → List ℕ
+highs level ms = numbers_of (high_segment level) (high_members level ms)
+
 -- the fixed weight is not above the top
 pub fixed_within : (level : Level) → fixed_weight level ≤ top_weight level
 fixed_within One = omega arith
@@ -142,15 +166,14 @@ fixed_within Three = omega arith
 
 -- with room the numbers of the lower members stand between 0 and the fixed weight
 pub low_numbers : (level : Level) (ms : List DraftWeight) → level_has_room level ms ≡ true
-    → AllByRecursion (λ n. (0 < n) × (n < fixed_weight level)) (numbers_of (low_segment level) (low_members level ms))
+    → AllByRecursion (λ n. (0 < n) × (n < fixed_weight level)) (lows level ms)
 low_numbers level ms room =
-    let low = (both_true (has_room (low_segment level) (low_members level ms)) (has_room (high_segment level) (high_members level ms)) room).0 in
     each_weaker (λ n. (0 < n) × (n ≤ fixed_weight level - 1)) (λ n. (0 < n) × (n < fixed_weight level)) (λ n h. (h.0, omega (arith, h.0, h.1)))
-    (numbers_of (low_segment level) (low_members level ms)) (segment_numbers (low_segment level) (low_members level ms) (room_places (low_segment level) (low_members level ms) low))
+    (lows level ms) (segment_numbers (low_segment level) (low_members level ms) (level_places level ms room).0)
 
 -- and those of the higher members above the fixed weight, up to the top
 pub high_numbers : (level : Level) (ms : List DraftWeight) → level_has_room level ms ≡ true
-    → AllByRecursion (λ n. (fixed_weight level < n) × (n ≤ top_weight level)) (numbers_of (high_segment level) (high_members level ms))
+    → AllByRecursion (λ n. (fixed_weight level < n) × (n ≤ top_weight level)) (highs level ms)
 high_numbers level ms room =
     let high = (both_true (has_room (low_segment level) (low_members level ms)) (has_room (high_segment level) (high_members level ms)) room).1 in
     segment_numbers (high_segment level) (high_members level ms) (room_places (high_segment level) (high_members level ms) high)
@@ -161,31 +184,32 @@ level_rising level ms room =
     let both = both_true (has_room (low_segment level) (low_members level ms)) (has_room (high_segment level) (high_members level ms)) room in
     let low = room_places (low_segment level) (low_members level ms) both.0 in
     let high = room_places (high_segment level) (high_members level ms) both.1 in
-    rising_joined (numbers_of (low_segment level) (low_members level ms)) (fixed_weight level) (numbers_of (high_segment level) (high_members level ms))
+    rising_joined (lows level ms) (fixed_weight level) (highs level ms)
     (numbers_rising (low_segment level).top (low_segment level).below (low_members level ms) (omega arith))
     (each_weaker (λ n. (0 < n) × (n < fixed_weight level)) (λ n. n < fixed_weight level) (λ n h. h.1)
-    (numbers_of (low_segment level) (low_members level ms)) (low_numbers level ms room))
+    (lows level ms) (low_numbers level ms room))
     (each_weaker (λ n. (fixed_weight level < n) × (n ≤ top_weight level)) (λ n. fixed_weight level < n) (λ n h. h.0)
-    (numbers_of (high_segment level) (high_members level ms)) (high_numbers level ms room))
+    (highs level ms) (high_numbers level ms room))
     (numbers_rising (high_segment level).top (high_segment level).below (high_members level ms) (omega arith))
 
 -- with room the numbers of a level are not above its top
-pub level_within : (level : Level) (ms : List DraftWeight) → level_has_room level ms ≡ true → AllByRecursion (λ n. n ≤ top_weight level) (level_numbers level ms)
+pub level_within : (level : Level) (ms : List DraftWeight) → level_has_room level ms ≡ true
+    → AllByRecursion (λ n. n ≤ top_weight level) (level_numbers level ms)
 level_within level ms room =
     let fixed = fixed_within level in
-    each_joined (λ n. n ≤ top_weight level) (numbers_of (low_segment level) (low_members level ms)) (fixed_weight level) (numbers_of (high_segment level) (high_members level ms))
+    each_joined (λ n. n ≤ top_weight level) (lows level ms) (fixed_weight level) (highs level ms)
     (each_weaker (λ n. (0 < n) × (n < fixed_weight level)) (λ n. n ≤ top_weight level) (λ n h. omega (arith, fixed, h.1))
-    (numbers_of (low_segment level) (low_members level ms)) (low_numbers level ms room))
+    (lows level ms) (low_numbers level ms room))
     fixed
     (each_weaker (λ n. (fixed_weight level < n) × (n ≤ top_weight level)) (λ n. n ≤ top_weight level) (λ n h. h.1)
-    (numbers_of (high_segment level) (high_members level ms)) (high_numbers level ms room))
+    (highs level ms) (high_numbers level ms room))
 
 -- a level has a number for each member
 pub level_length : (level : Level) (ms : List DraftWeight) → IsAmong ms (Base (fixed_weight level)) → length (level_numbers level ms) ≡ length ms
 level_length level ms among =
     let low = numbers_length (low_segment level).top (low_segment level).below (low_members level ms) in
     let high = numbers_length (high_segment level).top (high_segment level).below (high_members level ms) in
-    let numbers = length-append (numbers_of (low_segment level) (low_members level ms)) (fixed_weight level ∷ numbers_of (high_segment level) (high_members level ms)) in
+    let numbers = length-append (lows level ms) (fixed_weight level ∷ highs level ms) in
     let members = length-append (low_members level ms) (Base (fixed_weight level) ∷ high_members level ms) in
     let split = ap length (weight_split (Base (fixed_weight level)) ms among) in
     omega arith
@@ -194,7 +218,7 @@ level_length level ms among =
 pub level_fixed : (level : Level) (ms : List DraftWeight) → IsAmong ms (Base (fixed_weight level))
     → number_in ms (level_numbers level ms) (Base (fixed_weight level)) ≡ fixed_weight level
 level_fixed level ms among =
-    number_at (Base (fixed_weight level)) ms (numbers_of (low_segment level) (low_members level ms)) (fixed_weight level) (numbers_of (high_segment level) (high_members level ms))
+    number_at (Base (fixed_weight level)) ms (lows level ms) (fixed_weight level) (highs level ms)
     among (numbers_length (low_segment level).top (low_segment level).below (low_members level ms))
 
 -- numbers rise along the list of a level

@@ -1,5 +1,6 @@
 -- The runs of a list rise and send each base weight to its number.
-use Rattle.std.proofs.Common.{◌≡◌, ◌⊎◌, inl, inr, ℕ, zero, suc, ◌+◌, ◌-◌, ◌<◌, ◌≤◌, Bool, true, false, ◌&&◌, List, [], ◌∷◌, length, Option, Some, None, nat_eq, nat_le, nat_lt, if◌then◌else◌, refl, sym, ap, ◌∙◌, arith, subst}
+use Rattle.std.proofs.Common.{◌≡◌, ◌⊎◌, inl, inr, ℕ, ◌+◌, ◌-◌, ◌<◌, ◌≤◌, Bool, true, false, ◌&&◌, List, [], ◌∷◌, length, Some, None, nat_eq}
+use Rattle.std.proofs.Common.{if◌then◌else◌, refl, sym, ap, ◌∙◌, arith, subst}
 use Rattle.std.proofs.lemmas.Bool.{cases_eq, cases_lt}
 use Rattle.std.proofs.lemmas.Bool.Decides.{nat_tests}
 use Rattle.std.specs.List.{AllByRecursion}
@@ -11,7 +12,7 @@ use Rattle.uca_plans.specs.declared.drafts.DraftWeight.TheVariants.{Base, New}
 use Rattle.uca_plans.specs.Lists.{number_in}
 use Rattle.uca_plans.specs.ListLaws.{IsRising, IsAmong}
 use Rattle.uca_plans.specs.Plans.{run_before, runs_of}
-use Rattle.uca_plans.specs.Runs.{AreRunsFrom, bases, AreRunsOf, HasZeroFirstOrNone, RunsSendBaseWeights}
+use Rattle.uca_plans.specs.Runs.{AreRunsFrom, bases, HasZeroFirstOrNone, RunsSendBaseWeights}
 
 -- ---- One weight more in front
 
@@ -45,7 +46,8 @@ alone_here from to runs =
     let r : Run = record { from = from; to = to; count = 1 } in
     image_here r runs from (omega arith) (omega arith) ∙ ap Some (omega arith)
 
-alone_elsewhere : (from to : ℕ) (runs : List Run) (w : ℕ) → (w ≡ from → ⊥) → run_image (record { from = from; to = to; count = 1 } ∷ runs) w ≡ run_image runs w
+alone_elsewhere : (from to : ℕ) (runs : List Run) (w : ℕ) → (w ≡ from → ⊥)
+    → run_image (record { from = from; to = to; count = 1 } ∷ runs) w ≡ run_image runs w
 alone_elsewhere from to runs w other =
     let r : Run = record { from = from; to = to; count = 1 } in
     elim (cases_lt w from) [
