@@ -1,5 +1,5 @@
 -- The new weights of insertions are those of relations.
-use Rattle.std.proofs.Common.{◌≡◌, inl, inr, ℕ, suc, ◌+◌, ◌<◌, List, [], ◌∷◌, ◌++◌, length, Ok, sym, subst, arith, tt}
+use Rattle.std.proofs.Common.{◌≡◌, inl, inr, ℕ, suc, ◌+◌, ◌<◌, List, [], ◌∷◌, ◌++◌, length, Ok, sym, subst, arith}
 use Rattle.std.specs.List.{AllByRecursion}
 use Rattle.uca_check.proofs.Elements.{each_weaker}
 use Rattle.uca_rules.specs.declared.relations.Relation.{Relation}
@@ -55,4 +55,5 @@ below_steps basis n (r ∷ relations) here behind steps below =
 pub drafts_below : (basis : Basis) (relations : List Relation) (drafting : Drafting)
     → with_relations basis 0 relations (begun basis) ≡ Ok drafting → AllByRecursion (InsertsBelow (length relations)) drafting.insertions
 drafts_below basis relations drafting drafted =
-    below_steps basis 0 relations (begun basis) drafting (steps_of basis 0 relations (begun basis) drafting drafted) tt
+    below_further (0 + length relations) (length relations) (omega arith) drafting.insertions
+    (below_steps basis 0 relations (begun basis) drafting (steps_of basis 0 relations (begun basis) drafting drafted) tt)

@@ -5,3 +5,4 @@ pub mod PartLaws
 pub mod RunLaws
 pub mod LevelLaws
 pub mod InsertionNames
+pub mod RefusalLaws

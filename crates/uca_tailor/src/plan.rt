@@ -3,8 +3,8 @@
 ghost use Rattle.std.specs.Prelude.{◌≡◌, ◌⊎◌, map, true, false, IfOk, IfErr, Ok, Err};
 ghost use Rattle.std.specs.List.{AllByRecursion};
 ghost use Rattle.uca_weights.specs.Runs.{AreProperRuns};
-ghost use Rattle.uca_values.specs.Content.{AreRows, properties_of};
-ghost use Rattle.uca_check.specs.WellFormed.{elements_of};
+ghost use Rattle.uca_values.specs.Content.{IsTable, properties_of};
+ghost use Rattle.uca_check.specs.WellFormed.{IsWellFormed, elements_of};
 ghost use Rattle.uca_certificates.specs.Certificates.{IsCertificate};
 ghost use Rattle.uca_plans.specs.Lists as lists;
 ghost use Rattle.uca_plans.specs.Plans as plans;
@@ -27,7 +27,7 @@ use uca_rules::Rules;
 use uca_values::{Data, Header, Row, Table};
 use uca_weights::{Element, Level, Run, WeightMap};
 
-/// The table and the certificate of the plan of some rules over a base.
+/// The table and the certificate of the plan of some rules over a well-formed base.
 ///
 /// # Errors
 ///
@@ -38,6 +38,7 @@ pub(crate) fn plan(
     properties: &Data,
     rules: &Rules,
 ) -> Result<(Table, Certificate), TailorFault>
+    requires { IsWellFormed (properties_of properties.now).class base.now.rows }
     ensures made { IfOk result (λ answer. IsMade base.now (properties_of properties.now) rules.now answer.0 answer.1) }
     ensures not_made { IfErr result (IsNotMade base.now (properties_of properties.now) rules.now) }
 {
@@ -119,7 +120,7 @@ fn number_table(
     drafting: &Drafting,
     numbers: &Numbers,
 ) -> Result<Table, AllocError>
-    requires { AreRows (plan_of drafting.now.rows numbers.now).rows }
+    requires { IsTable base.now → IsTable (table_of base.now (plan_of drafting.now.rows numbers.now)) }
     ensures { IfOk result (λ table. table ≡ table_of base.now (plan_of drafting.now.rows numbers.now)) }
 {
     let header = copy_header(alloc, &base.header)?;
