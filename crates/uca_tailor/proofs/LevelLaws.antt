@@ -1,11 +1,11 @@
 -- What a level's list has: the weight that stays, and new weights of relations that there are.
-use Rattle.std.proofs.Common.{◌≡◌, ◌⊎◌, inl, inr, ℕ, ◌<◌, Bool, true, false, List, [], ◌∷◌, length, map, if◌then◌else◌, refl, sym, ap, ◌∙◌}
+use Rattle.std.proofs.Common.{◌≡◌, inl, inr, ℕ, Bool, true, false, List, [], ◌∷◌, length, map, if◌then◌else◌, ap}
 use Rattle.std.specs.List.{AllByRecursion}
 use Rattle.uca_weights.specs.declared.Element.{Element}
 use Rattle.uca_weights.specs.declared.Level.{Level}
 use Rattle.uca_plans.specs.declared.drafts.DraftWeight.{DraftWeight}
-use Rattle.uca_plans.specs.declared.drafts.DraftWeight.TheVariants.{Base, New}
-use Rattle.uca_plans.specs.Lists.{Insertion, fixed_weight, base_weights, same_weight, same_level, inserted, all_inserted, members_of, level_has_room, level_numbers}
+use Rattle.uca_plans.specs.declared.drafts.DraftWeight.TheVariants.{Base}
+use Rattle.uca_plans.specs.Lists.{Insertion, fixed_weight, base_weights, same_weight, same_level, inserted, all_inserted, members_of, level_numbers}
 use Rattle.uca_plans.specs.ListLaws.{IsAmong}
 use Rattle.uca_plans.proofs.ListMembers.{same_or_other}
 use Rattle.uca_plans.proofs.BaseWeightLemmas.{fixed_base}
@@ -42,16 +42,19 @@ inserted_keeps i (m ∷ ms) w among = elim (same_or_other i.anchor m) [
 -- where all are put in
 all_keep : (level : Level) (insertions : List Insertion) (ms : List DraftWeight) (w : DraftWeight) → IsAmong ms w → IsAmong (all_inserted level insertions ms) w
 all_keep level [] ms w among = among
-all_keep level (i ∷ insertions) ms w among = all_keep level insertions (if same_level i.level level then inserted i ms else ms) w (one (same_level i.level level))
+all_keep level (i ∷ insertions) ms w among =
+    all_keep level insertions (if same_level i.level level then inserted i ms else ms) w (one (same_level i.level level))
   where
     -- by the test
     one : (b : Bool) → IsAmong (if b then inserted i ms else ms) w
     one true = inserted_keeps i ms w among
     one false = among
 
+-- a level's list has the weight that stays
 fixed_there : (level : Level) (es : List Element) (insertions : List Insertion) → IsAmong (members_of level es insertions) (Base (fixed_weight level))
 fixed_there level es insertions =
-    all_keep level insertions (map Base (base_weights level es)) (Base (fixed_weight level)) (base_among (base_weights level es) (fixed_weight level) (fixed_base level es))
+    all_keep level insertions (map Base (base_weights level es)) (Base (fixed_weight level))
+    (base_among (base_weights level es) (fixed_weight level) (fixed_base level es))
 
 -- a level's list has as many numbers as members
 pub as_many_numbers : (level : Level) (es : List Element) (insertions : List Insertion)
@@ -66,12 +69,14 @@ bases_named relations [] = tt
 bases_named relations (w ∷ ws) = (tt, bases_named relations ws)
 
 -- with one new weight
-inserted_named : (relations : ℕ) (i : Insertion) (ms : List DraftWeight) → InsertsBelow relations i → AllByRecursion (IsNamedBelow relations) ms → AllByRecursion (IsNamedBelow relations) (inserted i ms)
+inserted_named : (relations : ℕ) (i : Insertion) (ms : List DraftWeight) → InsertsBelow relations i → AllByRecursion (IsNamedBelow relations) ms
+    → AllByRecursion (IsNamedBelow relations) (inserted i ms)
 inserted_named relations i [] below named = tt
 inserted_named relations i (m ∷ ms) below named = go (inserted_named relations i ms below named.1) (same_weight i.anchor m) i.before
   where
     -- by the tests
-    go : AllByRecursion (IsNamedBelow relations) (inserted i ms) → (b before : Bool) → AllByRecursion (IsNamedBelow relations) (if b then (if before then i.new ∷ m ∷ ms else m ∷ i.new ∷ ms) else m ∷ inserted i ms)
+    go : AllByRecursion (IsNamedBelow relations) (inserted i ms) → (b before : Bool)
+        → AllByRecursion (IsNamedBelow relations) (if b then (if before then i.new ∷ m ∷ ms else m ∷ i.new ∷ ms) else m ∷ inserted i ms)
     go rest true true = (below, named)
     go rest true false = (named.0, (below, named.1))
     go rest false before = (named.0, rest)

@@ -1,5 +1,5 @@
 -- Runs that are made from the last member to the first.
-use Rattle.std.proofs.Common.{◌≡◌, ◌⊎◌, inl, inr, ℕ, suc, ◌+◌, ◌-◌, ◌<◌, ◌≤◌, Bool, true, false, ◌&&◌, List, [], ◌∷◌, ◌++◌, length, get_or, take, drop, reverse, nat_eq, if◌then◌else◌, refl, sym, ap, ◌∙◌, arith, subst, add-one, drop-cons}
+use Rattle.std.proofs.Common.{◌≡◌, ℕ, suc, ◌+◌, ◌<◌, Bool, true, false, ◌&&◌, List, [], ◌∷◌, ◌++◌, length, get_or, take, drop, reverse, nat_eq, if◌then◌else◌, refl, sym, ap, ◌∙◌, arith, subst, drop-cons}
 use Rattle.std.proofs.Math.ListN.{set}
 use Rattle.std.proofs.Math.Seq.{set-append_seam}
 use Rattle.std.proofs.lemmas.Bool.Decides.{nat_tests}
@@ -14,14 +14,16 @@ use Rattle.uca_tailor.specs.NumberTables.{EndsLow}
 
 -- ---- One weight more
 
--- the last of some runs grows
+-- the last of some runs grows where it goes on from the weight
 grown_last : (front : List Run) (r : Run) (from to : ℕ) → (nat_eq r.from (from + 1) && nat_eq r.to (to + 1)) ≡ true
     → reverse (set (front ++ r ∷ []) (length front) (record { from = from; to = to; count = r.count + 1 })) ≡ run_before from to (reverse (front ++ r ∷ []))
 grown_last front r from to goes =
     let s : Run = record { from = from; to = to; count = r.count + 1 } in
     ap reverse (set-append_seam front r [] s) ∙ (reverse-append front (s ∷ []) ∙ (rw (reverse-append front (r ∷ []), goes) refl))
 
-pub grown : (runs : List Run) (i : ℕ) (r : Run) (from to : ℕ) → i + 1 ≡ length runs → r ≡ get_or runs i r → (nat_eq r.from (from + 1) && nat_eq r.to (to + 1)) ≡ true
+-- the same at the place of the last
+pub grown : (runs : List Run) (i : ℕ) (r : Run) (from to : ℕ) → i + 1 ≡ length runs → r ≡ get_or runs i r
+    → (nat_eq r.from (from + 1) && nat_eq r.to (to + 1)) ≡ true
     → reverse (set runs i (record { from = from; to = to; count = r.count + 1 })) ≡ run_before from to (reverse runs)
 grown runs i r from to last is goes =
     let s : Run = record { from = from; to = to; count = r.count + 1 } in
@@ -51,7 +53,8 @@ from_place xs i next x d after within is =
     drop-cons xs i d within ∙ (ap (λ y. y ∷ drop (suc i) xs) is ∙ ap (λ k. x ∷ drop k xs) same)
 
 -- 0 is in no run
-pub one_zero : (ms : List DraftWeight) (ns : List ℕ) (i next w : ℕ) (d : DraftWeight) → next ≡ i + 1 → i < length ms → length ns ≡ length ms → get_or ms i d ≡ Base w → w ≡ 0
+pub one_zero : (ms : List DraftWeight) (ns : List ℕ) (i next w : ℕ) (d : DraftWeight) → next ≡ i + 1 → i < length ms → length ns ≡ length ms
+    → get_or ms i d ≡ Base w → w ≡ 0
     → runs_of (drop next ms) (drop next ns) ≡ runs_of (drop i ms) (drop i ns)
 one_zero ms ns i next w d after within same is zero =
     let first : get_or ms i d ≡ Base 0 = is ∙ ap Base zero in
@@ -59,7 +62,8 @@ one_zero ms ns i next w d after within same is zero =
     ∙ ap (λ xs. runs_of (Base 0 ∷ drop next ms) xs) (from_place ns i next (get_or ns i 0) 0 after (omega arith) refl))
 
 -- nor is a new weight
-pub one_new : (ms : List DraftWeight) (ns : List ℕ) (i next p : ℕ) (d : DraftWeight) → next ≡ i + 1 → i < length ms → length ns ≡ length ms → get_or ms i d ≡ New p
+pub one_new : (ms : List DraftWeight) (ns : List ℕ) (i next p : ℕ) (d : DraftWeight) → next ≡ i + 1 → i < length ms → length ns ≡ length ms
+    → get_or ms i d ≡ New p
     → runs_of (drop next ms) (drop next ns) ≡ runs_of (drop i ms) (drop i ns)
 one_new ms ns i next p d after within same is =
     sym (ap (λ xs. runs_of xs (drop i ns)) (from_place ms i next (New p) d after within is)

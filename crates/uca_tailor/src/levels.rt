@@ -1,19 +1,19 @@
 //! The numbers of a level's weights.
 
-ghost use Rattle.std.specs.Prelude.{◌≡◌, ℕ, ◌+◌, ◌<◌, ◌≤◌, ◌&&◌, nat_eq, List, length, reverse, cond, true, false, slice_index, vec_len, IfOk, OnOk, MatchOption};
+ghost use Rattle.std.specs.Prelude.{◌≡◌, ℕ, ◌+◌, ◌<◌, ◌&&◌, nat_eq, length, reverse, cond, true, false, slice_index, vec_len, IfOk, OnOk, MatchOption};
 ghost use Rattle.std.specs.List.{AllByRecursion};
 ghost use Rattle.uca_check.specs.WellFormed.{elements_of};
 ghost use Rattle.uca_plans.specs.declared.drafts.DraftWeight.TheVariants.{Base};
 ghost use Rattle.uca_plans.specs.Lists as lists;
 ghost use Rattle.uca_plans.specs.Lists.{members_of, number_in};
-ghost use Rattle.uca_plans.specs.ListLaws.{IsAmong};
 ghost use Rattle.uca_plans.specs.Plans as plans;
 ghost use Rattle.uca_plans.specs.Plans.{LevelPlan, level_plan, numbered_weight, run_before};
 ghost use Rattle.uca_tailor.specs.NumberTables.{AreTables, EndsLow, InsertsBelow, IsNamedBelow};
 
 use crate::insertions::Insertion;
 use crate::lists::{
-    fixed_weight, high_members, high_segment, level_has_room, low_members, low_segment, members,
+    WEIGHT_COUNT, fixed_weight, high_members, high_segment, level_has_room, low_members,
+    low_segment, members,
 };
 use crate::numbers::numbers;
 use std::alloc::{AllocError, Global};
@@ -21,9 +21,6 @@ use std::marker::Model;
 use uca_plans::DraftWeight;
 use uca_values::Row;
 use uca_weights::{Level, Run};
-
-/// How many weights of 16 bits there are.
-const WEIGHT_COUNT: usize = 0x1_0000;
 
 /// The list of a level and its numbers, with tables for the number of each weight.
 #[derive(Drop)]
@@ -123,12 +120,7 @@ impl LevelNumbers {
                 }
             }
             DraftWeight::New(relation) => {
-                let place = relation as usize;
-                if place < self.by_new.len() {
-                    self.by_new[place]
-                } else {
-                    0
-                }
+                self.by_new.get(relation as usize).copied().unwrap_or(0)
             }
         }
     }

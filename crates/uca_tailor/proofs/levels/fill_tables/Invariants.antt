@@ -1,4 +1,4 @@
-use Rattle.std.proofs.Common.{◌≡◌, ◌≤◌, length, drop}
+use Rattle.std.proofs.Common.{◌≤◌, length, drop}
 use Rattle.uca_tailor.specs.NumberTables.{AreTables}
 use Rattle.uca_tailor.proofs.levels.fill_tables.Given as goal
 

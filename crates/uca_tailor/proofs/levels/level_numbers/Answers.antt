@@ -13,7 +13,8 @@ new-requires-clause-same c =
     let numbers = c.in_ok-numbers.numbers in
     let are : numbers.items ≡ lists.level_numbers level members.items = c.in_ok-numbers.ensures ∙ ap (lists.level_numbers level) c.deref-2.ensures.value in
     let same : length (lists.level_numbers level members.items) ≡ length members.items =
-    subst (λ ms. length (lists.level_numbers level ms) ≡ length ms) (sym c.in_ok-members.ensures) (as_many_numbers level (elements_of c.args.rows.now) c.args.insertions.now) in
+    subst (λ ms. length (lists.level_numbers level ms) ≡ length ms) (sym c.in_ok-members.ensures)
+    (as_many_numbers level (elements_of c.args.rows.now) c.args.insertions.now) in
     let both : length numbers.items ≡ length members.items = ap length are ∙ same in
     omega (arith, members.ok.0, numbers.ok.0)
 

@@ -1,4 +1,4 @@
-use Rattle.std.proofs.Common.{◌≡◌, ◌+◌, ◌-◌, ◌<◌, arith, ◌∙◌}
+use Rattle.std.proofs.Common.{◌-◌, arith, ◌∙◌}
 use Rattle.uca_plans.specs.declared.drafts.DraftWeight.TheVariants.{Base}
 use Rattle.uca_tailor.proofs.RunLaws.{one_zero, one_new}
 use Rattle.uca_tailor.proofs.levels.runs_of.Goals as goal
