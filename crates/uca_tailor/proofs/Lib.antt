@@ -1,1 +1,3 @@
 pub mod AnchorParts
+pub mod PlaceKeys
+pub mod KeyLookups

@@ -1,1 +1,3 @@
 pub mod RowDrafts
+pub mod Places
+pub mod Ready

@@ -1,8 +1,11 @@
 //! The planner: a tailored table and its certificate, made from a base and rules, and audited before they are given away.
 #![tactic(auto)]
 
+mod drafting;
 mod elements;
 mod insertions;
+mod places;
+mod readings;
 mod row_drafts;
 mod tailoring;
 
