@@ -1,3 +1,4 @@
 pub mod AnchorParts
 pub mod PlaceKeys
 pub mod KeyLookups
+pub mod RowLookups

@@ -1,7 +1,9 @@
 //! Texts of relations, read over the rows so far.
 
 ghost use Rattle.std.specs.Prelude.{◌≡◌, ◌++◌, OnOk};
+ghost use Rattle.std.specs.List.{flat_map};
 ghost use Rattle.uca_values.specs.Content.{properties_of};
+ghost use Rattle.uca_match.specs.Collations.{collation_of, elements_of};
 ghost use Rattle.uca_plans.specs.Drafts.{resolved};
 ghost use Rattle.uca_plans.specs.Keys.{read_over};
 
@@ -41,12 +43,26 @@ impl<'r> Reader<'r> {
             ++ read_over self.now.base.now.header.ranges (properties_of self.now.properties.now)
             (⟦<Trie as Lookup>⟧.content self.now.places.now) rows.now text.now) }
     {
-        let collator = Collator::new(self.places, &self.base.header, self.properties);
-        for element in collator.elements(text) {
-            append_resolved(rows, element, elements)?;
-        }
-        Ok(())
+        let base = self.base;
+        let collator = Collator::new(self.places, &base.header, self.properties);
+        append_read(&collator, rows, text, elements)
     }
+}
+
+/// Puts what the elements of a text stand for behind the elements of a list.
+fn append_read(
+    collator: &Collator<Trie>,
+    rows: &[RowDraft],
+    text: &Normal,
+    elements: &mut Vec<DraftElement>,
+) -> Result<(), AllocError>
+    ensures { OnOk result (elements.new.items ≡ elements.old.items
+        ++ flat_map (resolved rows.now) (elements_of (collation_of ⟦<Trie as Lookup>⟧.content collator.now) text.now)) }
+{
+    for element in collator.elements(text) {
+        append_resolved(rows, element, elements)?;
+    }
+    Ok(())
 }
 
 /// Puts what an element stands for behind the elements of a list: those of a row, or itself.
@@ -57,12 +73,12 @@ fn append_resolved(
 ) -> Result<(), AllocError>
     ensures { OnOk result (elements.new.items ≡ elements.old.items ++ resolved rows.now element) }
 {
-    if !element.mark {
-        elements.push(as_draft(true, element))?;
-        return Ok(());
+    if element.mark {
+        return match rows.get(referred(element)) {
+            Some(row) => row.append_to(elements),
+            None => Ok(()),
+        };
     }
-    match rows.get(referred(element)) {
-        Some(row) => row.append_to(elements),
-        None => Ok(()),
-    }
+    elements.push(as_draft(true, element))?;
+    Ok(())
 }
