@@ -8,6 +8,7 @@ mod places;
 mod readings;
 mod row_drafts;
 mod tailoring;
+mod targets;
 
 pub use tailoring::tailor;
 pub use uca_plans::{TailorFault, TailorKind};
