@@ -1,7 +1,7 @@
 -- Where keys stand among others.
-use Rattle.std.proofs.Common.{◌≡◌, ◌⊎◌, ℕ, zero, suc, ◌+◌, ◌<◌, ◌≤◌, List, [], ◌∷◌, ◌++◌, length, get_or, Bool, true, false, cond, ◌||◌, is_some, Option, Some, None, MatchOption, Result, Ok, Err, IfOk}
+use Rattle.std.proofs.Common.{◌≡◌, ◌⊎◌, ℕ, zero, suc, ◌+◌, ◌<◌, ◌≤◌, List, [], ◌∷◌, ◌++◌, length, get_or, Bool, true, false, cond, ltb, ◌||◌, is_some, Option, Some, None, MatchOption, Result, Ok, Err, IfOk}
 use Rattle.std.proofs.Common.{refl, sym, ap, subst, ◌∙◌, inl, inr, ⊎_elim, arith}
-use Rattle.std.proofs.lemmas.Bool.{false≢true, cases_Bool, cond-true, cond-false}
+use Rattle.std.proofs.lemmas.Bool.{false≢true, cond-true, cond-false, or_parts, lt-ltb, le-ltb}
 use Rattle.uca_weights.specs.declared.Element.{Element}
 use Rattle.uca_values.specs.Content.{Entry}
 use Rattle.uca_rules.specs.declared.relations.Relation.{Relation}
@@ -59,6 +59,64 @@ first_place keys key (f ∷ es) e found some first = subst (λ g. IsPlaceOf keys
 pub some_first : (keys : List (List ℕ)) (key : List ℕ) (es : List Element) → place_at 0 keys key ≡ Some es → length es ≤ 0 → ⊥
 some_first keys key [] found none = let there = placed_within 0 keys key [] found in cc
 some_first keys key (f ∷ es) found none = absurd (omega arith)
+
+-- ---- The first of more keys
+
+-- a key is among two lists of keys where it is among one of them
+among_append : (keys more : List (List ℕ)) (key : List ℕ) → is_among (keys ++ more) key ≡ (is_among keys key || is_among more key)
+among_append [] more key = refl
+among_append (k ∷ keys) more key = go (same_key k key) (among_append keys more key)
+  where
+    go : (b : Bool) → is_among (keys ++ more) key ≡ (is_among keys key || is_among more key) →
+        (b || is_among (keys ++ more) key) ≡ ((b || is_among keys key) || is_among more key)
+    go true later = refl
+    go false later = later
+
+-- what is not among all is not among the first
+pub not_in_front : (keys more : List (List ℕ)) (key : List ℕ) → is_among (keys ++ more) key ≡ false → is_among keys key ≡ false
+not_in_front keys more key other = (or_parts (is_among keys key) (is_among more key) (sym (among_append keys more key) ∙ other)).0
+
+-- a key of the first ones has its place among them
+pub place_in_front : (place : ℕ) (keys more : List (List ℕ)) (key : List ℕ) → is_among keys key ≡ true →
+    place_at place (keys ++ more) key ≡ place_at place keys key
+place_in_front place [] more key there = absurd (false≢true there)
+place_in_front place (k ∷ keys) more key there = go (same_key k key) there (place_in_front (place + 1) keys more key)
+  where
+    go : (b : Bool) → (b || is_among keys key) ≡ true →
+        (is_among keys key ≡ true → place_at (place + 1) (keys ++ more) key ≡ place_at (place + 1) keys key) →
+        cond b (Some (reference place ∷ [])) (place_at (place + 1) (keys ++ more) key) ≡ cond b (Some (reference place ∷ [])) (place_at (place + 1) keys key)
+    go true there later = refl
+    go false there later = later there
+
+-- any other has its place behind them
+place_at_back : (place : ℕ) (keys more : List (List ℕ)) (key : List ℕ) → is_among keys key ≡ false →
+    place_at place (keys ++ more) key ≡ place_at (place + length keys) more key
+place_at_back place [] more key other = ap (λ p. place_at p more key) (let same : place ≡ place + 0 = omega arith in same)
+place_at_back place (k ∷ keys) more key other =
+    let parts = or_parts (same_key k key) (is_among keys key) other in
+    cond-false (same_key k key) (Some (reference place ∷ [])) (place_at (place + 1) (keys ++ more) key) parts.0
+    ∙ place_at_back (place + 1) keys more key parts.1
+    ∙ ap (λ p. place_at p more key) (let same : place + 1 + length keys ≡ place + suc (length keys) = omega arith in same)
+
+-- places are told apart by the elements that stand for them
+same_place : (p q : ℕ) → reference p ∷ [] ≡ reference q ∷ [] → p ≡ q
+same_place p q same =
+    let one : reference p ≡ reference q = cc in
+    sym (referred_to p) ∙ ap referred one ∙ referred_to q
+
+-- a key is one of the first where its place is below their number
+pub front_is : (keys more : List (List ℕ)) (key : List ℕ) (place : ℕ) → IsPlaceOf (keys ++ more) key place → ltb place (length keys) ≡ is_among keys key
+front_is keys more key place stands = go (is_among keys key) refl
+  where
+    go : (b : Bool) → is_among keys key ≡ b → ltb place (length keys) ≡ b
+    go true there =
+        let found = placed_within 0 keys key (reference place ∷ []) (sym (place_in_front 0 keys more key there) ∙ stands.stands) in
+        let at : place ≡ 0 + found.0 = same_place place (0 + found.0) found.2 in
+        lt-ltb place (length keys) (omega (arith, at, found.1))
+    go false other =
+        let found = placed_within (0 + length keys) more key (reference place ∷ []) (sym (place_at_back 0 keys more key other) ∙ stands.stands) in
+        let at : place ≡ 0 + length keys + found.0 = same_place place (0 + length keys + found.0) found.2 in
+        le-ltb place (length keys) (omega (arith, at))
 
 -- ---- What a lookup found
 
