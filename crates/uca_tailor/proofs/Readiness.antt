@@ -83,8 +83,16 @@ module _ (basis : Basis) (places : Rows) (before after : List Relation) (r : Rel
       ap (λ rs. with_targets rs (keys_of basis.base)) short.3 ∙ targets_append all.all.listed (short.0 ∷ short.1) (keys_of basis.base)
       ∙ ap (λ ks. with_targets short.1 (with_key short.0.target.points ks)) (sym all.all.are) in
       let more = targets_extend short.1 (with_key short.0.target.points all.keys) in
-      omega (arith, few, counted, ap length there, ap length more.1, length-append (with_key short.0.target.points all.keys) more.0,
-      key_counts short.0.target.points all.keys full.1, full.0)
+      omega (
+        arith,
+        few,
+        counted,
+        ap length there,
+        ap length more.1,
+        length-append (with_key short.0.target.points all.keys) more.0,
+        key_counts short.0.target.points all.keys full.1,
+        full.0,
+      )
 
   module _ (further : ReachesFurther before r after all.all.listed all.all.rest) where
     keys_are : all.keys ≡ with_targets further.0 (keys_in so_far.rows)

@@ -46,11 +46,7 @@ pub(crate) fn place_of(places: &Trie, key: &[char]) -> Option<usize>
 }
 
 /// A row for each key, with the element that stands for its place.
-fn place_rows(
-    alloc: Global,
-    base: &Table,
-    relations: &[Relation],
-) -> Result<Vec<Row>, AllocError>
+fn place_rows(alloc: Global, base: &Table, relations: &[Relation]) -> Result<Vec<Row>, AllocError>
     requires { AreRules relations.now }
     ensures places { IfOk result (λ rows.
         (keys : List (List ℕ)) × AreListed (keys_of base.now.rows) relations.now keys × (rows.items ≡ places_from 0 keys)) }
