@@ -6,3 +6,9 @@ pub mod RunLaws
 pub mod LevelLaws
 pub mod InsertionNames
 pub mod RefusalLaws
+pub mod PlaceKeys
+pub mod KeyLookups
+pub mod RowLookups
+pub mod DraftingSteps
+pub mod Prefixes
+pub mod Readiness

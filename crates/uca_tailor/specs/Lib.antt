@@ -3,3 +3,5 @@ pub mod MemberPlaces
 pub mod RowDrafts
 pub mod PlanParts
 pub mod NumberTables
+pub mod Places
+pub mod Ready

@@ -1,6 +1,6 @@
 //! Elements before weights are numbered.
 
-ghost use Rattle.std.specs.Prelude.{◌≡◌, None, Some, MatchOption};
+ghost use Rattle.std.specs.Prelude.{◌≡◌, ◌<◌, None, Some, MatchOption};
 ghost use Rattle.uca_weights.specs.Levels as levels;
 ghost use Rattle.uca_plans.specs.Drafts as drafts;
 

@@ -8,8 +8,11 @@ mod levels;
 mod lists;
 mod numbers;
 mod plan;
+mod places;
+mod readings;
 mod row_drafts;
 mod tailoring;
+mod targets;
 
 pub use tailoring::tailor;
 pub use uca_plans::{TailorFault, TailorKind};

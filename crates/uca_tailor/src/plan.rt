@@ -80,7 +80,7 @@ fn number_levels(
         (plan_drafted (elements_of base.now.rows) (Ok drafting.now) ≡ Err fault) ⊎ (fault ≡ out_of_memory)) }
 {
     let rows = &base.rows;
-    let insertions = &drafting.insertions;
+    let insertions = drafting.insertions();
     Ok(Numbers {
         primary: number_level(alloc, Level::One, rows, insertions, relations)?,
         secondary: number_level(alloc, Level::Two, rows, insertions, relations)?,
@@ -124,7 +124,7 @@ fn number_table(
     ensures { IfOk result (λ table. table ≡ table_of base.now (plan_of drafting.now.rows numbers.now)) }
 {
     let header = copy_header(alloc, &base.header)?;
-    let rows = number_rows(alloc, numbers, &drafting.rows)?;
+    let rows = number_rows(alloc, numbers, drafting.rows())?;
     Ok(Table { header, rows })
 }
 
