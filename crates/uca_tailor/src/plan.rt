@@ -11,7 +11,8 @@ ghost use Rattle.uca_plans.specs.Plans as plans;
 ghost use Rattle.uca_plans.specs.Plans.{plan_drafted, plan_of};
 ghost use Rattle.uca_plans.specs.Tailors.{out_of_memory, table_of};
 ghost use Rattle.uca_tailor.specs.NumberTables.{InsertsBelow};
-ghost use Rattle.uca_tailor.specs.PlanParts.{IsMade, IsNotMade, certificate_by};
+ghost use Rattle.uca_tailor.specs.PlanParts as parts;
+ghost use Rattle.uca_tailor.specs.PlanParts.{IsMade, IsNotMade};
 ghost use Rattle.uca_tailor.specs.RowDrafts.{row_elements};
 
 use crate::drafting::{Drafting, draft};
@@ -46,7 +47,7 @@ pub(crate) fn plan(
     let relations = rules.relations().len();
     let numbers = number_levels(alloc, base, &drafting, relations)?;
     let table = number_table(alloc, base, &drafting, &numbers)?;
-    let certificate = certificate(alloc, &numbers)?;
+    let certificate = certificate_by(alloc, &numbers)?;
     Ok((table, certificate))
 }
 
@@ -66,7 +67,7 @@ impl Model for Numbers {
     ghost view = { λ n. record { primary = n.primary; secondary = n.secondary; tertiary = n.tertiary } };
 }
 
-// The numbers of the weights of all levels. Where a level has no room, the fault names the lowest such level.
+/// The numbers of the weights of all levels. Where a level has no room, the fault names the lowest such level.
 fn number_levels(
     alloc: Global,
     base: &Table,
@@ -88,7 +89,7 @@ fn number_levels(
     })
 }
 
-// The numbers of the weights of a level that has room.
+/// The numbers of the weights of a level that has room.
 fn number_level(
     alloc: Global,
     level: Level,
@@ -113,7 +114,7 @@ fn number_level(
     }
 }
 
-// The base's header, and the rows with their weights numbered.
+/// The base's header, and the rows with their weights numbered.
 fn number_table(
     alloc: Global,
     base: &Table,
@@ -128,7 +129,7 @@ fn number_table(
     Ok(Table { header, rows })
 }
 
-// The header in memory of its own.
+/// The header in memory of its own.
 fn copy_header(alloc: Global, header: &Header) -> Result<Header, AllocError>
     ensures { IfOk result (λ copy. copy ≡ header.now) }
 {
@@ -139,7 +140,7 @@ fn copy_header(alloc: Global, header: &Header) -> Result<Header, AllocError>
     })
 }
 
-// The rows with their weights numbered, in their order.
+/// The rows with their weights numbered, in their order.
 fn number_rows(
     alloc: Global,
     numbers: &Numbers,
@@ -154,7 +155,7 @@ fn number_rows(
     Ok(numbered)
 }
 
-// A row with its weights numbered.
+/// A row with its weights numbered.
 fn number_row(alloc: Global, numbers: &Numbers, row: &RowDraft) -> Result<Row, AllocError>
     ensures { IfOk result (λ numbered. numbered ≡ plans.numbered_row numbers.now row.now) }
 {
@@ -163,7 +164,7 @@ fn number_row(alloc: Global, numbers: &Numbers, row: &RowDraft) -> Result<Row, A
     Ok(Row { key, elements })
 }
 
-// Elements with their weights numbered, in their order.
+/// Elements with their weights numbered, in their order.
 fn number_elements(
     alloc: Global,
     numbers: &Numbers,
@@ -183,7 +184,7 @@ fn number_elements(
     }
 }
 
-// An element with its weights numbered.
+/// An element with its weights numbered.
 fn number_element(numbers: &Numbers, element: DraftElement) -> Element
     ensures { result ≡ plans.numbered numbers.now element }
 {
@@ -195,10 +196,10 @@ fn number_element(numbers: &Numbers, element: DraftElement) -> Element
     }
 }
 
-// What becomes of the base's weights.
-fn certificate(alloc: Global, numbers: &Numbers) -> Result<Certificate, AllocError>
-    requires { IsCertificate (certificate_by numbers.now) }
-    ensures { IfOk result (λ certificate. certificate ≡ certificate_by numbers.now) }
+/// What becomes of the base's weights.
+fn certificate_by(alloc: Global, numbers: &Numbers) -> Result<Certificate, AllocError>
+    requires { IsCertificate (parts.certificate_by numbers.now) }
+    ensures { IfOk result (λ certificate. certificate ≡ parts.certificate_by numbers.now) }
 {
     Ok(Certificate {
         primary: map_of(Level::One, numbers.primary.runs(alloc)?),
@@ -207,7 +208,7 @@ fn certificate(alloc: Global, numbers: &Numbers) -> Result<Certificate, AllocErr
     })
 }
 
-// The map of proper runs.
+/// The map of proper runs.
 fn map_of(level: Level, runs: Vec<Run>) -> WeightMap
     requires { AreProperRuns level runs.items }
     ensures { result ≡ record { level = level; runs = runs.items } }

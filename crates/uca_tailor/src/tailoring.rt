@@ -56,14 +56,14 @@ pub fn tailor(
     Ok((table, certificate))
 }
 
-// Whether a table is well-formed.
+/// Whether a table is well-formed.
 fn is_well_formed(table: &Table, properties: &Data) -> bool
     ensures { IsTrue result ↔ IsWellFormed (properties_of properties.now).class table.now.rows }
 {
     check(table, properties).is_ok()
 }
 
-// Audits a table and a certificate.
+/// Audits a table and a certificate.
 fn audit_plan(
     alloc: Global,
     base: &Table,
@@ -79,7 +79,7 @@ fn audit_plan(
     audit(alloc, base, properties, rules, table, certificate).map_err(rejection)
 }
 
-// The fault of a plan that an audit refuses, or that it has no memory for.
+/// The fault of a plan that an audit refuses, or that it has no memory for.
 fn rejection(refusal: AuditFault) -> TailorFault
     ensures { (tailoring : Tailoring) → IsFirstRefusal tailoring refusal ⊎ IsMemory refusal → IsNotAudited tailoring result }
 {

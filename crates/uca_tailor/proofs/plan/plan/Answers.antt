@@ -19,8 +19,8 @@ number_table-requires c table =
     table_in c.args.base.now (properties_of c.args.properties.now) c.args.rules.now (plan_of c.in_ok-drafting.drafting.rows c.in_ok-numbers.numbers)
     planned table c.requires c.relations-relations.ensures.rules
 
-pub certificate-requires : goal.certificate-requires
-certificate-requires c =
+pub certificate_by-requires : goal.certificate_by-requires
+certificate_by-requires c =
     let basis = basis_of c.args.base.now (properties_of c.args.properties.now) in
     certificate_planned basis c.args.rules.now c.in_ok-drafting.drafting.rows c.in_ok-numbers.numbers
     (planned_by basis c.args.rules.now c.in_ok-drafting.drafting c.in_ok-numbers.numbers (search rules) c.in_ok-numbers.ensures.numbers)
