@@ -5,3 +5,8 @@ pub mod RowLookups
 pub mod DraftingSteps
 pub mod Prefixes
 pub mod Readiness
+pub mod MarkLaws
+pub mod PlaceLaws
+pub mod RunLaws
+pub mod LevelLaws
+pub mod Names

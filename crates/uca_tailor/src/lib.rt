@@ -4,6 +4,9 @@
 mod drafting;
 mod elements;
 mod insertions;
+mod levels;
+mod lists;
+mod numbers;
 mod places;
 mod readings;
 mod row_drafts;
