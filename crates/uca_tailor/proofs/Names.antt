@@ -1,5 +1,5 @@
 -- The names of new weights: each relation has its own, and they rise along the insertions.
-use Rattle.std.proofs.Common.{◌≡◌, ℕ, ◌+◌, ◌<◌, ◌≤◌, List, [], ◌∷◌, ◌++◌, length, Bool, Option, Some, None, Result, Ok, Err, refl, sym, ap, subst, ◌∙◌, arith}
+use Rattle.std.proofs.Common.{◌≡◌, ℕ, ◌+◌, ◌<◌, ◌≤◌, List, [], ◌∷◌, ◌++◌, length, Bool, Option, Some, None, Ok, refl, sym, subst, arith}
 use Rattle.std.specs.List.{AllByRecursion}
 use Rattle.uca_weights.specs.declared.Level.{Level}
 use Rattle.uca_weights.specs.Levels.{level_of}
@@ -8,8 +8,8 @@ use Rattle.uca_plans.specs.declared.drafts.DraftElement.{DraftElement}
 use Rattle.uca_plans.specs.declared.drafts.DraftWeight.TheVariants.{New}
 use Rattle.uca_plans.specs.Lists.{Insertion}
 use Rattle.uca_plans.specs.Drafts.{AnchorPart, anchor_part, accepted_part, draft_elements}
-use Rattle.uca_plans.specs.Plans.{Basis, Drafting, Drafted, begun, drafted, drafted_at, draft_expansion, placed_behind, placed_if_accepted, with_relations}
-use Rattle.uca_plans.proofs.PlanSteps.{IsStep, AreSteps, steps_of}
+use Rattle.uca_plans.specs.Plans.{Basis, Drafting, Drafted, begun, drafted_at, draft_expansion, placed_behind, placed_if_accepted, with_relations}
+use Rattle.uca_plans.proofs.PlanSteps.{AreSteps, steps_of}
 use Rattle.uca_tailor.specs.NumberTables.{IsNamedBelow, InsertsBelow}
 
 -- the new weights are those of relations from one on, below another, and rise

@@ -1,6 +1,8 @@
 use Rattle.std.proofs.Common.{List, length, sym, subst}
 use Rattle.std.specs.List.{AllByRecursion}
-use Rattle.uca_values.specs.Content.{keys_of}
+use Rattle.uca_values.specs.Content.{keys_of, properties_of}
+use Rattle.uca_plans.specs.Plans.{Basis}
+use Rattle.uca_plans.specs.Tailors.{basis_of}
 use Rattle.uca_match.specs.Tries.{held}
 use Rattle.uca_rules.specs.declared.relations.Relation.{Relation}
 use Rattle.uca_rules.specs.Relations.{AreRules}
@@ -29,7 +31,8 @@ loop-at-preserved c =
 
 pub returns-clause-names : goal.returns-clause-names
 returns-clause-names c =
+    let basis : Basis = basis_of c.args.base.now (properties_of c.args.properties.now) in
     subst (λ (rs : List Relation). AllByRecursion (InsertsBelow (length rs)) c.loop-at.drafting.insertions) c.relations-relation-items.ensures.value
     (named_below 0 (length c.relations-relation-items.result.now) c.loop-at.drafting.insertions
-    (drafts_named _ c.relations-relation-items.result.now c.loop-at.drafting
-    (all_drafted _ c.relations-relation-items.result.now c.loop-at.at c.loop-at.drafting c.loop-at-test.false c.loop-at.invariant)))
+    (drafts_named basis c.relations-relation-items.result.now c.loop-at.drafting
+    (all_drafted basis c.relations-relation-items.result.now c.loop-at.at c.loop-at.drafting c.loop-at-test.false c.loop-at.invariant)))
