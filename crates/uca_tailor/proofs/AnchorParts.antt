@@ -1,5 +1,5 @@
 -- An anchor's elements up to the last that is not silent, from behind.
-use Rattle.std.proofs.Common.{◌≡◌, List, [], ◌∷◌, ◌++◌, Bool, true, false, cond, Some, None, refl, ap, ◌∙◌}
+use Rattle.std.proofs.Common.{◌≡◌, List, [], ◌∷◌, ◌++◌, true, false, Some, None, ap}
 use Rattle.std.proofs.lemmas.Bool.{cond-true, cond-false}
 use Rattle.uca_weights.specs.declared.Level.{Level}
 use Rattle.uca_plans.specs.declared.drafts.DraftElement.{DraftElement}

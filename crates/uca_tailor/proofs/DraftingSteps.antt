@@ -1,6 +1,6 @@
 -- Relation after relation.
-use Rattle.std.proofs.Common.{◌≡◌, ℕ, suc, ◌+◌, ◌<◌, ◌≤◌, List, [], ◌∷◌, ◌++◌, length, take, drop, map, get_or, set, Bool, true, false, cond, ltb, ◌||◌, Option, Some}
-use Rattle.std.proofs.Common.{None, Result, Ok, Err, refl, sym, ap, ap₂, subst, ◌∙◌, ⊎_elim, arith, length-append, length-set}
+use Rattle.std.proofs.Common.{◌≡◌, ℕ, ◌+◌, ◌<◌, ◌≤◌, List, [], ◌∷◌, ◌++◌, length, take, drop, map, get_or, set, true, false, ltb, Option, Some}
+use Rattle.std.proofs.Common.{None, Ok, Err, refl, sym, ap, ap₂, ◌∙◌, ⊎_elim, arith, length-append, length-set}
 use Rattle.std.proofs.lemmas.Bool.{or_left, or_right, or_from, or_parts, lt-ltb, le-ltb, ltb-false, cond-true, cond-false, cases_lt}
 use Rattle.std.proofs.lemmas.List.{length-map, drop_more, drop_all}
 use Rattle.uca_weights.specs.Levels.{level_of}
@@ -12,7 +12,6 @@ use Rattle.uca_plans.specs.declared.drafts.DraftWeight.{DraftWeight}
 use Rattle.uca_plans.specs.declared.drafts.DraftWeight.TheVariants.{New}
 use Rattle.uca_plans.specs.declared.faults.TailorKind.{TailorKind}
 use Rattle.uca_plans.specs.declared.faults.TailorKind.TheVariants as kinds
-use Rattle.uca_plans.specs.declared.faults.TailorFault.{TailorFault}
 use Rattle.uca_plans.specs.Lists.{Insertion}
 use Rattle.uca_plans.specs.Drafts.{DraftRow, row_as_draft, with_row, has_key, draft_elements}
 use Rattle.uca_plans.specs.Plans.{Basis, Drafting, Drafted, begun, draft_expansion, drafted_at, drafted, needs_prefix, passes_limit, one_drafted, with_relation}
@@ -20,7 +19,7 @@ use Rattle.uca_plans.specs.Plans.{and_then, with_relations}
 use Rattle.uca_plans.specs.Keys.{keys_in, is_among, with_key, with_targets, place_at}
 use Rattle.uca_plans.proofs.KeyPlaces.{has_key_is, keys_with_row}
 use Rattle.uca_plans.proofs.PlaceRows.{row_at, row_behind}
-use Rattle.uca_plans.proofs.PlanSteps.{IsStep, target_row, step_of}
+use Rattle.uca_plans.proofs.PlanSteps.{target_row, step_of}
 use Rattle.uca_tailor.specs.Places.{IsPlaceOf}
 use Rattle.uca_tailor.specs.Ready.{IsReady}
 use Rattle.uca_plans.proofs.PlanKeys.{keys_of_drafts}

@@ -1,5 +1,5 @@
 -- Each relation can be read over the places of all keys.
-use Rattle.std.proofs.Common.{◌≡◌, ◌⊎◌, ℕ, suc, ◌+◌, ◌<◌, ◌≤◌, List, [], ◌∷◌, ◌++◌, length, take, drop, get_or, Bool, true, false, cond, refl, sym, ap, ap₂, subst, ◌∙◌}
+use Rattle.std.proofs.Common.{◌≡◌, ◌⊎◌, ℕ, ◌+◌, ◌<◌, ◌≤◌, List, [], ◌∷◌, ◌++◌, length, take, drop, get_or, Bool, true, false, cond, refl, sym, ap, ap₂, subst, ◌∙◌}
 use Rattle.std.proofs.Common.{inl, inr, arith, append-nil, append_assoc, length-append}
 use Rattle.std.proofs.lemmas.Bool.{false≢true}
 use Rattle.std.proofs.lemmas.List.{length-map}
@@ -12,7 +12,7 @@ use Rattle.uca_plans.specs.Plans.{Basis, Drafting}
 use Rattle.uca_plans.specs.Keys.{keys_in, is_among, with_key, with_targets, place_at}
 use Rattle.uca_plans.proofs.KeyPlaces.{with_key_is}
 use Rattle.uca_plans.proofs.SameReading.{same_reading, targets_append, target_among}
-use Rattle.uca_tailor.specs.Places.{AreListed, ArePlaces, IsFull}
+use Rattle.uca_tailor.specs.Places.{ArePlaces, IsFull}
 use Rattle.uca_tailor.specs.Ready.{IsReady}
 use Rattle.uca_tailor.proofs.PlaceKeys.{relations_around}
 use Rattle.uca_tailor.proofs.DraftingSteps.{IsDrafted}

@@ -121,12 +121,15 @@ pub refused_audit : (base : TableContent) (properties : Properties) (relations :
     (fault : TailorFault) → IsWellFormed properties.class base.rows → IsMade base properties relations table certificate
     → IsNotAudited (tailoring_of base properties relations table certificate) fault → TailorRefuses base properties relations fault
 refused_audit base properties relations table certificate fault well made (inl rejected) =
-    subst (λ f. TailorRefuses base properties relations f) (sym rejected.1) (refl, record {
-      well_formed = well;
-      plan = plan_in table certificate;
-      is_plan = made.1;
-      refused = subst (λ header. IsFirstRefusal (tailoring_of base properties relations (record { header = header; rows = table.rows }) certificate) rejected.0) made.0 rejected.2;
-    })
+    subst (λ f. TailorRefuses base properties relations f) (sym rejected.1) (
+      refl,
+      record {
+        well_formed = well;
+        plan = plan_in table certificate;
+        is_plan = made.1;
+        refused = subst (λ header. IsFirstRefusal (tailoring_of base properties relations (record { header = header; rows = table.rows }) certificate) rejected.0) made.0 rejected.2;
+      },
+    )
 refused_audit base properties relations table certificate fault well made (inr memory) =
     subst (λ f. TailorRefuses base properties relations f) (sym memory) refl
 

@@ -1,12 +1,14 @@
 //! The rows of a tailored table before weights are numbered, relation by relation.
 
 ghost use Rattle.std.specs.Prelude.{◌≡◌, ◌<◌, ◌≤◌, ◌++◌, ◌∷◌, [], length, map, slice_set, IfOk, OnOk, MatchResult, Ok, Err, List, ℕ};
+ghost use Rattle.std.specs.List.{AllByRecursion};
 ghost use Rattle.std.specs.Option.{option_to_list};
 ghost use Rattle.uca_values.specs.Content.{properties_of};
 ghost use Rattle.uca_plans.specs.Drafts as drafts;
 ghost use Rattle.uca_plans.specs.Plans as plans;
 ghost use Rattle.uca_plans.specs.Plans.{begun, with_relation, with_relations};
 ghost use Rattle.uca_plans.specs.Tailors.{basis_of};
+ghost use Rattle.uca_tailor.specs.NumberTables.{InsertsBelow};
 ghost use Rattle.uca_tailor.specs.Ready.{basis_in, ArePlacesWith, IsReady};
 
 use crate::insertions::Insertion;
@@ -136,9 +138,11 @@ pub(crate) fn draft<'a>(
     properties: &Data,
     rules: &'a Rules,
 ) -> Result<Result<Drafting<'a>, TailorFault>, AllocError>
-    ensures { let basis = basis_of base.now (properties_of properties.now) in IfOk result (λ found. MatchResult found
+    ensures drafted { let basis = basis_of base.now (properties_of properties.now) in IfOk result (λ found. MatchResult found
         (λ drafting. with_relations basis 0 rules.now (begun basis) ≡ Ok drafting)
         (λ fault. with_relations basis 0 rules.now (begun basis) ≡ Err fault)) }
+    // Each new weight has the index of its relation.
+    ensures names { IfOk result (λ found. IfOk found (λ drafting. AllByRecursion (InsertsBelow (length rules.now)) drafting.insertions)) }
 {
     let places = places_of(alloc, base, rules)?;
     let reader = Reader {

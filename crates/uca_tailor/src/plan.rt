@@ -141,11 +141,7 @@ fn copy_header(alloc: Global, header: &Header) -> Result<Header, AllocError>
 }
 
 /// The rows with their weights numbered, in their order.
-fn number_rows(
-    alloc: Global,
-    numbers: &Numbers,
-    rows: &[RowDraft],
-) -> Result<Vec<Row>, AllocError>
+fn number_rows(alloc: Global, numbers: &Numbers, rows: &[RowDraft]) -> Result<Vec<Row>, AllocError>
     ensures { IfOk result (λ numbered. numbered.items ≡ map (plans.numbered_row numbers.now) rows.now) }
 {
     let mut numbered = Vec::with_capacity(alloc, rows.len())?;

@@ -1,4 +1,3 @@
-use Rattle.std.proofs.Common.{take}
 use Rattle.uca_tailor.proofs.DraftingSteps.{IsDrafted}
 use Rattle.uca_values.specs.Content.{properties_of}
 use Rattle.uca_plans.specs.Tailors.{basis_of}

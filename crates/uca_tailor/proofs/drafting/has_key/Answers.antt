@@ -1,4 +1,4 @@
-use Rattle.std.proofs.Common.{◌≡◌, List, ℕ, length, ltb, sym, ap, ◌∙◌}
+use Rattle.std.proofs.Common.{List, ℕ, ltb, sym, ap, ◌∙◌}
 use Rattle.std.proofs.lemmas.List.{length-map}
 use Rattle.uca_plans.specs.Drafts.{DraftRow}
 use Rattle.uca_plans.specs.Keys.{keys_in}

@@ -1,4 +1,4 @@
-use Rattle.std.proofs.Common.{◌≡◌, ◌++◌, ◌∷◌, [], ◌<◌, ℕ, List, true, false, not, eqb, ◌&&◌, length, sym, ap, ◌∙◌, arith}
+use Rattle.std.proofs.Common.{◌≡◌, ℕ, List, true, false, not, eqb, ◌&&◌, sym, ap, ◌∙◌, arith}
 use Rattle.std.proofs.lemmas.Bool.{not_from_true, not_from_false, ne_eqb, eq-eqb}
 use Rattle.uca_values.specs.Ranges.{class_in}
 use Rattle.uca_plans.specs.Drafts.{has_key}

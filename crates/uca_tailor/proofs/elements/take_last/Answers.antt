@@ -1,4 +1,4 @@
-use Rattle.std.proofs.Common.{◌≡◌, sym, ap, ◌∙◌}
+use Rattle.std.proofs.Common.{sym, ap, ◌∙◌}
 use Rattle.uca_plans.specs.Drafts.{anchor_part}
 use Rattle.uca_tailor.proofs.AnchorParts.{silent_last, sounding_last}
 use Rattle.uca_tailor.proofs.elements.take_last.Goals as goal

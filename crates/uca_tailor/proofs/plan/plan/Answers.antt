@@ -3,14 +3,8 @@ use Rattle.uca_values.specs.Content.{properties_of}
 use Rattle.uca_plans.specs.Plans.{plan_of}
 use Rattle.uca_plans.specs.Tailors.{basis_of}
 use Rattle.uca_plans.proofs.PlanRows.{table_in}
-use Rattle.uca_tailor.proofs.InsertionNames.{drafts_below}
 use Rattle.uca_tailor.proofs.PartLaws.{planned_by, certificate_planned}
 use Rattle.uca_tailor.proofs.plan.plan.Goals as goal
-
-pub number_levels-requires : goal.number_levels-requires
-number_levels-requires c =
-    let basis = basis_of c.args.base.now (properties_of c.args.properties.now) in
-    rw c.relations-relations.ensures.value (drafts_below basis c.args.rules.now c.in_ok-drafting.drafting (search rules))
 
 pub number_table-requires : goal.number_table-requires
 number_table-requires c table =
