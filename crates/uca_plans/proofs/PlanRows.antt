@@ -1,25 +1,20 @@
 -- The rows of a plan are those of a table.
-use Rattle.std.proofs.Common.{◌≡◌, ◌≢◌, ℕ, ◌+◌, ◌<◌, ◌≤◌, Bool, true, false, ◌||◌, nat_eq, nat_le, nat_lt, List, [], ◌∷◌, map, length, Option, Some}
-use Rattle.std.proofs.Common.{None, Ok, refl, sym, ap, arith, subst, if◌then◌else◌}
-use Rattle.std.proofs.lemmas.Bool.Decides.{nat_tests}
-use Rattle.std.proofs.lemmas.List.{length-append, length-map}
-use Rattle.std.specs.Char.{IsScalar}
+use Rattle.std.proofs.Common.{◌≡◌, ℕ, ◌+◌, ◌<◌, Bool, true, false, nat_eq, nat_le, List, [], ◌∷◌, map, length}
+use Rattle.std.proofs.Common.{Ok, sym, arith, subst, if◌then◌else◌}
 use Rattle.std.specs.List.{AllByRecursion}
 use Rattle.uca_weights.specs.declared.Element.{Element}
 use Rattle.uca_weights.specs.declared.Level.{Level}
 use Rattle.uca_weights.specs.declared.Level.TheVariants.{One, Two, Three}
-use Rattle.uca_weights.specs.Levels.{level_of}
-use Rattle.uca_values.specs.Content.{Entry, Properties, TableContent, IsTable, Fits, IsEntry, AreRows, AreImplicitRanges}
+use Rattle.uca_values.specs.Content.{Properties, TableContent, IsTable, Fits, AreRows, AreImplicitRanges}
 use Rattle.uca_check.specs.WellFormed.{elements_of, MeetsWF1, IsWellFormed}
-use Rattle.uca_check.proofs.Elements.{each_weaker}
 use Rattle.uca_rules.specs.declared.relations.Relation.{Relation}
 use Rattle.uca_rules.specs.Relations.{HasRuleTexts, AreRules}
 use Rattle.uca_plans.specs.declared.drafts.DraftWeight.{DraftWeight}
 use Rattle.uca_plans.specs.declared.drafts.DraftWeight.TheVariants.{Base, New}
 use Rattle.uca_plans.specs.declared.drafts.DraftElement.{DraftElement}
 use Rattle.uca_plans.specs.Lists.{Insertion, top_weight, level_has_room, level_numbers, number_in, members_of}
-use Rattle.uca_plans.specs.Drafts.{DraftRow, as_draft, row_as_draft, with_row, reweighted}
-use Rattle.uca_plans.specs.Plans.{Basis, Drafting, Drafted, drafted_at, draft_expansion, passes_limit, begun, LevelPlan, level_plan, LevelPlans}
+use Rattle.uca_plans.specs.Drafts.{DraftRow}
+use Rattle.uca_plans.specs.Plans.{Basis, begun, LevelPlan, level_plan, LevelPlans}
 use Rattle.uca_plans.specs.Plans.{numbered_weight, numbered, numbered_row, Plan, planned}
 use Rattle.uca_plans.specs.Tailors.{basis_of, table_of}
 use Rattle.uca_plans.proofs.RisingNumbers.{number_bound, level_within}

@@ -1,5 +1,5 @@
 -- The parts of a plan: its drafts, its numbers and its certificate.
-use Rattle.std.proofs.Common.{◌≡◌, ◌∙◌, List, Result, Ok, ap}
+use Rattle.std.proofs.Common.{◌≡◌, ◌∙◌, List, Ok, ap}
 use Rattle.uca_check.specs.WellFormed.{elements_of}
 use Rattle.uca_rules.specs.declared.relations.Relation.{Relation}
 use Rattle.uca_certificates.specs.Certificates.{IsCertificate}

@@ -1,5 +1,6 @@
 -- Why there is no tailored table.
-use Rattle.std.proofs.Common.{◌≡◌, ◌⊎◌, inl, inr, ℕ, zero, suc, ◌+◌, Bool, true, false, cond, not, List, [], ◌∷◌, ◌++◌, Option, Some, None, Result, Ok, Err, refl, sym, ap, subst, ◌∙◌, arith}
+use Rattle.std.proofs.Common.{◌≡◌, inl, inr, ℕ, ◌+◌, Bool, true, false, cond, not, List, [], ◌∷◌, ◌++◌, Option, Some, None}
+use Rattle.std.proofs.Common.{Result, Ok, Err, refl, sym, subst}
 use Rattle.std.specs.Prelude.{◌↔◌, IsTrue, OnOk, IfErr}
 use Rattle.std.specs.Result.{is_ok}
 use Rattle.uca_values.specs.Content.{Entry, TableContent, Properties}
@@ -7,13 +8,9 @@ use Rattle.uca_check.specs.declared.IllFormed.{IllFormed}
 use Rattle.uca_check.specs.WellFormed.{IsWellFormed, IsFirstFailure, elements_of}
 use Rattle.uca_audit.proofs.NotAccepted.{no_form_fails}
 use Rattle.uca_rules.specs.declared.relations.Relation.{Relation}
-use Rattle.uca_tailorings.specs.declared.conditions.Condition.{Condition}
-use Rattle.uca_tailorings.specs.declared.conditions.Condition.TheVariants as conditions
-use Rattle.uca_tailorings.specs.Tailorings.{Tailoring}
 use Rattle.uca_certificates.specs.Certificates.{CertificateContent}
-use Rattle.uca_audit.specs.declared.faults.AuditFault.{AuditFault}
 use Rattle.uca_audit.specs.Inputs.{tailoring_of}
-use Rattle.uca_audit.specs.Refusals.{number_of, IsFirstRefusal, IsMemory}
+use Rattle.uca_audit.specs.Refusals.{IsFirstRefusal}
 use Rattle.uca_weights.specs.declared.Level.TheVariants.{One, Two, Three}
 use Rattle.uca_plans.specs.declared.drafts.DraftWeight.TheVariants.{New}
 use Rattle.uca_plans.proofs.PlanSteps.{target_row, level_plans}
@@ -22,8 +19,9 @@ use Rattle.uca_plans.specs.declared.faults.TailorKind.TheVariants as kinds
 use Rattle.uca_plans.specs.declared.faults.TailorFault.{TailorFault}
 use Rattle.uca_plans.specs.Lists.{level_has_room}
 use Rattle.uca_plans.specs.Drafts.{DraftRow, with_row}
-use Rattle.uca_plans.specs.Plans.{Basis, Drafting, Drafted, drafted, needs_prefix, passes_limit, accepted_row, one_drafted, with_relation, and_then, with_relations, begun, LevelPlans, Plan, plan_of, no_room, plan_with_room, plan_drafted, planned}
-use Rattle.uca_plans.specs.Tailors.{basis_of, plan_in, table_of, certificate_of, out_of_memory, IsRefusedBy, IsRejected, CauseOf, TailorRefuses}
+use Rattle.uca_plans.specs.Plans.{Basis, Drafting, Drafted, drafted, needs_prefix, passes_limit, one_drafted, with_relation, and_then}
+use Rattle.uca_plans.specs.Plans.{with_relations, begun, Plan, plan_of, no_room, plan_drafted, planned}
+use Rattle.uca_plans.specs.Tailors.{basis_of, plan_in, IsRefusedBy, CauseOf, TailorRefuses}
 use Rattle.uca_tailor.specs.PlanParts.{IsMade, IsNotMade, IsNotAudited}
 
 -- ---- Kinds
@@ -127,7 +125,9 @@ refused_audit base properties relations table certificate fault well made (inl r
         well_formed = well;
         plan = plan_in table certificate;
         is_plan = made.1;
-        refused = subst (λ header. IsFirstRefusal (tailoring_of base properties relations (record { header = header; rows = table.rows }) certificate) rejected.0) made.0 rejected.2;
+        refused = subst
+            (λ header. IsFirstRefusal (tailoring_of base properties relations (record { header = header; rows = table.rows }) certificate) rejected.0)
+            made.0 rejected.2;
       },
     )
 refused_audit base properties relations table certificate fault well made (inr memory) =
