@@ -19,16 +19,14 @@ inside P (y ∷ before) x after h = inside P before x after h.1
 no_row_without : (P : Entry → Type 0) (rows : List Entry) (number : ℕ) → AllByRecursion P rows → IsFirstWithout P rows number → ⊥
 no_row_without P rows number all first = first.without (inside P first.before first.entry first.after (subst (AllByRecursion P) first.split all))
 
--- and no relation is
+-- and no relation
 no_relation_alone : (P : Relation → Type 0) (relations : List Relation) (number : ℕ) → AllByRecursion P relations → IsFirstAloneWithout P relations number → ⊥
 no_relation_alone P relations number all first = first.without (inside P first.before first.r first.after (subst (AllByRecursion P) first.split all))
 
--- the same of properties that speak of the relations before and after
-no_relation_without : (P : List Relation → Relation → List Relation → Type 0) (relations : List Relation) (number : ℕ) → AllRelations P relations →
-    IsFirstRelationWithout P relations number → ⊥
+no_relation_without : (P : List Relation → Relation → List Relation → Type 0) (relations : List Relation) (number : ℕ) → AllRelations P relations → IsFirstRelationWithout P relations number → ⊥
 no_relation_without P relations number all first = first.without (all first.before first.r first.after first.split)
 
--- each row of a well-formed table meets each condition on its form
+-- a well-formed table has no row that fails
 each_meets : (class : ℕ → ℕ) (rows : List Entry) (wf : ℕ) → 1 ≤ wf → wf ≤ 5 → IsWellFormed class rows → AllByRecursion (MeetsForm class rows wf) rows
 each_meets class rows zero low high formed = absurd (omega arith)
 each_meets class rows (suc zero) low high formed = formed.wf1
@@ -38,8 +36,7 @@ each_meets class rows (suc (suc (suc (suc zero)))) low high formed = formed.wf4
 each_meets class rows (suc (suc (suc (suc (suc zero))))) low high formed = formed.wf5
 each_meets class rows (suc (suc (suc (suc (suc (suc n)))))) low high formed = absurd (omega arith)
 
--- so none fails
-no_form_fails : (class : ℕ → ℕ) (rows : List Entry) (wf row : ℕ) → IsWellFormed class rows → IsFirstFailure class rows wf row → ⊥
+pub no_form_fails : (class : ℕ → ℕ) (rows : List Entry) (wf row : ℕ) → IsWellFormed class rows → IsFirstFailure class rows wf row → ⊥
 no_form_fails class rows wf row formed fails =
     no_row_without (MeetsForm class rows wf) rows row (each_meets class rows wf fails.number.0 fails.number.1 formed) fails.first
 
@@ -58,6 +55,5 @@ fails_nowhere t NotPlaced place met fails = no_relation_alone _ t.relations fail
 fails_nowhere t NotFresh place met fails = no_relation_without _ t.relations fails.0 met fails.2
 fails_nowhere t NotNearest place met fails = no_relation_without _ t.relations fails.0 met fails.2
 
--- the law
 pub refused_not_accepted : RefusedTailoringsAreNotAccepted
 refused_not_accepted tailoring fault refusal accepted = fails_nowhere tailoring refusal.condition fault.place (accepted refusal.condition) refusal.fails

@@ -1,0 +1,232 @@
+-- The sizes of a plan's rows.
+use Rattle.std.proofs.Common.{◌≡◌, ◌≢◌, ℕ, zero, suc, ◌+◌, ◌≤◌, List, [], ◌∷◌, ◌++◌, length, take, drop, map, Bool, true, false, cond, ltb, Option, Some}
+use Rattle.std.proofs.Common.{None, unwrap_or, refl, sym, ap, subst, ◌∙◌, arith, length-append}
+use Rattle.std.specs.List.{AllByRecursion, flat_map}
+use Rattle.std.specs.Char.{IsScalar}
+use Rattle.std.proofs.lemmas.Bool.{or_parts, ltb-false}
+use Rattle.std.proofs.lemmas.List.{length-map}
+use Rattle.std.proofs.lemmas.List.Concat.{flat_map-append}
+use Rattle.uca_weights.specs.declared.Element.{Element}
+use Rattle.uca_weights.specs.declared.Level.{Level}
+use Rattle.uca_weights.specs.Levels.{level_of}
+use Rattle.uca_values.specs.declared.ImplicitRange.{ImplicitRange}
+use Rattle.uca_values.specs.Content.{Entry, Properties, IsEntry, AreRows, Fits}
+use Rattle.uca_values.specs.Implicit.{implicit}
+use Rattle.uca_check.specs.WellFormed.{elements_of}
+use Rattle.uca_text.specs.Texts.{Text, Letter, Spelled, code_points, letters_of}
+use Rattle.uca_rules.specs.declared.relations.Relation.{Relation}
+use Rattle.uca_rules.specs.Relations.{IsRuleText, HasRuleTexts}
+use Rattle.uca_match.specs.Rows.{Rows, rows_of, same_key}
+use Rattle.uca_match.specs.Reading.{longest_key, removed, members, non_starters_at_front, row_portion, read}
+use Rattle.uca_match.proofs.MatchLemmas.{longest_is_key, extended_is_key}
+use Rattle.uca_match.proofs.ReadingLemmas.{some_row, read_of_none, read_of_longest}
+use Rattle.uca_plans.specs.declared.drafts.DraftElement.{DraftElement}
+use Rattle.uca_plans.specs.declared.drafts.DraftWeight.{DraftWeight}
+use Rattle.uca_plans.specs.declared.drafts.DraftWeight.TheVariants.{New}
+use Rattle.uca_plans.specs.Drafts.{DraftRow, as_draft, row_as_draft, with_row, references_from, resolved, draft_elements, AnchorPart, anchor_part}
+use Rattle.uca_plans.specs.Drafts.{accepted_part, reweighted}
+use Rattle.uca_plans.specs.Plans.{Basis, Drafting, Drafted, drafted_at, placed_behind, placed_if_accepted, draft_expansion, begun, LevelPlans, numbered}
+use Rattle.uca_plans.specs.Plans.{numbered_row, Plan}
+use Rattle.uca_plans.specs.Keys.{keys_in}
+use Rattle.uca_plans.specs.Sizes.{IsSizedRow, AreSizedRows, PlansHaveSizedRows}
+use Rattle.uca_plans.proofs.KeyPlaces.{keys_with_row}
+use Rattle.uca_plans.proofs.PlanKeys.{AreApart, apart_of_distinct, distinct_of_apart, apart_with_key, keys_of_drafts, keys_of_numbered}
+use Rattle.uca_plans.proofs.PlanSteps.{IsStep, AreSteps, target_row, planned_is, level_plans}
+use Rattle.uca_plans.proofs.DraftReading.{points_of, of_implicit, implicit_drafts, valued, row_gives}
+use Rattle.uca_plans.proofs.DraftOrigins.{each_at}
+
+-- ---- A text that is not empty has elements
+
+module _ (ranges : List ImplicitRange) (properties : Properties) (rows : List DraftRow) (some_in : AllByRecursion (λ row. 1 ≤ length row.elements) rows) where
+  -- what stands in front is enough
+  some_joined : (es fs : List Element) → 1 ≤ length (flat_map (resolved rows) es) → 1 ≤ length (flat_map (resolved rows) (es ++ fs))
+  some_joined es fs some =
+      omega (arith, some, ap length (flat_map-append (resolved rows) es fs), length-append (flat_map (resolved rows) es) (flat_map (resolved rows) fs))
+
+  -- implicit elements are two
+  some_implicit : (c : ℕ) → 1 ≤ length (flat_map (resolved rows) (implicit ranges properties c))
+  some_implicit c =
+      subst (λ es. 1 ≤ length es) (sym (implicit_drafts rows ranges properties c))
+      (of_implicit (λ es. 1 ≤ length (map (as_draft true) es)) (λ lead low. omega arith) ranges properties c)
+
+  some_of_key : (key : List ℕ) (es : List Element) → rows_of (references_from 0 rows) key ≡ Some es → 1 ≤ length (flat_map (resolved rows) es)
+  some_of_key key es found =
+      each_at (λ es. 1 ≤ length es) rows some_in key (flat_map (resolved rows) es) (sym (row_gives rows key) ∙ ap (valued rows) found)
+
+  some_letters : (c : Letter) (t : Text) (k : ℕ) → longest_key (rows_of (references_from 0 rows)) (c ∷ t) (length (c ∷ t)) ≡ k →
+      1 ≤ length (flat_map (resolved rows) (read (implicit ranges properties) (rows_of (references_from 0 rows)) (c ∷ t)))
+  some_letters c t zero none =
+      subst (λ es. 1 ≤ length (flat_map (resolved rows) es)) (sym (read_of_none (implicit ranges properties) (rows_of (references_from 0 rows)) c t none))
+      (some_joined (implicit ranges properties c.code) (read (implicit ranges properties) (rows_of (references_from 0 rows)) t) (some_implicit c.code))
+  some_letters c t (suc k) found =
+      let places : Rows = rows_of (references_from 0 rows) in
+      let front : Text = take (suc k) (c ∷ t) in
+      let marks : Text = non_starters_at_front (drop (suc k) (c ∷ t)) in
+      let key : List ℕ = code_points (front ++ members (removed places front [] marks) marks) in
+      let row = some_row places key (extended_is_key places front [] marks (longest_is_key places (c ∷ t) (length (c ∷ t)) k found)) in
+      subst (λ es. 1 ≤ length (flat_map (resolved rows) es)) (sym (read_of_longest (implicit ranges properties) places (c ∷ t) k found))
+      (some_joined (unwrap_or (places key) [])
+      (read (implicit ranges properties) places (row_portion places front (drop (suc k) (c ∷ t))).rest)
+      (subst (λ es. 1 ≤ length (flat_map (resolved rows) es)) (sym (ap (λ o. unwrap_or o []) row.1)) (some_of_key key row.0 row.1)))
+
+  some_read : (t : Text) → t ≢ [] →
+      1 ≤ length (flat_map (resolved rows) (read (implicit ranges properties) (rows_of (references_from 0 rows)) t))
+  some_read [] some = absurd (some refl)
+  some_read (c ∷ t) some = some_letters c t (longest_key (rows_of (references_from 0 rows)) (c ∷ t) (length (c ∷ t))) refl
+
+  -- where each row has some, a text of rules has some
+  pub some_drafts : (text : Spelled) → IsRuleText text → 1 ≤ length (draft_elements ranges properties rows text)
+  some_drafts text is_text =
+      some_read (letters_of text) (λ none. is_text.some (sym (points_of text is_text.normal.accepted.same) ∙ ap code_points none))
+
+-- ---- What a relation gives
+
+-- whatever level it has, where its anchor has elements it gives some
+some_drafted : (level : Option Level) (before : Bool) (weight : DraftWeight) (anchor expansion : List DraftElement) (new : Drafted) → 1 ≤ length anchor →
+    drafted_at level before weight anchor expansion ≡ Some new → 1 ≤ length new.elements
+some_drafted None before weight anchor expansion new some gives =
+    let given : Drafted = record { elements = anchor ++ expansion; insertions = [] } in
+    let same : given ≡ new = cc in
+    subst (λ (d : Drafted). 1 ≤ length d.elements) same (omega (arith, some, length-append anchor expansion))
+some_drafted (Some level) before weight anchor expansion new some gives = go (accepted_part level (anchor_part level anchor)) gives
+  where
+    go : (part : Option AnchorPart) → placed_if_accepted level before weight part expansion ≡ Some new → 1 ≤ length new.elements
+    go None gives = cc
+    go (Some part) gives =
+        let same : placed_behind level before weight part expansion ≡ new = cc in
+        subst (λ (d : Drafted). 1 ≤ length d.elements) same
+        (omega (arith, length-append part.front (reweighted level weight part.last ∷ expansion)))
+
+-- ---- Rows
+
+-- what `IsSizedRow` says, of a draft row
+pub record IsSizedDraft (row : DraftRow) : Type 0 where
+  pub points : AllByRecursion IsScalar row.key
+  pub some_points : 1 ≤ length row.key
+  pub few_points : length row.key ≤ 16
+  pub some_elements : 1 ≤ length row.elements
+  pub few_elements : length row.elements ≤ 32
+
+pub record AreSizedDrafts (rows : List DraftRow) : Type 0 where
+  pub entries : AllByRecursion IsSizedDraft rows
+  pub apart : AreApart (keys_in rows)
+  pub few : length rows ≤ 200000
+
+-- what holds of all rows and of one more holds of all with it
+pub each_with_row : (P : DraftRow → Type 0) (new : DraftRow) (rows : List DraftRow) → P new → AllByRecursion P rows → AllByRecursion P (with_row new rows)
+each_with_row P new [] here all = (here, tt)
+each_with_row P new (row ∷ rows) here all = go (same_key row.key new.key) (each_with_row P new rows here all.1)
+  where
+    go : (b : Bool) → AllByRecursion P (with_row new rows) → AllByRecursion P (cond b (new ∷ rows) (row ∷ with_row new rows))
+    go true later = (here, all.1)
+    go false later = (all.0, later)
+
+-- a list that is not empty
+some_of : {A : Type 0} (xs : List A) → xs ≢ [] → 1 ≤ length xs
+some_of [] some = absurd (some refl)
+some_of (x ∷ xs) some = omega arith
+
+some_elements : (rows : List DraftRow) → AllByRecursion IsSizedDraft rows → AllByRecursion (λ row. 1 ≤ length row.elements) rows
+some_elements [] all = tt
+some_elements (row ∷ rows) all = (all.0.some_elements, some_elements rows all.1)
+
+module _ (basis : Basis) where
+  -- a step keeps the sizes
+  pub sized_step : (n : ℕ) (r : Relation) (here behind : Drafting) → HasRuleTexts r → IsStep basis n r here behind → AreSizedDrafts here.rows →
+      AreSizedDrafts behind.rows
+  sized_step n r here behind texts step sized =
+      let new : DraftRow = target_row r step.new in
+      let limits = or_parts (ltb 32 (length new.elements)) (ltb 200000 (length behind.rows)) step.within in
+      let anchor_some = some_drafts basis.ranges basis.properties here.rows (some_elements here.rows sized.entries) r.anchor texts.anchors in
+      let is_sized : IsSizedDraft new = record {
+        points = texts.targets.normal.scalars;
+        some_points = some_of r.target.points texts.targets.some;
+        few_points = texts.targets.short;
+        some_elements = some_drafted (level_of r.strength) r.before (New n) (draft_elements basis.ranges basis.properties here.rows r.anchor)
+            (draft_expansion basis here r.expansion) step.new anchor_some step.is_drafted;
+        few_elements = ltb-false 32 (length new.elements) limits.0;
+      } in
+      record {
+        entries = subst (AllByRecursion IsSizedDraft) (sym step.rows) (each_with_row IsSizedDraft new here.rows is_sized sized.entries);
+        apart = subst AreApart (sym (ap keys_in step.rows ∙ keys_with_row new here.rows)) (apart_with_key new.key (keys_in here.rows) sized.apart);
+        few = ltb-false 200000 (length behind.rows) limits.1;
+      }
+
+  -- steps keep them
+  pub sized_along : (n : ℕ) (relations : List Relation) (here behind : Drafting) → AllByRecursion HasRuleTexts relations →
+      AreSteps basis n relations here behind → AreSizedDrafts here.rows → AreSizedDrafts behind.rows
+  sized_along n [] here behind texts steps sized = subst (λ (d : Drafting). AreSizedDrafts d.rows) steps sized
+  sized_along n (r ∷ relations) here behind texts steps sized =
+      sized_along (n + 1) relations steps.0 behind texts.1 steps.2 (sized_step n r here steps.0 texts.0 steps.1 sized)
+
+-- the rows of a table have them
+pub sized_base : (rows : List Entry) → AreRows rows → AreSizedDrafts (map row_as_draft rows)
+sized_base rows are =
+    record {
+      entries = go rows are.entries;
+      apart = subst AreApart (sym (keys_of_drafts rows)) (apart_of_distinct rows are.distinct);
+      few = omega (arith, are.few, length-map rows row_as_draft);
+    }
+  where
+    one : (row : Entry) → IsEntry row → IsSizedDraft (row_as_draft row)
+    one row is =
+        record {
+          points = is.points;
+          some_points = is.some_points;
+          few_points = is.few_points;
+          some_elements = omega (arith, is.some_elements, length-map row.elements (as_draft false));
+          few_elements = omega (arith, is.few_elements, length-map row.elements (as_draft false));
+        }
+
+    go : (rows : List Entry) → AllByRecursion IsEntry rows → AllByRecursion IsSizedDraft (map row_as_draft rows)
+    go [] all = tt
+    go (row ∷ rows) all = (one row all.0, go rows all.1)
+
+-- and numbers keep them
+pub sized_numbered : (plans : LevelPlans) (rows : List DraftRow) → AreSizedDrafts rows → AreSizedRows (map (numbered_row plans) rows)
+sized_numbered plans rows sized =
+    record {
+      entries = go rows sized.entries;
+      distinct = distinct_of_apart (map (numbered_row plans) rows) (subst AreApart (sym (keys_of_numbered plans rows)) sized.apart);
+      few = omega (arith, sized.few, length-map rows (numbered_row plans));
+    }
+  where
+    one : (row : DraftRow) → IsSizedDraft row → IsSizedRow (numbered_row plans row)
+    one row is =
+        record {
+          points = is.points;
+          some_points = is.some_points;
+          few_points = is.few_points;
+          some_elements = omega (arith, is.some_elements, length-map row.elements (numbered plans));
+          few_elements = omega (arith, is.few_elements, length-map row.elements (numbered plans));
+        }
+
+    go : (rows : List DraftRow) → AllByRecursion IsSizedDraft rows → AllByRecursion IsSizedRow (map (numbered_row plans) rows)
+    go [] all = tt
+    go (row ∷ rows) all = (one row all.0, go rows all.1)
+
+-- the rows of a plan have the sizes that rows of a table have
+pub rows_in : PlansHaveSizedRows
+rows_in basis relations plan base rules is_plan =
+    let made = planned_is basis relations plan is_plan in
+    let sized = sized_along basis 0 relations (begun basis) made.drafting rules.texts made.steps (sized_base basis.base base) in
+    subst (λ (p : Plan). AreSizedRows p.rows) (sym made.is_plan)
+    (sized_numbered (level_plans (elements_of basis.base) made.drafting.insertions) made.drafting.rows sized)
+
+-- with weights of 16 bits they are the rows of a table
+pub sized_rows_fit : (rows : List Entry) → AreSizedRows rows → AllByRecursion (λ row. AllByRecursion Fits row.elements) rows → AreRows rows
+sized_rows_fit rows sized fits = record { entries = go rows sized.entries fits; distinct = sized.distinct; few = sized.few }
+  where
+    go : (rows : List Entry) → AllByRecursion IsSizedRow rows → AllByRecursion (λ row. AllByRecursion Fits row.elements) rows → AllByRecursion IsEntry rows
+    go [] all fits = tt
+    go (row ∷ rows) all fits = (
+      record {
+        points = all.0.points;
+        some_points = all.0.some_points;
+        few_points = all.0.few_points;
+        fits = fits.0;
+        some_elements = all.0.some_elements;
+        few_elements = all.0.few_elements;
+      },
+      go rows all.1 fits.1,
+    )

@@ -1,0 +1,162 @@
+-- Texts of relations read alike over the places of all keys and over the rows so far.
+use Rattle.std.proofs.Common.{◌≡◌, ◌≢◌, ◌⊎◌, ℕ, List, [], ◌∷◌, ◌++◌, length, Bool, true, false, ◌||◌, Option, Some, None, IfSome, IsSomeAnd, refl, sym, ap}
+use Rattle.std.proofs.Common.{subst, ◌∙◌, inl, inr, ⊎_elim, is_some, ap₂, cond, ◌+◌}
+use Rattle.std.specs.List.{AllByRecursion, flat_map}
+use Rattle.std.proofs.lemmas.Bool.{false≢true, or_left, or_right, cases_Bool}
+use Rattle.uca_weights.specs.declared.Element.{Element}
+use Rattle.uca_values.specs.declared.ImplicitRange.{ImplicitRange}
+use Rattle.uca_values.specs.Content.{Properties}
+use Rattle.uca_values.specs.Implicit.{implicit}
+use Rattle.uca_text.specs.Texts.{Spelled, code_points, letters_of}
+use Rattle.uca_text.specs.Occurring.{OccursInOrder}
+use Rattle.uca_rules.specs.declared.relations.Relation.{Relation}
+use Rattle.uca_rules.specs.Relations.{IsTarget, IsUntouched, IsUsedBy, IsRuleText, HasRuleTexts}
+use Rattle.uca_match.specs.Rows.{Rows, rows_of, same_key}
+use Rattle.uca_match.specs.Laws.{AreRelatedRows}
+use Rattle.uca_match.proofs.RelatedReading.{read_related}
+use Rattle.uca_match.proofs.ReadingLemmas.{key_reads_as_row, some_row}
+use Rattle.uca_match.proofs.RowsByKey.{same_key-true, same_key-itself}
+use Rattle.uca_plans.specs.Drafts.{DraftRow, reference, resolved, references_from, draft_elements}
+use Rattle.uca_plans.specs.Keys.{keys_in, is_among, with_key, with_targets, place_at, read_over, IsTextOf, PlacesReadAsRows}
+use Rattle.uca_plans.proofs.KeyPlaces.{among_with_key, place_kept, references_at}
+use Rattle.uca_plans.proofs.DraftReading.{points_of, occurs_in_text, each_of}
+
+-- ---- Targets and keys
+
+-- a text is a target, or it is none
+pub target_or_not : (relations : List Relation) (text : List ℕ) → IsTarget relations text ⊎ (IsTarget relations text → ⊥)
+target_or_not [] text = inr (λ h. h)
+target_or_not (r ∷ relations) text =
+    ⊎_elim
+    (λ same. inl (inl (same_key-true r.target.points text same)))
+    (λ other. ⊎_elim
+    (λ later. inl (inr later))
+    (λ not_later. inr (λ h. ⊎_elim
+    (λ here. false≢true (sym other ∙ ap (λ k. same_key k text) here ∙ same_key-itself text)) not_later h))
+    (target_or_not relations text))
+    (cases_Bool (same_key r.target.points text))
+
+-- keys are kept where targets come behind them
+pub among_kept : (relations : List Relation) (keys : List (List ℕ)) (key : List ℕ) → is_among keys key ≡ true →
+    is_among (with_targets relations keys) key ≡ true
+among_kept [] keys key there = there
+among_kept (r ∷ relations) keys key there =
+    among_kept relations (with_key r.target.points keys) key
+    (among_with_key r.target.points keys key ∙ or_left (is_among keys key) (same_key r.target.points key) there)
+
+-- each target is then a key
+pub target_among : (relations : List Relation) (keys : List (List ℕ)) (key : List ℕ) → IsTarget relations key →
+    is_among (with_targets relations keys) key ≡ true
+target_among [] keys key h = absurd h
+target_among (r ∷ relations) keys key h =
+    ⊎_elim
+    (λ here. among_kept relations (with_key r.target.points keys) key
+    (among_with_key r.target.points keys key
+    ∙ or_right (is_among keys key) (same_key r.target.points key) (ap (λ k. same_key k key) here ∙ same_key-itself key)))
+    (λ later. target_among relations (with_key r.target.points keys) key later)
+    h
+
+pub targets_append : (before later : List Relation) (keys : List (List ℕ)) →
+    with_targets (before ++ later) keys ≡ with_targets later (with_targets before keys)
+targets_append [] later keys = refl
+targets_append (r ∷ before) later keys = targets_append before later (with_key r.target.points keys)
+
+-- a key has a place
+key_is_row : (place : ℕ) (keys : List (List ℕ)) (key : List ℕ) → is_among keys key ≡ true → is_some (place_at place keys key) ≡ true
+key_is_row place [] key there = absurd (false≢true there)
+key_is_row place (k ∷ keys) key there = go (same_key k key) there (key_is_row (place + 1) keys key)
+  where
+    go : (b : Bool) → (b || is_among keys key) ≡ true → (is_among keys key ≡ true → is_some (place_at (place + 1) keys key) ≡ true) →
+        is_some (cond b (Some (reference place ∷ [])) (place_at (place + 1) keys key)) ≡ true
+    go true there later = refl
+    go false there later = later there
+
+-- ---- Readings over the same places
+
+module _ (ranges : List ImplicitRange) (properties : Properties) (rows : List DraftRow) (places : Rows) (text : Spelled) where
+  same_row : (row : Option (List Element)) → AreRelatedRows (λ es fs. es ≡ fs) row row
+  same_row None = tt
+  same_row (Some es) = refl
+
+  -- where each key that occurs in order in a text has the same place, it reads alike
+  pub read_over_same : ((key : List ℕ) → OccursInOrder key text.points → places key ≡ rows_of (references_from 0 rows) key) →
+      read_over ranges properties places rows text ≡ draft_elements ranges properties rows text
+  read_over_same same =
+      ap (flat_map (resolved rows))
+      (read_related (λ es fs. es ≡ fs) refl (λ es fs gs hs first second. ap₂ (λ a b. a ++ b) first second) (implicit ranges properties)
+      (implicit ranges properties) places (rows_of (references_from 0 rows)) (letters_of text)
+      (record {
+        at_keys = λ key occurs. subst (AreRelatedRows (λ es fs. es ≡ fs) (places key)) (same key (occurs_in_text key text occurs)) (same_row (places key));
+        at_points = each_of (λ c. implicit ranges properties c ≡ implicit ranges properties c) (λ c. refl) (code_points (letters_of text));
+      }))
+
+  -- and a text that is a key, and has the same place, reads alike
+  pub read_over_key : length text.classes ≡ length text.points → text.points ≢ [] → (es : List Element) → places text.points ≡ Some es →
+      rows_of (references_from 0 rows) text.points ≡ Some es → read_over ranges properties places rows text ≡ draft_elements ranges properties rows text
+  read_over_key same some es place own =
+      ap (flat_map (resolved rows))
+      (key_reads_as_row (implicit ranges properties) places (letters_of text) es letters_some (ap places (points_of text same) ∙ place)
+      ∙ sym (key_reads_as_row (implicit ranges properties) (rows_of (references_from 0 rows)) (letters_of text) es letters_some
+      (ap (rows_of (references_from 0 rows)) (points_of text same) ∙ own)))
+    where
+      letters_some : letters_of text ≢ []
+      letters_some none = some (sym (points_of text same) ∙ ap code_points none)
+
+-- ---- Texts of relations
+
+-- what holds of all members of a list holds of one between others
+pub at_split : {A : Type 0} (P : A → Type 0) (before : List A) (x : A) (after : List A) → AllByRecursion P (before ++ x ∷ after) → P x
+at_split P [] x after h = h.0
+at_split P (y ∷ before) x after h = at_split P before x after h.1
+
+-- and of the first ones
+at_front : {A : Type 0} (P : A → Type 0) (xs ys : List A) → AllByRecursion P (xs ++ ys) → AllByRecursion P xs
+at_front P [] ys h = tt
+at_front P (x ∷ xs) ys h = (h.0, at_front P xs ys h.1)
+
+-- a text of a relation is used by it, and is a text of rules
+pub text_used : (r : Relation) (text : Spelled) → IsTextOf r text → IsUsedBy r text.points
+text_used r text h =
+    ⊎_elim (λ is_anchor. inl (ap (λ s. s.points) is_anchor))
+    (λ expands. inr (subst (λ o. IsSomeAnd o (λ expansion. text.points ≡ expansion.points)) (sym expands) refl)) h
+
+pub text_of_rules : (r : Relation) (text : Spelled) → HasRuleTexts r → IsTextOf r text → IsRuleText text
+text_of_rules r text texts h =
+    ⊎_elim (λ is_anchor. subst IsRuleText (sym is_anchor) texts.anchors) (λ expands. subst (λ o. IfSome o IsRuleText) expands texts.expands) h
+
+-- the targets of relations that leave a text as it is are none of its keys
+no_keys : (relations : List Relation) (text key : List ℕ) → IsUntouched relations text → OccursInOrder key text →
+    AllByRecursion (λ r. r.target.points ≢ key) relations
+no_keys [] text key untouched occurs = tt
+no_keys (r ∷ relations) text key untouched occurs =
+    (λ same. untouched.0 (subst (λ k. OccursInOrder k text) (sym same) occurs), no_keys relations text key untouched.1 occurs)
+
+-- over the places of all keys the texts of relations read as over the rows so far
+pub same_reading : PlacesReadAsRows
+same_reading ranges properties keys before after later rest r rows places text rules whole own listed is_text =
+    ⊎_elim
+    (λ target.
+    let there : is_among (keys_in rows) text.points ≡ true = ap (λ ks. is_among ks text.points) own ∙ target_among before keys text.points target in
+    let found = some_row (rows_of (references_from 0 rows)) text.points
+    (ap is_some (references_at 0 rows text.points) ∙ key_is_row 0 (keys_in rows) text.points there) in
+    read_over_key ranges properties rows places text in_rules.normal.accepted.same in_rules.some found.0
+    (placed text.points (inl there) ∙ found.1) found.1)
+    (λ free.
+    let untouched : IsUntouched (later ++ rest) text.points =
+    subst (λ rs. IsUntouched rs text.points) whole (rules.none_late before after r text.points refl (text_used r text is_text) free) in
+    read_over_same ranges properties rows places text
+    (λ key occurs. placed key
+    (inr (no_keys later text.points key
+    (at_front (λ s. OccursInOrder s.target.points text.points → ⊥) later rest untouched) occurs))))
+    (target_or_not before text.points)
+  where
+    in_rules : IsRuleText text
+    in_rules = text_of_rules r text (at_split HasRuleTexts before r after rules.texts) is_text
+
+    placed : (key : List ℕ) → (is_among (keys_in rows) key ≡ true) ⊎ AllByRecursion (λ s. s.target.points ≢ key) later →
+        places key ≡ rows_of (references_from 0 rows) key
+    placed key stays =
+        listed key
+        ∙ ap (λ ks. place_at 0 ks key) (targets_append before later keys ∙ ap (with_targets later) (sym own))
+        ∙ place_kept 0 later (keys_in rows) key stays
+        ∙ sym (references_at 0 rows key)

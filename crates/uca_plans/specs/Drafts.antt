@@ -1,0 +1,123 @@
+-- Drafts: the rows of a tailored table before its weights are numbered.
+use Rattle.std.specs.Prelude.{ℕ, zero, suc, ◌+◌, ◌*◌, ◌/◌, ◌%◌, Bool, true, false, ◌&&◌, ◌||◌, not, List, [], ◌∷◌, map, nat_eq, nat_le, if◌then◌else◌, Option, Some, None}
+use Rattle.std.specs.List.{flat_map}
+use Rattle.uca_weights.specs.declared.Element.{Element}
+use Rattle.uca_weights.specs.declared.Level.{Level}
+use Rattle.uca_weights.specs.declared.Level.TheVariants.{One, Two, Three}
+use Rattle.uca_values.specs.declared.ImplicitRange.{ImplicitRange}
+use Rattle.uca_values.specs.Content.{Entry, Properties}
+use Rattle.uca_text.specs.Texts.{Spelled}
+use Rattle.uca_match.specs.Rows.{rows_of, same_key}
+use Rattle.uca_match.specs.Collations.{elements_of}
+use Rattle.uca_plans.specs.declared.drafts.DraftWeight.{DraftWeight}
+use Rattle.uca_plans.specs.declared.drafts.DraftWeight.TheVariants.{Base, New}
+use Rattle.uca_plans.specs.declared.drafts.DraftElement.{DraftElement}
+
+-- ---- Rows of drafts
+
+pub record DraftRow : Type 0 where
+  pub key : List ℕ
+  pub elements : List DraftElement
+
+-- an element with weights as they are
+abbrev pub as_draft : Bool → Element → DraftElement
+as_draft implicit e = record { primary = Base e.primary; secondary = Base e.secondary; tertiary = Base e.tertiary; mark = e.mark; implicit = implicit }
+
+abbrev pub row_as_draft : Entry → DraftRow
+row_as_draft row = record { key = row.key; elements = map (as_draft false) row.elements }
+
+-- the row in place of the one with its key, or else behind the others
+abbrev pub with_row : DraftRow → List DraftRow → List DraftRow
+with_row new [] = new ∷ []
+with_row new (row ∷ rows) = if same_key row.key new.key then new ∷ rows else row ∷ with_row new rows
+
+abbrev pub has_key : List DraftRow → List ℕ → Bool
+has_key [] key = false
+has_key (row ∷ rows) key = same_key row.key key || has_key rows key
+
+-- ---- Reading over drafts
+
+-- The place of a row, as an element. Variable elements stand for places: implicit elements are never variable.
+abbrev pub reference : ℕ → Element
+reference place = record { primary = place / 0x1_0000; secondary = place % 0x1_0000; tertiary = 0; mark = true }
+
+abbrev pub referred : Element → ℕ
+referred e = e.primary * 0x1_0000 + e.secondary
+
+-- rows that hold their own places
+abbrev pub references_from : ℕ → List DraftRow → List Entry
+references_from place [] = []
+references_from place (row ∷ rows) = record { key = row.key; elements = reference place ∷ [] } ∷ references_from (place + 1) rows
+
+-- the elements of the row at a place
+abbrev pub elements_at : ℕ → List DraftRow → List DraftElement
+elements_at place [] = []
+elements_at zero (row ∷ rows) = row.elements
+elements_at (suc place) (row ∷ rows) = elements_at place rows
+
+-- what an element that was read stands for: the row at its place, or an implicit element
+abbrev pub resolved : List DraftRow → Element → List DraftElement
+resolved rows e = if e.mark then elements_at (referred e) rows else as_draft true e ∷ []
+
+-- the draft elements of a text
+abbrev pub draft_elements : List ImplicitRange → Properties → List DraftRow → Spelled → List DraftElement
+draft_elements ranges properties rows text =
+    flat_map (resolved rows) (elements_of (record { rows = rows_of (references_from 0 rows); ranges = ranges; properties = properties }) text)
+
+-- ---- What a rule means
+
+abbrev pub is_zero : DraftWeight → Bool
+is_zero (Base w) = nat_eq w 0
+is_zero (New _) = false
+
+abbrev pub draft_weight : Level → DraftElement → DraftWeight
+draft_weight One e = e.primary
+draft_weight Two e = e.secondary
+draft_weight Three e = e.tertiary
+
+-- no weight at the levels from 1 to this one
+abbrev pub is_silent : Level → DraftElement → Bool
+is_silent One e = is_zero e.primary
+is_silent Two e = is_zero e.primary && is_zero e.secondary
+is_silent Three e = is_zero e.primary && (is_zero e.secondary && is_zero e.tertiary)
+
+-- an anchor's elements up to the last that is not silent
+pub record AnchorPart : Type 0 where
+  pub front : List DraftElement
+  pub last : DraftElement
+
+abbrev pub behind_front : Level → DraftElement → Option AnchorPart → Option AnchorPart
+behind_front level e None = if is_silent level e then None else Some (record { front = []; last = e })
+behind_front level e (Some part) = Some (record { front = e ∷ part.front; last = part.last })
+
+abbrev pub anchor_part : Level → List DraftElement → Option AnchorPart
+anchor_part level [] = None
+anchor_part level (e ∷ es) = behind_front level e (anchor_part level es)
+
+-- a weight from 8000 up, where implicit weights stand
+abbrev pub is_high : DraftWeight → Bool
+is_high (Base w) = nat_le 0x8000 w
+is_high (New _) = false
+
+abbrev pub is_continuation : DraftElement → Bool
+is_continuation e = not (is_zero e.primary) && (is_zero e.secondary && is_zero e.tertiary)
+
+-- an element that gets no new weight: a continuation, and at level 1 one whose primary has no place below the implicit ones
+abbrev pub is_refused : Level → DraftElement → Bool
+is_refused One e = is_continuation e || is_high e.primary
+is_refused Two e = is_continuation e
+is_refused Three e = is_continuation e
+
+abbrev pub accepted_part : Level → Option AnchorPart → Option AnchorPart
+accepted_part level None = None
+accepted_part level (Some part) = if is_refused level part.last then None else Some part
+
+-- a weight that is not zero becomes this one
+abbrev pub reset : DraftWeight → ℕ → DraftWeight
+reset w weight = if is_zero w then w else Base weight
+
+-- the element with a new weight at a level; its weights at weaker levels become 0020 and 0002
+abbrev pub reweighted : Level → DraftWeight → DraftElement → DraftElement
+reweighted One new e = record e { primary = new; secondary = reset e.secondary 0x20; tertiary = reset e.tertiary 2 }
+reweighted Two new e = record e { secondary = new; tertiary = reset e.tertiary 2 }
+reweighted Three new e = record e { tertiary = new }

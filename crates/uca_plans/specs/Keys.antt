@@ -1,0 +1,56 @@
+-- The keys of drafts: those of the base, and then the new targets, in their order.
+use Rattle.std.specs.Prelude.{◌≡◌, ◌⊎◌, ℕ, ◌+◌, Bool, false, ◌||◌, List, [], ◌∷◌, ◌++◌, map, if◌then◌else◌, Some}
+use Rattle.std.specs.List.{flat_map}
+use Rattle.uca_values.specs.declared.ImplicitRange.{ImplicitRange}
+use Rattle.uca_values.specs.Content.{Entry, Properties}
+use Rattle.uca_text.specs.Texts.{Spelled}
+use Rattle.uca_rules.specs.declared.relations.Relation.{Relation}
+use Rattle.uca_rules.specs.Relations.{AreRules}
+use Rattle.uca_match.specs.Rows.{Rows, rows_of, same_key}
+use Rattle.uca_match.specs.Collations.{elements_of}
+use Rattle.uca_plans.specs.declared.drafts.DraftElement.{DraftElement}
+use Rattle.uca_plans.specs.Drafts.{DraftRow, reference, resolved, draft_elements}
+
+abbrev pub keys_in : List DraftRow → List (List ℕ)
+keys_in rows = map (λ row. row.key) rows
+
+-- the key is one of these
+abbrev pub is_among : List (List ℕ) → List ℕ → Bool
+is_among [] key = false
+is_among (k ∷ keys) key = same_key k key || is_among keys key
+
+-- the key behind the others, if it is none of them
+abbrev pub with_key : List ℕ → List (List ℕ) → List (List ℕ)
+with_key new [] = new ∷ []
+with_key new (key ∷ keys) = if same_key key new then key ∷ keys else key ∷ with_key new keys
+
+-- the targets of relations behind other keys, each once
+abbrev pub with_targets : List Relation → List (List ℕ) → List (List ℕ)
+with_targets [] keys = keys
+with_targets (r ∷ relations) keys = with_targets relations (with_key r.target.points keys)
+
+-- rows with these keys, in their order, that hold their own places
+abbrev pub places_from : ℕ → List (List ℕ) → List Entry
+places_from place [] = []
+places_from place (key ∷ keys) = record { key = key; elements = reference place ∷ [] } ∷ places_from (place + 1) keys
+
+-- the place of a key, as an element that stands for it
+abbrev pub place_at : ℕ → List (List ℕ) → Rows
+place_at place keys = rows_of (places_from place keys)
+
+-- a text's draft elements, read over places that may be those of more keys than the rows have
+abbrev pub read_over : List ImplicitRange → Properties → Rows → List DraftRow → Spelled → List DraftElement
+read_over ranges properties places rows text = flat_map (resolved rows) (elements_of (record { rows = places; ranges = ranges; properties = properties }) text)
+
+-- the text is the anchor or the expansion of the relation
+abbrev pub IsTextOf : Relation → Spelled → Type 0
+IsTextOf r text = (text ≡ r.anchor) ⊎ (r.expansion ≡ Some text)
+
+-- The places of all keys may be listed before any relation is read, those of later targets too: each relation's texts are
+-- read over them as over the rows so far. This is so where the later targets are listed to the end, and where only some are.
+abbrev pub PlacesReadAsRows : Type 0
+PlacesReadAsRows = (ranges : List ImplicitRange) (properties : Properties) (keys : List (List ℕ)) (before after later rest : List Relation)
+    (r : Relation) (rows : List DraftRow) (places : Rows) (text : Spelled) →
+    AreRules (before ++ r ∷ after) → r ∷ after ≡ later ++ rest → keys_in rows ≡ with_targets before keys →
+    ((key : List ℕ) → places key ≡ place_at 0 (with_targets (before ++ later) keys) key) → IsTextOf r text →
+    read_over ranges properties places rows text ≡ draft_elements ranges properties rows text

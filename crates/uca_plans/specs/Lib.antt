@@ -1,0 +1,12 @@
+pub mod Numbering
+pub mod Lists
+pub mod ListLaws
+pub mod Drafts
+pub mod Readings
+pub mod Keys
+pub mod Plans
+pub mod Runs
+pub mod Sizes
+pub mod WorkedPlans
+pub mod Tailors
+pub mod FaultText

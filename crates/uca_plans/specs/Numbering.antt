@@ -1,0 +1,72 @@
+-- The numbers that the members of a level's list get within a segment, and the laws of them.
+use Rattle.std.specs.Prelude.{◌≡◌, ℕ, ◌+◌, ◌-◌, ◌<◌, ◌≤◌, List, [], ◌∷◌, ◌++◌, length, take, min, max, slice_index}
+use Rattle.uca_plans.specs.declared.drafts.DraftWeight.{DraftWeight}
+use Rattle.uca_plans.specs.declared.drafts.DraftWeight.TheVariants.{Base, New}
+use Rattle.uca_plans.specs.declared.drafts.Segment.{Segment}
+
+-- ---- The numbers
+
+-- the greatest of `least` and, for each base member, its weight plus the number of members behind it
+abbrev pub pushed_up : ℕ → List DraftWeight → ℕ
+pushed_up least [] = least
+pushed_up least (Base weight ∷ behind) = max (weight + length behind) (pushed_up least behind)
+pushed_up least (New _ ∷ behind) = pushed_up least behind
+
+-- where the last of some members stands if none of them stands below its weight: behind the weight below the segment, and
+-- behind the weight of each base member, there is a place for each member that follows
+abbrev pub reached : Segment → List DraftWeight → ℕ
+reached segment members = pushed_up (segment.below + length members) members
+
+-- the number of the i-th member, counted from 1: as far up, or as much lower as the members behind it need
+abbrev pub number : Segment → List DraftWeight → ℕ → ℕ
+number segment members i = min (reached segment (take i members)) (segment.top - (length members - i))
+
+-- ---- In one pass
+
+-- one place further up, or at the weight of a base member where that is higher
+abbrev pub one_further : DraftWeight → ℕ → ℕ
+one_further (Base weight) place = max weight (place + 1)
+one_further (New _) place = place + 1
+
+-- the numbers of members that follow a place
+abbrev pub numbers_from : ℕ → ℕ → List DraftWeight → List ℕ
+numbers_from top place [] = []
+numbers_from top place (m ∷ behind) = min (one_further m place) (top - length behind) ∷ numbers_from top (one_further m place) behind
+
+-- the numbers of all members, in their order
+abbrev pub numbers_of : Segment → List DraftWeight → List ℕ
+numbers_of segment members = numbers_from segment.top segment.below members
+
+-- ---- The laws
+
+-- each number of the one pass is that of its member
+abbrev pub InOnePass : Segment → List DraftWeight → Type 0
+InOnePass segment members = (i : ℕ) → i < length members → slice_index (numbers_of segment members) i ≡ number segment members (i + 1)
+
+-- the i-th member, counted from 1, is the base weight
+abbrev pub IsBaseAt : List DraftWeight → ℕ → ℕ → Type 0
+IsBaseAt members i weight = (before : List DraftWeight) × (behind : List DraftWeight) × (members ≡ before ++ Base weight ∷ behind) × (i ≡ length before + 1)
+
+-- there is room for the i-th member at the weight: below it for those before, and above it for those behind
+pub record HasRoomAt (segment : Segment) (members : List DraftWeight) (i weight : ℕ) : Type 0 where
+  pub below : segment.below + i ≤ weight
+  pub before : (j earlier : ℕ) → j < i → IsBaseAt members j earlier → earlier + (i - j) ≤ weight
+  pub above : weight + (length members - i) ≤ segment.top
+
+-- What holds of the numbers where there are enough places: they are places of the segment, one for each member, in the
+-- order of the members; no other member's number lies between those of neighbours; and a base weight keeps its number
+-- where there is room.
+pub record AreNumbers (segment : Segment) (members : List DraftWeight) : Type 0 where
+  pub one_pass : InOnePass segment members
+  pub above : (i : ℕ) → 1 ≤ i → i ≤ length members → segment.below < number segment members i
+  pub within : (i : ℕ) → i ≤ length members → number segment members i ≤ segment.top
+  pub rising : (i j : ℕ) → i < j → j ≤ length members → number segment members i < number segment members j
+  pub between : (i m j : ℕ) → i ≤ length members → m ≤ length members → j ≤ length members → number segment members i < number segment members m → number segment members m < number segment members j → (i < m) × (m < j)
+  pub kept : (i weight : ℕ) → IsBaseAt members i weight → HasRoomAt segment members i weight → number segment members i ≡ weight
+
+-- the members have places in the segment
+abbrev pub HasPlaces : Segment → List DraftWeight → Type 0
+HasPlaces segment members = segment.below + length members ≤ segment.top
+
+abbrev pub NumbersAreProper : Type 0
+NumbersAreProper = (segment : Segment) (members : List DraftWeight) → HasPlaces segment members → AreNumbers segment members

@@ -1,0 +1,133 @@
+-- Some plans, worked out over the definitions.
+use Rattle.std.specs.Prelude.{◌≡◌, ℕ, List, [], ◌∷◌, ◌++◌, true, false, Some, None, Result, Ok, Err, ◌+◌, map, replicate}
+use Rattle.uca_weights.specs.declared.Element.{Element}
+use Rattle.uca_weights.specs.declared.Strength.TheVariants.{Primary, Secondary, Tertiary, Identical}
+use Rattle.uca_weights.specs.declared.Strength.{Strength}
+use Rattle.uca_weights.specs.declared.Level.TheVariants.{Two, Three}
+use Rattle.uca_values.specs.Content.{Entry}
+use Rattle.uca_text.specs.Texts.{Spelled}
+use Rattle.uca_match.specs.WorkedTable.{plain, variable, row, small_rows, small_ranges, small_properties}
+use Rattle.uca_weights.specs.declared.maps.Run.{Run}
+use Rattle.uca_plans.specs.declared.faults.TailorKind.TheVariants as kinds
+use Rattle.uca_plans.specs.declared.faults.TailorFault.{TailorFault}
+use Rattle.uca_rules.specs.declared.relations.Relation.{Relation}
+use Rattle.uca_plans.specs.Plans.{Basis, Plan, planned}
+
+-- a text with the classes of the small data file
+abbrev pub small_spelled : List ℕ → Spelled
+small_spelled points = record { points = points; classes = map small_properties.class points }
+
+-- a table of the given rows, with the header and the data file of the small table
+abbrev pub over : List Entry → Basis
+over rows = record { ranges = small_ranges; properties = small_properties; base = rows }
+
+abbrev pub small : Basis
+small = over small_rows
+
+-- a relation without expansion: the target is behind the anchor, or before it
+abbrev pub behind : List ℕ → Strength → List ℕ → Relation
+behind anchor strength target = record { anchor = small_spelled anchor; before = false; strength = strength; target = small_spelled target; expansion = None }
+
+abbrev pub ahead : List ℕ → Strength → List ℕ → Relation
+ahead anchor strength target = record { anchor = small_spelled anchor; before = true; strength = strength; target = small_spelled target; expansion = None }
+
+-- one with an expansion
+abbrev pub expanded : List ℕ → Strength → List ℕ → List ℕ → Relation
+expanded anchor strength target expansion = record { anchor = small_spelled anchor; before = false; strength = strength; target = small_spelled target; expansion = Some (small_spelled expansion) }
+
+abbrev pub run : ℕ → ℕ → ℕ → Run
+run from to count = record { from = from; to = to; count = count }
+
+abbrev pub refused : ℕ → kinds.the_data → Result Plan TailorFault
+refused relation kind = Err (record { kind = kind; relation = relation })
+
+-- the runs of the small table where every weight stays as it is
+abbrev pub small_secondary : List Run
+small_secondary = run 0x20 0x20 1 ∷ run 0x24 0x24 2 ∷ run 0x2C 0x2C 1 ∷ []
+
+abbrev pub small_tertiary : List Run
+small_tertiary = run 2 2 1 ∷ run 8 8 1 ∷ []
+
+abbrev pub same_runs : List Run
+same_runs = run 0x209 0x209 1 ∷ run 0x1C47 0x1C47 1 ∷ run 0x1C60 0x1C60 1 ∷ []
+
+-- the plan where every weight of the small table stays as it is
+abbrev pub with_rows : List Entry → Result Plan TailorFault
+with_rows rows = Ok (record { rows = small_rows ++ rows; primary = same_runs; secondary = small_secondary; tertiary = small_tertiary })
+
+-- the small table with `b` directly behind `a`
+abbrev pub close_rows : ℕ → List Entry
+close_rows b =
+    row (0x20 ∷ []) (variable 0x209 0x20 2) ∷
+    row (0x61 ∷ []) (plain 0x1C47 0x20 2) ∷
+    row (0x41 ∷ []) (plain 0x1C47 0x20 8) ∷
+    row (0x62 ∷ []) (plain b 0x20 2) ∷
+    row (0x300 ∷ []) (plain 0 0x25 2) ∷
+    row (0x301 ∷ []) (plain 0 0x24 2) ∷
+    row (0x323 ∷ []) (plain 0 0x2C 2) ∷ []
+
+-- the targets one after the other, each with the one before it as its anchor
+abbrev pub chained : Strength → ℕ → List ℕ → List Relation
+chained strength anchor [] = []
+chained strength anchor (target ∷ targets) = behind (anchor ∷ []) strength (target ∷ []) ∷ chained strength target targets
+
+-- `&[before 2]a << ..`
+abbrev pub chained_before : ℕ → List ℕ → List Relation
+chained_before target targets = ahead (0x61 ∷ []) Secondary (target ∷ []) ∷ chained Secondary target targets
+
+-- `d` to `z`, and `C` to `I`
+abbrev pub thirty : List ℕ
+thirty = 0x64 ∷ 0x65 ∷ 0x66 ∷ 0x67 ∷ 0x68 ∷ 0x69 ∷ 0x6A ∷ 0x6B ∷ 0x6C ∷ 0x6D ∷ 0x6E ∷ 0x6F ∷ 0x70 ∷ 0x71 ∷ 0x72 ∷ 0x73 ∷ 0x74 ∷ 0x75 ∷ 0x76 ∷ 0x77 ∷ 0x78 ∷ 0x79 ∷ 0x7A ∷ 0x43 ∷ 0x44 ∷ 0x45 ∷ 0x46 ∷ 0x47 ∷ 0x48 ∷ 0x49 ∷ []
+
+-- rows with secondary weights that rise by one
+abbrev pub secondary_rows : ℕ → List ℕ → List Entry
+secondary_rows weight [] = []
+secondary_rows weight (target ∷ targets) = row (target ∷ []) (plain 0x1C47 weight 2) ∷ secondary_rows (weight + 1) targets
+
+-- `&a < x / b.. &x = y / b..`, with 16 times `b` and with as many in the second expansion as is said
+abbrev pub with_many : ℕ → List Relation
+with_many n = expanded (0x61 ∷ []) Primary (0x78 ∷ []) (replicate 16 0x62) ∷ expanded (0x78 ∷ []) Identical (0x79 ∷ []) (replicate n 0x62) ∷ []
+
+abbrev pub many : ℕ → List Element
+many n = plain 0x1C48 0x20 2 ∷ replicate n (plain 0x1C60 0x20 2)
+
+pub record WorkedPlans : Type 0 where
+  -- no rules: the table stays
+  pub nothing : planned small [] ≡ with_rows []
+  -- `&a < x`
+  pub letter : planned small (behind (0x61 ∷ []) Primary (0x78 ∷ []) ∷ []) ≡ with_rows (row (0x78 ∷ []) (plain 0x1C48 0x20 2) ∷ [])
+  -- the same where the next letter stands directly behind `a`: it moves up
+  pub pushed : planned (over (close_rows 0x1C48)) (behind (0x61 ∷ []) Primary (0x78 ∷ []) ∷ []) ≡ Ok (record { rows = close_rows 0x1C49 ++ row (0x78 ∷ []) (plain 0x1C48 0x20 2) ∷ []; primary = run 0x209 0x209 1 ∷ run 0x1C47 0x1C47 1 ∷ run 0x1C48 0x1C49 1 ∷ []; secondary = small_secondary; tertiary = small_tertiary })
+  -- `&a < x &a < y`: the later one stands nearer
+  pub later : planned small (behind (0x61 ∷ []) Primary (0x78 ∷ []) ∷ behind (0x61 ∷ []) Primary (0x79 ∷ []) ∷ []) ≡ with_rows (row (0x78 ∷ []) (plain 0x1C49 0x20 2) ∷ row (0x79 ∷ []) (plain 0x1C48 0x20 2) ∷ [])
+  -- `&[before 3]a <<< x`, and with a second `<<< y` there is no place left below 0002
+  pub ahead_of : planned small (ahead (0x61 ∷ []) Tertiary (0x78 ∷ []) ∷ []) ≡ Ok (record { rows = small_rows ++ row (0x78 ∷ []) (plain 0x1C47 0x20 1) ∷ []; primary = same_runs; secondary = small_secondary; tertiary = small_tertiary })
+  pub full : planned small (ahead (0x61 ∷ []) Tertiary (0x78 ∷ []) ∷ behind (0x78 ∷ []) Tertiary (0x79 ∷ []) ∷ []) ≡ refused 0 (kinds.NoRoom Three)
+  -- `&a < x / b`, `&A = x / U+0301`
+  pub with_expansion : planned small (expanded (0x61 ∷ []) Primary (0x78 ∷ []) (0x62 ∷ []) ∷ []) ≡ with_rows (record { key = 0x78 ∷ []; elements = plain 0x1C48 0x20 2 ∷ plain 0x1C60 0x20 2 ∷ [] } ∷ [])
+  pub same_with_expansion : planned small (expanded (0x41 ∷ []) Identical (0x78 ∷ []) (0x301 ∷ []) ∷ []) ≡ with_rows (record { key = 0x78 ∷ []; elements = plain 0x1C47 0x20 8 ∷ plain 0 0x24 2 ∷ [] } ∷ [])
+  -- `&U+4E00 < x`, `&U+4E00 = x`
+  pub implicit_anchor : planned small (behind (0x4E00 ∷ []) Primary (0x78 ∷ []) ∷ []) ≡ refused 1 kinds.Anchor
+  pub implicit_same : planned small (behind (0x4E00 ∷ []) Identical (0x78 ∷ []) ∷ []) ≡ with_rows (record { key = 0x78 ∷ []; elements = plain 0xFB40 0x20 2 ∷ plain 0xCE00 0 0 ∷ [] } ∷ [])
+  -- `&a < b U+0301 U+0300`, and `&a < b U+0301 < b U+0301 U+0300`
+  pub lacks_prefix : planned small (behind (0x61 ∷ []) Primary (0x62 ∷ 0x301 ∷ 0x300 ∷ []) ∷ []) ≡ refused 1 kinds.NeedsPrefix
+  pub has_prefix : planned small (behind (0x61 ∷ []) Primary (0x62 ∷ 0x301 ∷ []) ∷ behind (0x62 ∷ 0x301 ∷ []) Primary (0x62 ∷ 0x301 ∷ 0x300 ∷ []) ∷ []) ≡ with_rows (row (0x62 ∷ 0x301 ∷ []) (plain 0x1C48 0x20 2) ∷ row (0x62 ∷ 0x301 ∷ 0x300 ∷ []) (plain 0x1C49 0x20 2) ∷ [])
+  -- `&d = dz / z &a < dz U+030C << q &b < z U+030C`, where U+030C has no row
+  pub implicit_prefix : planned small (expanded (0x64 ∷ []) Identical (0x64 ∷ 0x7A ∷ []) (0x7A ∷ []) ∷ behind (0x61 ∷ []) Primary (0x64 ∷ 0x7A ∷ 0x30C ∷ []) ∷ behind (0x64 ∷ 0x7A ∷ 0x30C ∷ []) Secondary (0x71 ∷ []) ∷ behind (0x62 ∷ []) Primary (0x7A ∷ 0x30C ∷ []) ∷ []) ≡ with_rows (
+      record { key = 0x64 ∷ 0x7A ∷ []; elements = plain 0xFBC0 0x20 2 ∷ plain 0x8064 0 0 ∷ plain 0xFBC0 0x20 2 ∷ plain 0x807A 0 0 ∷ [] } ∷
+      row (0x64 ∷ 0x7A ∷ 0x30C ∷ []) (plain 0x1C48 0x20 2) ∷ row (0x71 ∷ []) (plain 0x1C48 0x21 2) ∷ row (0x7A ∷ 0x30C ∷ []) (plain 0x1C61 0x20 2) ∷ [])
+  -- 31 secondary weights below 0020, and one more
+  pub below_fixed : planned small (chained_before 0x63 thirty) ≡ Ok (record { rows = small_rows ++ secondary_rows 1 (0x63 ∷ thirty); primary = same_runs; secondary = small_secondary; tertiary = small_tertiary })
+  pub below_fixed_full : planned small (chained_before 0x63 (thirty ++ 0x4A ∷ [])) ≡ refused 0 (kinds.NoRoom Two)
+  -- 32 elements, and 33
+  pub longest_row : planned small (with_many 15) ≡ with_rows (record { key = 0x78 ∷ []; elements = many 16 } ∷ record { key = 0x79 ∷ []; elements = many 31 } ∷ [])
+  pub too_long_row : planned small (with_many 16) ≡ refused 2 kinds.Limit
+  -- `&a < b U+0301 U+0300` where the rules were read with another data file: the class is that of the data handed in
+  pub lacks_prefix_by_data : planned small (record { anchor = small_spelled (0x61 ∷ []); before = false; strength = Primary; target = record { points = 0x62 ∷ 0x301 ∷ 0x300 ∷ []; classes = 0 ∷ 0 ∷ 0 ∷ [] }; expansion = None } ∷ []) ≡ refused 1 kinds.NeedsPrefix
+  -- `&a < b`: the row of a base key is replaced in its place, and its weight stays listed
+  pub base_key : planned small (behind (0x61 ∷ []) Primary (0x62 ∷ []) ∷ []) ≡ Ok (record { rows = close_rows 0x1C48; primary = same_runs; secondary = small_secondary; tertiary = small_tertiary })
+  -- `&[before 1]U+0020 < x`: the new element is variable as its anchor's
+  pub variable_anchor : planned small (ahead (0x20 ∷ []) Primary (0x78 ∷ []) ∷ []) ≡ with_rows (row (0x78 ∷ []) (variable 1 0x20 2) ∷ [])
+  -- `&a < x` where `a` has the last weight of level 1, and `&U+0300 << x` where U+0300 has that of level 2
+  pub last_primary : planned (over (row (0x61 ∷ []) (plain 0x7FFF 0x20 2) ∷ [])) (behind (0x61 ∷ []) Primary (0x78 ∷ []) ∷ []) ≡ Ok (record { rows = row (0x61 ∷ []) (plain 0x7FFE 0x20 2) ∷ row (0x78 ∷ []) (plain 0x7FFF 0x20 2) ∷ []; primary = run 0x7FFF 0x7FFE 1 ∷ []; secondary = run 0x20 0x20 1 ∷ []; tertiary = run 2 2 1 ∷ [] })
+  pub last_secondary : planned (over (row (0x300 ∷ []) (plain 0 0xFFFF 2) ∷ [])) (behind (0x300 ∷ []) Secondary (0x78 ∷ []) ∷ []) ≡ Ok (record { rows = row (0x300 ∷ []) (plain 0 0xFFFE 2) ∷ row (0x78 ∷ []) (plain 0 0xFFFF 2) ∷ []; primary = []; secondary = run 0x20 0x20 1 ∷ run 0xFFFF 0xFFFE 1 ∷ []; tertiary = run 2 2 1 ∷ [] })

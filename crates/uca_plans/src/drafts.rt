@@ -1,0 +1,34 @@
+//! Weights and elements before they are numbered.
+
+/// A weight before weights are numbered.
+#[derive(Clone, Copy, Debug, PartialEq, Eq)]
+pub enum DraftWeight {
+    /// A weight of the base; 0 is none.
+    Base(u16),
+    /// The new weight of the relation with this index, from 0.
+    New(u32),
+}
+
+/// An element before weights are numbered.
+#[derive(Clone, Copy, Debug, PartialEq, Eq)]
+pub struct DraftElement {
+    /// The weight at level 1.
+    pub primary: DraftWeight,
+    /// The weight at level 2.
+    pub secondary: DraftWeight,
+    /// The weight at level 3.
+    pub tertiary: DraftWeight,
+    /// Whether the element is variable.
+    pub mark: bool,
+    /// Whether the implicit weights of a code point gave it, and no row.
+    pub implicit: bool,
+}
+
+/// The weights above one up to another: the places for the members of a list.
+#[derive(Clone, Copy, Debug, PartialEq, Eq)]
+pub struct Segment {
+    /// The weight below all places.
+    pub below: u16,
+    /// The greatest place.
+    pub top: u16,
+}

@@ -1,0 +1,92 @@
+//! Why there is no plan.
+
+ghost use Rattle.std.specs.Prelude.{◌≡◌, Some};
+ghost use Rattle.uca_weights.specs.Levels as levels;
+ghost use Rattle.uca_plans.specs.FaultText.{tailor_kind_text, tailor_fault_text};
+
+use std::alloc::AllocError;
+use std::fmt;
+use thiserror::Error;
+use uca_audit::AuditFault;
+use uca_weights::Level;
+
+/// Why rules can't be planned over a base.
+#[derive(Clone, Copy, Debug, PartialEq, Eq)]
+pub enum TailorKind {
+    /// The base is not well-formed (UTS #10, section 9.2).
+    BaseIllFormed,
+    /// The elements of an anchor have no last one that a new weight can be put on.
+    Anchor,
+    /// A target of three or more code points ends in a non-starter, and without it is neither a base key nor an earlier
+    /// target.
+    NeedsPrefix,
+    /// The weights of a level are more than its places.
+    NoRoom(Level),
+    /// A target has more than 32 elements, or the table more than 200,000 rows.
+    Limit,
+    /// The audit of the plan refuses it.
+    PlanRejected(AuditFault),
+    /// An allocation failed.
+    Memory,
+}
+
+impl fmt::Display for TailorKind {
+    ghost output = { λ kind. Some (tailor_kind_text kind) };
+
+    fn fmt<W: fmt::Write>(&self, f: &mut fmt::Formatter<W>) -> fmt::Result {
+        match self {
+            TailorKind::BaseIllFormed => f.write_str("BaseIllFormed"),
+            TailorKind::Anchor => f.write_str("Anchor"),
+            TailorKind::NeedsPrefix => f.write_str("NeedsPrefix"),
+            TailorKind::NoRoom(level) => write!(f, "NoRoom {}", level_number(*level)),
+            TailorKind::Limit => f.write_str("Limit"),
+            TailorKind::PlanRejected(refusal) => write!(f, "PlanRejected {}", refusal.number),
+            TailorKind::Memory => f.write_str("Memory"),
+        }
+    }
+}
+
+/// Rules can't be planned over a base.
+#[derive(Clone, Copy, Debug, PartialEq, Eq, Error)]
+pub struct TailorFault {
+    /// Why.
+    pub kind: TailorKind,
+    /// The relation, counted from 1; 0 where no single one is to blame.
+    pub relation: u32,
+}
+
+impl fmt::Display for TailorFault {
+    ghost output = { λ fault. Some (tailor_fault_text fault) };
+
+    fn fmt<W: fmt::Write>(&self, f: &mut fmt::Formatter<W>) -> fmt::Result {
+        if self.relation == 0 {
+            write!(f, "{}", self.kind)
+        } else {
+            write!(f, "relation {}: {}", self.relation, self.kind)
+        }
+    }
+}
+
+impl From<AllocError> for TailorFault {
+    ghost use Rattle.uca_plans.specs.Tailors.{out_of_memory};
+
+    ghost from_gives = { λ _ fault. fault ≡ out_of_memory };
+
+    fn from(_error: AllocError) -> TailorFault {
+        TailorFault {
+            kind: TailorKind::Memory,
+            relation: 0,
+        }
+    }
+}
+
+// The number of a level, from 1.
+fn level_number(level: Level) -> u8
+    ensures { result ≡ levels.level_number level }
+{
+    match level {
+        Level::One => 1,
+        Level::Two => 2,
+        Level::Three => 3,
+    }
+}

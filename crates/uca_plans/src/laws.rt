@@ -1,0 +1,98 @@
+//! Laws of plans. Each is the contract of a function that does nothing.
+
+ghost use Rattle.uca_plans.specs.Numbering.{NumbersAreProper};
+ghost use Rattle.uca_plans.specs.ListLaws.{BaseWeightsOfElements, NewWeightsStandNearest, NewWeightsTakePlaces, NothingStandsBetween, NumbersRiseAlongLists};
+ghost use Rattle.uca_plans.specs.Runs.{RunsSendBaseWeights};
+ghost use Rattle.uca_plans.specs.Readings.{OneMoreRow, KeysReadAsTheirRows, DraftsReadByWhatOccurs, DraftsReadAsRows, DraftsComeFromRows};
+ghost use Rattle.uca_plans.specs.Keys.{PlacesReadAsRows};
+ghost use Rattle.uca_plans.specs.Sizes.{PlansHaveSizedRows};
+ghost use Rattle.uca_plans.specs.WorkedPlans.{WorkedPlans};
+
+/// The plans of some rules, as they were worked out by hand: new letters, accents and capitals, weights that have to move,
+/// expansions, and refusals of each kind.
+pub fn worked_plans()
+    ensures { WorkedPlans }
+{}
+
+/// Where a segment has places for some members, each number of the one pass is that of the closed form; they are places of
+/// the segment, in the order of the members, with no other member's number between those of neighbours; and a base weight
+/// keeps its number where there is room.
+pub fn numbers_are_proper()
+    ensures { NumbersAreProper }
+{}
+
+/// The base weights of a level are the weights of its elements that are numbered, and the one that stays, each once, in rising
+/// order.
+pub fn base_weights_of_elements()
+    ensures { BaseWeightsOfElements }
+{}
+
+/// Where a list has the anchor's weight and not the new one, the new weight is added on its side of the anchor's. All others
+/// stand as they did, and towards each of them the new weight stands as the anchor's does.
+pub fn new_weights_stand_nearest()
+    ensures { NewWeightsStandNearest }
+{}
+
+/// Then no weight stands between the anchor's and the new one, and of the weights that were there, one stands before another
+/// exactly where it did.
+pub fn nothing_stands_between()
+    ensures { NothingStandsBetween }
+{}
+
+/// Each new weight takes one place of one segment: of the low one where its anchor's weight stands below the fixed one, or is
+/// it and the new weight goes before it; and else of the high one.
+pub fn new_weights_take_places()
+    ensures { NewWeightsTakePlaces }
+{}
+
+/// Where both segments of a level have room, its numbers rise along its list, the fixed weight keeps its own, and none is above
+/// the level's greatest.
+pub fn numbers_rise_along_lists()
+    ensures { NumbersRiseAlongLists }
+{}
+
+/// The runs of a list in rising order rise on both sides, send each base weight to its number, and send nothing else.
+pub fn runs_send_base_weights()
+    ensures { RunsSendBaseWeights }
+{}
+
+/// One more draft row: its key then has its elements and every other key what it had. It replaces the row with its key in
+/// its place, or stands behind all others; each key that was there keeps its place.
+pub fn one_more_row()
+    ensures { OneMoreRow }
+{}
+
+/// A text that is the key of a draft row has the elements of that row.
+pub fn keys_read_as_their_rows()
+    ensures { KeysReadAsTheirRows }
+{}
+
+/// Drafts that agree at the keys that occur in order in a text give it the same elements: rows that come later change
+/// nothing for it, unless their target occurs in it.
+pub fn drafts_read_by_what_occurs()
+    ensures { DraftsReadByWhatOccurs }
+{}
+
+/// Numbering and reading may be done in either order: whatever elements draft elements are numbered as, a text that is
+/// read under the numbered rows has its draft elements, numbered. Implicit elements have to stay as they are.
+pub fn drafts_read_as_rows()
+    ensures { DraftsReadAsRows }
+{}
+
+/// Each draft element of a text is one of a row, or an implicit one of a code point of the text.
+pub fn drafts_come_from_rows()
+    ensures { DraftsComeFromRows }
+{}
+
+/// The places of all keys may be listed before any relation is read: those of the base, and then those of the targets, of
+/// which the later ones have no row yet. Each relation's anchor and expansion is read over these places as over the rows so
+/// far.
+pub fn places_read_as_rows()
+    ensures { PlacesReadAsRows }
+{}
+
+/// The rows of a plan have the sizes that the rows of every table have: 1 to 16 code points, 1 to 32 elements, no key
+/// twice, and at most 200,000 rows.
+pub fn plans_have_sized_rows()
+    ensures { PlansHaveSizedRows }
+{}

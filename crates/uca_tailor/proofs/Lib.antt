@@ -1,0 +1,14 @@
+pub mod MarkLaws
+pub mod PlaceLaws
+pub mod LevelLaws
+pub mod RunLaws
+pub mod AnchorParts
+pub mod PlaceKeys
+pub mod KeyLookups
+pub mod RowLookups
+pub mod Names
+pub mod DraftingSteps
+pub mod Prefixes
+pub mod Readiness
+pub mod PartLaws
+pub mod RefusalLaws

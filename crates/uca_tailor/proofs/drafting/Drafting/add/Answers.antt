@@ -1,0 +1,47 @@
+use Rattle.std.proofs.Common.{◌≡◌, ◌≤◌, ◌++◌, ◌∷◌, [], List, length, set, Some, false, sym, ap, subst, ◌∙◌, arith}
+use Rattle.uca_plans.specs.declared.drafts.DraftWeight.TheVariants.{New}
+use Rattle.uca_plans.specs.Drafts.{DraftRow}
+use Rattle.uca_plans.specs.Plans.{Basis, Drafting, Drafted, drafted, needs_prefix}
+use Rattle.uca_plans.specs.Keys.{keys_in, is_among}
+use Rattle.uca_plans.proofs.PlanSteps.{target_row}
+use Rattle.uca_tailor.specs.Places.{IsPlaceOf}
+use Rattle.uca_tailor.specs.Ready.{basis_in}
+use Rattle.uca_tailor.proofs.DraftingSteps.{drafted_by_rows, refused_room, row_put}
+use Rattle.uca_tailor.proofs.drafting.Drafting.add.Goals as goal
+
+pub returns-in_default-place_of : goal.returns-in_default-place_of
+returns-in_default-place_of c =
+    let basis : Basis = basis_in c.args.reader.now in
+    let rows : c.deref.result.now ≡ c.args.self.now.rows = c.deref.ensures.value ∙ ap (λ (d : Drafting). d.rows) c.self.view_is in
+    let gives : drafted basis c.args.self.now (New c.args.index) c.args.relation.now ≡ Some c.in-Some.new =
+    sym (drafted_by_rows basis c.args.self.now (New c.args.index) c.args.relation.now)
+    ∙ ap (λ (rs : List DraftRow). drafted basis (record { rows = rs; insertions = [] }) (New c.args.index) c.args.relation.now) (sym rows)
+    ∙ sym c.in_ok-new.ensures ∙ c.in-Some.is in
+    let rows2 : c.deref-2.result.now ≡ c.args.self.now.rows = c.deref-2.ensures.value ∙ ap (λ (d : Drafting). d.rows) c.self.view_is in
+    let has : needs_prefix basis.properties.class c.args.self.now.rows c.args.relation.now.target.points ≡ false =
+    ap (λ rs. needs_prefix basis.properties.class rs c.args.relation.now.target.points) (sym rows2) ∙ sym c.needs_prefix.ensures ∙ c.if-needs_prefix.false in
+    refused_room basis _ c.args.self.now c.args.index c.args.relation.now c.in-Some.new c.requires gives has
+    (ap (is_among (keys_in c.args.self.now.rows ++ c.requires.more)) (sym c.chars.ensures.value) ∙ c.in_default-place_of.ensures _ c.requires.each)
+
+pub returns : goal.returns
+returns c =
+    let basis : Basis = basis_in c.args.reader.now in
+    let rows : c.deref.result.now ≡ c.args.self.now.rows = c.deref.ensures.value ∙ ap (λ (d : Drafting). d.rows) c.self.view_is in
+    let gives : drafted basis c.args.self.now (New c.args.index) c.args.relation.now ≡ Some c.in-Some.new =
+    sym (drafted_by_rows basis c.args.self.now (New c.args.index) c.args.relation.now)
+    ∙ ap (λ (rs : List DraftRow). drafted basis (record { rows = rs; insertions = [] }) (New c.args.index) c.args.relation.now) (sym rows)
+    ∙ sym c.in_ok-new.ensures ∙ c.in-Some.is in
+    let rows2 : c.deref-2.result.now ≡ c.args.self.now.rows = c.deref-2.ensures.value ∙ ap (λ (d : Drafting). d.rows) c.self.view_is in
+    let has : needs_prefix basis.properties.class c.args.self.now.rows c.args.relation.now.target.points ≡ false =
+    ap (λ rs. needs_prefix basis.properties.class rs c.args.relation.now.target.points) (sym rows2) ∙ sym c.needs_prefix.ensures ∙ c.if-needs_prefix.false in
+    let row : c.of_target-row.result ≡ target_row c.args.relation.now c.in-Some.new =
+    c.of_target-row.ensures ∙ ap (λ (d : Drafted). target_row c.args.relation.now d) c.new.view_is in
+    let few : length c.in-Some.new.elements ≤ 32 =
+    subst (λ (d : Drafted). length d.elements ≤ 32) c.new.view_is (omega (arith, c.len.ensures, c.new.inside.elements.ok)) in
+    let stands : IsPlaceOf (keys_in c.args.self.now.rows ++ c.requires.more) c.args.relation.now.target.points c.in-Some-place_of.place =
+    subst (λ k. IsPlaceOf (keys_in c.args.self.now.rows ++ c.requires.more) k c.in-Some-place_of.place) c.chars.ensures.value
+    (c.in-Some-place_of.ensures _ c.requires.each) in
+    row_put basis _ c.args.self.now c.args.index c.args.relation.now c.in-Some.new c.requires gives has c.in-Some-place_of.place stands few c.put.new.self
+    (λ there. c.in_ok-put.ensures.replaced there ∙ ap (set c.args.self.now.rows c.in-Some-place_of.place) row)
+    (λ past. c.in_ok-put.ensures.behind past ∙ ap (λ last. c.args.self.now.rows ++ last ∷ []) row)
+    (c.in_ok-put.ensures.insertions ∙ ap (λ (d : Drafted). c.args.self.now.insertions ++ d.insertions) c.new.view_is)

@@ -1,0 +1,38 @@
+use Rattle.std.proofs.Common.{List, length, sym, subst}
+use Rattle.std.specs.List.{AllByRecursion}
+use Rattle.uca_values.specs.Content.{keys_of, properties_of}
+use Rattle.uca_plans.specs.Plans.{Basis}
+use Rattle.uca_plans.specs.Tailors.{basis_of}
+use Rattle.uca_match.specs.Tries.{held}
+use Rattle.uca_rules.specs.declared.relations.Relation.{Relation}
+use Rattle.uca_rules.specs.Relations.{AreRules}
+use Rattle.uca_tailor.specs.NumberTables.{InsertsBelow}
+use Rattle.uca_tailor.specs.Places.{ArePlaces}
+use Rattle.uca_tailor.proofs.Readiness.{ready}
+use Rattle.uca_tailor.proofs.DraftingSteps.{none_drafted, one_more, all_drafted}
+use Rattle.uca_tailor.proofs.Names.{drafts_named, named_below}
+use Rattle.uca_tailor.proofs.drafting.draft.Goals as goal
+
+pub loop-at-init : goal.loop-at-init
+loop-at-init c = none_drafted _ _ c.in_ok-drafting.drafting c.in_ok-drafting.ensures.rows c.in_ok-drafting.ensures.insertions c.in_ok-drafting.ensures.few
+
+pub add-requires : goal.add-requires
+add-requires c =
+    ready _ _ c.relations-relation-items.result.now c.loop-at.at c.relation-item.result c.loop-at.drafting
+    (subst AreRules (sym c.relations-relation-items.ensures.value) c.relations-relation-items.ensures.rules)
+    (subst (λ (rs : List Relation). ArePlaces (keys_of c.args.base.now.rows) rs (held c.in_ok-places.places)) (sym c.relations-relation-items.ensures.value)
+    c.in_ok-places.ensures)
+    c.loop-at-test.true c.relation-item.is c.loop-at.invariant
+
+pub loop-at-preserved : goal.loop-at-preserved
+loop-at-preserved c =
+    one_more _ c.relations-relation-items.result.now c.loop-at.at c.relation-item.result c.loop-at.drafting c.add.new.self c.loop-at-test.true c.relation-item.is
+    c.loop-at.invariant (rw c.in_default.is at c.in_ok-kind.ensures)
+
+pub returns-clause-names : goal.returns-clause-names
+returns-clause-names c =
+    let basis : Basis = basis_of c.args.base.now (properties_of c.args.properties.now) in
+    subst (λ (rs : List Relation). AllByRecursion (InsertsBelow (length rs)) c.loop-at.drafting.insertions) c.relations-relation-items.ensures.value
+    (named_below 0 (length c.relations-relation-items.result.now) c.loop-at.drafting.insertions
+    (drafts_named basis c.relations-relation-items.result.now c.loop-at.drafting
+    (all_drafted basis c.relations-relation-items.result.now c.loop-at.at c.loop-at.drafting c.loop-at-test.false c.loop-at.invariant)))

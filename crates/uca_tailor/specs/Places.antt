@@ -1,0 +1,31 @@
+-- The keys that have places, and the places that they have. Only clauses inside this crate cite this file.
+use Rattle.std.specs.Prelude.{◌≡◌, ℕ, ◌<◌, ◌≤◌, ⊤, List, [], ◌∷◌, ◌++◌, length, false, Some}
+use Rattle.uca_rules.specs.declared.relations.Relation.{Relation}
+use Rattle.uca_match.specs.Rows.{Rows}
+use Rattle.uca_plans.specs.Drafts.{reference}
+use Rattle.uca_plans.specs.Keys.{is_among, with_targets, place_at}
+
+-- the key stands at this place
+pub record IsPlaceOf (keys : List (List ℕ)) (key : List ℕ) (place : ℕ) : Type 0 where
+  pub within : place < length keys
+  pub stands : place_at 0 keys key ≡ Some (reference place ∷ [])
+
+-- all targets are among the keys, or a table has no room for the next one
+abbrev pub IsFull : List (List ℕ) → List Relation → Type 0
+IsFull keys [] = ⊤
+IsFull keys (r ∷ rest) = (200000 ≤ length keys) × (is_among keys r.target.points ≡ false)
+
+-- base keys and then targets, as far as a table has room for them
+pub record AreListed (base : List (List ℕ)) (relations : List Relation) (keys : List (List ℕ)) : Type 0 where
+  pub listed : List Relation
+  pub rest : List Relation
+  pub whole : relations ≡ listed ++ rest
+  pub are : keys ≡ with_targets listed base
+  pub full : IsFull keys rest
+  pub few : length keys ≤ 200000
+
+-- the places of such keys
+pub record ArePlaces (base : List (List ℕ)) (relations : List Relation) (places : Rows) : Type 0 where
+  pub keys : List (List ℕ)
+  pub all : AreListed base relations keys
+  pub each : (key : List ℕ) → places key ≡ place_at 0 keys key

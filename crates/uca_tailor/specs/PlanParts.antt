@@ -1,0 +1,32 @@
+-- The parts of a plan. Only clauses inside this crate cite this file.
+use Rattle.std.specs.Prelude.{◌≡◌, ◌⊎◌, List, [], Ok, Err}
+use Rattle.uca_values.specs.Content.{TableContent, Properties}
+use Rattle.uca_rules.specs.declared.relations.Relation.{Relation}
+use Rattle.uca_certificates.specs.Certificates.{CertificateContent}
+use Rattle.uca_tailorings.specs.Tailorings.{Tailoring}
+use Rattle.uca_audit.specs.declared.faults.AuditFault.{AuditFault}
+use Rattle.uca_audit.specs.Refusals.{IsFirstRefusal}
+use Rattle.uca_plans.specs.declared.faults.TailorKind.TheVariants as kinds
+use Rattle.uca_plans.specs.declared.faults.TailorFault.{TailorFault}
+use Rattle.uca_plans.specs.Plans.{LevelPlans, plan_of, planned}
+use Rattle.uca_plans.specs.Tailors.{basis_of, plan_in, certificate_of, out_of_memory}
+
+-- the certificate of numbers, which no row has a part in
+abbrev pub certificate_by : LevelPlans → CertificateContent
+certificate_by numbers = certificate_of (plan_of [] numbers)
+
+-- a table with the base's header and a certificate are the plan
+abbrev pub IsMade : TableContent → Properties → List Relation → TableContent → CertificateContent → Type 0
+IsMade base properties relations table certificate =
+    (table.header ≡ base.header) × (planned (basis_of base properties) relations ≡ Ok (plan_in table certificate))
+
+-- there is none, for this reason, or an allocation failed
+abbrev pub IsNotMade : TableContent → Properties → List Relation → TailorFault → Type 0
+IsNotMade base properties relations fault =
+    (planned (basis_of base properties) relations ≡ Err fault) ⊎ (fault ≡ out_of_memory)
+
+-- an audit refuses the plan for this reason, or an allocation failed
+abbrev pub IsNotAudited : Tailoring → TailorFault → Type 0
+IsNotAudited tailoring fault =
+    ((refusal : AuditFault) × (fault ≡ record { kind = kinds.PlanRejected refusal; relation = 0 }) × IsFirstRefusal tailoring refusal)
+    ⊎ (fault ≡ out_of_memory)

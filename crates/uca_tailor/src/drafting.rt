@@ -1,0 +1,190 @@
+//! The rows of a tailored table before weights are numbered, relation by relation.
+
+ghost use Rattle.std.specs.Prelude.{◌≡◌, ◌<◌, ◌≤◌, ◌++◌, ◌∷◌, [], length, map, slice_set, IfOk, OnOk, MatchResult, Ok, Err, List, ℕ};
+ghost use Rattle.std.specs.List.{AllByRecursion};
+ghost use Rattle.std.specs.Option.{option_to_list};
+ghost use Rattle.uca_values.specs.Content.{properties_of};
+ghost use Rattle.uca_plans.specs.Drafts as drafts;
+ghost use Rattle.uca_plans.specs.Plans as plans;
+ghost use Rattle.uca_plans.specs.Plans.{begun, with_relation, with_relations};
+ghost use Rattle.uca_plans.specs.Tailors.{basis_of};
+ghost use Rattle.uca_tailor.specs.NumberTables.{InsertsBelow};
+ghost use Rattle.uca_tailor.specs.Ready.{basis_in, ArePlacesWith, IsReady};
+
+use crate::insertions::Insertion;
+use crate::places::{place_of, places_of};
+use crate::readings::Reader;
+use crate::row_drafts::RowDraft;
+use crate::targets::draft_target;
+use std::alloc::{AllocError, Global};
+use std::marker::Model;
+use uca_match::{Lookup, Trie};
+use uca_plans::{TailorFault, TailorKind};
+use uca_rules::{Relation, Rules};
+use uca_text::Normal;
+use uca_values::{Data, Table};
+
+/// The most elements of a row.
+const MOST_ELEMENTS: usize = 32;
+
+/// The rows of a tailored table before weights are numbered, and where the new weights go: base rows in their order, and then
+/// those of the targets that are no base keys. It borrows from the base and the rules what they have of it.
+#[derive(Drop)]
+pub(crate) struct Drafting<'a> {
+    rows: Vec<RowDraft<'a>>,
+    insertions: Vec<Insertion>,
+}
+
+impl<'a> Model for Drafting<'a> {
+    ghost use Rattle.uca_plans.specs.Plans as plans;
+
+    ghost Value = { plans.Drafting };
+
+    ghost view = { λ d. record { rows = d.rows.items; insertions = d.insertions.items } };
+}
+
+impl<'a> Drafting<'a> {
+    /// The rows of the base alone.
+    fn begun(alloc: Global, base: &'a Table) -> Result<Drafting<'a>, AllocError>
+        ensures rows { IfOk result (λ drafting. drafting.rows ≡ map drafts.row_as_draft base.now.rows) }
+        ensures insertions { IfOk result (λ drafting. drafting.insertions ≡ []) }
+        ensures few { IfOk result (λ drafting. length drafting.rows ≤ 200000) }
+    {
+        let mut rows = Vec::with_capacity(alloc, base.rows.len())?;
+        for row in &base.rows {
+            rows.push(RowDraft::of_base(row))?;
+        }
+        Ok(Drafting {
+            rows,
+            insertions: Vec::new(alloc),
+        })
+    }
+
+    /// The rows.
+    pub(crate) fn rows(&self) -> &[RowDraft<'a>]
+        ensures { result.now ≡ self.now.rows }
+    {
+        &self.rows
+    }
+
+    /// Where the new weights go, in the order of their relations.
+    pub(crate) fn insertions(&self) -> &[Insertion]
+        ensures { result.now ≡ self.now.insertions }
+    {
+        &self.insertions
+    }
+
+    /// Adds what a relation gives its target, or tells why the relation is refused.
+    fn add(
+        &mut self,
+        alloc: Global,
+        reader: &Reader,
+        relation: &'a Relation,
+        index: u32,
+    ) -> Result<Result<(), TailorKind>, AllocError>
+        requires { IsReady (basis_in reader.now) (⟦<Trie as Lookup>⟧.content reader.now.places.now) self.old.rows relation.now }
+        ensures { IfOk result (λ added. MatchResult added
+            (λ _. with_relation (basis_in reader.now) self.old index relation.now ≡ Ok self.new)
+            (λ kind. with_relation (basis_in reader.now) self.old index relation.now ≡ Err kind)) }
+    {
+        let Some(new) = draft_target(alloc, reader, &self.rows, relation, index)? else {
+            return Ok(Err(TailorKind::Anchor));
+        };
+        if needs_prefix(reader, &self.rows, &relation.target) {
+            return Ok(Err(TailorKind::NeedsPrefix));
+        }
+        let Some(place) = place_of(reader.places, relation.target.chars()) else {
+            return Ok(Err(TailorKind::Limit));
+        };
+        if new.elements.len() > MOST_ELEMENTS {
+            return Ok(Err(TailorKind::Limit));
+        }
+        let row = RowDraft::of_target(&relation.target, new.elements);
+        self.put(place, row, new.insertion)?;
+        Ok(Ok(()))
+    }
+
+    /// Puts a row at a place, or behind the others, and an insertion, if there is one.
+    fn put(
+        &mut self,
+        place: usize,
+        row: RowDraft<'a>,
+        insertion: Option<Insertion>,
+    ) -> Result<(), AllocError>
+        ensures replaced { place < length self.old.rows → OnOk result (self.new.rows ≡ slice_set self.old.rows place row.entry) }
+        ensures behind { length self.old.rows ≤ place → OnOk result (self.new.rows ≡ self.old.rows ++ row.entry ∷ []) }
+        ensures insertions { OnOk result (self.new.insertions ≡ self.old.insertions ++ option_to_list insertion) }
+    {
+        if let Some(insertion) = insertion {
+            self.insertions.push(insertion)?;
+        }
+        if place < self.rows.len() {
+            self.rows[place] = row;
+        } else {
+            self.rows.push(row)?;
+        }
+        Ok(())
+    }
+}
+
+/// The drafts of all relations over a base, or the first relation that is refused, with the cause.
+///
+/// # Errors
+///
+/// An allocation that fails.
+pub(crate) fn draft<'a>(
+    alloc: Global,
+    base: &'a Table,
+    properties: &Data,
+    rules: &'a Rules,
+) -> Result<Result<Drafting<'a>, TailorFault>, AllocError>
+    ensures drafted { let basis = basis_of base.now (properties_of properties.now) in IfOk result (λ found. MatchResult found
+        (λ drafting. with_relations basis 0 rules.now (begun basis) ≡ Ok drafting)
+        (λ fault. with_relations basis 0 rules.now (begun basis) ≡ Err fault)) }
+    // Each new weight has the index of its relation.
+    ensures names { IfOk result (λ found. IfOk found (λ drafting. AllByRecursion (InsertsBelow (length rules.now)) drafting.insertions)) }
+{
+    let places = places_of(alloc, base, rules)?;
+    let reader = Reader {
+        base,
+        properties,
+        places: &places,
+    };
+    let mut drafting = Drafting::begun(alloc, base)?;
+    for (at, relation) in rules.relations().iter().enumerate() {
+        let index = at as u32;
+        if let Err(kind) = drafting.add(alloc, &reader, relation, index)? {
+            return Ok(Err(TailorFault {
+                kind,
+                relation: index + 1,
+            }));
+        }
+    }
+    Ok(Ok(drafting))
+}
+
+/// Whether a target has three or more code points and ends in a non-starter, and without it is no key of the rows so far.
+fn needs_prefix(reader: &Reader, rows: &[RowDraft], target: &Normal) -> bool
+    requires { (more : List (List ℕ)) × ArePlacesWith (⟦<Trie as Lookup>⟧.content reader.now.places.now) rows.now more }
+    ensures { result ≡ plans.needs_prefix (properties_of reader.now.properties.now).class rows.now target.now.points }
+{
+    let points = target.chars();
+    if points.len() <= 2 {
+        return false;
+    }
+    let Some((last, front)) = points.split_last() else {
+        return false;
+    };
+    reader.properties.class(*last) != 0 && !has_key(reader, rows, front)
+}
+
+/// Whether one of the rows so far has the key.
+fn has_key(reader: &Reader, rows: &[RowDraft], key: &[char]) -> bool
+    requires { (more : List (List ℕ)) × ArePlacesWith (⟦<Trie as Lookup>⟧.content reader.now.places.now) rows.now more }
+    ensures { result ≡ drafts.has_key rows.now key.now }
+{
+    match place_of(reader.places, key) {
+        Some(place) => place < rows.len(),
+        None => false,
+    }
+}

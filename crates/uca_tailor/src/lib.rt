@@ -1,0 +1,18 @@
+//! The planner: a tailored table and its certificate, made from a base and rules, and audited before they are given away.
+#![tactic(auto)]
+
+mod drafting;
+mod elements;
+mod insertions;
+mod levels;
+mod lists;
+mod numbers;
+mod places;
+mod plan;
+mod readings;
+mod row_drafts;
+mod tailoring;
+mod targets;
+
+pub use tailoring::tailor;
+pub use uca_plans::{TailorFault, TailorKind};

@@ -1,0 +1,42 @@
+//! The numbers of the members of a list within a segment.
+
+ghost use Rattle.std.specs.Prelude.{◌≡◌, ◌+◌, ◌<◌, ◌≤◌, IfOk, max};
+ghost use Rattle.uca_plans.specs.Numbering as numbering;
+ghost use Rattle.uca_plans.specs.Numbering.{HasPlaces, numbers_of};
+
+use std::alloc::{AllocError, Global};
+use uca_plans::{DraftWeight, Segment};
+
+/// The numbers of members that have places in a segment, in their order: each stands as far up as its base weight and
+/// those before it need, or as much lower as those behind it need.
+pub(crate) fn numbers(
+    alloc: Global,
+    segment: Segment,
+    members: &[DraftWeight],
+) -> Result<Vec<u16>, AllocError>
+    requires { HasPlaces segment members.now }
+    ensures { IfOk result (λ numbers. numbers.items ≡ numbers_of segment members.now) }
+{
+    let mut numbers = Vec::new(alloc);
+    let mut place = usize::from(segment.below);
+    let mut left = members.len();
+    for member in members {
+        left -= 1;
+        place = one_further(*member, place);
+        let highest = usize::from(segment.top) - left;
+        numbers.push(place.min(highest) as u16)?;
+    }
+    Ok(numbers)
+}
+
+/// One place further up, or at the weight of a base member where that is higher.
+fn one_further(member: DraftWeight, place: usize) -> usize
+    requires { place < 0x10_0000 }
+    ensures place { result ≡ numbering.one_further member place }
+    ensures bound { result ≤ max 0xFFFF (place + 1) }
+{
+    match member {
+        DraftWeight::Base(weight) => usize::from(weight).max(place + 1),
+        DraftWeight::New(_) => place + 1,
+    }
+}

@@ -1,0 +1,216 @@
+//! The table and the certificate of a plan.
+
+ghost use Rattle.std.specs.Prelude.{◌≡◌, ◌⊎◌, map, true, false, IfOk, IfErr, Ok, Err};
+ghost use Rattle.std.specs.List.{AllByRecursion};
+ghost use Rattle.uca_weights.specs.Runs.{AreProperRuns};
+ghost use Rattle.uca_values.specs.Content.{IsTable, properties_of};
+ghost use Rattle.uca_check.specs.WellFormed.{IsWellFormed, elements_of};
+ghost use Rattle.uca_certificates.specs.Certificates.{IsCertificate};
+ghost use Rattle.uca_plans.specs.Lists as lists;
+ghost use Rattle.uca_plans.specs.Plans as plans;
+ghost use Rattle.uca_plans.specs.Plans.{plan_drafted, plan_of};
+ghost use Rattle.uca_plans.specs.Tailors.{out_of_memory, table_of};
+ghost use Rattle.uca_tailor.specs.NumberTables.{InsertsBelow};
+ghost use Rattle.uca_tailor.specs.PlanParts as parts;
+ghost use Rattle.uca_tailor.specs.PlanParts.{IsMade, IsNotMade};
+ghost use Rattle.uca_tailor.specs.RowDrafts.{row_elements};
+
+use crate::drafting::{Drafting, draft};
+use crate::elements::as_draft;
+use crate::insertions::Insertion;
+use crate::levels::{LevelNumbers, level_numbers};
+use crate::row_drafts::{RowDraft, RowElements};
+use std::alloc::{AllocError, Global};
+use std::marker::Model;
+use uca_certificates::Certificate;
+use uca_plans::{DraftElement, TailorFault, TailorKind};
+use uca_rules::Rules;
+use uca_values::{Data, Header, Row, Table};
+use uca_weights::{Element, Level, Run, WeightMap};
+
+/// The table and the certificate of the plan of some rules over a well-formed base.
+///
+/// # Errors
+///
+/// Why there is no plan, or an allocation that fails.
+pub(crate) fn plan(
+    alloc: Global,
+    base: &Table,
+    properties: &Data,
+    rules: &Rules,
+) -> Result<(Table, Certificate), TailorFault>
+    requires { IsWellFormed (properties_of properties.now).class base.now.rows }
+    ensures made { IfOk result (λ answer. IsMade base.now (properties_of properties.now) rules.now answer.0 answer.1) }
+    ensures not_made { IfErr result (IsNotMade base.now (properties_of properties.now) rules.now) }
+{
+    let drafting = draft(alloc, base, properties, rules)??;
+    let relations = rules.relations().len();
+    let numbers = number_levels(alloc, base, &drafting, relations)?;
+    let table = number_table(alloc, base, &drafting, &numbers)?;
+    let certificate = certificate_by(alloc, &numbers)?;
+    Ok((table, certificate))
+}
+
+/// The numbers of the weights of all levels.
+#[derive(Drop)]
+struct Numbers {
+    primary: LevelNumbers,
+    secondary: LevelNumbers,
+    tertiary: LevelNumbers,
+}
+
+impl Model for Numbers {
+    ghost use Rattle.uca_plans.specs.Plans as plans;
+
+    ghost Value = { plans.LevelPlans };
+
+    ghost view = { λ n. record { primary = n.primary; secondary = n.secondary; tertiary = n.tertiary } };
+}
+
+/// The numbers of the weights of all levels. Where a level has no room, the fault names the lowest such level.
+fn number_levels(
+    alloc: Global,
+    base: &Table,
+    drafting: &Drafting,
+    relations: usize,
+) -> Result<Numbers, TailorFault>
+    requires { AllByRecursion (InsertsBelow relations) drafting.now.insertions }
+    ensures numbers { IfOk result (λ numbers.
+        plan_drafted (elements_of base.now.rows) (Ok drafting.now) ≡ Ok (plan_of drafting.now.rows numbers)) }
+    ensures none { IfErr result (λ fault.
+        (plan_drafted (elements_of base.now.rows) (Ok drafting.now) ≡ Err fault) ⊎ (fault ≡ out_of_memory)) }
+{
+    let rows = &base.rows;
+    let insertions = drafting.insertions();
+    Ok(Numbers {
+        primary: number_level(alloc, Level::One, rows, insertions, relations)?,
+        secondary: number_level(alloc, Level::Two, rows, insertions, relations)?,
+        tertiary: number_level(alloc, Level::Three, rows, insertions, relations)?,
+    })
+}
+
+/// The numbers of the weights of a level that has room.
+fn number_level(
+    alloc: Global,
+    level: Level,
+    base: &[Row],
+    insertions: &[Insertion],
+    relations: usize,
+) -> Result<LevelNumbers, TailorFault>
+    requires { AllByRecursion (InsertsBelow relations) insertions.now }
+    ensures room { IfOk result (λ numbers.
+        (lists.level_has_room level (lists.members_of level (elements_of base.now) insertions.now) ≡ true)
+        × (numbers ≡ plans.level_plan level (elements_of base.now) insertions.now)) }
+    ensures none { IfErr result (λ fault.
+        ((lists.level_has_room level (lists.members_of level (elements_of base.now) insertions.now) ≡ false) × (fault ≡ plans.no_room level))
+        ⊎ (fault ≡ out_of_memory)) }
+{
+    match level_numbers(alloc, level, base, insertions, relations)? {
+        Some(numbers) => Ok(numbers),
+        None => Err(TailorFault {
+            kind: TailorKind::NoRoom(level),
+            relation: 0,
+        }),
+    }
+}
+
+/// The base's header, and the rows with their weights numbered.
+fn number_table(
+    alloc: Global,
+    base: &Table,
+    drafting: &Drafting,
+    numbers: &Numbers,
+) -> Result<Table, AllocError>
+    requires { IsTable base.now → IsTable (table_of base.now (plan_of drafting.now.rows numbers.now)) }
+    ensures { IfOk result (λ table. table ≡ table_of base.now (plan_of drafting.now.rows numbers.now)) }
+{
+    let header = copy_header(alloc, &base.header)?;
+    let rows = number_rows(alloc, numbers, drafting.rows())?;
+    Ok(Table { header, rows })
+}
+
+/// The header in memory of its own.
+fn copy_header(alloc: Global, header: &Header) -> Result<Header, AllocError>
+    ensures { IfOk result (λ copy. copy ≡ header.now) }
+{
+    Ok(Header {
+        version: String::from_str(alloc, &header.version)?,
+        setting: header.setting,
+        ranges: Vec::from_slice(alloc, &header.ranges)?,
+    })
+}
+
+/// The rows with their weights numbered, in their order.
+fn number_rows(alloc: Global, numbers: &Numbers, rows: &[RowDraft]) -> Result<Vec<Row>, AllocError>
+    ensures { IfOk result (λ numbered. numbered.items ≡ map (plans.numbered_row numbers.now) rows.now) }
+{
+    let mut numbered = Vec::with_capacity(alloc, rows.len())?;
+    for row in rows {
+        numbered.push(number_row(alloc, numbers, row)?)?;
+    }
+    Ok(numbered)
+}
+
+/// A row with its weights numbered.
+fn number_row(alloc: Global, numbers: &Numbers, row: &RowDraft) -> Result<Row, AllocError>
+    ensures { IfOk result (λ numbered. numbered ≡ plans.numbered_row numbers.now row.now) }
+{
+    let elements = number_elements(alloc, numbers, row.elements())?;
+    let key = Vec::from_slice(alloc, row.key())?;
+    Ok(Row { key, elements })
+}
+
+/// Elements with their weights numbered, in their order.
+fn number_elements(
+    alloc: Global,
+    numbers: &Numbers,
+    elements: &RowElements,
+) -> Result<Vec<Element>, AllocError>
+    ensures { IfOk result (λ numbered. numbered.items ≡ map (plans.numbered numbers.now) (row_elements elements.now)) }
+{
+    match elements {
+        RowElements::Base(own) => own
+            .iter()
+            .map(|element| number_element(numbers, as_draft(false, *element)))
+            .collect(alloc),
+        RowElements::Target(own) => own
+            .iter()
+            .map(|element| number_element(numbers, *element))
+            .collect(alloc),
+    }
+}
+
+/// An element with its weights numbered.
+fn number_element(numbers: &Numbers, element: DraftElement) -> Element
+    ensures { result ≡ plans.numbered numbers.now element }
+{
+    Element {
+        primary: numbers.primary.number(Level::One, element.primary),
+        secondary: numbers.secondary.number(Level::Two, element.secondary),
+        tertiary: numbers.tertiary.number(Level::Three, element.tertiary),
+        mark: element.mark,
+    }
+}
+
+/// What becomes of the base's weights.
+fn certificate_by(alloc: Global, numbers: &Numbers) -> Result<Certificate, AllocError>
+    requires { IsCertificate (parts.certificate_by numbers.now) }
+    ensures { IfOk result (λ certificate. certificate ≡ parts.certificate_by numbers.now) }
+{
+    Ok(Certificate {
+        primary: map_of(Level::One, numbers.primary.runs(alloc)?),
+        secondary: map_of(Level::Two, numbers.secondary.runs(alloc)?),
+        tertiary: map_of(Level::Three, numbers.tertiary.runs(alloc)?),
+    })
+}
+
+/// The map of proper runs.
+fn map_of(level: Level, runs: Vec<Run>) -> WeightMap
+    requires { AreProperRuns level runs.items }
+    ensures { result ≡ record { level = level; runs = runs.items } }
+{
+    match WeightMap::from_runs(level, runs) {
+        Ok(map) => map,
+        Err(_) => unreachable!(),
+    }
+}
