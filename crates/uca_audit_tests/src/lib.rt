@@ -1,4 +1,4 @@
-//! Tests of audits, of certificates and of maps of weights: each condition at its first place and before the next one, and what a yes
+//! Tests of plans, of audits, of certificates and of maps of weights: each condition at its first place and before the next one, and what a yes
 //! means for keys. Files are given as bytes, and cases as lines of text.
 #![tactic(auto)]
 
@@ -10,5 +10,7 @@ mod certificates;
 mod files;
 #[cfg(test)]
 mod maps;
+#[cfg(test)]
+mod plans;
 #[cfg(test)]
 mod untouched;
