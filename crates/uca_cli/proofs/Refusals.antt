@@ -24,6 +24,7 @@ some_row P rows row first all = first.without (at_split P first.before first.ent
 some_relation : (P : Relation → Type 0) (relations : List Relation) (number : ℕ) → IsFirstAloneWithout P relations number → AllByRecursion P relations → ⊥
 some_relation P relations number first all = first.without (at_split P first.before first.r first.after (subst (AllByRecursion P) first.split all))
 
+-- the same of a property that speaks of the relations around it
 some_among : (P : List Relation → Relation → List Relation → Type 0) (relations : List Relation) (number : ℕ) → IsFirstRelationWithout P relations number → AllRelations P relations → ⊥
 some_among P relations number first all = first.without (all first.before first.r first.after first.split)
 
@@ -37,6 +38,7 @@ meets_form class rows before after entry (suc (suc (suc (suc zero)))) split well
 meets_form class rows before after entry (suc (suc (suc (suc (suc zero))))) split well = at_split (MeetsWF5 class rows) before entry after (subst (AllByRecursion (MeetsWF5 class rows)) split well.wf5)
 meets_form class rows before after entry (suc (suc (suc (suc (suc (suc n)))))) split well = tt
 
+-- no row fails a condition on a well-formed table
 some_form : (class : ℕ → ℕ) (rows : List Entry) (wf row : ℕ) → IsFirstFailure class rows wf row → IsWellFormed class rows → ⊥
 some_form class rows wf row failure well = failure.first.without (meets_form class rows failure.first.before failure.first.after failure.first.entry wf failure.first.split well)
 
