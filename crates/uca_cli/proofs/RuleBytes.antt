@@ -64,6 +64,7 @@ too_many properties bytes read place kinds.EmptyText more many cause = let never
 too_many properties bytes read place kinds.DuplicateTarget more many cause = let never : ⊥ = omega (arith, many, cause.few_bytes) in absurd never
 too_many properties bytes read place kinds.LateTarget more many cause = let never : ⊥ = omega (arith, many, cause.few_bytes) in absurd never
 
+-- either way a cause in what was read is one in the bytes
 known_cause : (properties : Properties) (bytes : List ℕ) (left : Option (List ℕ)) (read : List ℕ) (place : ℕ) (kind : RuleFaultKind) → AreRead (Some bytes) left read
     → (1048576 < length read) ⊎ (length read ≤ 1048576) → IsCause properties read place kind → IsCause properties bytes place kind
 known_cause properties bytes left read place kind are (inl many) cause = too_many properties bytes read place kind (no_more (Some bytes) left read bytes are refl) many cause

@@ -39,6 +39,7 @@ RefusesRules properties bytes left file_faults.RulesRead = LosesAtMost 1048576 b
 RefusesRules properties bytes left file_faults.RulesMemory = LosesAtMost 1048577 bytes left
 RefusesRules properties bytes left _ = ⊥
 
+-- why those of a certificate are
 abbrev pub RefusesCertificate : List ℕ → Option (List ℕ) → FileFault → Type 0
 RefusesCertificate bytes left (file_faults.Certificate fault) = certificates.Refuses bytes left fault
 RefusesCertificate bytes left _ = ⊥
@@ -59,6 +60,7 @@ pub record AuditSources : Type 0 where
   pub tailored : SourceState
   pub certificate : SourceState
 
+-- the same from its parts
 abbrev pub audit_sources : SourceState → SourceState → SourceState → SourceState → SourceState → AuditSources
 audit_sources base properties rules tailored certificate = record { base = base; properties = properties; rules = rules; tailored = tailored; certificate = certificate }
 
@@ -82,9 +84,11 @@ pub record AuditContent : Type 0 where
   pub tailored : TableContent
   pub certificate : CertificateContent
 
+-- the same from its parts
 abbrev pub audit_content : TableContent → Properties → List Relation → TableContent → CertificateContent → AuditContent
 audit_content base properties relations tailored certificate = record { base = base; properties = properties; relations = relations; tailored = tailored; certificate = certificate }
 
+-- and the tailoring that it is
 abbrev pub tailoring_by : AuditContent → Tailoring
 tailoring_by content = tailoring_of content.base content.properties content.relations content.tailored content.certificate
 

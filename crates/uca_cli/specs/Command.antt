@@ -27,9 +27,11 @@ pub record NamedFile : Type 0 where
   pub role : Role
   pub name : List ℕ
 
+-- the two files of most subcommands
 abbrev pub table_and_data : List ℕ → List ℕ → List NamedFile
 table_and_data table properties = record { role = roles.Table; name = table } ∷ record { role = roles.Data; name = properties } ∷ []
 
+-- the five files of `audit`
 abbrev pub audit_files : List ℕ → List ℕ → List ℕ → List ℕ → List ℕ → List NamedFile
 audit_files base properties rules tailored certificate =
     record { role = roles.Base; name = base } ∷ record { role = roles.Data; name = properties } ∷ record { role = roles.Rules; name = rules }

@@ -8,4 +8,6 @@ mod paces;
 #[cfg(test)]
 mod pieces;
 #[cfg(test)]
+mod rule_files;
+#[cfg(test)]
 mod streams;
