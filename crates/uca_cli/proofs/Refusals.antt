@@ -1,5 +1,5 @@
 -- Refusals of audits.
-use Rattle.std.specs.Prelude.{◌≡◌, ◌⊎◌, absurd}
+use Rattle.std.specs.Prelude.{◌≡◌, ◌⊎◌}
 use Rattle.std.proofs.Common.{inl, inr}
 use Rattle.uca_tailorings.specs.Tailorings.{Tailoring, IsAccepted}
 use Rattle.uca_audit.specs.declared.faults.AuditFault.{AuditFault}

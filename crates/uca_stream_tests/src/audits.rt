@@ -76,10 +76,7 @@ fn audited(
 }
 
 /// The files of an audit that is accepted.
-fn with_files(
-    alloc: Global,
-    test: fn(Global, [&str; 5]) -> Result<(), Fail>,
-) -> Result<(), Fail> {
+fn with_files(alloc: Global, test: fn(Global, [&str; 5]) -> Result<(), Fail>) -> Result<(), Fail> {
     let tailored = joined(alloc, &[TABLE, ROW])?;
     test(alloc, [TABLE, DATA, "&a < x", &tailored, CERTIFICATE])
 }
@@ -103,7 +100,11 @@ fn check_read(
     good: usize,
 ) -> Result<(), Fail> {
     let failing = Pace::failing(9, good, Failure::Error(ErrorKind::Interrupted));
-    let paces = ROLES.map(|other| if other == role { failing } else { Pace::steps(9) });
+    let paces = ROLES.map(|other| if other == role {
+        failing
+    } else {
+        Pace::steps(9)
+    });
     let outcome = audited(alloc, texts, paces, Pace::steps(9))?;
     let wanted = if role == "rules" {
         format!(in alloc; "rules: Read")?
@@ -141,7 +142,10 @@ fn writers_of_audits_that_fail(rt: HostRuntime) -> Result<(), Fail> {
                 let went_out = outcome.printed.len() == good
                     && b"accepted\n".starts_with(&outcome.printed);
                 holds(went_out, &wanted)?;
-                holds(outcome.failed == [false, false, false, false, false, true], &wanted)?;
+                holds(
+                    outcome.failed == [false, false, false, false, false, true],
+                    &wanted,
+                )?;
             }
         }
         Ok(())
@@ -154,7 +158,10 @@ fn audits_byte_by_byte(rt: HostRuntime) -> Result<(), Fail> {
     with_files(rt.alloc(), |alloc, texts| {
         let outcome = audited(alloc, texts, [Pace::steps(1); 5], Pace::steps(1))?;
         same(&outcome.end, "true", "one byte a call")?;
-        holds(outcome.printed.as_slice() == b"accepted\n".as_slice(), "one byte a call")?;
+        holds(
+            outcome.printed.as_slice() == b"accepted\n".as_slice(),
+            "one byte a call",
+        )?;
         holds(outcome.failed == [false; 6], "one byte a call")
     })
 }
