@@ -28,6 +28,7 @@ use Rattle.uca_tailor.proofs.KeyLookups.{not_in_front, place_in_front, front_is}
 
 -- ---- One relation
 
+-- the elements of an expansion depend on the rows alone
 expansion_by_rows : (basis : Basis) (so_far : Drafting) (expansion : Option Spelled) →
     draft_expansion basis (record { rows = so_far.rows; insertions = [] }) expansion ≡ draft_expansion basis so_far expansion
 expansion_by_rows basis so_far None = refl
@@ -46,15 +47,18 @@ module _ (basis : Basis) (so_far : Drafting) (n : ℕ) (r : Relation) where
   refused_anchor none = ap (one_drafted basis so_far r.target.points) none
 
   module _ (new : Drafted) (is : drafted basis so_far (New n) r ≡ Some new) where
+    -- so is one whose target needs a prefix
     pub refused_prefix : needs_prefix basis.properties.class so_far.rows r.target.points ≡ true → with_relation basis so_far n r ≡ Err kinds.NeedsPrefix
     refused_prefix needs = ap (one_drafted basis so_far r.target.points) is ∙ cond-true (needs_prefix basis.properties.class so_far.rows r.target.points) _ _ needs
 
+    -- and one that passes a limit
     pub refused_limit : needs_prefix basis.properties.class so_far.rows r.target.points ≡ false →
         passes_limit (target_row r new) (with_row (target_row r new) so_far.rows) ≡ true → with_relation basis so_far n r ≡ Err kinds.Limit
     refused_limit has passes =
         ap (one_drafted basis so_far r.target.points) is ∙ cond-false (needs_prefix basis.properties.class so_far.rows r.target.points) _ _ has
         ∙ cond-true (passes_limit (target_row r new) (with_row (target_row r new) so_far.rows)) _ _ passes
 
+    -- any other is added
     pub accepted : (behind : Drafting) → needs_prefix basis.properties.class so_far.rows r.target.points ≡ false →
         passes_limit (target_row r new) (with_row (target_row r new) so_far.rows) ≡ false → behind.rows ≡ with_row (target_row r new) so_far.rows →
         behind.insertions ≡ so_far.insertions ++ new.insertions → with_relation basis so_far n r ≡ Ok behind
@@ -67,6 +71,7 @@ module _ (basis : Basis) (so_far : Drafting) (n : ℕ) (r : Relation) where
 
 module _ (basis : Basis) (places : Rows) (rows : List DraftRow) (r : Relation) (ready : IsReady basis places rows r) (row : DraftRow)
     (its : row.key ≡ r.target.points) where
+  -- there are as many keys as rows
   count : length (keys_in rows) ≡ length rows
   count = length-map rows (λ (x : DraftRow). x.key)
 
@@ -100,6 +105,7 @@ module _ (basis : Basis) (places : Rows) (rows : List DraftRow) (r : Relation) (
         (has_key_is rows row.key ∙ ap (is_among (keys_in rows)) its ∙ sym (front_is (keys_in rows) ready.more r.target.points place stands)
         ∙ le-ltb place (length (keys_in rows)) (omega (arith, past, count)))
 
+    -- where a row is replaced there is room
     pub room_replaced : place < length rows → length row.elements ≤ 32 → passes_limit row (with_row row rows) ≡ false
     room_replaced there few =
         let same : length (with_row row rows) ≡ length rows = ap length (replaced there) ∙ length-set rows place row in
@@ -107,6 +113,7 @@ module _ (basis : Basis) (places : Rows) (rows : List DraftRow) (r : Relation) (
         or_from (ltb 32 (length row.elements)) (ltb 200000 (length (with_row row rows))) (le-ltb 32 (length row.elements) few)
         (le-ltb 200000 (length (with_row row rows)) (omega (arith, same, all, count, ready.few)))
 
+    -- and so there is behind them
     pub room_behind : length rows ≤ place → length row.elements ≤ 32 → passes_limit row (with_row row rows) ≡ false
     room_behind past few =
         let one_more : length (with_row row rows) ≡ length rows + 1 = ap length (behind past) ∙ length-append rows (row ∷ []) in

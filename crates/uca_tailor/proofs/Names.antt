@@ -63,6 +63,7 @@ drafts_named basis relations drafting h =
     subst (λ k. AreNamedFrom 0 k drafting.insertions) same
     (named_along basis 0 relations (begun basis) drafting (steps_of basis 0 relations (begun basis) drafting h) (omega arith))
 
+-- the end is no lower than the beginning
 end_above : (first end : ℕ) (insertions : List Insertion) → AreNamedFrom first end insertions → first ≤ end
 end_above first end [] named = named
 end_above first end (i ∷ insertions) named = omega (arith, end_above (named.0 + 1) end insertions named.3, named.2)

@@ -100,6 +100,7 @@ target_keys [] rest keys texts are = are
 target_keys (r ∷ relations) rest keys texts are =
     target_keys relations rest (with_key r.target.points keys) texts.1 (each_with_key IsTableKey r.target.points keys (target_key r texts.0) are)
 
+-- so are those of the base
 base_keys : (rows : List Entry) → AllByRecursion IsEntry rows → AllByRecursion IsTableKey (keys_of rows)
 base_keys [] are = tt
 base_keys (row ∷ rows) are = (record { points = are.0.points; some = are.0.some_points; few = are.0.few_points }, base_keys rows are.1)
@@ -180,6 +181,7 @@ module _ (rows : List Entry) (relations : List Relation) (items : List Entry) (i
       ∙ targets_same (take i relations) r (keys_of rows) (sym (found_among rows r.target.points) ∙ there)))
       up_to
 
+  -- a target that is no base key is new here
   not_among : AreDistinct relations → is_some (rows_of rows r.target.points) ≡ false →
       is_among (with_targets (take i relations) (keys_of rows)) r.target.points ≡ false
   not_among distinct other =
@@ -240,6 +242,7 @@ pub found_is : {R : Type 0} (now : R → List Element) (found : Option R) (row :
 found_is now None row none = ap is_some none
 found_is now (Some r) row some = ap is_some some
 
+-- and it is the row of the key that was looked for
 pub found_row : (rows : List Entry) (key points : List ℕ) → key ≡ points → {R : Type 0} (now : R → List Element) (found : Option R) (row : Option (List Element)) →
     row ≡ rows_of rows key → MatchOption found (row ≡ None) (λ r. row ≡ Some (now r)) → is_some (rows_of rows points) ≡ is_some found
 found_row rows key points same now found row is h = ap (λ k. is_some (rows_of rows k)) (sym same) ∙ ap is_some (sym is) ∙ found_is now found row h

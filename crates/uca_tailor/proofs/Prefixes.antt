@@ -4,11 +4,13 @@ use Rattle.std.proofs.lemmas.Bool.{and_left, lt-ltb, le-ltb}
 use Rattle.uca_plans.specs.Drafts.{DraftRow, has_key}
 use Rattle.uca_plans.specs.Plans.{ends_with_non_starter, without_last, needs_prefix}
 
+-- the last code point is the one at the end
 ends_by_last : (class : ℕ → ℕ) (front : List ℕ) (last : ℕ) → ends_with_non_starter class (front ++ last ∷ []) ≡ not (eqb (class last) 0)
 ends_by_last class [] last = refl
 ends_by_last class (c ∷ []) last = refl
 ends_by_last class (c ∷ d ∷ front) last = ends_by_last class (d ∷ front) last
 
+-- and the others are those before it
 front_left : (front : List ℕ) (last : ℕ) → without_last (front ++ last ∷ []) ≡ front
 front_left [] last = refl
 front_left (c ∷ []) last = refl

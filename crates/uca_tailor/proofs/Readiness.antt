@@ -50,6 +50,7 @@ ReachesFurther before r after listed rest = (later : List Relation) × (listed �
 abbrev EndsBefore : List Relation → List Relation → List Relation → Type 0
 EndsBefore before listed rest = (s : Relation) × (more : List Relation) × (behind : List Relation) × (before ≡ listed ++ s ∷ more) × (rest ≡ s ∷ behind)
 
+-- it is one of the two
 reaches_or_ends : (before : List Relation) (r : Relation) (after listed rest : List Relation) → before ++ r ∷ after ≡ listed ++ rest →
     ReachesFurther before r after listed rest ⊎ EndsBefore before listed rest
 reaches_or_ends [] r after listed rest whole = inl (listed, refl, whole)
@@ -69,9 +70,7 @@ reaches_or_ends (b ∷ before) r after (l ∷ listed) rest whole = go (reaches_o
 module _ (basis : Basis) (places : Rows) (before after : List Relation) (r : Relation) (so_far : Drafting) (rules : AreRules (before ++ r ∷ after))
     (all : ArePlaces (keys_of basis.base) (before ++ r ∷ after) places) (own : keys_in so_far.rows ≡ with_targets before (keys_of basis.base))
     (few : length so_far.rows ≤ 200000) where
-  base : List (List ℕ)
-  base = keys_of basis.base
-
+  -- there are as many rows as keys
   counted : length so_far.rows ≡ length (with_targets before (keys_of basis.base))
   counted = sym (length-map so_far.rows (λ (x : DraftRow). x.key)) ∙ ap length own
 

@@ -24,6 +24,7 @@ elements_past (r ∷ rows) (suc place) past = elements_past rows place (omega ar
 pub resolved_marked : (rows : List DraftRow) (e : Element) → e.mark ≡ true → resolved rows e ≡ elements_at (referred e) rows
 resolved_marked rows e mark = cond-true e.mark (elements_at (referred e) rows) (as_draft true e ∷ []) mark
 
+-- any other stands for itself
 pub resolved_implicit : (rows : List DraftRow) (e : Element) → e.mark ≡ false → resolved rows e ≡ as_draft true e ∷ []
 resolved_implicit rows e mark = cond-false e.mark (elements_at (referred e) rows) (as_draft true e ∷ []) mark
 
