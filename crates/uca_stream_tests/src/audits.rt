@@ -19,9 +19,6 @@ const CERTIFICATE: &str = "1 0209 0209 0001\n\
     3 0002 0002 0001\n\
     3 0008 0008 0001\n";
 
-/// What a file is for, in the order of the words.
-const ROLES: [&str; 5] = ["base", "data", "rules", "tailored", "certificate"];
-
 /// What came of an audit.
 #[derive(Drop)]
 struct Outcome {
@@ -75,10 +72,14 @@ fn audited(
     })
 }
 
-/// The files of an audit that is accepted.
-fn with_files(alloc: Global, test: fn(Global, [&str; 5]) -> Result<(), Fail>) -> Result<(), Fail> {
-    let tailored = joined(alloc, &[TABLE, ROW])?;
-    test(alloc, [TABLE, DATA, "&a < x", &tailored, CERTIFICATE])
+/// The files of an audit that is accepted, where the tailored table is this.
+fn texts_with(tailored: &str) -> [&str; 5] {
+    [TABLE, DATA, "&a < x", tailored, CERTIFICATE]
+}
+
+/// The pace of a file, which fails where its role is this one.
+fn pace_of(own: &str, role: &str, failing: Pace) -> Pace {
+    if own == role { failing } else { Pace::steps(9) }
 }
 
 /// The line that is being read behind the first bytes of a file.
@@ -96,15 +97,18 @@ fn line_behind(text: &str, good: usize) -> usize {
 fn check_read(
     alloc: Global,
     texts: [&str; 5],
-    (role, text): (&str, &str),
+    role: &str,
+    text: &str,
     good: usize,
 ) -> Result<(), Fail> {
     let failing = Pace::failing(9, good, Failure::Error(ErrorKind::Interrupted));
-    let paces = ROLES.map(|other| if other == role {
-        failing
-    } else {
-        Pace::steps(9)
-    });
+    let paces = [
+        pace_of("base", role, failing),
+        pace_of("data", role, failing),
+        pace_of("rules", role, failing),
+        pace_of("tailored", role, failing),
+        pace_of("certificate", role, failing),
+    ];
     let outcome = audited(alloc, texts, paces, Pace::steps(9))?;
     let wanted = if role == "rules" {
         format!(in alloc; "rules: Read")?
@@ -113,55 +117,72 @@ fn check_read(
     };
     same(&outcome.end, &wanted, "a reader that fails")?;
     holds(outcome.printed.is_empty() && outcome.late == 0, &wanted)?;
-    let [base, data, rules, tailored, certificate] = ROLES.map(|other| other == role);
-    let failed = [base, data, rules, tailored, certificate, false];
+    let failed = [
+        role == "base",
+        role == "data",
+        role == "rules",
+        role == "tailored",
+        role == "certificate",
+        false,
+    ];
     holds(outcome.failed == failed, &wanted)
+}
+
+/// The same after each number of bytes.
+fn check_reads(alloc: Global, texts: [&str; 5], role: &str, text: &str) -> Result<(), Fail> {
+    for good in 0..=text.len() {
+        check_read(alloc, texts, role, text, good)?;
+    }
+    Ok(())
 }
 
 #[test]
 fn readers_of_audits_that_fail(rt: HostRuntime) -> Result<(), Fail> {
-    with_files(rt.alloc(), |alloc, texts| {
-        for (role, text) in ROLES.iter().zip(texts.iter()) {
-            for good in 0..text.len() + 1 {
-                check_read(alloc, texts, (*role, *text), good)?;
-            }
-        }
-        Ok(())
-    })
+    let alloc = rt.alloc();
+    let tailored = joined(alloc, &[TABLE, ROW])?;
+    let texts = texts_with(&tailored);
+    check_reads(alloc, texts, "base", TABLE)?;
+    check_reads(alloc, texts, "data", DATA)?;
+    check_reads(alloc, texts, "rules", "&a < x")?;
+    check_reads(alloc, texts, "tailored", &tailored)?;
+    check_reads(alloc, texts, "certificate", CERTIFICATE)
+}
+
+/// A writer fails after so many bytes of the verdict: these went out.
+fn check_write(alloc: Global, texts: [&str; 5], good: usize, failure: Failure) -> Result<(), Fail> {
+    let pace = Pace::failing(2, good, failure);
+    let outcome = audited(alloc, texts, [Pace::steps(9); 5], pace)?;
+    let wanted = format!(in alloc; "output: Write after {good}")?;
+    same(&outcome.end, &wanted, "a writer that fails")?;
+    let went_out = outcome.printed.len() == good && b"accepted\n".starts_with(&outcome.printed);
+    holds(went_out, &wanted)?;
+    holds(
+        outcome.failed == [false, false, false, false, false, true],
+        &wanted,
+    )
 }
 
 #[test]
 fn writers_of_audits_that_fail(rt: HostRuntime) -> Result<(), Fail> {
-    with_files(rt.alloc(), |alloc, texts| {
-        for good in 0..9 {
-            for failure in [Failure::Nothing, Failure::Error(ErrorKind::Interrupted)] {
-                let pace = Pace::failing(2, good, failure);
-                let outcome = audited(alloc, texts, [Pace::steps(9); 5], pace)?;
-                let wanted = format!(in alloc; "output: Write after {good}")?;
-                same(&outcome.end, &wanted, "a writer that fails")?;
-                let went_out = outcome.printed.len() == good
-                    && b"accepted\n".starts_with(&outcome.printed);
-                holds(went_out, &wanted)?;
-                holds(
-                    outcome.failed == [false, false, false, false, false, true],
-                    &wanted,
-                )?;
-            }
-        }
-        Ok(())
-    })
+    let alloc = rt.alloc();
+    let tailored = joined(alloc, &[TABLE, ROW])?;
+    for good in 0..9 {
+        let texts = texts_with(&tailored);
+        check_write(alloc, texts, good, Failure::Nothing)?;
+        check_write(alloc, texts, good, Failure::Error(ErrorKind::Interrupted))?;
+    }
+    Ok(())
 }
 
 /// A reader and a writer of one byte a call.
 #[test]
 fn audits_byte_by_byte(rt: HostRuntime) -> Result<(), Fail> {
-    with_files(rt.alloc(), |alloc, texts| {
-        let outcome = audited(alloc, texts, [Pace::steps(1); 5], Pace::steps(1))?;
-        same(&outcome.end, "true", "one byte a call")?;
-        holds(
-            outcome.printed.as_slice() == b"accepted\n".as_slice(),
-            "one byte a call",
-        )?;
-        holds(outcome.failed == [false; 6], "one byte a call")
-    })
+    let alloc = rt.alloc();
+    let tailored = joined(alloc, &[TABLE, ROW])?;
+    let texts = texts_with(&tailored);
+    let outcome = audited(alloc, texts, [Pace::steps(1); 5], Pace::steps(1))?;
+    same(&outcome.end, "true", "one byte a call")?;
+    let verdict = b"accepted\n".as_slice();
+    holds(outcome.printed.as_slice() == verdict, "one byte a call")?;
+    holds(outcome.failed == [false; 6], "one byte a call")
 }
