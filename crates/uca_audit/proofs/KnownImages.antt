@@ -34,7 +34,7 @@ row_of_element (r ∷ rows) e is = ⊎_elim
     (Contains-append_cases r.elements (elements_of rows) e is)
 
 -- and an element of a row is one of all rows
-element_of_row : (rows : List Entry) (row : Entry) (e : Element) → Contains rows row → Contains row.elements e → Contains (elements_of rows) e
+pub element_of_row : (rows : List Entry) (row : Entry) (e : Element) → Contains rows row → Contains row.elements e → Contains (elements_of rows) e
 element_of_row [] row e is there = absurd (none_contained row is)
 element_of_row (r ∷ rows) row e is there = ⊎_elim
     (λ first. ⊎_elim

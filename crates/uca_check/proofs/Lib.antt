@@ -1,4 +1,5 @@
 pub mod Elements
+pub mod RowElements
 pub mod Firsts
 pub mod Gapless
 pub mod Raised

@@ -76,7 +76,7 @@ placed_gapless level n es expansion part first second found accepted =
 -- ---- Rows and pairs
 
 -- a base weight that is none is 0
-base_zero : (w : ℕ) → IsZero (Base w) → w ≡ 0
+pub base_zero : (w : ℕ) → IsZero (Base w) → w ≡ 0
 base_zero w none = cc
 
 -- an element as a draft has a gap where it has one

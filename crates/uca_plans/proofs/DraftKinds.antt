@@ -1,8 +1,10 @@
 -- Kinds of weights and elements of drafts, and an anchor's part.
-use Rattle.std.proofs.Common.{◌≡◌, ◌⊎◌, inl, inr, ℕ, ◌<◌, ◌≤◌, Bool, true, false, ◌||◌, not, List, [], ◌∷◌, ◌++◌, Option, Some, None, refl, sym, ap}
+use Rattle.std.proofs.Common.{◌≡◌, ◌⊎◌, inl, inr, ℕ, ◌<◌, ◌≤◌, Bool, true, false, not, List, [], ◌∷◌, ◌++◌, Option, Some, None, refl, sym, ap}
 use Rattle.std.proofs.Common.{◌∙◌, arith, subst, if◌then◌else◌}
+use Rattle.std.specs.List.{AllByRecursion}
 use Rattle.std.proofs.lemmas.Bool.{cases_eq}
 use Rattle.std.proofs.lemmas.Bool.Decides.{nat_tests}
+use Rattle.std.proofs.lemmas.Bool.{or_parts}
 use Rattle.uca_weights.specs.declared.Level.{Level}
 use Rattle.uca_weights.specs.declared.Level.TheVariants.{One, Two, Three}
 use Rattle.uca_plans.specs.declared.drafts.DraftWeight.{DraftWeight}
@@ -62,13 +64,13 @@ abbrev pub HasDraftGap : DraftElement → Type 0
 HasDraftGap e = ((IsZero e.primary → ⊥) × IsZero e.secondary) ⊎ ((IsZero e.secondary → ⊥) × IsZero e.tertiary)
 
 -- no weight up to the level is silent
-silent_one : (e : DraftElement) → IsZero e.primary → is_silent One e ≡ true
+pub silent_one : (e : DraftElement) → IsZero e.primary → is_silent One e ≡ true
 silent_one e none = elim (zero_or_not e.primary) [ inl is ↦ is.0 | inr not ↦ absurd (not.1 none) ]
 
-silent_two : (e : DraftElement) → IsZero e.primary → IsZero e.secondary → is_silent Two e ≡ true
+pub silent_two : (e : DraftElement) → IsZero e.primary → IsZero e.secondary → is_silent Two e ≡ true
 silent_two e first second = elim (zero_or_not e.secondary) [ inl is ↦ rw (silent_one e first, is.0) refl | inr not ↦ absurd (not.1 second) ]
 
-silent_three : (e : DraftElement) → IsZero e.primary → IsZero e.secondary → IsZero e.tertiary → is_silent Three e ≡ true
+pub silent_three : (e : DraftElement) → IsZero e.primary → IsZero e.secondary → IsZero e.tertiary → is_silent Three e ≡ true
 silent_three e first second third = elim (zero_or_not e.secondary) [
   | inl is ↦ elim (zero_or_not e.tertiary) [ inl also ↦ rw (silent_one e first, is.0, also.0) refl | inr not ↦ absurd (not.1 third) ]
   | inr not ↦ absurd (not.1 second)
@@ -117,23 +119,13 @@ reweighted_whole Three n e whole some (inr gap) = new_not_zero n gap.1
 
 -- an accepted element is no continuation
 pub accepted_no_continuation : (level : Level) (e : DraftElement) → is_refused level e ≡ false → IsDraftContinuation e → ⊥
-accepted_no_continuation One e tested = continuation_tested e (first_false (is_continuation e) (is_high e.primary) tested)
-  where
-    -- the first of two tests that both fail
-    first_false : (a b : Bool) → (a || b) ≡ false → a ≡ false
-    first_false true b h = absurd (cc)
-    first_false false b h = refl
+accepted_no_continuation One e tested = continuation_tested e (or_parts (is_continuation e) (is_high e.primary) tested).0
 accepted_no_continuation Two e tested = continuation_tested e tested
 accepted_no_continuation Three e tested = continuation_tested e tested
 
 -- at level 1 an accepted element's primary is below 8000
 pub accepted_low : (e : DraftElement) → is_refused One e ≡ false → IsHigh e.primary → ⊥
-accepted_low e tested = high_tested e.primary (second_false (is_continuation e) (is_high e.primary) tested)
-  where
-    -- the second of two tests that both fail
-    second_false : (a b : Bool) → (a || b) ≡ false → b ≡ false
-    second_false true b h = absurd (cc)
-    second_false false b h = h
+accepted_low e tested = high_tested e.primary (or_parts (is_continuation e) (is_high e.primary) tested).1
 
 -- ---- An anchor's part
 
@@ -142,6 +134,24 @@ pub record IsAnchorPart (level : Level) (es : List DraftElement) (part : AnchorP
   pub trailing : List DraftElement
   pub split : es ≡ part.front ++ part.last ∷ trailing
   pub sounds : is_silent level part.last ≡ false
+  pub silent : AllByRecursion (λ e. is_silent level e ≡ true) trailing
+
+-- where there is no part all elements are silent
+none_sounds : (level : Level) (es : List DraftElement) → anchor_part level es ≡ None → AllByRecursion (λ e. is_silent level e ≡ true) es
+none_sounds level [] none = tt
+none_sounds level (e ∷ es) none = go (anchor_part level es) (none_sounds level es) refl none
+  where
+    -- by whether the element is silent
+    by_test : (b : Bool) → is_silent level e ≡ b
+        → (let alone : AnchorPart = record { front = []; last = e } in (if b then None else Some alone) ≡ None) → is_silent level e ≡ true
+    by_test true silent chosen = silent
+    by_test false sounds chosen = absurd (cc)
+
+    -- by the part of the rest
+    go : (rest : Option AnchorPart) → (anchor_part level es ≡ None → AllByRecursion (λ f. is_silent level f ≡ true) es) → anchor_part level es ≡ rest
+        → behind_front level e rest ≡ None → AllByRecursion (λ f. is_silent level f ≡ true) (e ∷ es)
+    go (Some p) more is joined = absurd (cc)
+    go None more is joined = (by_test (is_silent level e) refl joined, more is)
 
 -- the part that is found is so
 pub part_is : (level : Level) (es : List DraftElement) (part : AnchorPart) → anchor_part level es ≡ Some part → IsAnchorPart level es part
@@ -154,7 +164,8 @@ part_is level (e ∷ es) part found = go (anchor_part level es) refl (λ p. part
     go (Some p) is more joined =
         let inner = more p is in
         let same : record { front = e ∷ p.front; last = p.last } ≡ part = cc in
-        subst (IsAnchorPart level (e ∷ es)) same (record { trailing = inner.trailing; split = ap (λ xs. e ∷ xs) inner.split; sounds = inner.sounds })
+        subst (IsAnchorPart level (e ∷ es)) same
+        (record { trailing = inner.trailing; split = ap (λ xs. e ∷ xs) inner.split; sounds = inner.sounds; silent = inner.silent })
     go None is more joined = by_test (is_silent level e) refl joined
       where
         -- by whether the element is silent
@@ -164,7 +175,7 @@ part_is level (e ∷ es) part found = go (anchor_part level es) refl (λ p. part
         by_test false sounds chosen =
             let alone : AnchorPart = record { front = []; last = e } in
             let same : alone ≡ part = cc in
-            subst (IsAnchorPart level (e ∷ es)) same (record { trailing = es; split = refl; sounds = sounds })
+            subst (IsAnchorPart level (e ∷ es)) same (record { trailing = es; split = refl; sounds = sounds; silent = none_sounds level es is })
 
 -- what is drafted at a level: an accepted part with the new weight, and the expansion
 pub record IsPlacedDraft (level : Level) (before : Bool) (n : ℕ) (anchor expansion : List DraftElement) (new : Drafted) : Type 0 where

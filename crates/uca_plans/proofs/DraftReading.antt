@@ -1,7 +1,7 @@
 -- Draft elements: how they depend on the rows.
-use Rattle.std.proofs.Common.{◌≡◌, ◌≢◌, ℕ, suc, ◌+◌, ◌-◌, ◌/◌, ◌%◌, List, [], ◌∷◌, ◌++◌, length, map, Bool, true, false, cond, Option, Some, None, refl, sym}
-use Rattle.std.proofs.Common.{ap, ap₂, ◌∙◌, append-nil, arith, inl}
-use Rattle.std.specs.List.{AllByRecursion, flat_map}
+use Rattle.std.proofs.Common.{◌≡◌, ◌≢◌, ℕ, suc, ◌+◌, List, [], ◌∷◌, ◌++◌, length, map, Bool, true, false, cond, Option, Some, None, refl, sym}
+use Rattle.std.proofs.Common.{option_map, ap, ap₂, ◌∙◌, append-nil, arith, inl}
+use Rattle.std.specs.List.{flat_map}
 use Rattle.std.proofs.lemmas.Simd.{map-map}
 use Rattle.std.proofs.lemmas.List.{map-append}
 use Rattle.std.proofs.lemmas.List.Concat.{flat_map-append}
@@ -9,7 +9,9 @@ use Rattle.std.proofs.lemmas.Nat.{div-add-mod'}
 use Rattle.uca_weights.specs.declared.Element.{Element}
 use Rattle.uca_values.specs.declared.ImplicitRange.{ImplicitRange}
 use Rattle.uca_values.specs.Content.{Properties}
-use Rattle.uca_values.specs.Implicit.{lead_of, base_of, implicit_pair, block_pair, unlisted_pair, pair_by_lead, implicit}
+use Rattle.uca_values.specs.Implicit.{implicit}
+use Rattle.uca_values.proofs.ImplicitPairs.{of_pair}
+use Rattle.uca_check.proofs.Elements.{each_any}
 use Rattle.uca_text.specs.Texts.{Spelled, code_points, letters, letters_of}
 use Rattle.uca_text.specs.Occurring.{OccursInOrder}
 use Rattle.uca_text.proofs.Occurring.{occurs_trans}
@@ -44,31 +46,13 @@ letters_occur (c ∷ points) (k ∷ classes) = inl (refl, letters_occur points c
 pub occurs_in_text : (key : List ℕ) (text : Spelled) → OccursInOrder key (code_points (letters_of text)) → OccursInOrder key text.points
 occurs_in_text key text h = occurs_trans key (code_points (letters_of text)) text.points h (letters_occur text.points text.classes)
 
--- what holds of all things holds of each member of a list
-pub each_of : {A : Type 0} (P : A → Type 0) → ((x : A) → P x) → (xs : List A) → AllByRecursion P xs
-each_of P holds [] = tt
-each_of P holds (x ∷ xs) = (holds x, each_of P holds xs)
-
 -- ---- Implicit elements
 
--- what holds of all pairs of implicit elements holds of those of a code point
-pub of_implicit : (P : List Element → Type 0) → ((lead low : ℕ) → P (implicit_pair lead low)) → (ranges : List ImplicitRange) (properties : Properties)
-    (c : ℕ) → P (implicit ranges properties c)
-of_implicit P pairs ranges properties c = go (lead_of ranges c)
-  where
-    unlisted : (a b : Bool) → P (cond a (block_pair 0xFB40 c) (cond b (block_pair 0xFB80 c) (block_pair 0xFBC0 c)))
-    unlisted true b = pairs (0xFB40 + c / 0x8000) (c % 0x8000)
-    unlisted false true = pairs (0xFB80 + c / 0x8000) (c % 0x8000)
-    unlisted false false = pairs (0xFBC0 + c / 0x8000) (c % 0x8000)
-
-    go : (lead : Option ℕ) → P (pair_by_lead ranges lead (unlisted_pair properties c) c)
-    go None = unlisted (properties.is_core c) (properties.is_other c)
-    go (Some lead) = pairs lead (c - base_of ranges lead c)
-
--- each stands for itself
+-- each element of implicit weights stands for itself
 pub implicit_drafts : (rows : List DraftRow) (ranges : List ImplicitRange) (properties : Properties) (c : ℕ) →
     flat_map (resolved rows) (implicit ranges properties c) ≡ map (as_draft true) (implicit ranges properties c)
-implicit_drafts rows = of_implicit (λ es. flat_map (resolved rows) es ≡ map (as_draft true) es) (λ lead low. refl)
+implicit_drafts rows ranges properties c =
+    of_pair (λ es. flat_map (resolved rows) es ≡ map (as_draft true) es) ranges properties c (λ lead low _. refl)
 
 -- ---- Places
 
@@ -127,7 +111,7 @@ read_by_what_occurs ranges properties rows others text agree =
     (record {
       at_keys = λ key occurs. same_rows rows others (rows_of (references_from 0 rows) key) (rows_of (references_from 0 others) key)
           (row_gives rows key ∙ agree key (occurs_in_text key text occurs) ∙ sym (row_gives others key));
-      at_points = each_of (λ c. StandForSame rows others (implicit ranges properties c) (implicit ranges properties c))
+      at_points = each_any (λ c. StandForSame rows others (implicit ranges properties c) (implicit ranges properties c))
           (λ c. implicit_drafts rows ranges properties c ∙ sym (implicit_drafts others ranges properties c)) (code_points (letters_of text));
     })
 
@@ -149,18 +133,14 @@ read_of_key ranges properties rows text row same some found =
         (ap (rows_of (references_from 0 rows)) (points_of text same) ∙ e))
         ∙ gives_row
 
--- the elements of a key's row, each valued
-abbrev valued_drafts : (DraftElement → Element) → Option (List DraftElement) → Option (List Element)
-valued_drafts value None = None
-valued_drafts value (Some es) = Some (map value es)
-
-valued_row : (value : DraftElement → Element) (rows : List DraftRow) (key : List ℕ) →
-    rows_of (valued_rows value rows) key ≡ valued_drafts value (draft_at rows key)
+-- the elements of a key's row are valued
+pub valued_row : (value : DraftElement → Element) (rows : List DraftRow) (key : List ℕ) →
+    rows_of (valued_rows value rows) key ≡ option_map (map value) (draft_at rows key)
 valued_row value [] key = refl
 valued_row value (row ∷ rows) key = go (same_key row.key key) (valued_row value rows key)
   where
-    go : (b : Bool) → rows_of (valued_rows value rows) key ≡ valued_drafts value (draft_at rows key) →
-        cond b (Some (map value row.elements)) (rows_of (valued_rows value rows) key) ≡ valued_drafts value (cond b (Some row.elements) (draft_at rows key))
+    go : (b : Bool) → rows_of (valued_rows value rows) key ≡ option_map (map value) (draft_at rows key) →
+        cond b (Some (map value row.elements)) (rows_of (valued_rows value rows) key) ≡ option_map (map value) (cond b (Some row.elements) (draft_at rows key))
     go true later = refl
     go false later = later
 
@@ -175,7 +155,7 @@ module _ (value : DraftElement → Element) (rows : List DraftRow) where
       ∙ sym (map-append value (flat_map (resolved rows) fs) (flat_map (resolved rows) hs))
       ∙ ap (map value) (sym (flat_map-append (resolved rows) fs hs))
 
-  are_valued : (row place : Option (List Element)) → row ≡ valued_drafts value (valued rows place) → AreRelatedRows AreValued row place
+  are_valued : (row place : Option (List Element)) → row ≡ option_map (map value) (valued rows place) → AreRelatedRows AreValued row place
   are_valued None None e = tt
   are_valued None (Some fs) e = cc
   are_valued (Some es) None e = cc
@@ -188,8 +168,8 @@ read_as_rows value ranges properties rows text keeps =
     (rows_of (valued_rows value rows)) (rows_of (references_from 0 rows)) (letters_of text)
     (record {
       at_keys = λ key occurs. are_valued value rows (rows_of (valued_rows value rows) key) (rows_of (references_from 0 rows) key)
-          (valued_row value rows key ∙ ap (valued_drafts value) (sym (row_gives rows key)));
-      at_points = each_of (λ c. AreValued value rows (implicit ranges properties c) (implicit ranges properties c))
+          (valued_row value rows key ∙ ap (option_map (map value)) (sym (row_gives rows key)));
+      at_points = each_any (λ c. AreValued value rows (implicit ranges properties c) (implicit ranges properties c))
           (λ c. sym (keeps c) ∙ sym (map-map value (as_draft true) (implicit ranges properties c))
           ∙ ap (map value) (sym (implicit_drafts rows ranges properties c))) (code_points (letters_of text));
     })

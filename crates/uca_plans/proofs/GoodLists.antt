@@ -34,6 +34,10 @@ pub bases_of_base : (ws : List ℕ) → bases (map Base ws) ≡ ws
 bases_of_base [] = refl
 bases_of_base (w ∷ ws) = ap (λ vs. w ∷ vs) (bases_of_base ws)
 
+-- so a base weight is a member of their list
+pub base_among : (ws : List ℕ) (w : ℕ) → IsAmong ws w → IsAmong (map Base ws) (Base w)
+base_among ws w among = bases_among (map Base ws) w (subst (λ vs. IsAmong vs w) (sym (bases_of_base ws)) among)
+
 -- an insertion of a new weight adds no base member
 pub bases_inserted : (k : ℕ) {a : DraftWeight} {b : Bool} {ms ns : List DraftWeight} → Inserts a (New k) b ms ns → bases ns ≡ bases ms
 bases_inserted k ahead = refl
@@ -125,7 +129,7 @@ grown_through n m ms ns os order first second = record {
 }
 
 -- a new weight is no member
-new_is_new : (level : Level) (es : List Element) (n : ℕ) (ms : List DraftWeight) → IsGoodList level es n ms → IsAmong ms (New n) → ⊥
+pub new_is_new : (level : Level) (es : List Element) (n : ℕ) (ms : List DraftWeight) → IsGoodList level es n ms → IsAmong ms (New n) → ⊥
 new_is_new level es n ms good among = let less = good.names n among in omega arith
 
 -- names are distinct

@@ -1,6 +1,7 @@
 -- The places of keys, and what one more key changes.
 use Rattle.std.proofs.Common.{◌≡◌, ◌≢◌, ◌⊎◌, ℕ, ◌+◌, List, [], ◌∷◌, ◌++◌, Bool, true, false, cond, ◌||◌, Some, None, refl, sym, ap, ◌∙◌, inl, inr, ⊎_elim}
 use Rattle.std.specs.List.{AllByRecursion}
+use Rattle.std.proofs.Math.Bool.{or-false}
 use Rattle.std.proofs.lemmas.Bool.{false≢true, false_from_ne_true, cond-true, cond-false, or_left, cases_Bool}
 use Rattle.uca_rules.specs.declared.relations.Relation.{Relation}
 use Rattle.uca_match.specs.Rows.{rows_of, same_key}
@@ -55,13 +56,19 @@ with_key_is new (key ∷ keys) = go (same_key key new) (is_among keys new) (with
     go false true later = ap (λ more. key ∷ more) later
     go false false later = ap (λ more. key ∷ more) later
 
-or_false : (b : Bool) → (b || false) ≡ b
-or_false true = refl
-or_false false = refl
+-- what holds of each key and of one more holds of each with it
+pub each_with_key : (P : List ℕ → Type 0) (new : List ℕ) (keys : List (List ℕ)) → P new → AllByRecursion P keys → AllByRecursion P (with_key new keys)
+each_with_key P new [] here each = (here, tt)
+each_with_key P new (key ∷ keys) here each = go (same_key key new) (each_with_key P new keys here each.1)
+  where
+    -- by whether it is the first
+    go : (b : Bool) → AllByRecursion P (with_key new keys) → AllByRecursion P (cond b (key ∷ keys) (key ∷ with_key new keys))
+    go true later = each
+    go false later = (each.0, later)
 
 -- the keys are then the others and it
 pub among_with_key : (new : List ℕ) (keys : List (List ℕ)) (key : List ℕ) → is_among (with_key new keys) key ≡ (is_among keys key || same_key new key)
-among_with_key new [] key = or_false (same_key new key)
+among_with_key new [] key = or-false (same_key new key)
 among_with_key new (k ∷ keys) key = go (same_key k new) refl (same_key k key) refl (among_with_key new keys key)
   where
     go : (b : Bool) → same_key k new ≡ b → (c : Bool) → same_key k key ≡ c → is_among (with_key new keys) key ≡ (is_among keys key || same_key new key) →
@@ -70,7 +77,7 @@ among_with_key new (k ∷ keys) key = go (same_key k new) refl (same_key k key) 
     go false e true f later = ap (λ d. d || is_among (with_key new keys) key) f
     go true e false f later =
         let other : same_key new key ≡ false = ap (λ n. same_key n key) (sym (same_key-true k new e)) ∙ f in
-        ap (λ d. d || is_among keys key) f ∙ sym (ap (λ d. is_among keys key || d) other ∙ or_false (is_among keys key))
+        ap (λ d. d || is_among keys key) f ∙ sym (ap (λ d. is_among keys key || d) other ∙ or-false (is_among keys key))
     go false e false f later = ap (λ d. d || is_among (with_key new keys) key) f ∙ later
 
 -- a key keeps its place, unless it is the new one

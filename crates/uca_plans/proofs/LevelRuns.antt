@@ -83,7 +83,7 @@ zero_first es n ms good room =
     inr (high_members One ms, numbers_of (high_segment One) (high_members One ms), first, numbers)
 
 -- at each level 0 comes first or not at all
-zero_first_or_none : (level : Level) (es : List Element) (n : ℕ) (ms : List DraftWeight) → IsGoodList level es n ms → level_has_room level ms ≡ true
+pub zero_first_or_none : (level : Level) (es : List Element) (n : ℕ) (ms : List DraftWeight) → IsGoodList level es n ms → level_has_room level ms ≡ true
     → HasZeroFirstOrNone ms (level_numbers level ms)
 zero_first_or_none One es n ms good room = zero_first es n ms good room
 zero_first_or_none Two es n ms good room = none_zero Two es n ms (omega arith) good room

@@ -21,3 +21,6 @@ pub mod DraftPairs
 pub mod PlanHolds
 pub mod PlanCarried
 pub mod PlanRows
+pub mod Prefixes
+pub mod LongestRuns
+pub mod NewKeys

@@ -43,16 +43,6 @@ pub each_of : {A : Type 0} (P : A → Type 0) (xs : List A) → ((x : A) → IsA
 each_of P [] each = tt
 each_of P (x ∷ xs) each = (each x (inl refl), each_of P xs (λ y among. each y (inr among)))
 
--- what holds of each of two lists holds of each of both
-pub each_append : {A : Type 0} (P : A → Type 0) (xs ys : List A) → AllByRecursion P xs → AllByRecursion P ys → AllByRecursion P (xs ++ ys)
-each_append P [] ys first second = second
-each_append P (x ∷ xs) ys first second = (first.0, each_append P xs ys first.1 second)
-
--- and the other way round
-pub each_parts : {A : Type 0} (P : A → Type 0) (xs ys : List A) → AllByRecursion P (xs ++ ys) → AllByRecursion P xs × AllByRecursion P ys
-each_parts P [] ys all = (tt, all)
-each_parts P (x ∷ xs) ys all = let rest = each_parts P xs ys all.1 in ((all.0, rest.0), rest.1)
-
 -- what stands before another is a member
 pub first_among : (ms : List DraftWeight) (v w : DraftWeight) → StandsBefore ms v w → IsAmong ms v
 first_among [] v w stands = stands

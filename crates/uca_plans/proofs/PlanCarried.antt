@@ -21,7 +21,7 @@ use Rattle.uca_plans.specs.Lists.{Insertion, same_level, inserted, all_inserted}
 use Rattle.uca_plans.specs.ListLaws.{IsAmong}
 use Rattle.uca_plans.specs.Drafts.{DraftRow, with_row, draft_elements, draft_weight, is_refused, AnchorPart, reset, reweighted}
 use Rattle.uca_plans.specs.Plans.{Basis, Drafting, drafted_at, draft_expansion}
-use Rattle.uca_plans.proofs.ListMembers.{each_append, each_parts}
+use Rattle.uca_check.proofs.RowElements.{each_append, each_parts}
 use Rattle.uca_plans.proofs.InsertionLemmas.{inserts, inserts_new}
 use Rattle.uca_plans.proofs.GoodLists.{good_fixed, grown_through, grown_same}
 use Rattle.uca_plans.proofs.PlanSteps.{target_row, IsStep, AreSteps}
@@ -67,7 +67,7 @@ reset_listed ms w weight there = elim (reset_cases w weight) [
 ]
 
 -- an element with a new weight of the list is listed
-reweighted_listed : (level : Level) (basis : Basis) (n m : ℕ) (b : Drafting) (e : DraftElement) → HasGoodLists basis m b
+pub reweighted_listed : (level : Level) (basis : Basis) (n m : ℕ) (b : Drafting) (e : DraftElement) → HasGoodLists basis m b
     → IsListed (list_at One basis b) (list_at Two basis b) (list_at Three basis b) e → IsAmong (list_at level basis b) (New n)
     → IsListed (list_at One basis b) (list_at Two basis b) (list_at Three basis b) (reweighted level (New n) e)
 reweighted_listed One basis n m b e good listed there = record {
@@ -138,11 +138,20 @@ pub record IsPlacedStep (basis : Basis) (n : ℕ) (rule : Relation) (a b : Draft
   pub new_there : IsAmong (list_at level basis b) (New n)
 
 -- the last element of a part is one of the elements
-part_each : (P : DraftElement → Type 0) (level : Level) (es : List DraftElement) (part : AnchorPart) → IsAnchorPart level es part
+pub part_each : (P : DraftElement → Type 0) (level : Level) (es : List DraftElement) (part : AnchorPart) → IsAnchorPart level es part
     → AllByRecursion P es
     → AllByRecursion P part.front × P part.last
 part_each P level es part found all =
     let parts = each_parts P part.front (part.last ∷ found.trailing) (subst (AllByRecursion P) found.split all) in (parts.0, parts.1.0)
+
+-- the list behind a step at a level is the one before it, with the new weight put in
+pub placed_list : (basis : Basis) (n : ℕ) (rule : Relation) (a b : Drafting) (step : IsStep basis n rule a b) (level : Level) (i : Insertion)
+    → i.level ≡ level → step.new.insertions ≡ i ∷ [] → list_at level basis b ≡ inserted i (list_at level basis a)
+placed_list basis n rule a b step level i at_level insertions =
+    step_list basis n rule a b step level
+    ∙ ap (λ is. all_inserted level is (list_at level basis a)) insertions
+    ∙ ap (λ test. if test then inserted i (list_at level basis a) else list_at level basis a)
+    (ap (λ other. same_level other level) at_level ∙ same_level_itself level)
 
 -- the new weight is in the list behind a step
 new_member : (basis : Basis) (n : ℕ) (rule : Relation) (a b : Drafting) (step : IsStep basis n rule a b) (level : Level) (before : Bool)
@@ -150,12 +159,8 @@ new_member : (basis : Basis) (n : ℕ) (rule : Relation) (a b : Drafting) (step 
     → IsAmong (list_at level basis a) (draft_weight level placed.part.last) → IsAmong (list_at level basis b) (New n)
 new_member basis n rule a b step level before anchor expansion placed there =
     let i : Insertion = record { level = level; before = before; anchor = draft_weight level placed.part.last; new = New n } in
-    let insertions : step.new.insertions ≡ i ∷ [] = ap (λ d. d.insertions) placed.is in
-    let list : list_at level basis b ≡ all_inserted level (i ∷ []) (list_at level basis a) =
-    step_list basis n rule a b step level ∙ ap (λ is. all_inserted level is (list_at level basis a)) insertions in
-    let here : all_inserted level (i ∷ []) (list_at level basis a) ≡ inserted i (list_at level basis a) =
-    ap (λ b. if b then inserted i (list_at level basis a) else list_at level basis a) (same_level_itself level) in
-    subst (λ ms. IsAmong ms (New n)) (sym (list ∙ here)) (inserts_new (inserts i (list_at level basis a) there))
+    let list = placed_list basis n rule a b step level i refl (ap (λ d. d.insertions) placed.is) in
+    subst (λ ms. IsAmong ms (New n)) (sym list) (inserts_new (inserts i (list_at level basis a) there))
 
 -- ---- Texts of relations
 
@@ -164,7 +169,7 @@ scalar_below : (c : ℕ) → IsScalar c → c < 0x11_0000
 scalar_below c scalar = grind arith
 
 -- a relation's text has code points
-text_points : (text : Spelled) → IsRuleText text → AllByRecursion (λ c. c < 0x11_0000) text.points
+pub text_points : (text : Spelled) → IsRuleText text → AllByRecursion (λ c. c < 0x11_0000) text.points
 text_points text is = each_weaker IsScalar (λ c. c < 0x11_0000) scalar_below text.points is.normal.scalars
 
 -- the elements of an expansion are held, without gaps

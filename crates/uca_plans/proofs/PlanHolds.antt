@@ -9,8 +9,10 @@ use Rattle.uca_weights.specs.declared.Level.TheVariants.{One, Two, Three}
 use Rattle.uca_weights.specs.Levels.{weight}
 use Rattle.uca_values.specs.Content.{Entry, Fits, IsEntry, AreImplicitRanges}
 use Rattle.uca_values.specs.Implicit.{implicit}
+use Rattle.uca_values.proofs.ImplicitPairs.{each_pair}
 use Rattle.uca_check.specs.WellFormed.{elements_of, MeetsWF1}
 use Rattle.uca_check.proofs.Elements.{each_weaker}
+use Rattle.uca_check.proofs.RowElements.{each_append, each_of_rows}
 use Rattle.uca_text.specs.Texts.{Spelled}
 use Rattle.uca_plans.specs.declared.drafts.DraftWeight.{DraftWeight}
 use Rattle.uca_plans.specs.declared.drafts.DraftWeight.TheVariants.{Base, New}
@@ -19,11 +21,11 @@ use Rattle.uca_plans.specs.Lists.{top_weight, base_weights}
 use Rattle.uca_plans.specs.ListLaws.{IsAmong, HasWeight}
 use Rattle.uca_plans.specs.Drafts.{as_draft, row_as_draft, draft_elements}
 use Rattle.uca_plans.specs.Plans.{Basis, Drafting, begun}
-use Rattle.uca_plans.proofs.ListMembers.{each_append, of_each}
+use Rattle.uca_plans.proofs.ListMembers.{of_each}
 use Rattle.uca_plans.proofs.BaseWeightLemmas.{base_to}
-use Rattle.uca_plans.proofs.GoodLists.{good_fixed}
+use Rattle.uca_plans.proofs.GoodLists.{good_fixed, base_among}
 use Rattle.uca_plans.proofs.PlanLists.{list_at, HasGoodLists, HasGrownLists, good_begun}
-use Rattle.uca_plans.proofs.DraftPairs.{each_pair, read_each}
+use Rattle.uca_plans.proofs.DraftPairs.{read_each}
 use Rattle.uca_plans.proofs.DraftKinds.{IsZero, IsHigh}
 use Rattle.uca_plans.proofs.DraftGaps.{HasNoGaps, gaps_joined, base_gapless, pair_gapless}
 
@@ -102,28 +104,27 @@ read_held basis n a holds ranges text points = (
 -- ---- The beginning
 
 -- an element has its weights
-has_weight : (level : Level) (es : List Element) (e : Element) → IsAmong es e → HasWeight level (weight level e) es
+pub has_weight : (level : Level) (es : List Element) (e : Element) → IsAmong es e → HasWeight level (weight level e) es
 has_weight level [] e among = among
 has_weight level (x ∷ es) e (inl here) = inl (ap (weight level) here)
 has_weight level (x ∷ es) e (inr there) = inr (has_weight level es e there)
+
+-- a weight of an element is a base weight, where it is numbered
+pub weight_there : (level : Level) (es : List Element) (e : Element) → IsAmong es e → 0 < weight level e → weight level e ≤ top_weight level
+    → IsAmong (base_weights level es) (weight level e)
+weight_there level es e among some within = base_to level es (weight level e) (some, within, has_weight level es e among)
 
 -- a numbered weight of a base element is in the list
 base_listed : (level : Level) (basis : Basis) (e : Element) → IsAmong (elements_of basis.base) e → weight level e ≤ top_weight level
     → IsZero (Base (weight level e)) ⊎ IsAmong (list_at level basis (begun basis)) (Base (weight level e))
 base_listed level basis e among within = elim (cases_lt 0 (weight level e)) [
-  | inl some ↦ inr (base_member (base_weights level (elements_of basis.base)) (weight level e)
-      (base_to level (elements_of basis.base) (weight level e) (some, within, has_weight level (elements_of basis.base) e among)))
+  | inl some ↦ inr (base_among (base_weights level (elements_of basis.base)) (weight level e)
+      (weight_there level (elements_of basis.base) e among some within))
   | inr none ↦ inl (ap Base (omega arith))
 ]
-  where
-    -- a weight as a member
-    base_member : (ws : List ℕ) (w : ℕ) → IsAmong ws w → IsAmong (map Base ws) (Base w)
-    base_member [] w among = among
-    base_member (v ∷ ws) w (inl here) = inl (ap Base here)
-    base_member (v ∷ ws) w (inr there) = inr (base_member ws w there)
 
 -- a base element is listed
-element_listed : (basis : Basis) (e : Element) → IsAmong (elements_of basis.base) e → Fits e
+pub element_listed : (basis : Basis) (e : Element) → IsAmong (elements_of basis.base) e → Fits e
     → IsListed (list_at One basis (begun basis)) (list_at Two basis (begun basis)) (list_at Three basis (begun basis)) (as_draft false e)
 element_listed basis e among fits = record {
   primary = elim (cases_lt e.primary 0x8000) [
@@ -138,7 +139,7 @@ element_listed basis e among fits = record {
 }
 
 -- an implicit element is listed in lists that have the fixed weights
-implicit_listed : (basis : Basis) (n : ℕ) (a : Drafting) → HasGoodLists basis n a → (e : DraftElement) → IsReadImplicit e
+pub implicit_listed : (basis : Basis) (n : ℕ) (a : Drafting) → HasGoodLists basis n a → (e : DraftElement) → IsReadImplicit e
     → IsListed (list_at One basis a) (list_at Two basis a) (list_at Three basis a) e
 implicit_listed basis n a good e (inl lead) = subst (IsListed (list_at One basis a) (list_at Two basis a) (list_at Three basis a)) (sym lead.3) (record {
   primary = inr (inr (omega (arith, lead.1)));
@@ -156,17 +157,16 @@ implicit_fits : (e : DraftElement) → IsReadImplicit e → IsFitting e
 implicit_fits e (inl lead) = subst IsFitting (sym lead.3) (record { primary = omega (arith, lead.2); secondary = omega arith; tertiary = omega arith })
 implicit_fits e (inr low) = subst IsFitting (sym low.2) (record { primary = omega (arith, low.1); secondary = omega arith; tertiary = omega arith })
 
--- what holds of the elements of each row holds of all
-all_fit : (rows : List Entry) → AllByRecursion IsEntry rows → AllByRecursion Fits (elements_of rows)
-all_fit [] all = tt
-all_fit (row ∷ rows) all = each_append Fits row.elements (elements_of rows) all.0.fits (all_fit rows all.1)
+-- the elements of all rows have weights of 16 bits
+pub all_fit : (rows : List Entry) → AllByRecursion IsEntry rows → AllByRecursion Fits (elements_of rows)
+all_fit rows all = each_of_rows Fits rows (each_weaker IsEntry (λ row. AllByRecursion Fits row.elements) (λ row entry. entry.fits) rows all)
 
 -- an element that stands for one of the base
 abbrev pub IsBaseDraft : Basis → DraftElement → Type 0
 IsBaseDraft basis e = (x : Element) × IsAmong (elements_of basis.base) x × (e ≡ as_draft false x)
 
 -- the base rows are made of base elements
-base_held : (E : DraftElement → Type 0) (rows : List Entry) → ((x : Element) → IsAmong (elements_of rows) x → E (as_draft false x))
+pub base_held : (E : DraftElement → Type 0) (rows : List Entry) → ((x : Element) → IsAmong (elements_of rows) x → E (as_draft false x))
     → AllByRecursion (λ row. AllByRecursion E row.elements) (map row_as_draft rows)
 base_held E [] each = tt
 base_held E (row ∷ rows) each = (

@@ -1,10 +1,10 @@
 -- The keys of a plan's rows: those of the base and then the new targets, each once.
 use Rattle.std.proofs.Common.{◌≡◌, ℕ, zero, suc, ◌+◌, ◌<◌, List, [], ◌∷◌, length, map, get_or, Bool, true, false, cond, ◌||◌, Contains, refl, sym, ap, ◌∙◌}
-use Rattle.std.proofs.Common.{⊎_elim, arith}
+use Rattle.std.proofs.Common.{⊎_elim, arith, is_some, Some}
 use Rattle.std.proofs.lemmas.Bool.{false≢true, false_from_ne_true, or_cases, or_left, or_right, or_from}
 use Rattle.uca_values.specs.Content.{Entry, keys_of, AreDistinct}
 use Rattle.uca_rules.specs.declared.relations.Relation.{Relation}
-use Rattle.uca_match.specs.Rows.{same_key}
+use Rattle.uca_match.specs.Rows.{rows_of, same_key}
 use Rattle.uca_match.proofs.RowsByKey.{same_key-true, same_key-itself}
 use Rattle.uca_plans.specs.Drafts.{DraftRow, row_as_draft}
 use Rattle.uca_plans.specs.Plans.{Basis, Drafting, begun, LevelPlans, numbered_row}
@@ -33,6 +33,16 @@ keys_of_numbered plans (row ∷ rows) = ap (λ keys. row.key ∷ keys) (keys_of_
 pub keys_so_far : (basis : Basis) (relations : List Relation) (behind : Drafting) → AreSteps basis 0 relations (begun basis) behind →
     keys_in behind.rows ≡ with_targets relations (keys_of basis.base)
 keys_so_far basis relations behind steps = keys_along basis 0 relations (begun basis) behind steps ∙ ap (with_targets relations) (keys_of_drafts basis.base)
+
+-- a row of a key is found exactly where it is among the keys
+pub found_among : (rows : List Entry) (key : List ℕ) → is_some (rows_of rows key) ≡ is_among (keys_of rows) key
+found_among [] key = refl
+found_among (row ∷ rows) key = go (same_key row.key key) (found_among rows key)
+  where
+    go : (b : Bool) → is_some (rows_of rows key) ≡ is_among (keys_of rows) key →
+        is_some (cond b (Some row.elements) (rows_of rows key)) ≡ (b || is_among (keys_of rows) key)
+    go true later = refl
+    go false later = later
 
 -- ---- Each key once
 

@@ -64,28 +64,29 @@ holds_planned basis relations plan made rows whole ranges texts =
     (carried basis 0 relations (begun basis) made.drafting (start basis rows.entries whole) ranges texts made.steps).behind
 
 -- what holds of each element of rows holds of each of the numbered ones
-numbered_each : (P : DraftElement → Type 0) (plans : LevelPlans) → ((e : DraftElement) → P e → Fits (numbered plans e)) → (rows : List DraftRow)
-    → AllByRecursion (λ row. AllByRecursion P row.elements) rows
-    → AllByRecursion (λ row. AllByRecursion Fits row.elements) (map (numbered_row plans) rows)
-numbered_each P plans fits [] all = tt
-numbered_each P plans fits (row ∷ rows) all = (in_row row.elements all.0, numbered_each P plans fits rows all.1)
+pub numbered_each : (P : DraftElement → Type 0) (Q : Element → Type 0) (plans : LevelPlans) → ((e : DraftElement) → P e → Q (numbered plans e))
+    → (rows : List DraftRow) → AllByRecursion (λ row. AllByRecursion P row.elements) rows
+    → AllByRecursion (λ row. AllByRecursion Q row.elements) (map (numbered_row plans) rows)
+numbered_each P Q plans holds [] all = tt
+numbered_each P Q plans holds (row ∷ rows) all = (in_row row.elements all.0, numbered_each P Q plans holds rows all.1)
   where
     -- the elements of one row
-    in_row : (es : List DraftElement) → AllByRecursion P es → AllByRecursion Fits (map (numbered plans) es)
+    in_row : (es : List DraftElement) → AllByRecursion P es → AllByRecursion Q (map (numbered plans) es)
     in_row [] each = tt
-    in_row (e ∷ es) each = (fits e each.0, in_row es each.1)
+    in_row (e ∷ es) each = (holds e each.0, in_row es each.1)
 
 -- the weights of a plan's rows are numbers of 16 bits
 made_fits : (basis : Basis) (relations : List Relation) (plan : Plan) (made : IsPlanned basis relations plan) → AreRows basis.base
     → AllByRecursion MeetsWF1 basis.base
     → AreImplicitRanges basis.ranges → AllByRecursion HasRuleTexts relations
-    → AllByRecursion (λ row. AllByRecursion Fits row.elements) (map (numbered_row (level_plans (elements_of basis.base) made.drafting.insertions)) made.drafting.rows)
+    → AllByRecursion (λ row. AllByRecursion Fits row.elements)
+    (map (numbered_row (level_plans (elements_of basis.base) made.drafting.insertions)) made.drafting.rows)
 made_fits basis relations plan made rows whole ranges texts =
     let holds = holds_planned basis relations plan made rows whole ranges texts in
     let es = elements_of basis.base in
     let is = made.drafting.insertions in
     let plans = level_plans (elements_of basis.base) made.drafting.insertions in
-    numbered_each holds.E plans
+    numbered_each holds.E Fits plans
     (λ e held. let fits = holds.fits e held in record {
       primary = weight_fits One plans.primary (number_fits One es is (made.room_one)) e.primary fits.primary;
       secondary = weight_fits Two plans.secondary (number_fits Two es is (made.room_two)) e.secondary fits.secondary;
@@ -99,7 +100,8 @@ pub numbered_fits : (basis : Basis) (relations : List Relation) (plan : Plan) �
     → AreImplicitRanges basis.ranges → AllByRecursion HasRuleTexts relations → AllByRecursion (λ row. AllByRecursion Fits row.elements) plan.rows
 numbered_fits basis relations plan planned_so rows whole ranges texts =
     let made = planned_is basis relations plan planned_so in
-    subst (λ p. AllByRecursion (λ row. AllByRecursion Fits row.elements) p.rows) (sym made.is_plan) (made_fits basis relations plan made rows whole ranges texts)
+    subst (λ p. AllByRecursion (λ row. AllByRecursion Fits row.elements) p.rows) (sym made.is_plan)
+    (made_fits basis relations plan made rows whole ranges texts)
 
 -- ---- The table
 

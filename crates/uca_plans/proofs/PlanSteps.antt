@@ -10,7 +10,8 @@ use Rattle.uca_plans.specs.declared.faults.TailorKind.TheVariants as kinds
 use Rattle.uca_plans.specs.declared.faults.TailorFault.{TailorFault}
 use Rattle.uca_plans.specs.Lists.{Insertion, level_has_room}
 use Rattle.uca_plans.specs.Drafts.{DraftRow, with_row}
-use Rattle.uca_plans.specs.Plans.{Basis, Drafting, Drafted, drafted, needs_prefix, passes_limit, accepted_row, one_drafted, with_relation, and_then}
+use Rattle.uca_plans.specs.Plans.{Basis, Drafting, Drafted, drafted, needs_prefix, passes_limit, holds_implicit_variable, accepted_row, one_drafted}
+use Rattle.uca_plans.specs.Plans.{with_relation, and_then}
 use Rattle.uca_plans.specs.Plans.{with_relations, begun, level_plan, LevelPlans, Plan, plan_of, plan_drafted, no_room, planned}
 
 -- the row of a relation's target
@@ -25,6 +26,7 @@ pub record IsStep (basis : Basis) (n : ℕ) (r : Relation) (here behind : Drafti
   pub rows : behind.rows ≡ with_row (target_row r new) here.rows
   pub insertions : behind.insertions ≡ here.insertions ++ new.insertions
   pub within : passes_limit (target_row r new) behind.rows ≡ false
+  pub outside : holds_implicit_variable (elements_of basis.base) (target_row r new) ≡ false
 
 -- relations that are not refused, of which n come before these, from one drafting to another
 abbrev pub AreSteps : Basis → ℕ → List Relation → Drafting → Drafting → Type 0
@@ -50,20 +52,26 @@ accepted_step : (basis : Basis) (n : ℕ) (r : Relation) (here behind : Drafting
     IsStep basis n r here behind
 accepted_step basis n r here behind new is_drafted h =
     go (needs_prefix basis.properties.class here.rows r.target.points) refl
-    (passes_limit (target_row r new) (with_row (target_row r new) here.rows)) refl h
+    (passes_limit (target_row r new) (with_row (target_row r new) here.rows)) refl
+    (holds_implicit_variable (elements_of basis.base) (target_row r new)) refl h
   where
     after : Drafting
     after = record { rows = with_row (target_row r new) here.rows; insertions = here.insertions ++ new.insertions }
 
     go : (a : Bool) → needs_prefix basis.properties.class here.rows r.target.points ≡ a → (b : Bool) →
         passes_limit (target_row r new) (with_row (target_row r new) here.rows) ≡ b →
-        cond a (Err kinds.NeedsPrefix) (cond b (Err kinds.Limit) (Ok after)) ≡ Ok behind → IsStep basis n r here behind
-    go true e b f h = cc
-    go false e true f h = cc
-    go false e false f h =
+        (c : Bool) → holds_implicit_variable (elements_of basis.base) (target_row r new) ≡ c →
+        cond a (Err kinds.NeedsPrefix) (cond b (Err kinds.Limit) (cond c (Err kinds.ImplicitVariable) (Ok after))) ≡ Ok behind →
+        IsStep basis n r here behind
+    go true e b f c g h = cc
+    go false e true f c g h = cc
+    go false e false f true g h = cc
+    go false e false f false g h =
         let same : after ≡ behind = cc in
-        subst (IsStep basis n r here) same (record { new = new; is_drafted = is_drafted; has_prefix = e; rows = refl; insertions = refl; within = f })
+        subst (IsStep basis n r here) same
+        (record { new = new; is_drafted = is_drafted; has_prefix = e; rows = refl; insertions = refl; within = f; outside = g })
 
+-- so is one that is made with what is drafted
 drafted_step : (basis : Basis) (n : ℕ) (r : Relation) (here behind : Drafting) (new : Option Drafted) → drafted basis here (New n) r ≡ new →
     one_drafted basis here r.target.points new ≡ Ok behind → IsStep basis n r here behind
 drafted_step basis n r here behind None is_drafted h = cc

@@ -32,7 +32,8 @@ use Rattle.uca_plans.specs.Sizes.{IsSizedRow, AreSizedRows, PlansHaveSizedRows}
 use Rattle.uca_plans.proofs.KeyPlaces.{keys_with_row}
 use Rattle.uca_plans.proofs.PlanKeys.{AreApart, apart_of_distinct, distinct_of_apart, apart_with_key, keys_of_drafts, keys_of_numbered}
 use Rattle.uca_plans.proofs.PlanSteps.{IsStep, AreSteps, target_row, planned_is, level_plans}
-use Rattle.uca_plans.proofs.DraftReading.{points_of, of_implicit, implicit_drafts, valued, row_gives}
+use Rattle.uca_values.proofs.ImplicitPairs.{of_pair}
+use Rattle.uca_plans.proofs.DraftReading.{points_of, implicit_drafts, valued, row_gives}
 use Rattle.uca_plans.proofs.DraftOrigins.{each_at}
 
 -- ---- A text that is not empty has elements
@@ -47,7 +48,7 @@ module _ (ranges : List ImplicitRange) (properties : Properties) (rows : List Dr
   some_implicit : (c : ℕ) → 1 ≤ length (flat_map (resolved rows) (implicit ranges properties c))
   some_implicit c =
       subst (λ es. 1 ≤ length es) (sym (implicit_drafts rows ranges properties c))
-      (of_implicit (λ es. 1 ≤ length (map (as_draft true) es)) (λ lead low. omega arith) ranges properties c)
+      (of_pair (λ es. 1 ≤ length (map (as_draft true) es)) ranges properties c (λ lead low _. omega arith))
 
   some_of_key : (key : List ℕ) (es : List Element) → rows_of (references_from 0 rows) key ≡ Some es → 1 ≤ length (flat_map (resolved rows) es)
   some_of_key key es found =

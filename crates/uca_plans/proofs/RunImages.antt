@@ -16,18 +16,18 @@ use Rattle.uca_plans.specs.Runs.{AreRunsFrom, bases, HasZeroFirstOrNone, RunsSen
 
 -- ---- One weight more in front
 
--- the weight is in the first run or a run of its own
-before_cases : (from to : ℕ) (r : Run) (runs : List Run)
+-- the weight is in the first run, which goes on from it, or in a run of its own
+pub before_cases : (from to : ℕ) (r : Run) (runs : List Run)
     → ((r.from ≡ from + 1) × (r.to ≡ to + 1) × (run_before from to (r ∷ runs) ≡ record { from = from; to = to; count = r.count + 1 } ∷ runs))
-    ⊎ (run_before from to (r ∷ runs) ≡ record { from = from; to = to; count = 1 } ∷ r ∷ runs)
+    ⊎ ((r.from ≡ from + 1 → r.to ≡ to + 1 → ⊥) × (run_before from to (r ∷ runs) ≡ record { from = from; to = to; count = 1 } ∷ r ∷ runs))
 before_cases from to r runs = go (nat_eq r.from (from + 1) && nat_eq r.to (to + 1)) refl
   where
     -- by the test
     go : (b : Bool) → (nat_eq r.from (from + 1) && nat_eq r.to (to + 1)) ≡ b
         → ((r.from ≡ from + 1) × (r.to ≡ to + 1) × (run_before from to (r ∷ runs) ≡ record { from = from; to = to; count = r.count + 1 } ∷ runs))
-        ⊎ (run_before from to (r ∷ runs) ≡ record { from = from; to = to; count = 1 } ∷ r ∷ runs)
+        ⊎ ((r.from ≡ from + 1 → r.to ≡ to + 1 → ⊥) × (run_before from to (r ∷ runs) ≡ record { from = from; to = to; count = 1 } ∷ r ∷ runs))
     go true e = inl (grind (arith, nat_tests), grind (arith, nat_tests), rw e)
-    go false e = inr (rw e)
+    go false e = inr (λ first second. grind (arith, nat_tests), rw e)
 
 -- a weight of the first run has its image there
 image_here : (r : Run) (runs : List Run) (w : ℕ) → r.from ≤ w → w < r.from + r.count → run_image (r ∷ runs) w ≡ Some (r.to + (w - r.from))
@@ -65,7 +65,7 @@ before_here from to (r ∷ runs) = elim (before_cases from to r runs) [
   | inl joined ↦
       let s : Run = record { from = from; to = to; count = r.count + 1 } in
       rw joined.2 (image_here s runs from (omega arith) (omega arith) ∙ ap Some (omega arith))
-  | inr apart ↦ rw apart (alone_here from to (r ∷ runs))
+  | inr apart ↦ rw apart.1 (alone_here from to (r ∷ runs))
 ]
 
 -- the others are sent as they were
@@ -73,7 +73,7 @@ before_elsewhere : (from to : ℕ) (runs : List Run) (w : ℕ) → (w ≡ from �
 before_elsewhere from to [] w other = alone_elsewhere from to [] w other
 before_elsewhere from to (r ∷ runs) w other = elim (before_cases from to r runs) [
   | inl joined ↦ rw joined.2 (in_joined joined.0 joined.1)
-  | inr apart ↦ rw apart (alone_elsewhere from to (r ∷ runs) w other)
+  | inr apart ↦ rw apart.1 (alone_elsewhere from to (r ∷ runs) w other)
 ]
   where
     -- where the first run grows
@@ -104,7 +104,7 @@ before_rises end f t from to (r ∷ runs) f_low t_low from_end to_end rise = eli
       let to_rest : r.to + r.count ≡ to + (r.count + 1) = omega (arith, joined.1) in
       let rest : AreRunsFrom end (from + (r.count + 1)) (to + (r.count + 1)) runs = rw (from_rest, to_rest) at rise.5 in
       rw joined.2 (omega arith, f_low, t_low, omega (arith, from_rest, rise.3), omega (arith, to_rest, rise.4), rest)
-  | inr apart ↦ rw apart (omega arith, f_low, t_low, omega arith, omega arith, rise)
+  | inr apart ↦ rw apart.1 (omega arith, f_low, t_low, omega arith, omega arith, rise)
 ]
 
 -- ---- The runs of a list

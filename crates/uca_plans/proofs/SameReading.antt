@@ -2,7 +2,7 @@
 use Rattle.std.proofs.Common.{◌≡◌, ◌≢◌, ◌⊎◌, ℕ, List, [], ◌∷◌, ◌++◌, length, Bool, true, false, ◌||◌, Option, Some, None, IfSome, IsSomeAnd, refl, sym, ap}
 use Rattle.std.proofs.Common.{subst, ◌∙◌, inl, inr, ⊎_elim, is_some, ap₂, cond, ◌+◌}
 use Rattle.std.specs.List.{AllByRecursion, flat_map}
-use Rattle.std.proofs.lemmas.Bool.{false≢true, or_left, or_right, cases_Bool}
+use Rattle.std.proofs.lemmas.Bool.{false≢true, or_left, or_right, or_cases, cases_Bool}
 use Rattle.uca_weights.specs.declared.Element.{Element}
 use Rattle.uca_values.specs.declared.ImplicitRange.{ImplicitRange}
 use Rattle.uca_values.specs.Content.{Properties}
@@ -19,7 +19,8 @@ use Rattle.uca_match.proofs.RowsByKey.{same_key-true, same_key-itself}
 use Rattle.uca_plans.specs.Drafts.{DraftRow, reference, resolved, references_from, draft_elements}
 use Rattle.uca_plans.specs.Keys.{keys_in, is_among, with_key, with_targets, place_at, read_over, IsTextOf, PlacesReadAsRows}
 use Rattle.uca_plans.proofs.KeyPlaces.{among_with_key, place_kept, references_at}
-use Rattle.uca_plans.proofs.DraftReading.{points_of, occurs_in_text, each_of}
+use Rattle.uca_check.proofs.Elements.{each_any}
+use Rattle.uca_plans.proofs.DraftReading.{points_of, occurs_in_text}
 
 -- ---- Targets and keys
 
@@ -56,6 +57,17 @@ target_among (r ∷ relations) keys key h =
     (λ later. target_among relations (with_key r.target.points keys) key later)
     h
 
+-- a key among others and targets is one of the others, or a target
+pub target_of_among : (relations : List Relation) (keys : List (List ℕ)) (key : List ℕ) → is_among (with_targets relations keys) key ≡ true →
+    (is_among keys key ≡ true) ⊎ IsTarget relations key
+target_of_among [] keys key there = inl there
+target_of_among (r ∷ relations) keys key there =
+    ⊎_elim
+    (λ first. ⊎_elim (λ old. inl old) (λ new. inr (inl (same_key-true r.target.points key new)))
+    (or_cases (is_among keys key) (same_key r.target.points key) (sym (among_with_key r.target.points keys key) ∙ first)))
+    (λ later. inr (inr later))
+    (target_of_among relations (with_key r.target.points keys) key there)
+
 pub targets_append : (before later : List Relation) (keys : List (List ℕ)) →
     with_targets (before ++ later) keys ≡ with_targets later (with_targets before keys)
 targets_append [] later keys = refl
@@ -87,7 +99,7 @@ module _ (ranges : List ImplicitRange) (properties : Properties) (rows : List Dr
       (implicit ranges properties) places (rows_of (references_from 0 rows)) (letters_of text)
       (record {
         at_keys = λ key occurs. subst (AreRelatedRows (λ es fs. es ≡ fs) (places key)) (same key (occurs_in_text key text occurs)) (same_row (places key));
-        at_points = each_of (λ c. implicit ranges properties c ≡ implicit ranges properties c) (λ c. refl) (code_points (letters_of text));
+        at_points = each_any (λ c. implicit ranges properties c ≡ implicit ranges properties c) (λ c. refl) (code_points (letters_of text));
       }))
 
   -- and a text that is a key, and has the same place, reads alike

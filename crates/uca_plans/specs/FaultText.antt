@@ -1,18 +1,18 @@
--- The words for why there is no plan: `relation 3: NeedsPrefix`, `NoRoom 3`, `PlanRejected 2`, `Memory`.
+-- The words for why there is no plan: `relation 3: NeedsPrefix`, `NoRoom 3`, `Memory`.
 use Rattle.std.specs.Prelude.{ℕ, List, ◌++◌, codes, decimal, nat_eq, if◌then◌else◌}
 use Rattle.uca_weights.specs.Levels.{level_number}
 use Rattle.uca_plans.specs.declared.faults.TailorKind.{TailorKind}
 use Rattle.uca_plans.specs.declared.faults.TailorKind.TheVariants as kinds
 use Rattle.uca_plans.specs.declared.faults.TailorFault.{TailorFault}
 
--- with the level that has no room, and with the number of the condition for which an audit refuses the plan
+-- with the level that has no room
 abbrev pub tailor_kind_text : TailorKind → List ℕ
 tailor_kind_text kinds.BaseIllFormed = codes "BaseIllFormed"
 tailor_kind_text kinds.Anchor = codes "Anchor"
 tailor_kind_text kinds.NeedsPrefix = codes "NeedsPrefix"
 tailor_kind_text (kinds.NoRoom level) = codes "NoRoom " ++ decimal (level_number level)
 tailor_kind_text kinds.Limit = codes "Limit"
-tailor_kind_text (kinds.PlanRejected refusal) = codes "PlanRejected " ++ decimal refusal.number
+tailor_kind_text kinds.ImplicitVariable = codes "ImplicitVariable"
 tailor_kind_text kinds.Memory = codes "Memory"
 
 -- the relation, where there is one, and the kind

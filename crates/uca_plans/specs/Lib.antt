@@ -10,3 +10,4 @@ pub mod Sizes
 pub mod WorkedPlans
 pub mod Tailors
 pub mod FaultText
+pub mod PlanLaws

@@ -1,5 +1,7 @@
 -- The plan of some rules over a base table: the tailored rows, and what each weight becomes.
-use Rattle.std.specs.Prelude.{ℕ, ◌+◌, Bool, false, ◌&&◌, ◌||◌, not, List, [], ◌∷◌, ◌++◌, length, map, nat_eq, nat_lt, nat_le, if◌then◌else◌, Option, Some, None, Result, Ok, Err}
+use Rattle.std.specs.Prelude.{ℕ, ◌+◌, Bool, false, ◌&&◌, ◌||◌, not, List, [], ◌∷◌, ◌++◌, length, map, nat_eq, nat_lt, nat_le}
+use Rattle.std.specs.Prelude.{if◌then◌else◌, Option, Some, None, Result, Ok, Err}
+use Rattle.std.specs.List.{list_any}
 use Rattle.uca_weights.specs.declared.Element.{Element}
 use Rattle.uca_weights.specs.declared.Level.{Level}
 use Rattle.uca_weights.specs.declared.Level.TheVariants.{One, Two, Three}
@@ -84,11 +86,21 @@ needs_prefix class rows target = nat_lt 2 (length target) && (ends_with_non_star
 abbrev pub passes_limit : DraftRow → List DraftRow → Bool
 passes_limit row rows = nat_lt 32 (length row.elements) || nat_lt 200000 (length rows)
 
+-- from the primary of a variable element to that of another, ends included
+abbrev pub is_among_variables : List Element → DraftWeight → Bool
+is_among_variables base (Base w) = list_any (λ v. v.mark && nat_le v.primary w) base && list_any (λ v. v.mark && nat_le w v.primary) base
+is_among_variables base (New _) = false
+
+-- an element that implicit weights gave stands among the variable ones of the base
+abbrev pub holds_implicit_variable : List Element → DraftRow → Bool
+holds_implicit_variable base row = list_any (λ e. e.implicit && is_among_variables base e.primary) row.elements
+
 -- the first cause, in this order
 abbrev pub accepted_row : Basis → Drafting → List ℕ → DraftRow → List Insertion → List DraftRow → Result Drafting TailorKind
 accepted_row basis so_far target row insertions rows =
     if needs_prefix basis.properties.class so_far.rows target then Err kinds.NeedsPrefix else
     if passes_limit row rows then Err kinds.Limit else
+    if holds_implicit_variable (elements_of basis.base) row then Err kinds.ImplicitVariable else
     Ok (record { rows = rows; insertions = so_far.insertions ++ insertions })
 
 abbrev pub one_drafted : Basis → Drafting → List ℕ → Option Drafted → Result Drafting TailorKind

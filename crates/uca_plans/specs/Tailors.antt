@@ -4,9 +4,6 @@ use Rattle.uca_values.specs.Content.{TableContent, Properties}
 use Rattle.uca_check.specs.WellFormed.{IsWellFormed}
 use Rattle.uca_rules.specs.declared.relations.Relation.{Relation}
 use Rattle.uca_certificates.specs.Certificates.{CertificateContent}
-use Rattle.uca_audit.specs.declared.faults.AuditFault.{AuditFault}
-use Rattle.uca_audit.specs.Inputs.{tailoring_of}
-use Rattle.uca_audit.specs.Refusals.{IsFirstRefusal}
 use Rattle.uca_plans.specs.declared.faults.TailorFault.{TailorFault}
 use Rattle.uca_plans.specs.declared.faults.TailorKind.{TailorKind}
 use Rattle.uca_plans.specs.declared.faults.TailorKind.TheVariants as kinds
@@ -27,7 +24,8 @@ abbrev pub certificate_of : Plan → CertificateContent
 certificate_of plan = record { primary = plan.primary; secondary = plan.secondary; tertiary = plan.tertiary }
 
 -- the base is well-formed, and the tailored table, which has the base's header, and the certificate are the plan
-pub record IsPlanOf (base : TableContent) (properties : Properties) (relations : List Relation) (table : TableContent) (certificate : CertificateContent) : Type 0 where
+pub record IsPlanOf (base : TableContent) (properties : Properties) (relations : List Relation) (table : TableContent)
+    (certificate : CertificateContent) : Type 0 where
   pub well_formed : IsWellFormed properties.class base.rows
   pub header : table.header ≡ base.header
   pub plan : planned (basis_of base properties) relations ≡ Ok (plan_in table certificate)
@@ -37,13 +35,6 @@ pub record IsRefusedBy (base : TableContent) (properties : Properties) (relation
   pub well_formed : IsWellFormed properties.class base.rows
   pub first : planned (basis_of base properties) relations ≡ Err fault
 
--- there is a plan, and this is why an audit refuses it
-pub record IsRejected (base : TableContent) (properties : Properties) (relations : List Relation) (refusal : AuditFault) : Type 0 where
-  pub well_formed : IsWellFormed properties.class base.rows
-  pub plan : Plan
-  pub is_plan : planned (basis_of base properties) relations ≡ Ok plan
-  pub refused : IsFirstRefusal (tailoring_of base properties relations (table_of base plan) (certificate_of plan)) refusal
-
 -- an allocation failed
 abbrev pub out_of_memory : TailorFault
 out_of_memory = record { kind = kinds.Memory; relation = 0 }
@@ -51,7 +42,6 @@ out_of_memory = record { kind = kinds.Memory; relation = 0 }
 -- why there is no tailored table, by the kind of the fault; any allocation may fail
 abbrev pub CauseOf : TableContent → Properties → List Relation → TailorFault → TailorKind → Type 0
 CauseOf base properties relations fault kinds.BaseIllFormed = (fault.relation ≡ 0) × ¬ (IsWellFormed properties.class base.rows)
-CauseOf base properties relations fault (kinds.PlanRejected refusal) = (fault.relation ≡ 0) × IsRejected base properties relations refusal
 CauseOf base properties relations fault kinds.Memory = fault.relation ≡ 0
 CauseOf base properties relations fault _ = IsRefusedBy base properties relations fault
 

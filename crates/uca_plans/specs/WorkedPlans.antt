@@ -33,7 +33,14 @@ ahead anchor strength target = record { anchor = small_spelled anchor; before = 
 
 -- one with an expansion
 abbrev pub expanded : List ℕ → Strength → List ℕ → List ℕ → Relation
-expanded anchor strength target expansion = record { anchor = small_spelled anchor; before = false; strength = strength; target = small_spelled target; expansion = Some (small_spelled expansion) }
+expanded anchor strength target expansion =
+    record {
+      anchor = small_spelled anchor;
+      before = false;
+      strength = strength;
+      target = small_spelled target;
+      expansion = Some (small_spelled expansion);
+    }
 
 abbrev pub run : ℕ → ℕ → ℕ → Run
 run from to count = record { from = from; to = to; count = count }
@@ -66,6 +73,14 @@ close_rows b =
     row (0x301 ∷ []) (plain 0 0x24 2) ∷
     row (0x323 ∷ []) (plain 0 0x2C 2) ∷ []
 
+-- two variable rows, with primaries where implicit ones stand
+abbrev pub high_variables : ℕ → List Entry
+high_variables primary = row (0x20 ∷ []) (variable 0xFB00 0x20 2) ∷ row (0x21 ∷ []) (variable primary 0x20 2) ∷ []
+
+-- `&U+4E00 = x`
+abbrev pub same_as_implicit : List Relation
+same_as_implicit = behind (0x4E00 ∷ []) Identical (0x78 ∷ []) ∷ []
+
 -- the targets one after the other, each with the one before it as its anchor
 abbrev pub chained : Strength → ℕ → List ℕ → List Relation
 chained strength anchor [] = []
@@ -77,7 +92,9 @@ chained_before target targets = ahead (0x61 ∷ []) Secondary (target ∷ []) �
 
 -- `d` to `z`, and `C` to `I`
 abbrev pub thirty : List ℕ
-thirty = 0x64 ∷ 0x65 ∷ 0x66 ∷ 0x67 ∷ 0x68 ∷ 0x69 ∷ 0x6A ∷ 0x6B ∷ 0x6C ∷ 0x6D ∷ 0x6E ∷ 0x6F ∷ 0x70 ∷ 0x71 ∷ 0x72 ∷ 0x73 ∷ 0x74 ∷ 0x75 ∷ 0x76 ∷ 0x77 ∷ 0x78 ∷ 0x79 ∷ 0x7A ∷ 0x43 ∷ 0x44 ∷ 0x45 ∷ 0x46 ∷ 0x47 ∷ 0x48 ∷ 0x49 ∷ []
+thirty =
+    0x64 ∷ 0x65 ∷ 0x66 ∷ 0x67 ∷ 0x68 ∷ 0x69 ∷ 0x6A ∷ 0x6B ∷ 0x6C ∷ 0x6D ∷ 0x6E ∷ 0x6F ∷ 0x70 ∷ 0x71 ∷ 0x72 ∷ 0x73 ∷ 0x74 ∷ 0x75 ∷ 0x76 ∷ 0x77 ∷
+    0x78 ∷ 0x79 ∷ 0x7A ∷ 0x43 ∷ 0x44 ∷ 0x45 ∷ 0x46 ∷ 0x47 ∷ 0x48 ∷ 0x49 ∷ []
 
 -- rows with secondary weights that rise by one
 abbrev pub secondary_rows : ℕ → List ℕ → List Entry
@@ -97,37 +114,92 @@ pub record WorkedPlans : Type 0 where
   -- `&a < x`
   pub letter : planned small (behind (0x61 ∷ []) Primary (0x78 ∷ []) ∷ []) ≡ with_rows (row (0x78 ∷ []) (plain 0x1C48 0x20 2) ∷ [])
   -- the same where the next letter stands directly behind `a`: it moves up
-  pub pushed : planned (over (close_rows 0x1C48)) (behind (0x61 ∷ []) Primary (0x78 ∷ []) ∷ []) ≡ Ok (record { rows = close_rows 0x1C49 ++ row (0x78 ∷ []) (plain 0x1C48 0x20 2) ∷ []; primary = run 0x209 0x209 1 ∷ run 0x1C47 0x1C47 1 ∷ run 0x1C48 0x1C49 1 ∷ []; secondary = small_secondary; tertiary = small_tertiary })
+  pub pushed : planned (over (close_rows 0x1C48)) (behind (0x61 ∷ []) Primary (0x78 ∷ []) ∷ [])
+      ≡ Ok (record {
+        rows = close_rows 0x1C49 ++ row (0x78 ∷ []) (plain 0x1C48 0x20 2) ∷ [];
+        primary = run 0x209 0x209 1 ∷ run 0x1C47 0x1C47 1 ∷ run 0x1C48 0x1C49 1 ∷ [];
+        secondary = small_secondary;
+        tertiary = small_tertiary;
+      })
   -- `&a < x &a < y`: the later one stands nearer
-  pub later : planned small (behind (0x61 ∷ []) Primary (0x78 ∷ []) ∷ behind (0x61 ∷ []) Primary (0x79 ∷ []) ∷ []) ≡ with_rows (row (0x78 ∷ []) (plain 0x1C49 0x20 2) ∷ row (0x79 ∷ []) (plain 0x1C48 0x20 2) ∷ [])
+  pub later : planned small (behind (0x61 ∷ []) Primary (0x78 ∷ []) ∷ behind (0x61 ∷ []) Primary (0x79 ∷ []) ∷ [])
+      ≡ with_rows (row (0x78 ∷ []) (plain 0x1C49 0x20 2) ∷ row (0x79 ∷ []) (plain 0x1C48 0x20 2) ∷ [])
   -- `&[before 3]a <<< x`, and with a second `<<< y` there is no place left below 0002
-  pub ahead_of : planned small (ahead (0x61 ∷ []) Tertiary (0x78 ∷ []) ∷ []) ≡ Ok (record { rows = small_rows ++ row (0x78 ∷ []) (plain 0x1C47 0x20 1) ∷ []; primary = same_runs; secondary = small_secondary; tertiary = small_tertiary })
+  pub ahead_of : planned small (ahead (0x61 ∷ []) Tertiary (0x78 ∷ []) ∷ [])
+      ≡ Ok (record {
+        rows = small_rows ++ row (0x78 ∷ []) (plain 0x1C47 0x20 1) ∷ [];
+        primary = same_runs;
+        secondary = small_secondary;
+        tertiary = small_tertiary;
+      })
   pub full : planned small (ahead (0x61 ∷ []) Tertiary (0x78 ∷ []) ∷ behind (0x78 ∷ []) Tertiary (0x79 ∷ []) ∷ []) ≡ refused 0 (kinds.NoRoom Three)
   -- `&a < x / b`, `&A = x / U+0301`
-  pub with_expansion : planned small (expanded (0x61 ∷ []) Primary (0x78 ∷ []) (0x62 ∷ []) ∷ []) ≡ with_rows (record { key = 0x78 ∷ []; elements = plain 0x1C48 0x20 2 ∷ plain 0x1C60 0x20 2 ∷ [] } ∷ [])
-  pub same_with_expansion : planned small (expanded (0x41 ∷ []) Identical (0x78 ∷ []) (0x301 ∷ []) ∷ []) ≡ with_rows (record { key = 0x78 ∷ []; elements = plain 0x1C47 0x20 8 ∷ plain 0 0x24 2 ∷ [] } ∷ [])
+  pub with_expansion : planned small (expanded (0x61 ∷ []) Primary (0x78 ∷ []) (0x62 ∷ []) ∷ [])
+      ≡ with_rows (record { key = 0x78 ∷ []; elements = plain 0x1C48 0x20 2 ∷ plain 0x1C60 0x20 2 ∷ [] } ∷ [])
+  pub same_with_expansion : planned small (expanded (0x41 ∷ []) Identical (0x78 ∷ []) (0x301 ∷ []) ∷ [])
+      ≡ with_rows (record { key = 0x78 ∷ []; elements = plain 0x1C47 0x20 8 ∷ plain 0 0x24 2 ∷ [] } ∷ [])
   -- `&U+4E00 < x`, `&U+4E00 = x`
   pub implicit_anchor : planned small (behind (0x4E00 ∷ []) Primary (0x78 ∷ []) ∷ []) ≡ refused 1 kinds.Anchor
-  pub implicit_same : planned small (behind (0x4E00 ∷ []) Identical (0x78 ∷ []) ∷ []) ≡ with_rows (record { key = 0x78 ∷ []; elements = plain 0xFB40 0x20 2 ∷ plain 0xCE00 0 0 ∷ [] } ∷ [])
+  pub implicit_same : planned small same_as_implicit ≡ with_rows (record { key = 0x78 ∷ []; elements = plain 0xFB40 0x20 2 ∷ plain 0xCE00 0 0 ∷ [] } ∷ [])
+  -- the same where the primary FB40 of U+4E00 stands between two of variable elements, and where it stands above all of them
+  pub implicit_among_variables : planned (over (high_variables 0xFFFF)) same_as_implicit ≡ refused 1 kinds.ImplicitVariable
+  pub implicit_above_variables : planned (over (high_variables 0xFB3F)) same_as_implicit ≡ Ok (record {
+    rows = high_variables 0xFB3F ++ record { key = 0x78 ∷ []; elements = plain 0xFB40 0x20 2 ∷ plain 0xCE00 0 0 ∷ [] } ∷ [];
+    primary = [];
+    secondary = run 0x20 0x20 1 ∷ [];
+    tertiary = run 2 2 1 ∷ [];
+  })
   -- `&a < b U+0301 U+0300`, and `&a < b U+0301 < b U+0301 U+0300`
   pub lacks_prefix : planned small (behind (0x61 ∷ []) Primary (0x62 ∷ 0x301 ∷ 0x300 ∷ []) ∷ []) ≡ refused 1 kinds.NeedsPrefix
-  pub has_prefix : planned small (behind (0x61 ∷ []) Primary (0x62 ∷ 0x301 ∷ []) ∷ behind (0x62 ∷ 0x301 ∷ []) Primary (0x62 ∷ 0x301 ∷ 0x300 ∷ []) ∷ []) ≡ with_rows (row (0x62 ∷ 0x301 ∷ []) (plain 0x1C48 0x20 2) ∷ row (0x62 ∷ 0x301 ∷ 0x300 ∷ []) (plain 0x1C49 0x20 2) ∷ [])
+  pub has_prefix : planned small (behind (0x61 ∷ []) Primary (0x62 ∷ 0x301 ∷ []) ∷
+      behind (0x62 ∷ 0x301 ∷ []) Primary (0x62 ∷ 0x301 ∷ 0x300 ∷ []) ∷ [])
+      ≡ with_rows (row (0x62 ∷ 0x301 ∷ []) (plain 0x1C48 0x20 2) ∷ row (0x62 ∷ 0x301 ∷ 0x300 ∷ []) (plain 0x1C49 0x20 2) ∷ [])
   -- `&d = dz / z &a < dz U+030C << q &b < z U+030C`, where U+030C has no row
-  pub implicit_prefix : planned small (expanded (0x64 ∷ []) Identical (0x64 ∷ 0x7A ∷ []) (0x7A ∷ []) ∷ behind (0x61 ∷ []) Primary (0x64 ∷ 0x7A ∷ 0x30C ∷ []) ∷ behind (0x64 ∷ 0x7A ∷ 0x30C ∷ []) Secondary (0x71 ∷ []) ∷ behind (0x62 ∷ []) Primary (0x7A ∷ 0x30C ∷ []) ∷ []) ≡ with_rows (
+  pub implicit_prefix : planned small (expanded (0x64 ∷ []) Identical (0x64 ∷ 0x7A ∷ []) (0x7A ∷ []) ∷
+      behind (0x61 ∷ []) Primary (0x64 ∷ 0x7A ∷ 0x30C ∷ []) ∷
+      behind (0x64 ∷ 0x7A ∷ 0x30C ∷ []) Secondary (0x71 ∷ []) ∷ behind (0x62 ∷ []) Primary (0x7A ∷ 0x30C ∷ []) ∷ [])
+      ≡ with_rows (
       record { key = 0x64 ∷ 0x7A ∷ []; elements = plain 0xFBC0 0x20 2 ∷ plain 0x8064 0 0 ∷ plain 0xFBC0 0x20 2 ∷ plain 0x807A 0 0 ∷ [] } ∷
       row (0x64 ∷ 0x7A ∷ 0x30C ∷ []) (plain 0x1C48 0x20 2) ∷ row (0x71 ∷ []) (plain 0x1C48 0x21 2) ∷ row (0x7A ∷ 0x30C ∷ []) (plain 0x1C61 0x20 2) ∷ [])
   -- 31 secondary weights below 0020, and one more
-  pub below_fixed : planned small (chained_before 0x63 thirty) ≡ Ok (record { rows = small_rows ++ secondary_rows 1 (0x63 ∷ thirty); primary = same_runs; secondary = small_secondary; tertiary = small_tertiary })
+  pub below_fixed : planned small (chained_before 0x63 thirty)
+      ≡ Ok (record {
+        rows = small_rows ++ secondary_rows 1 (0x63 ∷ thirty);
+        primary = same_runs;
+        secondary = small_secondary;
+        tertiary = small_tertiary;
+      })
   pub below_fixed_full : planned small (chained_before 0x63 (thirty ++ 0x4A ∷ [])) ≡ refused 0 (kinds.NoRoom Two)
   -- 32 elements, and 33
-  pub longest_row : planned small (with_many 15) ≡ with_rows (record { key = 0x78 ∷ []; elements = many 16 } ∷ record { key = 0x79 ∷ []; elements = many 31 } ∷ [])
+  pub longest_row : planned small (with_many 15)
+      ≡ with_rows (record { key = 0x78 ∷ []; elements = many 16 } ∷ record { key = 0x79 ∷ []; elements = many 31 } ∷ [])
   pub too_long_row : planned small (with_many 16) ≡ refused 2 kinds.Limit
   -- `&a < b U+0301 U+0300` where the rules were read with another data file: the class is that of the data handed in
-  pub lacks_prefix_by_data : planned small (record { anchor = small_spelled (0x61 ∷ []); before = false; strength = Primary; target = record { points = 0x62 ∷ 0x301 ∷ 0x300 ∷ []; classes = 0 ∷ 0 ∷ 0 ∷ [] }; expansion = None } ∷ []) ≡ refused 1 kinds.NeedsPrefix
+  pub lacks_prefix_by_data : planned small (record {
+    anchor = small_spelled (0x61 ∷ []);
+    before = false;
+    strength = Primary;
+    target = record { points = 0x62 ∷ 0x301 ∷ 0x300 ∷ []; classes = 0 ∷ 0 ∷ 0 ∷ [] };
+    expansion = None;
+  } ∷ [])
+      ≡ refused 1 kinds.NeedsPrefix
   -- `&a < b`: the row of a base key is replaced in its place, and its weight stays listed
-  pub base_key : planned small (behind (0x61 ∷ []) Primary (0x62 ∷ []) ∷ []) ≡ Ok (record { rows = close_rows 0x1C48; primary = same_runs; secondary = small_secondary; tertiary = small_tertiary })
+  pub base_key : planned small (behind (0x61 ∷ []) Primary (0x62 ∷ []) ∷ [])
+      ≡ Ok (record { rows = close_rows 0x1C48; primary = same_runs; secondary = small_secondary; tertiary = small_tertiary })
   -- `&[before 1]U+0020 < x`: the new element is variable as its anchor's
   pub variable_anchor : planned small (ahead (0x20 ∷ []) Primary (0x78 ∷ []) ∷ []) ≡ with_rows (row (0x78 ∷ []) (variable 1 0x20 2) ∷ [])
   -- `&a < x` where `a` has the last weight of level 1, and `&U+0300 << x` where U+0300 has that of level 2
-  pub last_primary : planned (over (row (0x61 ∷ []) (plain 0x7FFF 0x20 2) ∷ [])) (behind (0x61 ∷ []) Primary (0x78 ∷ []) ∷ []) ≡ Ok (record { rows = row (0x61 ∷ []) (plain 0x7FFE 0x20 2) ∷ row (0x78 ∷ []) (plain 0x7FFF 0x20 2) ∷ []; primary = run 0x7FFF 0x7FFE 1 ∷ []; secondary = run 0x20 0x20 1 ∷ []; tertiary = run 2 2 1 ∷ [] })
-  pub last_secondary : planned (over (row (0x300 ∷ []) (plain 0 0xFFFF 2) ∷ [])) (behind (0x300 ∷ []) Secondary (0x78 ∷ []) ∷ []) ≡ Ok (record { rows = row (0x300 ∷ []) (plain 0 0xFFFE 2) ∷ row (0x78 ∷ []) (plain 0 0xFFFF 2) ∷ []; primary = []; secondary = run 0x20 0x20 1 ∷ run 0xFFFF 0xFFFE 1 ∷ []; tertiary = run 2 2 1 ∷ [] })
+  pub last_primary : planned (over (row (0x61 ∷ []) (plain 0x7FFF 0x20 2) ∷ [])) (behind (0x61 ∷ []) Primary (0x78 ∷ []) ∷ [])
+      ≡ Ok (record {
+        rows = row (0x61 ∷ []) (plain 0x7FFE 0x20 2) ∷ row (0x78 ∷ []) (plain 0x7FFF 0x20 2) ∷ [];
+        primary = run 0x7FFF 0x7FFE 1 ∷ [];
+        secondary = run 0x20 0x20 1 ∷ [];
+        tertiary = run 2 2 1 ∷ [];
+      })
+  pub last_secondary : planned (over (row (0x300 ∷ []) (plain 0 0xFFFF 2) ∷ [])) (behind (0x300 ∷ []) Secondary (0x78 ∷ []) ∷ [])
+      ≡ Ok (record {
+        rows = row (0x300 ∷ []) (plain 0 0xFFFE 2) ∷ row (0x78 ∷ []) (plain 0 0xFFFF 2) ∷ [];
+        primary = [];
+        secondary = run 0x20 0x20 1 ∷ run 0xFFFF 0xFFFE 1 ∷ [];
+        tertiary = run 2 2 1 ∷ [];
+      })

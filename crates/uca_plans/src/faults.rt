@@ -7,7 +7,6 @@ ghost use Rattle.uca_plans.specs.FaultText.{tailor_kind_text, tailor_fault_text}
 use std::alloc::AllocError;
 use std::fmt;
 use thiserror::Error;
-use uca_audit::AuditFault;
 use uca_weights::Level;
 
 /// Why rules can't be planned over a base.
@@ -20,12 +19,13 @@ pub enum TailorKind {
     /// A target of three or more code points ends in a non-starter, and without it is neither a base key nor an earlier
     /// target.
     NeedsPrefix,
-    /// The weights of a level are more than its places.
+    /// On one side of the weight that stays, a level has more weights than places.
     NoRoom(Level),
     /// A target has more than 32 elements, or the table more than 200,000 rows.
     Limit,
-    /// The audit of the plan refuses it.
-    PlanRejected(AuditFault),
+    /// The elements of a target hold one of implicit weights (UTS #10, section 10.1.3) whose primary lies from the least to
+    /// the greatest primary of the base's variable elements, so it would have to be variable.
+    ImplicitVariable,
     /// An allocation failed.
     Memory,
 }
@@ -40,7 +40,7 @@ impl fmt::Display for TailorKind {
             TailorKind::NeedsPrefix => f.write_str("NeedsPrefix"),
             TailorKind::NoRoom(level) => write!(f, "NoRoom {}", level_number(*level)),
             TailorKind::Limit => f.write_str("Limit"),
-            TailorKind::PlanRejected(refusal) => write!(f, "PlanRejected {}", refusal.number),
+            TailorKind::ImplicitVariable => f.write_str("ImplicitVariable"),
             TailorKind::Memory => f.write_str("Memory"),
         }
     }
@@ -80,8 +80,8 @@ impl From<AllocError> for TailorFault {
     }
 }
 
-// The number of a level, from 1.
-fn level_number(level: Level) -> u8
+/// The number of a level, from 1.
+pub fn level_number(level: Level) -> u8
     ensures { result ≡ levels.level_number level }
 {
     match level {

@@ -6,10 +6,11 @@ ghost use Rattle.uca_plans.specs.Runs.{RunsSendBaseWeights};
 ghost use Rattle.uca_plans.specs.Readings.{OneMoreRow, KeysReadAsTheirRows, DraftsReadByWhatOccurs, DraftsReadAsRows, DraftsComeFromRows};
 ghost use Rattle.uca_plans.specs.Keys.{PlacesReadAsRows};
 ghost use Rattle.uca_plans.specs.Sizes.{PlansHaveSizedRows};
+ghost use Rattle.uca_plans.specs.PlanLaws.{KeysOfPlans, OneOutcome, RunsAreLongest};
 ghost use Rattle.uca_plans.specs.WorkedPlans.{WorkedPlans};
 
 /// The plans of some rules, as they were worked out by hand: new letters, accents and capitals, weights that have to move,
-/// expansions, and refusals of each kind.
+/// expansions, and refusals of most kinds.
 pub fn worked_plans()
     ensures { WorkedPlans }
 {}
@@ -95,4 +96,21 @@ pub fn places_read_as_rows()
 /// twice, and at most 200,000 rows.
 pub fn plans_have_sized_rows()
     ensures { PlansHaveSizedRows }
+{}
+
+/// No run of a list goes on from the one before it on both sides, so no two neighbours could be one run.
+pub fn runs_are_longest()
+    ensures { RunsAreLongest }
+{}
+
+/// The rows of a plan are those of the base, in their order, and behind them those of the targets that are no base keys, in
+/// the order of the rules.
+pub fn keys_of_plans()
+    ensures { KeysOfPlans }
+{}
+
+/// Rules have one outcome over a base: where there is a plan, they are refused for nothing but an allocation that fails; and all
+/// refusals but that one are the same fault.
+pub fn one_outcome()
+    ensures { OneOutcome }
 {}

@@ -12,6 +12,7 @@ pub mod Holding
 pub mod Relating
 pub mod TailoredWeights
 pub mod Nearest
+pub mod Faithful
 pub mod Members
 pub mod WorkedTables
 pub mod WorkedRuns

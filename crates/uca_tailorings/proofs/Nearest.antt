@@ -24,8 +24,9 @@ use Rattle.uca_tailorings.specs.Tailorings.{AllRelations, IsAccepted}
 use Rattle.uca_tailorings.specs.Meaning.{IsTailoredWeight, StandsNearestAt, NearestAt, StandsNearest}
 use Rattle.uca_tailorings.specs.declared.conditions.Condition.TheVariants.{NotPlaced, NotFresh, NotNearest}
 use Rattle.uca_tailorings.proofs.RowConditions.{row_kept}
-use Rattle.uca_tailorings.proofs.ImplicitImages.{each_implicit}
-use Rattle.uca_tailorings.proofs.Parts.{each_append, each_split, of_part}
+use Rattle.uca_values.proofs.ImplicitPairs.{each_pair}
+use Rattle.uca_check.proofs.RowElements.{each_append, each_parts}
+use Rattle.uca_tailorings.proofs.Parts.{of_part}
 use Rattle.uca_tailorings.proofs.Sound.{zero_or_not}
 use Rattle.uca_tailorings.proofs.Relating.{one_new}
 use Rattle.uca_tailorings.proofs.TailoredWeights.{IsMade, each_of_rows}
@@ -112,9 +113,9 @@ module _ (tailoring : Tailoring) (is : IsTailoring tailoring) (accepted : IsAcce
           (recursion_from_All (Contains old) old (All-contains_itself old)) images
 
 -- implicit weights
-pair_sources : (tailoring : Tailoring) (level : Level) (lead low : ℕ) → 0x8000 ≤ lead → lead < 0x1_0000 → low < 0x8000 →
+pair_sources : (tailoring : Tailoring) (level : Level) (lead low : ℕ) → 0xFB00 ≤ lead → lead ≤ 0xFBFF → low < 0x8000 →
     AllByRecursion (IsFounded tailoring level) (implicit_pair lead low)
-pair_sources tailoring One lead low high fits near = (inr (inr (inr high)), (inr (inr (inr (omega arith))), tt))
+pair_sources tailoring One lead low high fits near = (inr (inr (inr (omega (arith, high)))), (inr (inr (inr (omega arith))), tt))
 pair_sources tailoring Two lead low high fits near = (inr (inl (inr refl)), (inl refl, tt))
 pair_sources tailoring Three lead low high fits near = (inr (inl (inr refl)), (inl refl, tt))
 
@@ -153,7 +154,7 @@ made_by tailoring level before r after whole (Some strength) placement anchor ex
     let changed : Element = reweighted strength new at.last in
     let same : Some (placed strength at.before at.last (expansion_elements tailoring r) new) ≡ Some row = sym at.row ∙ found in
     let is : placed strength at.before at.last (expansion_elements tailoring r) new ≡ row = cc in
-    let parts = each_split (IsFounded tailoring level) at.before (at.last ∷ at.trailing)
+    let parts = each_parts (IsFounded tailoring level) at.before (at.last ∷ at.trailing)
     (subst (AllByRecursion (IsFounded tailoring level)) at.anchor.whole anchor) in
     let is_new : strength ≡ level → IsNewWeight tailoring level new tailoring.relations =
     λ same_level. subst (λ l. IsNewWeight tailoring l new tailoring.relations) same_level
@@ -184,7 +185,7 @@ source tailoring is accepted level w weight_there =
   where
     at_points : (c : ℕ) → c < 0x11_0000 → AllByRecursion (IsFounded tailoring level) (implicit tailoring.tailored.header.ranges tailoring.properties c)
     at_points c within =
-        each_implicit (AllByRecursion (IsFounded tailoring level)) (pair_sources tailoring level) tailoring.tailored.header.ranges tailoring.properties
+        each_pair (AllByRecursion (IsFounded tailoring level)) (pair_sources tailoring level) tailoring.tailored.header.ranges tailoring.properties
         is.tailored.header.ranges c within
 
     made : (before : List Relation) (r : Relation) (after : List Relation) → tailoring.relations ≡ before ++ r ∷ after →
@@ -201,7 +202,7 @@ source tailoring is accepted level w weight_there =
 -- ---- Targets stand nearest
 
 -- no high weight lies between two low ones
-not_high : (level : Level) (old new w : ℕ) → IsLow level old → IsLow level new → IsHigh level w → ¬ (IsBetween old new w)
+pub not_high : (level : Level) (old new w : ℕ) → IsLow level old → IsLow level new → IsHigh level w → ¬ (IsBetween old new w)
 not_high One old new w old_low new_low high between =
     ⊎_elim (λ up. omega (arith, old_low, new_low, high, up.0, up.1)) (λ down. omega (arith, old_low, new_low, high, down.0, down.1)) between
 not_high Two old new w old_low new_low high between = high

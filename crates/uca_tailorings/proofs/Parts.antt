@@ -1,6 +1,7 @@
 -- What holds of each member of a list, by the parts of the list before and after it.
 use Rattle.std.proofs.Common.{◌≡◌, List, [], ◌∷◌, ◌++◌, refl, ap, subst}
 use Rattle.std.specs.List.{AllByRecursion}
+use Rattle.uca_check.proofs.RowElements.{each_parts}
 
 -- what holds of a member at each split holds of each member
 pub each_by_parts : {X : Type 0} (P : X → Type 0) (xs : List X) → ((before : List X) (x : X) (after : List X) → xs ≡ before ++ x ∷ after → P x) →
@@ -11,20 +12,10 @@ each_by_parts P (x ∷ xs) holds = (
   each_by_parts P xs (λ before y after whole. holds (x ∷ before) y after (ap (λ ys. x ∷ ys) whole)),
 )
 
--- what holds of each member of two lists holds of each member of both together
-pub each_append : {X : Type 0} (P : X → Type 0) (xs ys : List X) → AllByRecursion P xs → AllByRecursion P ys → AllByRecursion P (xs ++ ys)
-each_append P [] ys first second = second
-each_append P (x ∷ xs) ys first second = (first.0, each_append P xs ys first.1 second)
-
--- and the other way round
-pub each_split : {X : Type 0} (P : X → Type 0) (xs ys : List X) → AllByRecursion P (xs ++ ys) → AllByRecursion P xs × AllByRecursion P ys
-each_split P [] ys all = (tt, all)
-each_split P (x ∷ xs) ys all = let rest = each_split P xs ys all.1 in ((all.0, rest.0), rest.1)
-
--- so it holds of the member at a split
+-- what holds of each member holds of the member at a split
 pub of_part : {X : Type 0} (P : X → Type 0) (xs before : List X) (x : X) (after : List X) → AllByRecursion P xs → xs ≡ before ++ x ∷ after → P x
 of_part P xs before x after all whole =
-    let parts = each_split P before (x ∷ after) (subst (AllByRecursion P) whole all) in parts.1.0
+    let parts = each_parts P before (x ∷ after) (subst (AllByRecursion P) whole all) in parts.1.0
 
 -- what follows from two properties of each member
 pub each_of_both : {X : Type 0} (P Q R : X → Type 0) → ((x : X) → P x → Q x → R x) → (xs : List X) → AllByRecursion P xs → AllByRecursion Q xs →

@@ -20,7 +20,8 @@ use Rattle.uca_tailorings.specs.Tailorings.{Tailoring, IsTailoring, tailored_rea
 use Rattle.uca_tailorings.specs.Tailorings.{IsPlacedBy, IsPlaced, IsPairWeight, IsBetween, IsAccepted}
 use Rattle.uca_tailorings.specs.Meaning.{Holds, stands}
 use Rattle.uca_tailorings.specs.declared.conditions.Condition.TheVariants.{TailoredIllFormed, NotPlaced, NotNearest}
-use Rattle.uca_tailorings.proofs.Parts.{each_by_parts, each_split, of_part}
+use Rattle.uca_check.proofs.RowElements.{each_parts}
+use Rattle.uca_tailorings.proofs.Parts.{each_by_parts, of_part}
 use Rattle.uca_tailorings.proofs.ReadingEach.{points_of_text}
 use Rattle.uca_tailorings.proofs.Sound.{IsSound, sound_row, sound_elements, old_is_some, new_is_some}
 use Rattle.uca_tailorings.proofs.Holding.{compared_itself, holds_placed}
@@ -58,10 +59,10 @@ holds_by tailoring is accepted before r after whole texts (Some level) strength 
     let well = accepted TailoredIllFormed in
     let anchor : AllByRecursion IsSound (at.before ++ at.last ∷ at.trailing) =
     subst (AllByRecursion IsSound) at.anchor.whole (sound_elements tailoring is well r.anchor texts.anchors.normal) in
-    let sound : IsSound at.last = (each_split IsSound at.before (at.last ∷ at.trailing) anchor).1.0 in
+    let sound : IsSound at.last = (each_parts IsSound at.before (at.last ∷ at.trailing) anchor).1.0 in
     let row : AllByRecursion IsSound (at.before ++ changed ∷ expansion) =
     sound_row tailoring.properties.class tailoring.tailored.rows well r.target.points (placed level at.before at.last expansion new) at.row in
-    let new_sound : IsSound changed = (each_split IsSound at.before (changed ∷ expansion) row).1.0 in
+    let new_sound : IsSound changed = (each_parts IsSound at.before (changed ∷ expansion) row).1.0 in
     let nearest = accepted NotNearest before r after whole level old new at in
     let old_some = old_is_some level at.last sound at.anchor.alone at.anchor.sounds in
     let new_some = new_is_some level at.last new sound at.anchor.alone at.anchor.sounds new_sound

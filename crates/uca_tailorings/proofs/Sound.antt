@@ -19,7 +19,7 @@ use Rattle.uca_match.specs.Collations.{elements_of}
 use Rattle.uca_tailorings.specs.Placing.{IsSilent, reset, reweighted}
 use Rattle.uca_tailorings.specs.Tailorings.{Tailoring, IsTailoring, tailored_reading, IsBetween}
 use Rattle.uca_tailorings.proofs.RowConditions.{at_row}
-use Rattle.uca_tailorings.proofs.ImplicitImages.{each_implicit}
+use Rattle.uca_values.proofs.ImplicitPairs.{each_pair}
 use Rattle.uca_tailorings.proofs.Parts.{each_by_parts, each_of_both}
 use Rattle.uca_tailorings.proofs.ReadingEach.{points_of_text, read_each}
 
@@ -47,7 +47,7 @@ sound_row class rows well key row found =
     at_row (λ r. AllByRecursion IsSound r.elements) rows key row each found
 
 -- implicit weights are sound
-sound_pair : (lead low : ℕ) → 0x8000 ≤ lead → lead < 0x1_0000 → low < 0x8000 → AllByRecursion IsSound (implicit_pair lead low)
+sound_pair : (lead low : ℕ) → 0xFB00 ≤ lead → lead ≤ 0xFBFF → low < 0x8000 → AllByRecursion IsSound (implicit_pair lead low)
 sound_pair lead low high below small = (
   record {
     gap = λ gap. ⊎_elim (λ first. absurd (omega (arith, first.1))) (λ second. absurd (omega (arith, second.1))) gap;
@@ -74,7 +74,7 @@ pub sound_elements : (tailoring : Tailoring) → IsTailoring tailoring → IsWel
 sound_elements tailoring is well text normal =
     let of_point = implicit tailoring.tailored.header.ranges tailoring.properties in
     let points = each_weaker IsScalar (λ c. AllByRecursion IsSound (of_point c))
-    (λ c scalar. each_implicit (AllByRecursion IsSound) sound_pair tailoring.tailored.header.ranges tailoring.properties is.tailored.header.ranges c
+    (λ c scalar. each_pair (AllByRecursion IsSound) sound_pair tailoring.tailored.header.ranges tailoring.properties is.tailored.header.ranges c
     (scalar_below c scalar))
     text.points normal.scalars in
     read_each IsSound of_point (rows_of tailoring.tailored.rows) (letters_of text)
@@ -89,7 +89,7 @@ zero_or_not zero = inl refl
 zero_or_not (suc n) = inr (λ none. omega (arith, none))
 
 -- a weight that is not 0 becomes the default
-reset_some : (w default : ℕ) → w ≢ 0 → reset w default ≡ default
+pub reset_some : (w default : ℕ) → w ≢ 0 → reset w default ≡ default
 reset_some w default some = cond-false (nat_eq w 0) 0 default (ne_eqb w 0 some)
 
 -- the weight of an anchor's last element is not 0

@@ -18,7 +18,8 @@ use Rattle.uca_tailorings.specs.declared.conditions.Condition.TheVariants.{BaseI
 use Rattle.uca_tailorings.specs.declared.conditions.Condition.TheVariants.{RowExtra, Anchor, NotPlaced, NotFresh, NotNearest}
 use Rattle.uca_tailorings.specs.Worked.{maps_of, x_behind_a, four_letters, eight_letters, z_behind_capital_a, y_before_c, w_as_a_and_b}
 use Rattle.uca_tailorings.specs.Worked.{moving_runs, with_moved_b}
-use Rattle.uca_tailorings.proofs.Parts.{each_split, of_part}
+use Rattle.uca_check.proofs.RowElements.{each_parts}
+use Rattle.uca_tailorings.proofs.Parts.{of_part}
 use Rattle.uca_tailorings.proofs.WorkedTables.{IsLetterRow, full_plain, letter_row, letters_table, letters_well_formed}
 use Rattle.uca_tailorings.proofs.WorkedRuns.{moving, maps_rise}
 use Rattle.uca_tailorings.proofs.WorkedSteps.{header, letter_text, image_found, AtEachPart, at_parts, Place, known_is}
@@ -153,7 +154,7 @@ rules =
       );
       distinct = λ before after r split. at_parts (λ before r after. ¬ (IsTarget before r.target.points)) relations distinct_targets before r after split;
       none_late = λ before after r text split used free.
-          (each_split (λ s. ¬ (OccursInOrder s.target.points text)) before (r ∷ after)
+          (each_parts (λ s. ¬ (OccursInOrder s.target.points text)) before (r ∷ after)
           (subst (λ all. IsUntouched all text) split (of_part UsedTextsStay relations before r after all_untouched split text used))).1;
     }
 

@@ -11,7 +11,8 @@ use Rattle.uca_check.specs.WellFormed.{elements_of, HasGap, IsVariable, IsVariab
 use Rattle.uca_check.proofs.Elements.{each_weaker, each_any}
 use Rattle.uca_match.specs.WorkedTable.{plain, row}
 use Rattle.uca_tailorings.proofs.Members.{each_contained}
-use Rattle.uca_tailorings.proofs.Parts.{each_append, of_part}
+use Rattle.uca_check.proofs.RowElements.{each_of_rows}
+use Rattle.uca_tailorings.proofs.Parts.{of_part}
 
 -- ---- Rows
 
@@ -123,8 +124,7 @@ no_gap e full gap = ⊎_elim (λ second. full.secondary second.1) (λ third. ful
 
 -- all elements of rows of letters are so
 all_full : (rows : List Entry) → AllByRecursion IsLetterRow rows → AllByRecursion IsFull (elements_of rows)
-all_full [] letters = tt
-all_full (r ∷ rows) letters = each_append IsFull r.elements (elements_of rows) letters.0.full (all_full rows letters.1)
+all_full rows letters = each_of_rows IsFull rows (each_weaker IsLetterRow (λ r. AllByRecursion IsFull r.elements) (λ r letter. letter.full) rows letters)
 
 -- a row of a letter has no gap
 wf1_at : (r : Entry) → IsLetterRow r → MeetsWF1 r

@@ -1,3 +1,4 @@
 pub mod Rising
 pub mod Leads
+pub mod ImplicitPairs
 pub mod Gaps

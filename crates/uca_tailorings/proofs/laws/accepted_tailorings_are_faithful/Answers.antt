@@ -1,15 +1,5 @@
--- Each part of the meaning by its own lemma.
-use Rattle.uca_tailorings.specs.declared.conditions.Condition.TheVariants.{TailoredIllFormed}
-use Rattle.uca_tailorings.proofs.UntouchedTexts.{untouched_compare, untouched_keys}
-use Rattle.uca_tailorings.proofs.Relating.{all_hold}
-use Rattle.uca_tailorings.proofs.Nearest.{all_nearest}
+use Rattle.uca_tailorings.proofs.Faithful.{accepted_are_faithful}
 use Rattle.uca_tailorings.proofs.laws.accepted_tailorings_are_faithful.Goals as goal
 
 pub returns : goal.returns
-returns c tailoring is accepted = record {
-  well_formed = accepted TailoredIllFormed;
-  holds = all_hold tailoring is accepted;
-  nearest = all_nearest tailoring is accepted;
-  untouched = untouched_compare tailoring is accepted;
-  keys = untouched_keys tailoring is accepted;
-}
+returns c = accepted_are_faithful
