@@ -5,6 +5,7 @@ use Rattle.std.proofs.lemmas.Bool.{or_left, or_right, or_from, or_parts, lt-ltb,
 use Rattle.std.proofs.lemmas.List.{length-map, drop_more, drop_all}
 use Rattle.uca_weights.specs.Levels.{level_of}
 use Rattle.uca_values.specs.Content.{keys_of}
+use Rattle.uca_check.specs.WellFormed.{elements_of}
 use Rattle.uca_rules.specs.declared.relations.Relation.{Relation}
 use Rattle.uca_text.specs.Texts.{Spelled}
 use Rattle.uca_match.specs.Rows.{Rows}
@@ -14,8 +15,9 @@ use Rattle.uca_plans.specs.declared.faults.TailorKind.{TailorKind}
 use Rattle.uca_plans.specs.declared.faults.TailorKind.TheVariants as kinds
 use Rattle.uca_plans.specs.Lists.{Insertion}
 use Rattle.uca_plans.specs.Drafts.{DraftRow, row_as_draft, with_row, has_key, draft_elements}
-use Rattle.uca_plans.specs.Plans.{Basis, Drafting, Drafted, begun, draft_expansion, drafted_at, drafted, needs_prefix, passes_limit, one_drafted, with_relation}
-use Rattle.uca_plans.specs.Plans.{and_then, with_relations}
+use Rattle.uca_plans.specs.Plans.{Basis, Drafting, Drafted, begun, draft_expansion, drafted_at, drafted, needs_prefix, passes_limit}
+use Rattle.uca_plans.specs.Plans.{holds_implicit_variable, one_drafted}
+use Rattle.uca_plans.specs.Plans.{with_relation, and_then, with_relations}
 use Rattle.uca_plans.specs.Keys.{keys_in, is_among, with_key, with_targets, place_at}
 use Rattle.uca_plans.proofs.KeyPlaces.{has_key_is, keys_with_row}
 use Rattle.uca_plans.proofs.PlaceRows.{row_at, row_behind}
@@ -49,7 +51,9 @@ module _ (basis : Basis) (so_far : Drafting) (n : ℕ) (r : Relation) where
   module _ (new : Drafted) (is : drafted basis so_far (New n) r ≡ Some new) where
     -- so is one whose target needs a prefix
     pub refused_prefix : needs_prefix basis.properties.class so_far.rows r.target.points ≡ true → with_relation basis so_far n r ≡ Err kinds.NeedsPrefix
-    refused_prefix needs = ap (one_drafted basis so_far r.target.points) is ∙ cond-true (needs_prefix basis.properties.class so_far.rows r.target.points) _ _ needs
+    refused_prefix needs =
+        ap (one_drafted basis so_far r.target.points) is
+        ∙ cond-true (needs_prefix basis.properties.class so_far.rows r.target.points) _ _ needs
 
     -- and one that passes a limit
     pub refused_limit : needs_prefix basis.properties.class so_far.rows r.target.points ≡ false →
@@ -58,13 +62,24 @@ module _ (basis : Basis) (so_far : Drafting) (n : ℕ) (r : Relation) where
         ap (one_drafted basis so_far r.target.points) is ∙ cond-false (needs_prefix basis.properties.class so_far.rows r.target.points) _ _ has
         ∙ cond-true (passes_limit (target_row r new) (with_row (target_row r new) so_far.rows)) _ _ passes
 
-    -- any other is added
-    pub accepted : (behind : Drafting) → needs_prefix basis.properties.class so_far.rows r.target.points ≡ false →
-        passes_limit (target_row r new) (with_row (target_row r new) so_far.rows) ≡ false → behind.rows ≡ with_row (target_row r new) so_far.rows →
-        behind.insertions ≡ so_far.insertions ++ new.insertions → with_relation basis so_far n r ≡ Ok behind
-    accepted behind has within rows insertions =
+    -- and one whose elements hold an implicit one among the variable ones
+    pub refused_variable : needs_prefix basis.properties.class so_far.rows r.target.points ≡ false →
+        passes_limit (target_row r new) (with_row (target_row r new) so_far.rows) ≡ false →
+        holds_implicit_variable (elements_of basis.base) (target_row r new) ≡ true → with_relation basis so_far n r ≡ Err kinds.ImplicitVariable
+    refused_variable has within holds =
         ap (one_drafted basis so_far r.target.points) is ∙ cond-false (needs_prefix basis.properties.class so_far.rows r.target.points) _ _ has
         ∙ cond-false (passes_limit (target_row r new) (with_row (target_row r new) so_far.rows)) _ _ within
+        ∙ cond-true (holds_implicit_variable (elements_of basis.base) (target_row r new)) _ _ holds
+
+    -- any other is added
+    pub accepted : (behind : Drafting) → needs_prefix basis.properties.class so_far.rows r.target.points ≡ false →
+        passes_limit (target_row r new) (with_row (target_row r new) so_far.rows) ≡ false →
+        holds_implicit_variable (elements_of basis.base) (target_row r new) ≡ false → behind.rows ≡ with_row (target_row r new) so_far.rows →
+        behind.insertions ≡ so_far.insertions ++ new.insertions → with_relation basis so_far n r ≡ Ok behind
+    accepted behind has within outside rows insertions =
+        ap (one_drafted basis so_far r.target.points) is ∙ cond-false (needs_prefix basis.properties.class so_far.rows r.target.points) _ _ has
+        ∙ cond-false (passes_limit (target_row r new) (with_row (target_row r new) so_far.rows)) _ _ within
+        ∙ cond-false (holds_implicit_variable (elements_of basis.base) (target_row r new)) _ _ outside
         ∙ ap₂ (λ (rs : List DraftRow) (is : List Insertion). Ok (record { rows = rs; insertions = is })) (sym rows) (sym insertions)
 
 -- ---- Room for a row
@@ -82,7 +97,8 @@ module _ (basis : Basis) (places : Rows) (rows : List DraftRow) (r : Relation) (
       has_key_is rows row.key ∙ ap (is_among (keys_in rows)) its ∙ not_in_front (keys_in rows) ready.more r.target.points other in
       let full : 200000 ≤ length rows = ready.full other in
       let one_more : length (with_row row rows) ≡ length rows + 1 = ap length (row_behind row rows new) ∙ length-append rows (row ∷ []) in
-      or_right (ltb 32 (length row.elements)) (ltb 200000 (length (with_row row rows))) (lt-ltb 200000 (length (with_row row rows)) (omega (arith, full, one_more)))
+      or_right (ltb 32 (length row.elements)) (ltb 200000 (length (with_row row rows)))
+      (lt-ltb 200000 (length (with_row row rows)) (omega (arith, full, one_more)))
 
   -- nor where there are too many elements
   pub too_many : 32 < length row.elements → passes_limit row (with_row row rows) ≡ true
@@ -127,20 +143,31 @@ pub refused_room : (basis : Basis) (places : Rows) (so_far : Drafting) (n : ℕ)
 refused_room basis places so_far n r new ready is has other =
     refused_limit basis so_far n r new is has (no_room basis places so_far.rows r ready (target_row r new) refl other)
 
--- any other has its row put in its place, or behind the others
+-- one whose target has a place, and few elements, passes no limit
+pub in_limits : (basis : Basis) (places : Rows) (so_far : Drafting) (r : Relation) (new : Drafted) (ready : IsReady basis places so_far.rows r) →
+    (place : ℕ) → IsPlaceOf (keys_in so_far.rows ++ ready.more) r.target.points place → length new.elements ≤ 32 →
+    passes_limit (target_row r new) (with_row (target_row r new) so_far.rows) ≡ false
+in_limits basis places so_far r new ready place stands few =
+    ⊎_elim
+    (λ there. room_replaced basis places so_far.rows r ready (target_row r new) refl place stands there few)
+    (λ past. room_behind basis places so_far.rows r ready (target_row r new) refl place stands past few)
+    (cases_lt place (length so_far.rows))
+
+-- so its row is put in its place, or behind the others, where it holds no implicit element among the variable ones
 pub row_put : (basis : Basis) (places : Rows) (so_far : Drafting) (n : ℕ) (r : Relation) (new : Drafted) (ready : IsReady basis places so_far.rows r) →
     drafted basis so_far (New n) r ≡ Some new → needs_prefix basis.properties.class so_far.rows r.target.points ≡ false →
-    (place : ℕ) → IsPlaceOf (keys_in so_far.rows ++ ready.more) r.target.points place → length new.elements ≤ 32 → (next : Drafting) →
+    (place : ℕ) → IsPlaceOf (keys_in so_far.rows ++ ready.more) r.target.points place → length new.elements ≤ 32 →
+    holds_implicit_variable (elements_of basis.base) (target_row r new) ≡ false → (next : Drafting) →
     (place < length so_far.rows → next.rows ≡ set so_far.rows place (target_row r new)) →
     (length so_far.rows ≤ place → next.rows ≡ so_far.rows ++ target_row r new ∷ []) → next.insertions ≡ so_far.insertions ++ new.insertions →
     with_relation basis so_far n r ≡ Ok next
-row_put basis places so_far n r new ready is has place stands few next over last insertions =
-    ⊎_elim
-    (λ there. accepted basis so_far n r new is next has (room_replaced basis places so_far.rows r ready (target_row r new) refl place stands there few)
-    (over there ∙ sym (replaced basis places so_far.rows r ready (target_row r new) refl place stands there)) insertions)
-    (λ past. accepted basis so_far n r new is next has (room_behind basis places so_far.rows r ready (target_row r new) refl place stands past few)
-    (last past ∙ sym (behind basis places so_far.rows r ready (target_row r new) refl place stands past)) insertions)
-    (cases_lt place (length so_far.rows))
+row_put basis places so_far n r new ready is has place stands few outside next over last insertions =
+    accepted basis so_far n r new is next has (in_limits basis places so_far r new ready place stands few) outside
+    (⊎_elim
+    (λ there. over there ∙ sym (replaced basis places so_far.rows r ready (target_row r new) refl place stands there))
+    (λ past. last past ∙ sym (behind basis places so_far.rows r ready (target_row r new) refl place stands past))
+    (cases_lt place (length so_far.rows)))
+    insertions
 
 -- ---- All relations
 
@@ -186,7 +213,9 @@ pub none_drafted : (basis : Basis) (relations : List Relation) (so_far : Draftin
     length so_far.rows ≤ 200000 → IsDrafted basis relations 0 so_far
 none_drafted basis relations so_far rows insertions few =
     record {
-      same = ap₂ (λ (rs : List DraftRow) (is : List Insertion). with_relations basis 0 relations (record { rows = rs; insertions = is })) (sym rows) (sym insertions);
+      same =
+          ap₂ (λ (rs : List DraftRow) (is : List Insertion). with_relations basis 0 relations (record { rows = rs; insertions = is }))
+          (sym rows) (sym insertions);
       own = ap keys_in rows ∙ keys_of_drafts basis.base;
       few = few;
     }

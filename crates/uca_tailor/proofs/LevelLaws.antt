@@ -9,16 +9,11 @@ use Rattle.uca_plans.specs.Lists.{Insertion, fixed_weight, base_weights, same_we
 use Rattle.uca_plans.specs.ListLaws.{IsAmong}
 use Rattle.uca_plans.proofs.ListMembers.{same_or_other}
 use Rattle.uca_plans.proofs.BaseWeightLemmas.{fixed_base}
+use Rattle.uca_plans.proofs.GoodLists.{base_among}
 use Rattle.uca_plans.proofs.RisingNumbers.{level_length}
 use Rattle.uca_tailor.specs.NumberTables.{IsNamedBelow, InsertsBelow}
 
 -- ---- The weight that stays
-
--- a base weight is a member
-base_among : (ws : List ℕ) (w : ℕ) → IsAmong ws w → IsAmong (map Base ws) (Base w)
-base_among [] w among = absurd among
-base_among (v ∷ ws) w (inl here) = inl (ap Base here)
-base_among (v ∷ ws) w (inr there) = inr (base_among ws w there)
 
 -- members stay where a new weight is put in
 inserted_keeps : (i : Insertion) (ms : List DraftWeight) (w : DraftWeight) → IsAmong ms w → IsAmong (inserted i ms) w

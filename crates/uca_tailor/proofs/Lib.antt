@@ -8,7 +8,8 @@ pub mod KeyLookups
 pub mod RowLookups
 pub mod Names
 pub mod DraftingSteps
-pub mod Prefixes
 pub mod Readiness
 pub mod PartLaws
 pub mod RefusalLaws
+pub mod VariableLaws
+pub mod PlanAudits

@@ -1,20 +1,20 @@
 -- The keys that have places.
-use Rattle.std.proofs.Common.{◌≡◌, ℕ, ◌+◌, ◌<◌, ◌≤◌, List, [], ◌∷◌, ◌++◌, length, take, drop, get_or, Bool, true, false, cond, ◌||◌, is_some, Option, Some, None, MatchOption, refl}
-use Rattle.std.proofs.Common.{sym, ap, subst, ◌∙◌, ap₂, suc, inl, inr, ◌⊎◌, ⊎_elim, arith, length-append, length-take, append_assoc, append-nil, take-append-drop}
+use Rattle.std.proofs.Common.{◌≡◌, ℕ, ◌+◌, ◌<◌, ◌≤◌, List, [], ◌∷◌, ◌++◌, length, take, drop, get_or, Bool, true, false, cond, is_some}
+use Rattle.std.proofs.Common.{Option, Some, None, MatchOption, refl}
+use Rattle.std.proofs.Common.{sym, ap, subst, ◌∙◌, ap₂, suc, ⊎_elim, arith, length-append, length-take, append_assoc, append-nil, take-append-drop}
 use Rattle.std.proofs.lemmas.List.{take_more, take_all, length-map, map-append}
 use Rattle.std.specs.List.{AllByRecursion}
-use Rattle.std.proofs.lemmas.Bool.{false≢true, false_from_ne_true, cond-true, cond-false, or_cases}
+use Rattle.std.proofs.lemmas.Bool.{false≢true, false_from_ne_true, cond-true, cond-false}
 use Rattle.uca_weights.specs.declared.Element.{Element}
 use Rattle.uca_values.specs.Content.{Entry, keys_of, IsEntry, AreRows}
 use Rattle.uca_rules.specs.declared.relations.Relation.{Relation}
-use Rattle.uca_rules.specs.Relations.{IsTarget, AreDistinct, HasRuleTexts, AreRules}
+use Rattle.uca_rules.specs.Relations.{AreDistinct, HasRuleTexts, AreRules}
 use Rattle.uca_match.specs.Rows.{rows_of, same_key}
-use Rattle.uca_match.proofs.RowsByKey.{same_key-true}
 use Rattle.uca_plans.specs.Drafts.{reference}
 use Rattle.uca_plans.specs.Keys.{is_among, with_key, with_targets, places_from}
-use Rattle.uca_plans.proofs.KeyPlaces.{with_key_is, among_with_key}
-use Rattle.uca_plans.proofs.SameReading.{among_kept, targets_append}
-use Rattle.uca_plans.proofs.PlanKeys.{AreApart, apart_of_distinct, apart_with_key}
+use Rattle.uca_plans.proofs.KeyPlaces.{with_key_is, each_with_key}
+use Rattle.uca_plans.proofs.SameReading.{among_kept, target_of_among, targets_append}
+use Rattle.uca_plans.proofs.PlanKeys.{found_among, AreApart, apart_of_distinct, apart_with_key}
 use Rattle.uca_plans.proofs.PlaceRows.{IsTableKey, places_are_rows, length_places}
 use Rattle.uca_tailor.specs.Places.{AreListed}
 
@@ -24,27 +24,6 @@ pub record ArePlacesUpTo (keys : List (List ℕ)) (rows : List Entry) : Type 0 w
   pub few : length rows ≤ 200000
 
 -- ---- Base keys and targets
-
--- a key is found exactly where it is among the keys
-pub found_among : (rows : List Entry) (key : List ℕ) → is_some (rows_of rows key) ≡ is_among (keys_of rows) key
-found_among [] key = refl
-found_among (row ∷ rows) key = go (same_key row.key key) (found_among rows key)
-  where
-    go : (b : Bool) → is_some (rows_of rows key) ≡ is_among (keys_of rows) key →
-        is_some (cond b (Some row.elements) (rows_of rows key)) ≡ (b || is_among (keys_of rows) key)
-    go true later = refl
-    go false later = later
-
--- a key among others and targets is one of the others, or a target
-target_of_among : (relations : List Relation) (keys : List (List ℕ)) (key : List ℕ) → is_among (with_targets relations keys) key ≡ true →
-    (is_among keys key ≡ true) ⊎ IsTarget relations key
-target_of_among [] keys key there = inl there
-target_of_among (r ∷ relations) keys key there =
-    ⊎_elim
-    (λ first. ⊎_elim (λ old. inl old) (λ new. inr (inl (same_key-true r.target.points key new)))
-    (or_cases (is_among keys key) (same_key r.target.points key) (sym (among_with_key r.target.points keys key) ∙ first)))
-    (λ later. inr (inr later))
-    (target_of_among relations (with_key r.target.points keys) key there)
 
 -- a target that is no base key is new
 pub new_target : (keys : List (List ℕ)) (before after : List Relation) (r : Relation) → AreDistinct (before ++ r ∷ after) →
@@ -74,15 +53,6 @@ targets_behind before r keys other =
     ∙ cond-false (is_among (with_targets before keys) r.target.points) (with_targets before keys) (with_targets before keys ++ r.target.points ∷ []) other
 
 -- ---- Rows of a table
-
--- what holds of keys and of one more holds of all of them
-each_with_key : (P : List ℕ → Type 0) (new : List ℕ) (keys : List (List ℕ)) → P new → AllByRecursion P keys → AllByRecursion P (with_key new keys)
-each_with_key P new [] here all = (here, tt)
-each_with_key P new (key ∷ keys) here all = go (same_key key new) (each_with_key P new keys here all.1)
-  where
-    go : (b : Bool) → AllByRecursion P (with_key new keys) → AllByRecursion P (cond b (key ∷ keys) (key ∷ with_key new keys))
-    go true later = all
-    go false later = (all.0, later)
 
 -- a target may be the key of a table
 target_key : (r : Relation) → HasRuleTexts r → IsTableKey r.target.points
@@ -243,7 +213,8 @@ found_is now None row none = ap is_some none
 found_is now (Some r) row some = ap is_some some
 
 -- and it is the row of the key that was looked for
-pub found_row : (rows : List Entry) (key points : List ℕ) → key ≡ points → {R : Type 0} (now : R → List Element) (found : Option R) (row : Option (List Element)) →
+pub found_row : (rows : List Entry) (key points : List ℕ) → key ≡ points →
+    {R : Type 0} (now : R → List Element) (found : Option R) (row : Option (List Element)) →
     row ≡ rows_of rows key → MatchOption found (row ≡ None) (λ r. row ≡ Some (now r)) → is_some (rows_of rows points) ≡ is_some found
 found_row rows key points same now found row is h = ap (λ k. is_some (rows_of rows k)) (sym same) ∙ ap is_some (sym is) ∙ found_is now found row h
 

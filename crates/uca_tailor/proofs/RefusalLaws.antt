@@ -8,9 +8,6 @@ use Rattle.uca_check.specs.declared.IllFormed.{IllFormed}
 use Rattle.uca_check.specs.WellFormed.{IsWellFormed, IsFirstFailure, elements_of}
 use Rattle.uca_audit.proofs.NotAccepted.{no_form_fails}
 use Rattle.uca_rules.specs.declared.relations.Relation.{Relation}
-use Rattle.uca_certificates.specs.Certificates.{CertificateContent}
-use Rattle.uca_audit.specs.Inputs.{tailoring_of}
-use Rattle.uca_audit.specs.Refusals.{IsFirstRefusal}
 use Rattle.uca_weights.specs.declared.Level.TheVariants.{One, Two, Three}
 use Rattle.uca_plans.specs.declared.drafts.DraftWeight.TheVariants.{New}
 use Rattle.uca_plans.proofs.PlanSteps.{target_row, level_plans}
@@ -19,17 +16,16 @@ use Rattle.uca_plans.specs.declared.faults.TailorKind.TheVariants as kinds
 use Rattle.uca_plans.specs.declared.faults.TailorFault.{TailorFault}
 use Rattle.uca_plans.specs.Lists.{level_has_room}
 use Rattle.uca_plans.specs.Drafts.{DraftRow, with_row}
-use Rattle.uca_plans.specs.Plans.{Basis, Drafting, Drafted, drafted, needs_prefix, passes_limit, one_drafted, with_relation, and_then}
-use Rattle.uca_plans.specs.Plans.{with_relations, begun, Plan, plan_of, no_room, plan_drafted, planned}
-use Rattle.uca_plans.specs.Tailors.{basis_of, plan_in, IsRefusedBy, CauseOf, TailorRefuses}
-use Rattle.uca_tailor.specs.PlanParts.{IsMade, IsNotMade, IsNotAudited}
+use Rattle.uca_plans.specs.Plans.{Basis, Drafting, Drafted, drafted, needs_prefix, passes_limit, holds_implicit_variable, one_drafted}
+use Rattle.uca_plans.specs.Plans.{with_relation, and_then, with_relations, begun, Plan, plan_of, no_room, plan_drafted, planned}
+use Rattle.uca_plans.specs.Tailors.{basis_of, IsRefusedBy, CauseOf, TailorRefuses}
+use Rattle.uca_tailor.specs.PlanParts.{IsNotMade}
 
 -- ---- Kinds
 
 -- the kinds of a fault of a plan's definition
 abbrev IsPlanKind : TailorKind → Type 0
 IsPlanKind kinds.BaseIllFormed = ⊥
-IsPlanKind (kinds.PlanRejected refusal) = ⊥
 IsPlanKind kinds.Memory = ⊥
 IsPlanKind _ = Unit {0}
 
@@ -37,11 +33,13 @@ IsPlanKind _ = Unit {0}
 relation_kind : (basis : Basis) (so_far : Drafting) (n : ℕ) (r : Relation) (kind : TailorKind) → with_relation basis so_far n r ≡ Err kind → IsPlanKind kind
 relation_kind basis so_far n r kind refused = go (drafted basis so_far (New n) r) refused
   where
-    -- by its prefix and the limits
-    tests : (a b : Bool) (after : Drafting) → cond a (Err kinds.NeedsPrefix) (cond b (Err kinds.Limit) (Ok after)) ≡ Err kind → IsPlanKind kind
-    tests true b after e = let same : kinds.NeedsPrefix ≡ kind = cc in subst IsPlanKind same tt
-    tests false true after e = let same : kinds.Limit ≡ kind = cc in subst IsPlanKind same tt
-    tests false false after e = absurd (cc)
+    -- by its prefix, the limits and its implicit elements
+    tests : (a b c : Bool) (after : Drafting)
+        → cond a (Err kinds.NeedsPrefix) (cond b (Err kinds.Limit) (cond c (Err kinds.ImplicitVariable) (Ok after))) ≡ Err kind → IsPlanKind kind
+    tests true b c after e = let same : kinds.NeedsPrefix ≡ kind = cc in subst IsPlanKind same tt
+    tests false true c after e = let same : kinds.Limit ≡ kind = cc in subst IsPlanKind same tt
+    tests false false true after e = let same : kinds.ImplicitVariable ≡ kind = cc in subst IsPlanKind same tt
+    tests false false false after e = absurd (cc)
 
     -- by what it gives its target
     go : (new : Option Drafted) → one_drafted basis so_far r.target.points new ≡ Err kind → IsPlanKind kind
@@ -49,7 +47,7 @@ relation_kind basis so_far n r kind refused = go (drafted basis so_far (New n) r
     go (Some new) e =
         let row : DraftRow = target_row r new in
         tests (needs_prefix basis.properties.class so_far.rows r.target.points) (passes_limit row (with_row row so_far.rows))
-        (record { rows = with_row row so_far.rows; insertions = so_far.insertions ++ new.insertions }) e
+        (holds_implicit_variable (elements_of basis.base) row) (record { rows = with_row row so_far.rows; insertions = so_far.insertions ++ new.insertions }) e
 
 -- and so are relations
 relations_kind : (basis : Basis) (n : ℕ) (relations : List Relation) (so_far : Drafting) (fault : TailorFault)
@@ -100,7 +98,7 @@ cause_by_kind base properties relations fault kinds.Anchor is refused = refused
 cause_by_kind base properties relations fault kinds.NeedsPrefix is refused = refused
 cause_by_kind base properties relations fault (kinds.NoRoom level) is refused = refused
 cause_by_kind base properties relations fault kinds.Limit is refused = refused
-cause_by_kind base properties relations fault (kinds.PlanRejected refusal) none refused = absurd none
+cause_by_kind base properties relations fault kinds.ImplicitVariable is refused = refused
 cause_by_kind base properties relations fault kinds.Memory none refused = absurd none
 
 -- ---- Refusals
@@ -112,25 +110,6 @@ refused_plan base properties relations fault well (inl none) =
     cause_by_kind base properties relations fault fault.kind (planned_kind (basis_of base properties) relations fault none)
     (record { well_formed = well; first = none })
 refused_plan base properties relations fault well (inr memory) =
-    subst (λ f. TailorRefuses base properties relations f) (sym memory) refl
-
--- where an audit refuses the plan
-pub refused_audit : (base : TableContent) (properties : Properties) (relations : List Relation) (table : TableContent) (certificate : CertificateContent)
-    (fault : TailorFault) → IsWellFormed properties.class base.rows → IsMade base properties relations table certificate
-    → IsNotAudited (tailoring_of base properties relations table certificate) fault → TailorRefuses base properties relations fault
-refused_audit base properties relations table certificate fault well made (inl rejected) =
-    subst (λ f. TailorRefuses base properties relations f) (sym rejected.1) (
-      refl,
-      record {
-        well_formed = well;
-        plan = plan_in table certificate;
-        is_plan = made.1;
-        refused = subst
-            (λ header. IsFirstRefusal (tailoring_of base properties relations (record { header = header; rows = table.rows }) certificate) rejected.0)
-            made.0 rejected.2;
-      },
-    )
-refused_audit base properties relations table certificate fault well made (inr memory) =
     subst (λ f. TailorRefuses base properties relations f) (sym memory) refl
 
 -- ---- The base

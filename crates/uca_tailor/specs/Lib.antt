@@ -5,3 +5,4 @@ pub mod RowDrafts
 pub mod Places
 pub mod Ready
 pub mod PlanParts
+pub mod Variables

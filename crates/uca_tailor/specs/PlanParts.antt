@@ -3,10 +3,6 @@ use Rattle.std.specs.Prelude.{◌≡◌, ◌⊎◌, List, [], Ok, Err}
 use Rattle.uca_values.specs.Content.{TableContent, Properties}
 use Rattle.uca_rules.specs.declared.relations.Relation.{Relation}
 use Rattle.uca_certificates.specs.Certificates.{CertificateContent}
-use Rattle.uca_tailorings.specs.Tailorings.{Tailoring}
-use Rattle.uca_audit.specs.declared.faults.AuditFault.{AuditFault}
-use Rattle.uca_audit.specs.Refusals.{IsFirstRefusal}
-use Rattle.uca_plans.specs.declared.faults.TailorKind.TheVariants as kinds
 use Rattle.uca_plans.specs.declared.faults.TailorFault.{TailorFault}
 use Rattle.uca_plans.specs.Plans.{LevelPlans, plan_of, planned}
 use Rattle.uca_plans.specs.Tailors.{basis_of, plan_in, certificate_of, out_of_memory}
@@ -24,9 +20,3 @@ IsMade base properties relations table certificate =
 abbrev pub IsNotMade : TableContent → Properties → List Relation → TailorFault → Type 0
 IsNotMade base properties relations fault =
     (planned (basis_of base properties) relations ≡ Err fault) ⊎ (fault ≡ out_of_memory)
-
--- an audit refuses the plan for this reason, or an allocation failed
-abbrev pub IsNotAudited : Tailoring → TailorFault → Type 0
-IsNotAudited tailoring fault =
-    ((refusal : AuditFault) × (fault ≡ record { kind = kinds.PlanRejected refusal; relation = 0 }) × IsFirstRefusal tailoring refusal)
-    ⊎ (fault ≡ out_of_memory)

@@ -9,13 +9,16 @@ ghost use Rattle.uca_plans.specs.Plans as plans;
 ghost use Rattle.uca_plans.specs.Plans.{begun, with_relation, with_relations};
 ghost use Rattle.uca_plans.specs.Tailors.{basis_of};
 ghost use Rattle.uca_tailor.specs.NumberTables.{InsertsBelow};
+ghost use Rattle.uca_check.specs.WellFormed.{elements_of};
 ghost use Rattle.uca_tailor.specs.Ready.{basis_in, ArePlacesWith, IsReady};
+ghost use Rattle.uca_tailor.specs.Variables.{AreBounds};
 
 use crate::insertions::Insertion;
 use crate::places::{place_of, places_of};
 use crate::readings::Reader;
 use crate::row_drafts::RowDraft;
 use crate::targets::draft_target;
+use crate::variables::{holds_implicit_variable, variable_span};
 use std::alloc::{AllocError, Global};
 use std::marker::Model;
 use uca_match::{Lookup, Trie};
@@ -82,7 +85,8 @@ impl<'a> Drafting<'a> {
         relation: &'a Relation,
         index: u32,
     ) -> Result<Result<(), TailorKind>, AllocError>
-        requires { IsReady (basis_in reader.now) (⟦<Trie as Lookup>⟧.content reader.now.places.now) self.old.rows relation.now }
+        requires bounds { AreBounds reader.now.variables (elements_of reader.now.base.now.rows) }
+        requires ready { IsReady (basis_in reader.now) (⟦<Trie as Lookup>⟧.content reader.now.places.now) self.old.rows relation.now }
         ensures { IfOk result (λ added. MatchResult added
             (λ _. with_relation (basis_in reader.now) self.old index relation.now ≡ Ok self.new)
             (λ kind. with_relation (basis_in reader.now) self.old index relation.now ≡ Err kind)) }
@@ -98,6 +102,9 @@ impl<'a> Drafting<'a> {
         };
         if new.elements.len() > MOST_ELEMENTS {
             return Ok(Err(TailorKind::Limit));
+        }
+        if holds_implicit_variable(reader.variables, &new.elements) {
+            return Ok(Err(TailorKind::ImplicitVariable));
         }
         let row = RowDraft::of_target(&relation.target, new.elements);
         self.put(place, row, new.insertion)?;
@@ -149,6 +156,7 @@ pub(crate) fn draft<'a>(
         base,
         properties,
         places: &places,
+        variables: variable_span(&base.rows),
     };
     let mut drafting = Drafting::begun(alloc, base)?;
     for (at, relation) in rules.relations().iter().enumerate() {

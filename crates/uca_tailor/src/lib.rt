@@ -1,4 +1,4 @@
-//! The planner: a tailored table and its certificate, made from a base and rules, and audited before they are given away.
+//! The planner: a tailored table and its certificate, made from a base and rules.
 #![tactic(auto)]
 
 mod drafting;
@@ -13,6 +13,7 @@ mod readings;
 mod row_drafts;
 mod tailoring;
 mod targets;
+mod variables;
 
 pub use tailoring::tailor;
 pub use uca_plans::{TailorFault, TailorKind};

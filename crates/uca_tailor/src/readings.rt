@@ -9,6 +9,7 @@ ghost use Rattle.uca_plans.specs.Keys.{read_over};
 
 use crate::elements::{as_draft, referred};
 use crate::row_drafts::RowDraft;
+use crate::variables::VariableSpan;
 use std::alloc::AllocError;
 use uca_match::{Collator, Lookup, Trie};
 use uca_plans::DraftElement;
@@ -25,6 +26,8 @@ pub(crate) struct Reader<'r> {
     pub(crate) properties: &'r Data,
     /// The places of keys.
     pub(crate) places: &'r Trie,
+    /// The primaries of the base's variable elements.
+    pub(crate) variables: Option<VariableSpan>,
 }
 
 impl<'r> Reader<'r> {

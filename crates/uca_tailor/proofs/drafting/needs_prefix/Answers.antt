@@ -3,7 +3,7 @@ use Rattle.std.proofs.lemmas.Bool.{not_from_true, not_from_false, ne_eqb, eq-eqb
 use Rattle.uca_values.specs.Ranges.{class_in}
 use Rattle.uca_plans.specs.Drafts.{has_key}
 use Rattle.uca_plans.specs.Plans.{needs_prefix}
-use Rattle.uca_tailor.proofs.Prefixes.{long_needs}
+use Rattle.uca_plans.proofs.Prefixes.{long_needs}
 use Rattle.uca_tailor.proofs.drafting.needs_prefix.Goals as goal
 
 pub returns-then-class-ne0 : goal.returns-then-class-ne0

@@ -1,12 +1,15 @@
-use Rattle.std.proofs.Common.{◌≡◌, ◌≤◌, ◌++◌, ◌∷◌, [], List, length, set, Some, false, sym, ap, subst, ◌∙◌, arith}
+use Rattle.std.specs.List.{list_any}
+use Rattle.std.proofs.Common.{◌≡◌, ◌≤◌, ◌&&◌, ◌++◌, ◌∷◌, [], List, length, set, Some, false, sym, ap, subst, ◌∙◌, arith}
+use Rattle.uca_check.specs.WellFormed.{elements_of}
 use Rattle.uca_plans.specs.declared.drafts.DraftWeight.TheVariants.{New}
 use Rattle.uca_plans.specs.Drafts.{DraftRow}
-use Rattle.uca_plans.specs.Plans.{Basis, Drafting, Drafted, drafted, needs_prefix}
+use Rattle.uca_plans.specs.Plans.{Basis, Drafting, Drafted, drafted, needs_prefix, is_among_variables, holds_implicit_variable}
 use Rattle.uca_plans.specs.Keys.{keys_in, is_among}
 use Rattle.uca_plans.proofs.PlanSteps.{target_row}
 use Rattle.uca_tailor.specs.Places.{IsPlaceOf}
 use Rattle.uca_tailor.specs.Ready.{basis_in}
-use Rattle.uca_tailor.proofs.DraftingSteps.{drafted_by_rows, refused_room, row_put}
+use Rattle.uca_tailor.proofs.VariableLaws.{holds_is}
+use Rattle.uca_tailor.proofs.DraftingSteps.{drafted_by_rows, refused_room, refused_variable, in_limits, row_put}
 use Rattle.uca_tailor.proofs.drafting.Drafting.add.Goals as goal
 
 pub returns-in_default-place_of : goal.returns-in_default-place_of
@@ -20,8 +23,8 @@ returns-in_default-place_of c =
     let rows2 : c.deref-2.result.now ≡ c.args.self.now.rows = c.deref-2.ensures.value ∙ ap (λ (d : Drafting). d.rows) c.self.view_is in
     let has : needs_prefix basis.properties.class c.args.self.now.rows c.args.relation.now.target.points ≡ false =
     ap (λ rs. needs_prefix basis.properties.class rs c.args.relation.now.target.points) (sym rows2) ∙ sym c.needs_prefix.ensures ∙ c.if-needs_prefix.false in
-    refused_room basis _ c.args.self.now c.args.index c.args.relation.now c.in-Some.new c.requires gives has
-    (ap (is_among (keys_in c.args.self.now.rows ++ c.requires.more)) (sym c.chars.ensures.value) ∙ c.in_default-place_of.ensures _ c.requires.each)
+    refused_room basis _ c.args.self.now c.args.index c.args.relation.now c.in-Some.new c.requires.ready gives has
+    (ap (is_among (keys_in c.args.self.now.rows ++ c.requires.ready.more)) (sym c.chars.ensures.value) ∙ c.in_default-place_of.ensures _ c.requires.ready.each)
 
 pub returns : goal.returns
 returns c =
@@ -38,10 +41,41 @@ returns c =
     c.of_target-row.ensures ∙ ap (λ (d : Drafted). target_row c.args.relation.now d) c.new.view_is in
     let few : length c.in-Some.new.elements ≤ 32 =
     subst (λ (d : Drafted). length d.elements ≤ 32) c.new.view_is (omega (arith, c.len.ensures, c.new.inside.elements.ok)) in
-    let stands : IsPlaceOf (keys_in c.args.self.now.rows ++ c.requires.more) c.args.relation.now.target.points c.in-Some-place_of.place =
-    subst (λ k. IsPlaceOf (keys_in c.args.self.now.rows ++ c.requires.more) k c.in-Some-place_of.place) c.chars.ensures.value
-    (c.in-Some-place_of.ensures _ c.requires.each) in
-    row_put basis _ c.args.self.now c.args.index c.args.relation.now c.in-Some.new c.requires gives has c.in-Some-place_of.place stands few c.put.new.self
+    let stands : IsPlaceOf (keys_in c.args.self.now.rows ++ c.requires.ready.more) c.args.relation.now.target.points c.in-Some-place_of.place =
+    subst (λ k. IsPlaceOf (keys_in c.args.self.now.rows ++ c.requires.ready.more) k c.in-Some-place_of.place) c.chars.ensures.value
+    (c.in-Some-place_of.ensures _ c.requires.ready.each) in
+    let outside : holds_implicit_variable (elements_of basis.base) (target_row c.args.relation.now c.in-Some.new) ≡ false =
+    sym (c.holds_implicit_variable.ensures
+    ∙ holds_is c.args.reader.now.variables (elements_of basis.base) c.requires.bounds c.deref-3.result.now
+    ∙ ap (λ es. list_any (λ e. e.implicit && is_among_variables (elements_of basis.base) e.primary) es)
+    (c.deref-3.ensures.value ∙ ap (λ (d : Drafted). d.elements) c.new.view_is))
+    ∙ c.if-holds_implicit_variable.false in
+    row_put basis _ c.args.self.now c.args.index c.args.relation.now c.in-Some.new c.requires.ready gives has
+    c.in-Some-place_of.place stands few outside c.put.new.self
     (λ there. c.in_ok-put.ensures.replaced there ∙ ap (set c.args.self.now.rows c.in-Some-place_of.place) row)
     (λ past. c.in_ok-put.ensures.behind past ∙ ap (λ last. c.args.self.now.rows ++ last ∷ []) row)
     (c.in_ok-put.ensures.insertions ∙ ap (λ (d : Drafted). c.args.self.now.insertions ++ d.insertions) c.new.view_is)
+
+pub returns-then-holds_implicit_variable : goal.returns-then-holds_implicit_variable
+returns-then-holds_implicit_variable c =
+    let basis : Basis = basis_in c.args.reader.now in
+    let rows : c.deref.result.now ≡ c.args.self.now.rows = c.deref.ensures.value ∙ ap (λ (d : Drafting). d.rows) c.self.view_is in
+    let gives : drafted basis c.args.self.now (New c.args.index) c.args.relation.now ≡ Some c.in-Some.new =
+    sym (drafted_by_rows basis c.args.self.now (New c.args.index) c.args.relation.now)
+    ∙ ap (λ (rs : List DraftRow). drafted basis (record { rows = rs; insertions = [] }) (New c.args.index) c.args.relation.now) (sym rows)
+    ∙ sym c.in_ok-new.ensures ∙ c.in-Some.is in
+    let rows2 : c.deref-2.result.now ≡ c.args.self.now.rows = c.deref-2.ensures.value ∙ ap (λ (d : Drafting). d.rows) c.self.view_is in
+    let has : needs_prefix basis.properties.class c.args.self.now.rows c.args.relation.now.target.points ≡ false =
+    ap (λ rs. needs_prefix basis.properties.class rs c.args.relation.now.target.points) (sym rows2) ∙ sym c.needs_prefix.ensures ∙ c.if-needs_prefix.false in
+    let few : length c.in-Some.new.elements ≤ 32 =
+    subst (λ (d : Drafted). length d.elements ≤ 32) c.new.view_is (omega (arith, c.len.ensures, c.new.inside.elements.ok)) in
+    let stands : IsPlaceOf (keys_in c.args.self.now.rows ++ c.requires.ready.more) c.args.relation.now.target.points c.in-Some-place_of.place =
+    subst (λ k. IsPlaceOf (keys_in c.args.self.now.rows ++ c.requires.ready.more) k c.in-Some-place_of.place) c.chars.ensures.value
+    (c.in-Some-place_of.ensures _ c.requires.ready.each) in
+    refused_variable basis c.args.self.now c.args.index c.args.relation.now c.in-Some.new gives has
+    (in_limits basis _ c.args.self.now c.args.relation.now c.in-Some.new c.requires.ready c.in-Some-place_of.place stands few)
+    (sym (c.holds_implicit_variable.ensures
+    ∙ holds_is c.args.reader.now.variables (elements_of basis.base) c.requires.bounds c.deref-3.result.now
+    ∙ ap (λ es. list_any (λ e. e.implicit && is_among_variables (elements_of basis.base) e.primary) es)
+    (c.deref-3.ensures.value ∙ ap (λ (d : Drafted). d.elements) c.new.view_is))
+    ∙ c.if-holds_implicit_variable.true)
