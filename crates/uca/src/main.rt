@@ -19,8 +19,14 @@ struct Files<'a> {
 impl Opens for Files<'_> {
     type File = File;
 
+    type Made = File;
+
     fn open(&mut self, name: &str) -> Result<File, OpenFault> {
         fs::open(self.rt, name).map_err(|_| OpenFault)
+    }
+
+    fn create(&mut self, name: &str) -> Result<File, OpenFault> {
+        fs::create(self.rt, name).map_err(|_| OpenFault)
     }
 }
 

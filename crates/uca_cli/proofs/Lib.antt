@@ -19,3 +19,5 @@ pub mod OneOrder
 pub mod RuleBytes
 pub mod Refusals
 pub mod Auditing
+pub mod Tailoring
+pub mod PlanAnswers

@@ -13,7 +13,7 @@ use Rattle.uca_key.specs.Levels.{Comparison}
 use Rattle.uca_table.specs.Lines as tables
 use Rattle.uca_data.specs.Said as data_files
 use Rattle.uca_cli.specs.declared.faults.RunFault.{RunFault}
-use Rattle.uca_cli.specs.declared.faults.RunFault.TheVariants.{File, Input, Write, Memory, Text, Open, Words}
+use Rattle.uca_cli.specs.declared.faults.RunFault.TheVariants.{File, Input, Write, Memory, Text, Tailor, CertificateWrite, Open, Words}
 use Rattle.uca_cli.specs.declared.faults.Role.TheVariants as roles
 use Rattle.uca_cli.specs.Keys.{Keying, keying}
 use Rattle.uca_cli.specs.Laws.{texts_compared, lines_compared}
@@ -104,6 +104,8 @@ run_compares asked depth left right out out_new content points (Err fault) write
     by_fault Memory writes = absurd writes
     by_fault (Text false cause) writes = writes
     by_fault (Text true cause) writes = writes
+    by_fault (Tailor cause) writes = writes
+    by_fault (CertificateWrite written) writes = writes
     by_fault (Open role) writes = writes
     by_fault (Words cause) writes = writes
 

@@ -1,9 +1,13 @@
 -- The words of a fault: its line on standard error, without the LF.
-use Rattle.std.specs.Prelude.{ℕ, List, [], ◌++◌, Bool, codes, decimal, if◌then◌else◌}
+use Rattle.std.specs.Prelude.{ℕ, List, [], ◌++◌, Bool, codes, decimal, nat_eq, if◌then◌else◌}
 use Rattle.uca_values.specs.FaultText.{kind_text}
 use Rattle.uca_rules.specs.FaultText as rule_files
 use Rattle.uca_certificates.specs.FaultText as certificates
 use Rattle.uca_text.specs.FaultText.{text_fault_text}
+use Rattle.uca_plans.specs.declared.faults.TailorFault.{TailorFault}
+use Rattle.uca_plans.specs.declared.faults.TailorKind.{TailorKind}
+use Rattle.uca_plans.specs.declared.faults.TailorKind.TheVariants as planner
+use Rattle.uca_plans.specs.FaultText.{tailor_fault_text}
 use Rattle.uca_words.specs.declared.WordFault.{WordFault}
 use Rattle.uca_words.specs.declared.WordFault.TheVariants as words
 use Rattle.uca_cli.specs.declared.faults.InputKind.{InputKind}
@@ -11,7 +15,7 @@ use Rattle.uca_cli.specs.declared.faults.InputKind.TheVariants as input_kind
 use Rattle.uca_cli.specs.declared.faults.FileFault.{FileFault}
 use Rattle.uca_cli.specs.declared.faults.FileFault.TheVariants.{Lines, Rules, RulesRead, RulesMemory, Certificate}
 use Rattle.uca_cli.specs.declared.faults.RunFault.{RunFault}
-use Rattle.uca_cli.specs.declared.faults.RunFault.TheVariants.{File, Input, Write, Memory, Text, Open, Words}
+use Rattle.uca_cli.specs.declared.faults.RunFault.TheVariants.{File, Input, Write, Memory, Text, Tailor, CertificateWrite, Open, Words}
 use Rattle.uca_cli.specs.RoleText.{role_text}
 
 abbrev pub long_run_text : ℕ → List ℕ
@@ -46,6 +50,14 @@ word_fault_text words.Weighting = codes "weighting: unknown"
 word_fault_text words.Memory = codes "memory"
 word_fault_text (words.Refused error) = []
 
+-- why there is no plan, with the relation that is to blame, if one is
+abbrev pub tailor_text : TailorFault → List ℕ
+tailor_text fault = line_by fault.kind
+  where
+    line_by : TailorKind → List ℕ
+    line_by planner.Memory = codes "memory"
+    line_by _ = (if nat_eq fault.relation 0 then codes "tailor: " else codes "tailor ") ++ tailor_fault_text fault
+
 -- the line of a fault
 abbrev pub fault_text : RunFault → List ℕ
 fault_text (File role fault) = file_fault_text (role_text role) fault
@@ -53,5 +65,7 @@ fault_text (Input line kind) = line_text (codes "input") line (input_kind_text k
 fault_text (Write written) = codes "output: Write"
 fault_text Memory = codes "memory"
 fault_text (Text right fault) = side_text right ++ codes ": " ++ text_fault_text fault
+fault_text (Tailor fault) = tailor_text fault
+fault_text (CertificateWrite written) = codes "certificate: Write"
 fault_text (Open role) = role_text role ++ codes ": Open"
 fault_text (Words fault) = word_fault_text fault

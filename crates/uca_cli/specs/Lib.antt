@@ -11,6 +11,8 @@ pub mod CheckRun
 pub mod CompareRun
 pub mod AuditRun
 pub mod AuditFiles
+pub mod TailorRun
+pub mod TailorFiles
 pub mod Laws
 pub mod Print
 pub mod RoleText

@@ -16,7 +16,9 @@ use Rattle.uca_cli.specs.declared.faults.InputKind.TheVariants as input_kind
 use Rattle.uca_cli.specs.declared.faults.FileFault.{FileFault}
 use Rattle.uca_cli.specs.declared.faults.FileFault.TheVariants.{Lines, Rules, RulesRead, RulesMemory, Certificate}
 use Rattle.uca_cli.specs.declared.faults.RunFault.{RunFault}
-use Rattle.uca_cli.specs.declared.faults.RunFault.TheVariants.{File, Input, Write, Memory, Text, Open, Words}
+use Rattle.uca_cli.specs.declared.faults.RunFault.TheVariants.{File, Input, Write, Memory, Text, Tailor, CertificateWrite, Open, Words}
+use Rattle.uca_plans.specs.declared.faults.TailorKind.{TailorKind}
+use Rattle.uca_plans.specs.declared.faults.TailorKind.TheVariants as planner
 use Rattle.uca_words.specs.declared.WordFault.{WordFault}
 use Rattle.uca_words.specs.declared.WordFault.TheVariants as words
 
@@ -51,6 +53,10 @@ abbrev pub text_status : TextFault → ℕ
 text_status text_fault.Memory = 4
 text_status _ = 1
 
+abbrev pub tailor_status : TailorKind → ℕ
+tailor_status planner.Memory = 4
+tailor_status _ = 1
+
 -- whether the text of `clap` is help or the version, which was asked for
 abbrev pub is_asked_for : ErrorKind → Bool
 is_asked_for DisplayHelp = true
@@ -77,5 +83,7 @@ IsStatus (Input line kind) status = status ≡ input_status kind
 IsStatus (Write written) status = status ≡ 3
 IsStatus Memory status = status ≡ 4
 IsStatus (Text right fault) status = status ≡ text_status fault
+IsStatus (Tailor fault) status = status ≡ tailor_status fault.kind
+IsStatus (CertificateWrite written) status = status ≡ 3
 IsStatus (Open role) status = status ≡ 3
 IsStatus (Words fault) status = IsWordStatus fault status

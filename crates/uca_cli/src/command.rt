@@ -1,6 +1,6 @@
 //! The command: it reads its words, opens the files that they name, and calls the run.
 
-ghost use Rattle.std.specs.Prelude.{◌≡◌, ◌∷◌, [], ⊤, ℕ, List, Bool, Result, MatchResult};
+ghost use Rattle.std.specs.Prelude.{◌≡◌, ◌⊎◌, ◌∷◌, [], ⊤, ℕ, List, Bool, Result, MatchResult};
 ghost use Rattle.clap.specs.Walk.{texts};
 ghost use Rattle.uca_cli.specs.AuditRun.{AcceptsAccepted, AuditsOver, RunsAudit};
 ghost use Rattle.uca_cli.specs.CheckRun.{RunsCheck};
@@ -10,14 +10,19 @@ ghost use Rattle.uca_cli.specs.SortRun.{RunsSort};
 ghost use Rattle.uca_cli.specs.Runs.{RunsOver};
 ghost use Rattle.uca_cli.specs.declared.command.OpenFault.{OpenFault};
 ghost use Rattle.uca_cli.specs.declared.faults.RunFault.{RunFault};
-ghost use Rattle.uca_cli.specs.Command.{table_and_data, audit_files, AreOpened, DoesNotOpen, OpensAndRuns, OverTwo, OverFive, done_result, check_result, DoesWords, DoesCommand};
+ghost use Rattle.uca_values.specs.Content.{TableContent};
+ghost use Rattle.uca_certificates.specs.Certificates.{CertificateContent};
+ghost use Rattle.uca_cli.specs.TailorRun.{PlansPlanned, RunsTailor, TailorsOver};
+ghost use Rattle.uca_cli.specs.Command.{table_and_data, tailor_files, audit_files, AreOpened, DoesNotOpen, OpensAndRuns, OverTwo, OverThree, OverFive, done_result, check_result, DoesNotMake, MakesFile, KeepsTailored, DoesWords, DoesCommand};
 
 use crate::faults::{Role, RunFault};
 use crate::reporting::{DONE, REFUSED, report};
-use crate::{run_audit, run_check, run_compare, run_keys, run_sort};
+use crate::{run_audit, run_check, run_compare, run_keys, run_sort, run_tailor, write_tailored};
 use std::alloc::Global;
 use std::io::{Read, Write};
 use thiserror::Error;
+use uca_certificates::Certificate;
+use uca_values::Table;
 use uca_weights::{Depth, Sink, Source, Weighting};
 use uca_words::{Words, read_words};
 
@@ -26,13 +31,19 @@ use uca_words::{Words, read_words};
 #[error("the file does not open")]
 pub struct OpenFault;
 
-/// Opens files by their names.
+/// Opens files by their names, and makes files.
 pub trait Opens {
     /// An opened file.
     type File: Read + Drop;
 
+    /// A file that was made.
+    type Made: Write + Drop;
+
     // Holds of the opener before a call, the name, the result and the opener after, where the impl says it.
     ghost open_gives: { Self → List ℕ → Result Self.File OpenFault → Self → Type 0 } = { λ _ _ _ _. ⊤ };
+
+    // The same of a call that makes a file.
+    ghost create_gives: { Self → List ℕ → Result Self.Made OpenFault → Self → Type 0 } = { λ _ _ _ _. ⊤ };
 
     /// Opens the file of this name to be read.
     ///
@@ -41,6 +52,14 @@ pub trait Opens {
     /// `OpenFault` where the file does not open.
     fn open(&mut self, name: &str) -> Result<Self::File, OpenFault>
         ensures { open_gives self.old name.now result self.new };
+
+    /// Makes a file of this name to be written, in place of one that has the name.
+    ///
+    /// # Errors
+    ///
+    /// `OpenFault` where the file cannot be made.
+    fn create(&mut self, name: &str) -> Result<Self::Made, OpenFault>
+        ensures { create_gives self.old name.now result self.new };
 }
 
 // The sources of a table file and of a data file, which are opened in this order, or the first that does
@@ -61,6 +80,26 @@ fn open_files<O: Opens>(
         return Err(Role::Data);
     };
     Ok((Source::new(table), Source::new(properties)))
+}
+
+// The sources of a table file, of a data file and of a file of rules, which are opened in this order, or the first that does
+// not open.
+fn open_tailor_files<O: Opens>(
+    opener: &mut O,
+    table: &str,
+    properties: &str,
+    rules: &str,
+) -> Result<(Source<O::File>, Source<O::File>, Source<O::File>), Role>
+    ensures { MatchResult result
+        (λ files. AreOpened O.open_gives O.File.remaining opener.old opener.new (tailor_files table.now properties.now rules.now)
+        (files.0 ∷ files.1 ∷ files.2 ∷ []))
+        (DoesNotOpen O.open_gives O.File.remaining opener.old opener.new (tailor_files table.now properties.now rules.now)) }
+{
+    let (table, properties) = open_files(opener, table, properties)?;
+    let Ok(file) = opener.open(rules) else {
+        return Err(Role::Rules);
+    };
+    Ok((table, properties, Source::new(file)))
 }
 
 // The sources of the files of an audit.
@@ -239,6 +278,48 @@ fn compare<O: Opens, W: Write>(
     ))
 }
 
+// `tailor`.
+fn tailor<O: Opens, W: Write>(
+    alloc: Global,
+    opener: &mut O,
+    table: &str,
+    properties: &str,
+    rules: &str,
+    certificate: &str,
+    out: &mut Sink<W>,
+) -> Result<u8, RunFault>
+    ensures { (between : O) × OpensAndRuns O.open_gives O.File.remaining opener.old between
+        (tailor_files table.now properties.now rules.now) ((opener.new ≡ between) × (out.new ≡ out.old))
+        (OverThree (λ s s_new. (run : Result (TableContent × CertificateContent) RunFault) × TailorsOver s s_new (RunsTailor run) run
+        × PlansPlanned s run × KeepsTailored O.create_gives O.Made.contents between opener.new certificate.now out.old out.new run result)) result }
+{
+    let (mut table, mut properties, mut rules) = match open_tailor_files(
+        opener, table, properties, rules,
+    ) {
+        Ok(files) => files,
+        Err(role) => return Err(RunFault::Open(role)),
+    };
+    let (tailored, weights) = run_tailor(alloc, &mut table, &mut properties, &mut rules)?;
+    keep_tailored(opener, &tailored, &weights, certificate, out)
+}
+
+// Makes the file of the certificate, and writes the certificate and the table.
+fn keep_tailored<O: Opens, W: Write>(
+    opener: &mut O,
+    table: &Table,
+    certificate: &Certificate,
+    name: &str,
+    out: &mut Sink<W>,
+) -> Result<u8, RunFault>
+    ensures { DoesNotMake O.create_gives opener.old opener.new name.now out.old out.new result
+        ⊎ MakesFile O.create_gives O.Made.contents opener.old opener.new name.now table.now certificate.now out.old out.new result }
+{
+    let Ok(file) = opener.create(name) else {
+        return Err(RunFault::CertificateWrite { written: 0 });
+    };
+    done(write_tailored(table, certificate, &mut Sink::new(file), out))
+}
+
 // `audit`.
 fn audit<O: Opens, W: Write>(
     alloc: Global,
@@ -278,7 +359,7 @@ fn run_words<O: Opens, I: Read, W: Write>(
     input: &mut Source<I>,
     out: &mut Sink<W>,
 ) -> Result<u8, RunFault>
-    ensures { DoesWords O.open_gives O.File.remaining opener.old opener.new asked.now
+    ensures { DoesWords O.open_gives O.File.remaining O.create_gives O.Made.contents opener.old opener.new asked.now
         input.old input.new out.old out.new result }
 {
     match *asked {
@@ -309,6 +390,12 @@ fn run_words<O: Opens, I: Read, W: Write>(
         } => compare(
             alloc, opener, weighting, depth, table, properties, left, right, out,
         ),
+        Words::Tailor {
+            table,
+            properties,
+            rules,
+            certificate,
+        } => tailor(alloc, opener, table, properties, rules, certificate, out),
         Words::Audit {
             base,
             properties,
@@ -340,7 +427,7 @@ pub fn run_command<'a, O: Opens, I: Read, W: Write, E: Write>(
     out: &mut Sink<W>,
     err: &mut Sink<E>,
 ) -> u8
-    ensures { DoesCommand O.open_gives O.File.remaining opener.old opener.new (texts words.entry.now)
+    ensures { DoesCommand O.open_gives O.File.remaining O.create_gives O.Made.contents opener.old opener.new (texts words.entry.now)
         input.old input.new out.old out.new err.old err.new result }
 {
     let asked = match read_words(alloc, words) {

@@ -2,11 +2,14 @@
 
 ghost use Rattle.std.specs.Prelude.{◌≡◌, Some};
 ghost use Rattle.uca_cli.specs.RoleText.{role_text};
+ghost use Rattle.uca_cli.specs.FaultText.{tailor_text};
+ghost use Rattle.uca_cli.specs.TailorRun.{refused_plan};
 ghost use Rattle.uca_cli.specs.declared.faults.RunFault.TheVariants.{Write};
 
 use std::fmt;
 use thiserror::Error;
 use uca_certificates::CertificateFault;
+use uca_plans::{TailorFault, TailorKind};
 use uca_rules::RuleFault;
 use uca_text::TextFault;
 use uca_values::TableFault;
@@ -145,12 +148,51 @@ pub enum RunFault {
         /// Why it is refused.
         fault: TextFault,
     },
+    /// There is no plan, and so no tailored table: `tailor relation 3: Anchor`, `tailor: NoRoom 2`.
+    #[error("{}", TailorLine(*.0))]
+    Tailor(TailorFault),
+    /// The file of the certificate cannot be made, or its writer failed.
+    #[error("certificate: Write")]
+    CertificateWrite {
+        /// How many bytes of the certificate went out before.
+        written: u64,
+    },
     /// A file does not open.
     #[error("{0}: Open")]
     Open(Role),
     /// The command line is refused.
     #[error("{0}")]
     Words(WordFault),
+}
+
+// The line of a fault of the planner.
+#[derive(Clone, Copy)]
+struct TailorLine(TailorFault);
+
+impl fmt::Display for TailorLine {
+    ghost output = { λ line. Some (tailor_text line.0) };
+
+    fn fmt<W: fmt::Write>(&self, f: &mut fmt::Formatter<W>) -> fmt::Result {
+        let TailorLine(fault) = *self;
+        if fault.kind == TailorKind::Memory {
+            f.write_str("memory")
+        } else if fault.relation == 0 {
+            write!(f, "tailor: {fault}")
+        } else {
+            write!(f, "tailor {fault}")
+        }
+    }
+}
+
+impl From<TailorFault> for RunFault {
+    ghost from_gives = { λ fault e. e ≡ refused_plan fault };
+
+    fn from(fault: TailorFault) -> RunFault {
+        match fault.kind {
+            TailorKind::Memory => RunFault::Memory,
+            _ => RunFault::Tailor(fault),
+        }
+    }
 }
 
 impl From<WriteFault> for RunFault {

@@ -16,6 +16,8 @@ pub mod print;
 pub mod reporting;
 mod rule_file;
 pub mod sort;
+pub mod tailor;
+mod tailor_files;
 
 pub use audit::run_audit;
 pub use check::run_check;
@@ -29,4 +31,5 @@ pub use laws::{
 };
 pub use reporting::report;
 pub use sort::{run_sort, run_sort_in, sort_lines};
+pub use tailor::{run_tailor, write_tailored};
 pub use uca_words::{WordFault, Words, read_words};

@@ -3,7 +3,7 @@
 ghost use Rattle.std.specs.Prelude.{◌≡◌, ◌++◌, ◌∷◌, []};
 ghost use Rattle.uca_cli.specs.FaultText.{fault_text};
 ghost use Rattle.uca_cli.specs.Reports.{GoesOut, ReportsRefusal, ReportsWords, Reports};
-ghost use Rattle.uca_cli.specs.Statuses.{line_status, rule_status, certificate_status, file_status, input_status, text_status, is_asked_for, IsWordStatus, IsStatus};
+ghost use Rattle.uca_cli.specs.Statuses.{line_status, rule_status, certificate_status, file_status, input_status, text_status, tailor_status, is_asked_for, IsWordStatus, IsStatus};
 
 pub(crate) mod line;
 
@@ -15,6 +15,7 @@ use std::fmt::Display;
 use std::io::Write;
 use std::string::ToString;
 use uca_certificates::CertificateFaultKind;
+use uca_plans::TailorKind;
 use uca_rules::RuleFaultKind;
 use uca_text::TextFault;
 use uca_values::FaultKind;
@@ -88,6 +89,15 @@ fn status_of_text(fault: TextFault) -> u8
 {
     match fault {
         TextFault::Memory => NO_MEMORY,
+        _ => REFUSED,
+    }
+}
+
+fn status_of_plan(kind: TailorKind) -> u8
+    ensures { result ≡ tailor_status kind }
+{
+    match kind {
+        TailorKind::Memory => NO_MEMORY,
         _ => REFUSED,
     }
 }
@@ -177,6 +187,8 @@ pub fn report<W: Write, E: Write>(
         RunFault::Write { .. } => write_line(fault, STREAM_FAILED, err),
         RunFault::Memory => write_line(fault, NO_MEMORY, err),
         RunFault::Text { fault: text, .. } => write_line(fault, status_of_text(*text), err),
+        RunFault::Tailor(plan) => write_line(fault, status_of_plan(plan.kind), err),
+        RunFault::CertificateWrite { .. } => write_line(fault, STREAM_FAILED, err),
         RunFault::Open(_) => write_line(fault, STREAM_FAILED, err),
         RunFault::Words(words) => report_words(alloc, words, out, err),
     }

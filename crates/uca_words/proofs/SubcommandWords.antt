@@ -1,9 +1,11 @@
 -- What the matches and the errors of the command say of the words.
-use Rattle.std.proofs.Common.{◌≡◌, ◌≢◌, List, [], Option, Some, None, Result, Ok, Err, IfOk, IfErr, true, false, Bor, inl, inr, option_map, refl, ap, subst, sym, ◌∙◌}
+use Rattle.std.proofs.Common.{◌≡◌, ◌≢◌, ◌&&◌, ◌||◌, Bool, List, [], Option, Some, None, Result, Ok, Err, IfOk, IfErr, true, false, Bor, inl, inr, option_map, refl, ap, subst, sym, ◌∙◌}
 use Rattle.std.specs.Box.{box_value}
 use Rattle.std.specs.Option.{option_map_or}
+use Rattle.std.specs.Str.{bytes_eq}
+use Rattle.std.proofs.lemmas.Slice.Eq.{bytes_eq-Decides}
 use Rattle.clap.specs.declared.parser.matches.ArgMatches.TheViews.{out-ArgMatches, out-SubCommand}
-use Rattle.clap.specs.Words.{HasKind, HasMatchesOf, IsAmong, Row, Text, app_of, fault_of, found_of, is_simple, is_simple_and_free, kind_of, rows_of, subcommand_name_of, subcommand_of, subcommand_rows_of, takes}
+use Rattle.clap.specs.Words.{App, HasKind, HasMatchesOf, IsAmong, Row, Text, app_of, fault_of, found_of, is_simple, is_simple_and_free, kind_of, rows_of, subcommand_name_of, subcommand_of, subcommand_rows_of, takes}
 use Rattle.clap.specs.declared.builder.command.Command.{Command}
 use Rattle.clap.specs.declared.error.Error.{Error}
 use Rattle.clap.specs.declared.error.kind.ErrorKind.{ErrorKind}
@@ -13,7 +15,7 @@ use Rattle.clap.proofs.OnLiterals.{clap_on_literals}
 use Rattle.uca_words.specs.declared.WordFault.{WordFault}
 use Rattle.uca_words.specs.declared.Words.{Words}
 use Rattle.uca_words.specs.Command.{StandsFor, uca_app}
-use Rattle.uca_words.specs.Met.{IsWeightingFault, is_met}
+use Rattle.uca_words.specs.Met.{IsWeightingFault, has_words, is_met}
 use Rattle.uca_words.specs.Words.{AreRead, AskForOtherWeighting, IsFaultOf, SayWords, Says, refused, refused_by_kind}
 use Rattle.uca_words.proofs.Taken.{taken}
 
@@ -95,3 +97,12 @@ refuses command words error stands passes fails =
     go : (k : ErrorKind) → kind_of error ≡ k → (takes uca_app words ≡ true → kind_of error ≡ OutOfMemory) → HasKind (fault_of uca_app words) error → IsFaultOf words (refused_by_kind k error)
     go OutOfMemory e pass fail = tt
     go k e pass fail = ends (λ memory. cc) pass fail
+
+-- the subcommand that was met is one of the rest, where it has another name than the first
+pub is_of_rest : (app : App) (name : Text) (rows : List Row) (rest : Bool) → ((bytes_eq app.top.name name && has_words app rows) || rest) ≡ true
+    → (name ≡ app.top.name → ⊥) → rest ≡ true
+is_of_rest app name rows rest met other = go (bytes_eq app.top.name name) (bytes_eq-Decides app.top.name name).0 met
+  where
+    go : (b : Bool) → (b ≡ true → app.top.name ≡ name) → ((b && has_words app rows) || rest) ≡ true → rest ≡ true
+    go true same met = absurd (other (sym (same refl)))
+    go false same met = met

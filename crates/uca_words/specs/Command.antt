@@ -39,6 +39,10 @@ sort_app = with_options (new_app (codes "sort"))
 abbrev pub compare_app : App
 compare_app = with_rule (with_rule (with_options (new_app (codes "compare"))) (word_rule (codes "left"))) (word_rule (codes "right"))
 
+-- `tailor TABLE DATA RULES CERTIFICATE`
+abbrev pub tailor_app : App
+tailor_app = with_rule (with_rule (with_files (new_app (codes "tailor"))) (word_rule (codes "rules"))) (word_rule (codes "certificate"))
+
 -- `audit BASE DATA RULES TAILORED CERTIFICATE`
 abbrev pub audit_app : App
 audit_app = with_rule (with_rule (with_rule (with_rule (with_rule (new_app (codes "audit")) (word_rule (codes "base"))) (word_rule (codes "data"))) (word_rule (codes "rules"))) (word_rule (codes "tailored"))) (word_rule (codes "certificate"))
@@ -49,7 +53,7 @@ bare_app = on_top (λ s. record s { subcommand_required = true; disable_help_sub
 
 -- the subcommands, in the order of the help
 abbrev pub subcommands : List App
-subcommands = check_app ∷ keys_app ∷ sort_app ∷ compare_app ∷ audit_app ∷ []
+subcommands = check_app ∷ keys_app ∷ sort_app ∷ compare_app ∷ tailor_app ∷ audit_app ∷ []
 
 abbrev pub uca_app : App
 uca_app = fold (λ app sub. with_subcommand app sub.top) bare_app subcommands

@@ -14,7 +14,7 @@ use Rattle.uca_words.specs.declared.WordFault.{WordFault}
 use Rattle.uca_words.specs.declared.WordFault.TheVariants.{Refused, Weighting, Memory}
 use Rattle.uca_words.specs.Command.{uca_app}
 use Rattle.uca_words.specs.declared.Words.{Words}
-use Rattle.uca_words.specs.declared.Words.TheVariants.{Check, Keys, Sort, Compare, Audit}
+use Rattle.uca_words.specs.declared.Words.TheVariants.{Check, Keys, Sort, Compare, Tailor, Audit}
 
 -- `--weighting` is given this value, or is not given
 abbrev pub HasWeighting : List Row → Option WeightingType → Type 0
@@ -42,6 +42,8 @@ Says name rows (Sort weighting depth table properties) =
 Says name rows (Compare weighting depth table properties left right) =
     (name ≡ codes "compare") × HasWeighting rows weighting × HasDepth rows depth × HasFiles rows table properties
     × HasWord rows (codes "left") left × HasWord rows (codes "right") right
+Says name rows (Tailor table properties rules certificate) =
+    (name ≡ codes "tailor") × HasFiles rows table properties × HasWord rows (codes "rules") rules × HasWord rows (codes "certificate") certificate
 Says name rows (Audit base properties rules tailored certificate) =
     (name ≡ codes "audit") × HasWord rows (codes "base") base × HasWord rows (codes "data") properties × HasWord rows (codes "rules") rules
     × HasWord rows (codes "tailored") tailored × HasWord rows (codes "certificate") certificate

@@ -2,7 +2,7 @@
 
 ghost use Rattle.std.specs.Prelude.{◌≡◌, false, IfOk};
 ghost use Rattle.clap.specs.Words.{App, new_app, rule_of, with_rule, with_subcommand};
-ghost use Rattle.uca_words.specs.Command.{StandsFor, word_rule, weighting_rule, identical_rule, with_files, with_options, check_app, keys_app, sort_app, compare_app, audit_app, bare_app, uca_app};
+ghost use Rattle.uca_words.specs.Command.{StandsFor, word_rule, weighting_rule, identical_rule, with_files, with_options, check_app, keys_app, sort_app, compare_app, tailor_app, audit_app, bare_app, uca_app};
 
 use clap::{Arg, ArgAction, Command};
 use std::alloc::{AllocError, Global};
@@ -154,6 +154,24 @@ fn take_word<'a>(
     command.arg(word(alloc, id, name, help))
 }
 
+fn tailor_command<'a>(alloc: Global) -> Result<Command<'a>, AllocError>
+    ensures { IfOk result (StandsFor tailor_app) }
+{
+    let tailor = named(
+        alloc,
+        "tailor",
+        "Tailor a weight table by rules",
+        "Tailors TABLE by RULES (UTS #35 Part 5, Collation) and prints the tailored table. Before the table is\n\
+         printed, what became of each weight of TABLE is written to the file CERTIFICATE; `uca audit` checks\n\
+         both. The certificate's file is made once there is a plan; a file of that name is replaced.",
+        "Example: uca tailor table.txt data.txt rules.txt certificate.txt > tailored.txt",
+    );
+    let tailor = take_files(alloc, tailor)?;
+    let tailor = take_word(alloc, tailor, "rules", "RULES", "The tailoring rules")?;
+    let certificate = "The file that the certificate is written to";
+    take_word(alloc, tailor, "certificate", "CERTIFICATE", certificate)
+}
+
 fn audit_command<'a>(alloc: Global) -> Result<Command<'a>, AllocError>
     ensures { IfOk result (StandsFor audit_app) }
 {
@@ -192,7 +210,7 @@ fn bare_command<'a>(alloc: Global) -> Command<'a>
 {
     Command::new(alloc, "uca")
         .about(
-            "Unicode collation (UTS #10): checks tables of weights, prints sort keys, sorts, compares, audits",
+            "Unicode collation (UTS #10): checks tables of weights, prints sort keys, sorts, compares, tailors, audits",
         )
         .after_help("`uca COMMAND --help` says more of each, with an example.")
         .subcommand_required(true)
@@ -207,5 +225,6 @@ pub(crate) fn uca_command<'a>(alloc: Global) -> Result<Command<'a>, AllocError>
     let command = take_subcommand(command, keys_command(alloc)?)?;
     let command = take_subcommand(command, sort_command(alloc)?)?;
     let command = take_subcommand(command, compare_command(alloc)?)?;
+    let command = take_subcommand(command, tailor_command(alloc)?)?;
     take_subcommand(command, audit_command(alloc)?)
 }

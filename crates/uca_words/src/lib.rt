@@ -13,7 +13,7 @@ ghost use Rattle.std.specs.Prelude.{◌≡◌, Some, IfOk, IfErr, IfSome, IfNone
 ghost use Rattle.clap.specs.Words.{found_of, rows_of, first_of};
 ghost use Rattle.clap.specs.Takes.{is_given};
 ghost use Rattle.clap.specs.Walk.{texts};
-ghost use Rattle.uca_words.specs.Command.{check_app, keys_app, sort_app, compare_app, audit_app};
+ghost use Rattle.uca_words.specs.Command.{check_app, keys_app, sort_app, compare_app, tailor_app, audit_app};
 ghost use Rattle.uca_words.specs.Met.{has_words, is_met, IsWeightingFault};
 ghost use Rattle.uca_words.specs.Words.{HasFiles, HasWord, HasWeighting, HasDepth, Says, AreRead, IsFaultOf};
 
@@ -73,6 +73,17 @@ pub enum Words<'a> {
         left: &'a str,
         /// The text on the right.
         right: &'a str,
+    },
+    /// `tailor TABLE DATA RULES CERTIFICATE`: tailor a table by rules.
+    Tailor {
+        /// The name of the file of the table before the tailoring.
+        table: &'a str,
+        /// The name of the data file.
+        properties: &'a str,
+        /// The name of the file of rules.
+        rules: &'a str,
+        /// The name of the file that the certificate is written to.
+        certificate: &'a str,
     },
     /// `audit BASE DATA RULES TAILORED CERTIFICATE`: say whether a tailored table is what its rules say.
     Audit {
@@ -239,6 +250,19 @@ fn compare_words<'a>(found: &ArgMatches<'a>) -> Result<Words<'a>, WordFault>
     })
 }
 
+fn tailor_words<'a>(found: &ArgMatches<'a>) -> Words<'a>
+    requires { has_words tailor_app (rows_of (found_of found.now)) ≡ true }
+    ensures { Says (codes "tailor") (rows_of (found_of found.now)) result }
+{
+    let (table, properties) = files_of(found);
+    Words::Tailor {
+        table,
+        properties,
+        rules: word_of(found, "rules"),
+        certificate: word_of(found, "certificate"),
+    }
+}
+
 fn audit_words<'a>(found: &ArgMatches<'a>) -> Words<'a>
     requires { has_words audit_app (rows_of (found_of found.now)) ≡ true }
     ensures { Says (codes "audit") (rows_of (found_of found.now)) result }
@@ -263,6 +287,7 @@ fn subcommand_words<'a>(name: &str, found: &ArgMatches<'a>) -> Result<Words<'a>,
         "keys" => keys_words(found),
         "sort" => sort_words(found),
         "compare" => compare_words(found),
+        "tailor" => Ok(tailor_words(found)),
         "audit" => Ok(audit_words(found)),
         _ => unreachable!(),
     }

@@ -2,12 +2,14 @@
 
 ghost use Rattle.std.specs.Prelude.{◌≡◌, ◌+◌, ◌≤◌, ◌++◌, length, codes, decimal};
 ghost use Rattle.uca_cli.specs.RoleText.{role_text};
+ghost use Rattle.uca_plans.specs.FaultText.{tailor_kind_text};
 ghost use Rattle.uca_text.specs.FaultText.{text_fault_text};
-ghost use Rattle.uca_cli.specs.FaultText.{input_kind_text, long_run_text, line_text, file_fault_text, side_text, word_fault_text, fault_text};
+ghost use Rattle.uca_cli.specs.FaultText.{input_kind_text, long_run_text, line_text, file_fault_text, side_text, word_fault_text, tailor_text, fault_text};
 
 use crate::faults::{FileFault, InputKind, Role, RunFault};
 use arrayvec::ArrayString;
 use uca_certificates::{CertificateFault, CertificateFaultKind};
+use uca_plans::{TailorFault, TailorKind, level_number};
 use uca_rules::RuleFault;
 use uca_text::TextFault;
 use uca_words::WordFault;
@@ -29,6 +31,8 @@ pub(super) fn line_of(fault: &RunFault) -> Line
         RunFault::Write { .. } => line_from("output: Write"),
         RunFault::Memory => line_from("memory"),
         RunFault::Text { right, fault } => text_line(*right, *fault),
+        RunFault::Tailor(fault) => tailor_line(*fault),
+        RunFault::CertificateWrite { .. } => line_from("certificate: Write"),
         RunFault::Open(role) => open_line(*role),
         RunFault::Words(fault) => word_line(fault),
     }
@@ -174,4 +178,38 @@ fn open_line(role: Role) -> Line
     ensures short { length result.bytes ≤ 40 }
 {
     said_of(role.name(), ": Open")
+}
+
+// Why there is no plan, with the relation that is to blame, if one is.
+fn tailor_line(fault: TailorFault) -> Line
+    ensures text { result.bytes ≡ tailor_text fault }
+    ensures short { length result.bytes ≤ 120 }
+{
+    if fault.kind == TailorKind::Memory {
+        return line_from("memory");
+    }
+    let mut line = line_from("tailor");
+    if fault.relation > 0 {
+        push_number(&mut line, " relation ", fault.relation.into());
+    }
+    line.push_str(": ");
+    push_kind(&mut line, fault.kind);
+    line
+}
+
+// Appends the name of a fault of the planner.
+fn push_kind(line: &mut Line, kind: TailorKind)
+    requires { length line.old.bytes ≤ 80 }
+    ensures text { line.new.bytes ≡ line.old.bytes ++ tailor_kind_text kind }
+    ensures short { length line.new.bytes ≤ length line.old.bytes + 60 }
+{
+    match kind {
+        TailorKind::BaseIllFormed => line.push_str("BaseIllFormed"),
+        TailorKind::Anchor => line.push_str("Anchor"),
+        TailorKind::NeedsPrefix => line.push_str("NeedsPrefix"),
+        TailorKind::NoRoom(level) => push_number(line, "NoRoom ", level_number(level).into()),
+        TailorKind::Limit => line.push_str("Limit"),
+        TailorKind::ImplicitVariable => line.push_str("ImplicitVariable"),
+        TailorKind::Memory => line.push_str("Memory"),
+    }
 }

@@ -1,0 +1,9 @@
+-- The table and the data file open, and the rules do not.
+use Rattle.std.proofs.Common.{Err, inl, inr, refl, subst}
+use Rattle.uca_cli.proofs.command.open_tailor_files.Goals as goal
+
+pub returns-in_default : goal.returns-in_default
+returns-in_default g c =
+    let opened = c.in_ok-table.ensures in
+    let closed = subst (λ old. g.O.Opens.open_gives old c.args.rules.now (Err c.in_default.field-0) c.open.new.self) opened.2.2 c.in_default.ensures in
+    inr (opened.0, _, opened.1, inr (opened.2.0, _, opened.2.1, inl (refl, c.in_default.field-0, closed)))

@@ -1,0 +1,38 @@
+-- A file does not open; or all are opened and run over, and what is answered is kept.
+use Rattle.std.proofs.Common.{Ok, Err, inl, inr, [], ◌∷◌, refl}
+use Rattle.std.proofs.lemmas.Result.{err_from_is_err_and}
+use Rattle.uca_cli.specs.TailorRun.{tailor_sources}
+use Rattle.uca_cli.proofs.command.tailor.Goals as goal
+
+pub returns-in-Err : goal.returns-in-Err
+returns-in-Err g c = (c.open_tailor_files.new.opener, inl (c.in-Err.role, refl, c.in-Err.ensures, (refl, refl)))
+
+pub returns-in_err-tailored : goal.returns-in_err-tailored
+returns-in_err-tailored g c =
+    let files = c.in-Ok.files in
+    let p = err_from_is_err_and c.from_residual.result c.from_residual.ensures.1 in
+    rw (p.1, p.2) (
+      c.open_tailor_files.new.opener,
+      inr (record {
+        sources = files.0 ∷ files.1 ∷ files.2 ∷ [];
+        opened = c.in-Ok.ensures;
+        runs = (
+          tailor_sources c.run_tailor.new.base c.run_tailor.new.properties c.run_tailor.new.rules,
+          (Err c.in_err-tailored.field-0.0, c.in_err-tailored.ensures.runs, c.in_err-tailored.ensures.only, (refl, refl {a = c.open_tailor_files.new.opener}, refl {a = c.args.out.now})),
+        );
+      }),
+    )
+
+pub returns : goal.returns
+returns g c =
+    let files = c.in-Ok.files in (
+      c.open_tailor_files.new.opener,
+      inr (record {
+        sources = files.0 ∷ files.1 ∷ files.2 ∷ [];
+        opened = c.in-Ok.ensures;
+        runs = (
+          tailor_sources c.run_tailor.new.base c.run_tailor.new.properties c.run_tailor.new.rules,
+          (Ok (c.in_ok-tailored.tailored, c.in_ok-tailored.weights), c.in_ok-tailored.ensures.runs, c.in_ok-tailored.ensures.only, c.keep_tailored.ensures),
+        );
+      }),
+    )

@@ -1,0 +1,65 @@
+//! The run that tailors a table, and the writing of what it answers.
+
+ghost use Rattle.std.specs.Prelude.{◌≡◌, ◌||◌};
+ghost use Rattle.uca_cli.specs.Runs.{is_write};
+ghost use Rattle.uca_cli.specs.TailorRun.{PlansPlanned, RunsTailor, TailorHasFailed, TailorsOver, WritesTailored, is_certificate_write, tailor_sources};
+
+use crate::faults::RunFault;
+use crate::tailor_files::read_tailor_files;
+use std::alloc::Global;
+use std::io::{Read, Write};
+use uca_canonical::write_table;
+use uca_certificates::{Certificate, write_certificate};
+use uca_tailor::tailor;
+use uca_values::Table;
+use uca_weights::{Sink, Source, WriteFault};
+
+/// Tailors a table by rules, and returns the tailored table and the certificate of its weights. The files are read one
+/// after the other, each to its end or its first fault. `write_tailored` writes what is returned.
+///
+/// # Errors
+///
+/// `File` for the first file that is refused, `Tailor` where there is no plan, and `Memory` where an allocation failed
+/// after the files were read.
+pub fn run_tailor<B: Read, D: Read, U: Read>(
+    alloc: Global,
+    base: &mut Source<B>,
+    properties: &mut Source<D>,
+    rules: &mut Source<U>,
+) -> Result<(Table, Certificate), RunFault>
+    // Where the bytes of its files are known.
+    ensures runs { TailorsOver (tailor_sources base.old properties.old rules.old)
+        (tailor_sources base.new properties.new rules.new) (RunsTailor result) result }
+    ensures only { PlansPlanned (tailor_sources base.old properties.old rules.old) result }
+
+    // Whatever the readers are.
+    ensures failed { TailorHasFailed (tailor_sources base.old properties.old rules.old)
+        (tailor_sources base.new properties.new rules.new) result }
+{
+    let files = read_tailor_files(alloc, base, properties, rules)?;
+    Ok(tailor(alloc, &files.base, &files.properties, &files.rules)?)
+}
+
+/// Writes a tailored table and its certificate: first the certificate to `file`, then the table in canonical text to
+/// `out`. It takes no memory.
+///
+/// # Errors
+///
+/// `CertificateWrite` where the writer of the certificate failed: the first `written` bytes of the certificate went out,
+/// and nothing of the table. `Write` where the writer of the table failed: the whole certificate went out, and the first
+/// `written` bytes of the table.
+pub fn write_tailored<C: Write, W: Write>(
+    table: &Table,
+    certificate: &Certificate,
+    file: &mut Sink<C>,
+    out: &mut Sink<W>,
+) -> Result<(), RunFault>
+    ensures written { WritesTailored table.now certificate.now file.old file.new out.old out.new result }
+    ensures file_failed { file.new.failed ≡ (file.old.failed || is_certificate_write result) }
+    ensures out_failed { out.new.failed ≡ (out.old.failed || is_write result) }
+{
+    if let Err(WriteFault { written }) = write_certificate(certificate, file) {
+        return Err(RunFault::CertificateWrite { written });
+    }
+    Ok(write_table(table, out)?)
+}
