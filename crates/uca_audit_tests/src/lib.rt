@@ -9,6 +9,8 @@ mod certificates;
 #[cfg(test)]
 mod files;
 #[cfg(test)]
+mod full_levels;
+#[cfg(test)]
 mod maps;
 #[cfg(test)]
 mod plans;

@@ -4,7 +4,7 @@ use crate::files::{Files, files_of, verdict};
 use std::alloc::Global;
 use std::test::Fail;
 use uca_audit::write_certificate;
-use uca_fakes::{halves, holds, is_remark, same};
+use uca_fakes::{halves, holds, is_remark, joined, same};
 use uca_table::write_table;
 use uca_tailor::{TailorKind, tailor};
 use uca_values::Table;
@@ -28,6 +28,7 @@ const PLANNED: &str = r"-- rules that give nothing
 . | &a < x / bbbbbbbbbbbbbbbb &x = y / bbbbbbbbbbbbbbb | [.1C48.0020.0002] => [.1C48.0020.0002][.1C60.0020.0002][.1C60.0020.0002][.1C60.0020.0002][.1C60.0020.0002][.1C60.0020.0002][.1C60.0020.0002][.1C60.0020.0002][.1C60.0020.0002][.1C60.0020.0002][.1C60.0020.0002][.1C60.0020.0002][.1C60.0020.0002][.1C60.0020.0002][.1C60.0020.0002][.1C60.0020.0002][.1C60.0020.0002], +0079 ; [.1C48.0020.0002][.1C60.0020.0002][.1C60.0020.0002][.1C60.0020.0002][.1C60.0020.0002][.1C60.0020.0002][.1C60.0020.0002][.1C60.0020.0002][.1C60.0020.0002][.1C60.0020.0002][.1C60.0020.0002][.1C60.0020.0002][.1C60.0020.0002][.1C60.0020.0002][.1C60.0020.0002][.1C60.0020.0002][.1C60.0020.0002][.1C60.0020.0002][.1C60.0020.0002][.1C60.0020.0002][.1C60.0020.0002][.1C60.0020.0002][.1C60.0020.0002][.1C60.0020.0002][.1C60.0020.0002][.1C60.0020.0002][.1C60.0020.0002][.1C60.0020.0002][.1C60.0020.0002][.1C60.0020.0002][.1C60.0020.0002][.1C60.0020.0002] | .
 -- implicit weights
 . | &\u4E00 = x | [.1C48.0020.0002] => [.FB40.0020.0002][.CE00.0000.0000] | .
+. | &\u4E00\u0300 << x | [.1C48.0020.0002] => [.FB40.0020.0002][.CE00.0000.0000][.0000.0026.0002] | .
 -- prefixes
 . | &a < b\u0301 < b\u0301\u0300 | -0078, +0062 0301 ; [.1C48.0020.0002], +0062 0301 0300 ; [.1C49.0020.0002] | .
 . | &d = dz/z &a < dz\u030C << q &b < z\u030C | -0078, +0064 007A ; [.FBC0.0020.0002][.8064.0000.0000][.FBC0.0020.0002][.807A.0000.0000], +0064 007A 030C ; [.1C48.0020.0002], +0071 ; [.1C48.0021.0002], +007A 030C ; [.1C61.0020.0002] | .
@@ -46,7 +47,55 @@ const REFUSED: &str = r". | &\u4E00 < x | relation 1: Anchor
 . | &[before 3]a <<< x <<< y | NoRoom 3
 . | &[before 2]a << c << d << e << f << g << h << i << j << k << l << m << n << o << p << q << r << s << t << u << v << w << x << y << z << C << D << E << F << G << H << I << J | NoRoom 2
 0301 ; [.0000.0024. => 0301 ; [.0000.0020. | &a < x | BaseIllFormed
-@version 1\n0020 ; [*FB00.0020.0002]\n0021 ; [*FFFF.0020.0002]\n | &\u4E00 = x | PlanRejected 2";
+-- the first cause within a relation, and relations before room
+. | &\u4E00 < b\u0301\u0300 | relation 1: Anchor
+. | &a < x / bbbbbbbbbbbbbbbb &x = b\u0301\u0300 / bbbbbbbbbbbbbbbb | relation 2: NeedsPrefix
+. | &[before 3]a <<< x <<< y &\u4E00 < z | relation 3: Anchor
+-- a target with implicit weights whose primary stands among the variable ones, the ends of these included
+@version 1\n0020 ; [*FB00.0020.0002]\n0021 ; [*FFFF.0020.0002]\n | &\u4E00 = x | relation 1: ImplicitVariable
+@version 1\n0020 ; [*FFFF.0020.0002]\n0021 ; [*FB00.0020.0002]\n | &\u4E00 = x | relation 1: ImplicitVariable
+@version 1\n0020 ; [*FB40.0020.0002]\n0021 ; [*FB40.0020.0002]\n | &\u4E00 = x | relation 1: ImplicitVariable
+@version 1\n0020 ; [*FB40.0020.0002]\n0021 ; [*FFFF.0020.0002]\n | &\u4E00 = x | relation 1: ImplicitVariable
+@version 1\n0020 ; [*FB00.0020.0002]\n0021 ; [*FB40.0020.0002]\n | &\u4E00 = x | relation 1: ImplicitVariable
+@version 1\n0020 ; [*FB00.0020.0002]\n0021 ; [*FFFF.0020.0002]\n | &d = x | relation 1: ImplicitVariable
+-- the continuation of implicit weights has a primary too
+@version 1\n0020 ; [*CE00.0020.0002]\n | &\u4E00 = x | relation 1: ImplicitVariable
+-- implicit weights before a new one, in an expansion, and of a later relation
+@version 1\n0020 ; [*FB00.0020.0002]\n0021 ; [*FFFF.0020.0002]\n0301 ; [.0000.0024.0002]\n | &\u4E00\u0301 << x | relation 1: ImplicitVariable
+@version 1\n0020 ; [*FB00.0020.0002]\n0021 ; [*FFFF.0020.0002]\n0301 ; [.0000.0024.0002]\n | &\u4E00\u0301 <<< x | relation 1: ImplicitVariable
+@version 1\n0020 ; [*FB00.0020.0002]\n0021 ; [*FFFF.0020.0002]\n0061 ; [.1C47.0020.0002]\n | &a < x / \u4E00 | relation 1: ImplicitVariable
+@version 1\n0020 ; [*FB00.0020.0002]\n0021 ; [*FFFF.0020.0002]\n0061 ; [.1C47.0020.0002]\n | &a < y &\u4E00 = x | relation 2: ImplicitVariable
+@version 1\n0020 ; [*FB00.0020.0002]\n0021 ; [*FFFF.0020.0002]\n | &\u4E00 = y &y << z | relation 1: ImplicitVariable
+-- the causes that come before it in a relation: 34 elements, and 32
+@version 1\n0020 ; [*FB00.0020.0002]\n0021 ; [*FFFF.0020.0002]\n | &\u4E00 << x | relation 1: Anchor
+@version 1\n0020 ; [*FB00.0020.0002]\n0021 ; [*FFFF.0020.0002]\n | &\u4E00 = b\u0301\u0300 | relation 1: NeedsPrefix
+@version 1\n0020 ; [*FB00.0020.0002]\n0021 ; [*FFFF.0020.0002]\n | &\u4E00 = x / 一一一一一一一一一一一一一一一一 | relation 1: Limit
+@version 1\n0020 ; [*FB00.0020.0002]\n0021 ; [*FFFF.0020.0002]\n | &\u4E00 = x / 一一一一一一一一一一一一一一一 | relation 1: ImplicitVariable
+-- the first relation with a cause: looked for after the base, and before room
+@version 1\n0020 ; [*FB00.0020.0002]\n0021 ; [*FFFF.0020.0002]\n0061 ; [.1C47.0020.0002]\n | &a < b\u0301\u0300 &\u4E00 = x | relation 1: NeedsPrefix
+@version 1\n0020 ; [*FB00.0020.0002]\n0021 ; [*FFFF.0020.0002]\n0061 ; [.1C47.0020.0002]\n | &\u4E00 = x &a < b\u0301\u0300 | relation 1: ImplicitVariable
+@version 1\n0020 ; [*FB00.0020.0002]\n0021 ; [*FFFF.0020.0002]\n0061 ; [.1C47.0020.0002]\n | &[before 3]a <<< x <<< y &\u4E00 = z | relation 3: ImplicitVariable
+@version 1\n0020 ; [*FB00.0020.0002]\n0021 ; [*FFFF.0020.0002]\n4E00 ; [.FB40.0020.0002][.CE00.0000.0000]\n | &\u4E00 = x | BaseIllFormed";
+
+/// A base of primaries from 8000 up, which no plan moves, the rules, and the rows that come behind those of the base. Each is
+/// accepted by the audit.
+const UNMOVED: &str =
+    r"-- above the variable elements, below them, between the primaries of the two, and without variable elements
+@version 1\n0020 ; [*FB00.0020.0002]\n0021 ; [*FB3F.0020.0002]\n | &\u4E00 = x | 0078 ; [.FB40.0020.0002][.CE00.0000.0000]\n
+@version 1\n0020 ; [*FB41.0020.0002]\n0021 ; [*FFFF.0020.0002]\n | &\u4E00 = x | 0078 ; [.FB40.0020.0002][.CE00.0000.0000]\n
+@version 1\n0020 ; [*FFFF.0020.0002]\n0021 ; [*FFFF.0020.0002]\n | &\u4E00 = x | 0078 ; [.FB40.0020.0002][.CE00.0000.0000]\n
+@version 1\n0020 ; [*CE01.0020.0002]\n0021 ; [*FB3F.0020.0002]\n | &\u4E00 = x | 0078 ; [.FB40.0020.0002][.CE00.0000.0000]\n
+@version 1\n0020 ; [*CDFF.0020.0002]\n | &\u4E00 = x | 0078 ; [.FB40.0020.0002][.CE00.0000.0000]\n
+@version 1\n0061 ; [.FB00.0020.0002]\n | &\u4E00 = x | 0078 ; [.FB40.0020.0002][.CE00.0000.0000]\n
+-- rows with these weights are variable there, and are no cause
+@version 1\n0020 ; [*FB00.0020.0002]\n0021 ; [*FFFF.0020.0002]\n0061 ; [*FB40.0020.0002]\n | &a = x | 0078 ; [*FB40.0020.0002]\n
+@version 1\n0020 ; [*FB00.0020.0002]\n0021 ; [*FFFF.0020.0002]\n4E00 ; [*FB40.0020.0002][*CE00.0000.0000]\n | &\u4E00 = x | 0078 ; [*FB40.0020.0002][*CE00.0000.0000]\n
+@version 1\n0020 ; [*FB00.0020.0002]\n0021 ; [*FFFF.0020.0002]\n4E00 ; [*FB40.0020.0002]\n | &\u4E00 << x | 0078 ; [*FB40.0021.0002]\n
+-- nor is a text that has implicit weights in the base alone
+@version 1\n0020 ; [*FB00.0020.0002]\n0021 ; [*FFFF.0020.0002]\n | &\u0020 = \u4E00 &\u4E00 = x | 4E00 ; [*FB00.0020.0002]\n0078 ; [*FB00.0020.0002]\n";
+
+/// The certificate of these, as what is different.
+const NO_PRIMARIES: &str = "-1 0209, -1 1C47, -1 1C60, -2 0024, -2 002C, -3 0008";
 
 /// What is planned: nothing different, or the fault. Where an allocation failed that is the error.
 fn planned(alloc: Global, files: &Files) -> Result<String, Fail> {
@@ -84,12 +133,29 @@ fn check_planned(alloc: Global, case: &str) -> Result<(), Fail> {
     let (base, rest) = halves(case)?;
     let (rules, rest) = halves(rest)?;
     let (tailored, certificate) = halves(rest)?;
-    let files = files_of(alloc, [base, rules, tailored, certificate])?;
+    check_files(alloc, [base, rules, tailored, certificate], case)
+}
+
+fn check_files(alloc: Global, fields: [&str; 4], case: &str) -> Result<(), Fail> {
+    let files = files_of(alloc, fields)?;
     same(&planned(alloc, &files)?, "planned", case)?;
     same(&verdict(alloc, &files)?, "accepted", case)
 }
 
+fn check_unmoved(alloc: Global, case: &str) -> Result<(), Fail> {
+    if is_remark(case) {
+        return Ok(());
+    }
+    let (base, rest) = halves(case)?;
+    let (rules, added) = halves(rest)?;
+    let tailored = joined(alloc, &[base, added])?;
+    check_files(alloc, [base, rules, &tailored, NO_PRIMARIES], case)
+}
+
 fn check_refused(alloc: Global, case: &str) -> Result<(), Fail> {
+    if is_remark(case) {
+        return Ok(());
+    }
     let (base, rest) = halves(case)?;
     let (rules, wanted) = halves(rest)?;
     let files = files_of(alloc, [base, rules, ".", "."])?;
@@ -100,6 +166,9 @@ fn check_refused(alloc: Global, case: &str) -> Result<(), Fail> {
 fn plans(rt: HostRuntime) -> Result<(), Fail> {
     for case in PLANNED.lines() {
         check_planned(rt.alloc(), case)?;
+    }
+    for case in UNMOVED.lines() {
+        check_unmoved(rt.alloc(), case)?;
     }
     for case in REFUSED.lines() {
         check_refused(rt.alloc(), case)?;

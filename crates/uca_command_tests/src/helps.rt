@@ -11,7 +11,7 @@ const NONE: Files<'static> = Files {
 };
 
 const WHOLE: &str =
-    "Unicode collation (UTS #10): checks tables of weights, prints sort keys, sorts, compares, audits\n\
+    "Unicode collation (UTS #10): checks tables of weights, prints sort keys, sorts, compares, tailors, audits\n\
     \n\
     Usage: uca <COMMAND>\n\
     \n\
@@ -20,6 +20,7 @@ const WHOLE: &str =
     \x20 keys     Print the sort key of each line of standard input\n\
     \x20 sort     Sort the lines of standard input by their sort keys\n\
     \x20 compare  Say how two texts compare, and at which level they differ\n\
+    \x20 tailor   Tailor a weight table by rules\n\
     \x20 audit    Say whether a tailored table is what its rules say\n\
     \n\
     Options:\n\
@@ -130,6 +131,32 @@ const COMPARE: &str =
     \n\
     Example: uca compare --weighting shifted allkeys.txt data.txt cote côté\n";
 
+const TAILOR: &str =
+    "Tailors TABLE by RULES (UTS #35 Part 5, Collation) and prints the tailored table. Before the table is\n\
+    printed, what became of each weight of TABLE is written to the file CERTIFICATE; `uca audit` checks\n\
+    both. The certificate's file is made once there is a plan; a file of that name is replaced.\n\
+    \n\
+    Usage: uca tailor <TABLE> <DATA> <RULES> <CERTIFICATE>\n\
+    \n\
+    Arguments:\n\
+    \x20 <TABLE>\n\
+    \x20         A weight table in the form of allkeys.txt\n\
+    \n\
+    \x20 <DATA>\n\
+    \x20         A data file: combining classes and Han ranges\n\
+    \n\
+    \x20 <RULES>\n\
+    \x20         The tailoring rules\n\
+    \n\
+    \x20 <CERTIFICATE>\n\
+    \x20         The file that the certificate is written to\n\
+    \n\
+    Options:\n\
+    \x20 -h, --help\n\
+    \x20         Print help (see a summary with '-h')\n\
+    \n\
+    Example: uca tailor table.txt data.txt rules.txt certificate.txt > tailored.txt\n";
+
 const AUDIT: &str =
     "Says whether TAILORED is BASE as RULES tailor it, with the weights moved as CERTIFICATE says: prints\n\
     `accepted`, or the first condition that fails and where, as `refused 9 NotPlaced relation 3`, with\n\
@@ -183,6 +210,7 @@ fn whole_help_texts(rt: HostRuntime) -> Result<(), Fail> {
     check_help(rt.alloc(), "keys,--help", KEYS)?;
     check_help(rt.alloc(), "sort,--help", SORT)?;
     check_help(rt.alloc(), "compare,--help", COMPARE)?;
+    check_help(rt.alloc(), "tailor,--help", TAILOR)?;
     check_help(rt.alloc(), "audit,--help", AUDIT)
 }
 
@@ -192,7 +220,7 @@ fn check_refused(alloc: Global, words: &str, err: &'static str) -> Result<(), Fa
 }
 
 const NO_SUBCOMMAND: &str = "error: 'uca' requires a subcommand but one was not provided\n\
-    \x20 [subcommands: check, keys, sort, compare, audit]\n\
+    \x20 [subcommands: check, keys, sort, compare, tailor, audit]\n\
     \n\
     Usage: uca <COMMAND>\n\
     \n\
@@ -208,6 +236,13 @@ const NO_DATA: &str = "error: the following required arguments were not provided
     \x20 <DATA>\n\
     \n\
     Usage: uca keys <TABLE> <DATA>\n\
+    \n\
+    For more information, try '--help'.\n";
+
+const NO_CERTIFICATE: &str = "error: the following required arguments were not provided:\n\
+    \x20 <CERTIFICATE>\n\
+    \n\
+    Usage: uca tailor <TABLE> <DATA> <RULES> <CERTIFICATE>\n\
     \n\
     For more information, try '--help'.\n";
 
@@ -249,7 +284,8 @@ fn refused_subcommands(rt: HostRuntime) -> Result<(), Fail> {
     check_words(rt.alloc(), &NONE, &["uca"], b"", &end)?;
     check_refused(rt.alloc(), "other,t,d", OTHER_SUBCOMMAND)?;
     check_refused(rt.alloc(), "keys,t", NO_DATA)?;
-    check_refused(rt.alloc(), "keys,t,d,l", MORE_WORDS)
+    check_refused(rt.alloc(), "keys,t,d,l", MORE_WORDS)?;
+    check_refused(rt.alloc(), "tailor,t,d,r", NO_CERTIFICATE)
 }
 
 #[test]

@@ -12,4 +12,6 @@ mod helps;
 #[cfg(test)]
 mod lines;
 #[cfg(test)]
+mod tailorings;
+#[cfg(test)]
 mod words;

@@ -7,9 +7,10 @@ use uca_certificates::{CertificateFault, CertificateFaultKind};
 use uca_cli::{FileFault, InputKind, Role, RunFault, report};
 use uca_fakes::{Calls, Failure, FakeWriter, Pace, holds, same};
 use uca_files::{FaultKind, TableFault};
+use uca_plans::{TailorFault, TailorKind};
 use uca_rules::{RuleFault, RuleFaultKind};
 use uca_text::TextFault;
-use uca_weights::{MapFault, MapFaultKind, Sink};
+use uca_weights::{Level, MapFault, MapFaultKind, Sink};
 use uca_words::WordFault;
 
 // The status of a fault that is reported on standard error, if nothing goes to standard output.
@@ -153,6 +154,43 @@ fn refused_certificates(rt: HostRuntime) -> Result<(), Fail> {
     check_certificate(alloc, memory, "certificate line 6: Memory\n", 4)
 }
 
+// A fault of the planner, with the relation that is to blame, or 0.
+fn check_plan(
+    alloc: Global,
+    (relation, kind): (u32, TailorKind),
+    text: &str,
+    status: u8,
+) -> Result<(), Fail> {
+    let fault = RunFault::Tailor(TailorFault { kind, relation });
+    check(alloc, &fault, text, status)
+}
+
+#[test]
+fn refused_plans(rt: HostRuntime) -> Result<(), Fail> {
+    let alloc = rt.alloc();
+    let anchor = (3, TailorKind::Anchor);
+    check_plan(alloc, anchor, "tailor relation 3: Anchor\n", 1)?;
+    let prefix = (5000, TailorKind::NeedsPrefix);
+    check_plan(alloc, prefix, "tailor relation 5000: NeedsPrefix\n", 1)?;
+    let limit = (1, TailorKind::Limit);
+    check_plan(alloc, limit, "tailor relation 1: Limit\n", 1)?;
+    let base = (0, TailorKind::BaseIllFormed);
+    check_plan(alloc, base, "tailor: BaseIllFormed\n", 1)?;
+    let room = (0, TailorKind::NoRoom(Level::Two));
+    check_plan(alloc, room, "tailor: NoRoom 2\n", 1)?;
+    let variable = (2, TailorKind::ImplicitVariable);
+    check_plan(alloc, variable, "tailor relation 2: ImplicitVariable\n", 1)?;
+    check_plan(alloc, (0, TailorKind::Memory), "memory\n", 4)?;
+    // The longest line of a plan.
+    let longest = (4_294_967_295, TailorKind::ImplicitVariable);
+    check_plan(
+        alloc,
+        longest,
+        "tailor relation 4294967295: ImplicitVariable\n",
+        1,
+    )
+}
+
 // A file that does not open.
 fn check_open(alloc: Global, role: Role, text: &str) -> Result<(), Fail> {
     check(alloc, &RunFault::Open(role), text, 3)
@@ -223,6 +261,8 @@ fn other_faults(rt: HostRuntime) -> Result<(), Fail> {
     let alloc = rt.alloc();
     let write = RunFault::Write { written: 7 };
     check(alloc, &write, "output: Write\n", 3)?;
+    let certificate = RunFault::CertificateWrite { written: 7 };
+    check(alloc, &certificate, "certificate: Write\n", 3)?;
     check(alloc, &RunFault::Memory, "memory\n", 4)?;
     check(alloc, &RunFault::Words(WordFault::Memory), "memory\n", 4)?;
     let weighting = RunFault::Words(WordFault::Weighting);

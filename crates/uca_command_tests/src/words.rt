@@ -55,6 +55,9 @@ compare t d a b --weighting=non-ignorable | Compare { weighting: Some(NonIgnorab
 compare t d a --identical b | Compare { weighting: None, depth: Identical, table: "t", properties: "d", left: "a", right: "b" }
 compare t d  a | Compare { weighting: None, depth: Weights, table: "t", properties: "d", left: "", right: "a" }
 compare t d sort keys | Compare { weighting: None, depth: Weights, table: "t", properties: "d", left: "sort", right: "keys" }
+tailor t d r c | Tailor { table: "t", properties: "d", rules: "r", certificate: "c" }
+tailor d c t r | Tailor { table: "d", properties: "c", rules: "t", certificate: "r" }
+tailor t d -- r --identical | Tailor { table: "t", properties: "d", rules: "r", certificate: "--identical" }
 audit b d r t c | Audit { base: "b", properties: "d", rules: "r", tailored: "t", certificate: "c" }"#;
 
 #[test]
@@ -77,6 +80,11 @@ sort --identical --identical t d | ArgumentConflict
 compare t d | MissingRequiredArgument
 compare t d a | MissingRequiredArgument
 compare t d a b c | UnknownArgument
+tailor t d | MissingRequiredArgument
+tailor t d r | MissingRequiredArgument
+tailor t d r c e | UnknownArgument
+tailor --identical t d r c | UnknownArgument
+tailor --weighting shifted t d r c | UnknownArgument
 audit b d r t | MissingRequiredArgument
 audit b d r t c e | UnknownArgument
 audit --identical b d r t c | UnknownArgument
@@ -124,6 +132,7 @@ check  | --help
 keys  | --help
 sort  | --help
 compare  | --help
+tailor  | --help
 audit  | --help
 Usage: uca check <TABLE> <DATA> | check --help
 `well-formed` | check --help
@@ -136,6 +145,9 @@ Example: uca sort  | sort --help
 <LEFT> <RIGHT> | compare --help
 `<`, `=` or `>` | compare --help
 0 if none | compare --help
+Usage: uca tailor <TABLE> <DATA> <RULES> <CERTIFICATE> | tailor --help
+a file of that name is replaced | tailor --help
+Example: uca tailor table.txt data.txt rules.txt certificate.txt > tailored.txt | tailor --help
 <BASE> <DATA> <RULES> <TAILORED> <CERTIFICATE> | audit --help
 Example: uca audit table.txt data.txt rules.txt tailored.txt certificate.txt | audit --help";
 

@@ -1,23 +1,13 @@
 //! Audits over readers that fail after each number of bytes, and writers that do.
 
+use crate::samples::{CERTIFICATE, ROW, RULES, line_behind, pace_of, source};
 use std::alloc::{AllocError, Global};
 use std::io::ErrorKind;
 use std::test::Fail;
 use uca_cli::run_audit;
-use uca_fakes::{Calls, DATA, Failure, FakeReader, FakeWriter, Pace, TABLE, holds, joined, same};
+use uca_fakes::{Calls, DATA, Failure, FakeWriter, Pace, TABLE, holds, joined, same};
 use uca_trials::{Answer, told};
-use uca_weights::{Sink, Source};
-
-const ROW: &str = "0078 ; [.1C48.0020.0002]\n";
-
-const CERTIFICATE: &str = "1 0209 0209 0001\n\
-    1 1C47 1C47 0001\n\
-    1 1C60 1C60 0001\n\
-    2 0020 0020 0001\n\
-    2 0024 0024 0002\n\
-    2 002C 002C 0001\n\
-    3 0002 0002 0001\n\
-    3 0008 0008 0001\n";
+use uca_weights::Sink;
 
 /// What came of an audit.
 #[derive(Drop)]
@@ -26,10 +16,6 @@ struct Outcome {
     printed: Vec<u8>,
     failed: [bool; 6],
     late: u32,
-}
-
-fn source<'a>(text: &'a str, pace: Pace, calls: &'a Calls) -> Source<FakeReader<'a>> {
-    Source::new(FakeReader::new(text.as_bytes(), pace, calls))
 }
 
 /// An audit of five files, each read at its pace, with a writer at another.
@@ -74,23 +60,7 @@ fn audited(
 
 /// The files of an audit that is accepted, where the tailored table is this.
 fn texts_with(tailored: &str) -> [&str; 5] {
-    [TABLE, DATA, "&a < x", tailored, CERTIFICATE]
-}
-
-/// The pace of a file, which fails where its role is this one.
-fn pace_of(own: &str, role: &str, failing: Pace) -> Pace {
-    if own == role { failing } else { Pace::steps(9) }
-}
-
-/// The line that is being read behind the first bytes of a file.
-fn line_behind(text: &str, good: usize) -> usize {
-    let mut line = 1_usize;
-    for byte in text.as_bytes().iter().take(good) {
-        if *byte == b'\n' {
-            line = line.saturating_add(1);
-        }
-    }
-    line
+    [TABLE, DATA, RULES, tailored, CERTIFICATE]
 }
 
 /// One file fails after so many bytes: nothing is written, and of the streams this one says that it failed.
@@ -143,7 +113,7 @@ fn readers_of_audits_that_fail(rt: HostRuntime) -> Result<(), Fail> {
     let texts = texts_with(&tailored);
     check_reads(alloc, texts, "base", TABLE)?;
     check_reads(alloc, texts, "data", DATA)?;
-    check_reads(alloc, texts, "rules", "&a < x")?;
+    check_reads(alloc, texts, "rules", RULES)?;
     check_reads(alloc, texts, "tailored", &tailored)?;
     check_reads(alloc, texts, "certificate", CERTIFICATE)
 }

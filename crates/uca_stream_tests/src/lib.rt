@@ -10,4 +10,8 @@ mod pieces;
 #[cfg(test)]
 mod rule_files;
 #[cfg(test)]
+mod samples;
+#[cfg(test)]
 mod streams;
+#[cfg(test)]
+mod tailorings;

@@ -38,6 +38,9 @@ pub fn told(alloc: Global, end: &Result<Answer, RunFault>) -> Result<String, All
         Ok(Answer::Done) => String::from_str(alloc, "done"),
         Ok(Answer::Verdict(verdict)) => format!(in alloc; "{verdict}"),
         Err(RunFault::Write { written }) => format!(in alloc; "output: Write after {written}"),
+        Err(RunFault::CertificateWrite { written }) => {
+            format!(in alloc; "certificate: Write after {written}")
+        }
         Err(fault) => format!(in alloc; "{fault}"),
     }
 }

@@ -1,0 +1,89 @@
+//! A plan that takes the last place of level 1, and one that finds none. `rt try`, which checks each step as it runs, takes a
+//! minute or two.
+
+use crate::files::{Files, verdict};
+use std::alloc::Global;
+use std::test::Fail;
+use uca_audit::write_certificate;
+use uca_fakes::{DATA, data_of, holds, same, table_of};
+use uca_rules::{Rules, read_rules};
+use uca_tailor::{TailorKind, tailor};
+use uca_values::{Data, Table};
+use uca_weights::{Element, Sink, Source};
+
+/// A letter directly behind the first one.
+const RULES: &str = r"&\U00010001 < x";
+
+/// All weights but the first move up by one.
+const MOVED: &str = "1 0001 0001 0001\n\
+    1 0002 0003 7FFD\n\
+    2 0020 0020 0001\n\
+    3 0002 0002 0001\n";
+
+/// A base with a row of each primary below an end: that of the primary 0001 is of U+10001, and so on.
+fn base(alloc: Global, end: u16) -> Result<Table, Fail> {
+    let mut text = String::from_str(alloc, "@version 1\n")?;
+    for weight in 1..end {
+        let letter = 0x1_0000 + u32::from(weight);
+        text.push_str(&format!(in alloc; "{letter:04X} ; [.{weight:04X}.0020.0002]\n")?)?;
+    }
+    Ok(table_of(alloc, &mut Source::new(text.as_bytes()))?)
+}
+
+/// The last row is that of the new letter, and stands behind all others.
+fn check_letter(table: &Table, count: usize) -> Result<(), Fail> {
+    holds(table.rows.len() == count, "another number of rows")?;
+    let row = table.rows.last().ok_or("no rows")?;
+    let element = Element {
+        primary: 2,
+        secondary: 0x20,
+        tertiary: 2,
+        mark: false,
+    };
+    holds(row.key.as_slice() == ['x'].as_slice(), "another last row")?;
+    holds(
+        row.elements.as_slice() == [element].as_slice(),
+        "other elements",
+    )
+}
+
+/// One place is left: the plan takes it, and is accepted.
+fn check_last_place(alloc: Global, data: Data, rules: Rules) -> Result<(), Fail> {
+    let base = base(alloc, 0x7FFF)?;
+    let (tailored, certificate) = tailor(alloc, &base, &data, &rules)?;
+    check_letter(&tailored, 0x7FFF)?;
+    let mut found = Sink::new(Vec::new(alloc));
+    write_certificate(&certificate, &mut found)?;
+    let found = String::from_utf8(found.into_inner())?;
+    same(&found, MOVED, "the certificate of a full level")?;
+    let files = Files {
+        base,
+        data,
+        rules,
+        tailored,
+        certificate,
+    };
+    same(&verdict(alloc, &files)?, "accepted", "a full level")
+}
+
+/// No place is left.
+fn check_no_place(alloc: Global, data: &Data, rules: &Rules) -> Result<(), Fail> {
+    let base = base(alloc, 0x8000)?;
+    match tailor(alloc, &base, data, rules) {
+        Ok(_) => Err(Fail::new("a plan without room")),
+        Err(fault) if fault.kind == TailorKind::Memory => Err(Fail::from(fault)),
+        Err(fault) => {
+            let found = format!(in alloc; "{fault} {}", fault.relation)?;
+            same(&found, "NoRoom 1 0", "one weight too many")
+        }
+    }
+}
+
+#[test]
+fn the_last_place_of_level_1(rt: HostRuntime) -> Result<(), Fail> {
+    let alloc = rt.alloc();
+    let data = data_of(alloc, &mut Source::new(DATA.as_bytes()))?;
+    let rules = read_rules(alloc, RULES.as_bytes(), &data)?;
+    check_no_place(alloc, &data, &rules)?;
+    check_last_place(alloc, data, rules)
+}
