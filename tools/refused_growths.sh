@@ -34,7 +34,7 @@ for crate in "$@"; do
     while [ "$n" -le "$last" ]; do
         (cd "$top/crates/$crate" && rt try --test --seconds 300 --fail-alloc "$n") >"$log" 2>&1
         failed=$(grep -c '^test .* \.\.\. FAILED$' "$log")
-        by_refusal=$(grep -c -E '^ *(error: (Memory|AllocError|AllocFailed \{ \.\. \}|[A-Za-z]*Fault \{.* (kind: Memory|number: 12, place: Nowhere) \})|left: Err\(Memory\))' "$log")
+        by_refusal=$(grep -c -E '^ *(error: (Memory|AllocError|AllocFailed \{ \.\. \}|[A-Za-z]*Fault \{.* (kind: Memory|kind: Memory, relation: 0|number: 12, place: Nowhere) \})|left: Err\(Memory\))' "$log")
         if [ "$failed" -ne "$by_refusal" ] || ! grep -q '^run=ended ' "$log"; then
             echo "$crate: growth $n:"
             cat "$log"
