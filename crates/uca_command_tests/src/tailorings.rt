@@ -71,31 +71,27 @@ const ILL_FORMED: &str = "@version 1\n\
 /// The table, the data file and the rules.
 type Texts<'a> = [Option<&'a str>; 3];
 
-fn files_of<'a>(texts: &Texts<'a>, others: &'a [(&'a str, Option<&'a str>)]) -> Files<'a> {
-    let [table, properties, _] = *texts;
-    Files {
-        table,
-        properties,
-        others,
-    }
-}
-
 /// A tailoring of these texts ends so, and makes a file on the disk just where this is said.
 fn check_tailor(
     alloc: Global,
-    texts: &Texts,
+    texts: Texts,
     (words, pace): (&str, Pace),
     (disk, makes): (&Disk, bool),
     end: &End,
 ) -> Result<(), Fail> {
+    let [table, properties, rules] = texts;
+    let files = Files {
+        table,
+        properties,
+        others: &[("rules.txt", rules)],
+    };
     let around = Around {
         input: b"a\n",
         pace,
         disk,
         makes,
     };
-    let others = [("rules.txt", texts[2])];
-    check_around(alloc, &files_of(texts, &others), words, &around, end)
+    check_around(alloc, &files, words, &around, end)
 }
 
 // Done, with this on standard output.
@@ -126,7 +122,7 @@ fn check_outputs(alloc: Global, case: &Case) -> Result<(), Fail> {
     let texts = [Some(case.base), Some(DATA), Some(case.rules)];
     let disk = Disk::holding(alloc, "certificate.txt", OLD)?;
     let end = done(case.tailored, 3);
-    check_tailor(alloc, &texts, (WORDS, Pace::steps(7)), (&disk, true), &end)?;
+    check_tailor(alloc, texts, (WORDS, Pace::steps(7)), (&disk, true), &end)?;
     holds(
         disk.holds("certificate.txt", case.certificate),
         "another certificate",
@@ -209,14 +205,14 @@ fn a_certificate_in_place_of_its_rules(rt: HostRuntime) -> Result<(), Fail> {
     let words = "tailor,allkeys.txt,data.txt,rules.txt,rules.txt";
     let disk = Disk::holding(alloc, "rules.txt", "&a < x")?;
     let end = done(&tailored, 3);
-    check_tailor(alloc, &texts, (words, Pace::steps(64)), (&disk, true), &end)?;
+    check_tailor(alloc, texts, (words, Pace::steps(64)), (&disk, true), &end)?;
     holds(disk.holds("rules.txt", UNMOVED), "another certificate")
 }
 
 /// Nothing is printed and no file is made, and this is said.
 fn check_fault(
     alloc: Global,
-    texts: &Texts,
+    texts: Texts,
     (status, err, opened): (u8, &str, u32),
 ) -> Result<(), Fail> {
     let end = End {
@@ -238,10 +234,15 @@ const REFUSED: &str = r"&[before 3]a <<< x <<< y | tailor: NoRoom 3
 &a <<<< x | rules byte 3: Syntax";
 
 /// These files are refused with a line.
-fn check_refused(alloc: Global, table: &str, rules: &str, line: &str) -> Result<(), Fail> {
+fn check_refused<'a>(
+    alloc: Global,
+    table: &'a str,
+    rules: &'a str,
+    line: &str,
+) -> Result<(), Fail> {
     let texts = [Some(table), Some(DATA), Some(rules)];
     let err = joined(alloc, &[line, "\n"])?;
-    check_fault(alloc, &texts, (1, &err, 3))
+    check_fault(alloc, texts, (1, &err, 3))
 }
 
 #[test]
@@ -266,11 +267,11 @@ fn files_that_are_refused(rt: HostRuntime) -> Result<(), Fail> {
 fn files_that_do_not_open(rt: HostRuntime) -> Result<(), Fail> {
     let alloc = rt.alloc();
     let mut texts = [Some(TABLE), Some(DATA), None];
-    check_fault(alloc, &texts, (3, "rules: Open\n", 2))?;
+    check_fault(alloc, texts, (3, "rules: Open\n", 2))?;
     texts[1] = None;
-    check_fault(alloc, &texts, (3, "data: Open\n", 1))?;
+    check_fault(alloc, texts, (3, "data: Open\n", 1))?;
     texts[0] = None;
-    check_fault(alloc, &texts, (3, "table: Open\n", 0))
+    check_fault(alloc, texts, (3, "table: Open\n", 0))
 }
 
 /// The three files are read, and then nothing is printed.
@@ -285,7 +286,7 @@ fn a_certificate_that_cannot_be_made(rt: HostRuntime) -> Result<(), Fail> {
         err: "certificate: Write\n",
         opened: 3,
     };
-    check_tailor(alloc, &texts, (WORDS, Pace::steps(64)), (&disk, true), &end)?;
+    check_tailor(alloc, texts, (WORDS, Pace::steps(64)), (&disk, true), &end)?;
     holds(disk.holds("certificate.txt", OLD), "an old certificate")
 }
 
@@ -299,7 +300,7 @@ fn check_cut(alloc: Global, pace: Pace, out: &str) -> Result<(), Fail> {
         err: "output: Write\n",
         opened: 3,
     };
-    check_tailor(alloc, &texts, (WORDS, pace), (&disk, true), &end)?;
+    check_tailor(alloc, texts, (WORDS, pace), (&disk, true), &end)?;
     holds(
         disk.holds("certificate.txt", UNMOVED),
         "another certificate",
@@ -331,15 +332,18 @@ const MORE_WORDS: &str = "error: unexpected argument 'l' found\n\
 
 /// The words are refused, and nothing is opened.
 fn check_words(alloc: Global, words: &str, err: &str) -> Result<(), Fail> {
-    let texts = [Some(TABLE), Some(DATA), Some("&a < x")];
-    let others = [("rules.txt", texts[2])];
+    let files = Files {
+        table: Some(TABLE),
+        properties: Some(DATA),
+        others: &[("rules.txt", Some("&a < x"))],
+    };
     let end = End {
         status: 2,
         out: "",
         err,
         opened: 0,
     };
-    check(alloc, &files_of(&texts, &others), words, b"", &end)
+    check(alloc, &files, words, b"", &end)
 }
 
 #[test]
