@@ -1,10 +1,11 @@
 //! WF5: keys that are missing beside longer ones.
 
-ghost use Rattle.std.specs.Prelude.{◌≡◌, ◌<◌, ◌↔◌, length, IsTrue, Contains, slice_index_or};
-ghost use Rattle.uca_values.specs.Content.{keys_of, properties_of};
+ghost use Rattle.std.specs.Prelude.{◌≡◌, ◌<◌, ◌↔◌, List, length, IsTrue, Contains, MatchOption, slice_index_or};
+ghost use Rattle.uca_values.specs.Content.{Entry, keys_of, properties_of};
 ghost use Rattle.uca_check.specs.WellFormed.{MeetsWF5};
 ghost use Rattle.uca_check.specs.Searches.{FindsFirstWithout};
 
+use super::ahead::Ahead;
 use std::alloc::Allocator;
 use uca_values::{Data, Row};
 
@@ -15,35 +16,53 @@ pub(crate) fn first_without_shorter<A: Allocator, B: Allocator>(
 ) -> Option<usize>
     ensures { FindsFirstWithout (MeetsWF5 (properties_of «data».now).class rows.now) rows.now result }
 {
+    let mut ahead = Ahead::new();
     for (at, row) in rows.iter().enumerate() {
-        if !has_shorter(rows, at, row, data) {
+        ahead.reach(rows, at, data);
+        if !has_shorter(rows, at, row, data, &ahead) {
             return Some(at);
         }
     }
     None
 }
 
-/// Whether some row has the key without its last code point, if that is a non-starter behind two or more
-/// others.
+/// Whether some row has the shorter key of a row, if there is one.
 fn has_shorter<A: Allocator, B: Allocator>(
     rows: &[Row<A>],
     at: usize,
     row: &Row<A>,
     data: &Data<B>,
+    ahead: &Ahead,
 ) -> bool
     requires { at < length rows.now }
     ensures { IsTrue result ↔ MeetsWF5 (properties_of «data».now).class rows.now row.now }
 {
-    let [front @ .., last] = row.key.as_slice() else {
+    let Some(front) = shorter_key(row, data) else {
         return true;
     };
+    has_key(rows, ahead.start(rows, at, front), front)
+}
+
+/// The key of a row without its last code point, if that is a non-starter behind two or more others.
+pub(crate) fn shorter_key<'a, A: Allocator, B: Allocator>(
+    row: &'a Row<A>,
+    data: &Data<B>,
+) -> Option<&'a [char]>
+    ensures { MatchOption result
+        ((rows : List Entry) → MeetsWF5 (properties_of «data».now).class rows row.now)
+        (λ front. (rows : List Entry) →
+        Contains (keys_of rows) front.now ↔ MeetsWF5 (properties_of «data».now).class rows row.now) }
+{
+    let [front @ .., last] = row.key.as_slice() else {
+        return None;
+    };
     if front.len() < 2 {
-        return true;
+        return None;
     }
     if data.class(*last) == 0 {
-        return true;
+        return None;
     }
-    has_key(rows, at, front)
+    Some(front)
 }
 
 /// Whether some row has the key, looked for from one row outwards.

@@ -6,6 +6,7 @@ ghost use Rattle.uca_values.specs.Content.{properties_of};
 ghost use Rattle.uca_check.specs.WellFormed.{IsWellFormed, IsFirstFailure};
 ghost use Rattle.uca_check.specs.FaultText.{ill_formed_text};
 
+mod ahead;
 mod gaps;
 mod heights;
 mod keys;
@@ -45,11 +46,10 @@ impl fmt::Display for IllFormed {
 /// 4. An element whose primary lies from the least to the greatest one of variable elements is variable.
 /// 5. Where a key of three or more code points ends with a non-starter, it is a key without it too.
 ///
-/// It takes no memory. Conditions 1 to 4 take time in proportion to the table. Condition 5 looks for each
-/// shorter key from the row of the longer one outwards: where the two stand near, as in Unicode's tables,
-/// that takes time in proportion to the table too. At the worst it looks at nearly all rows for each such
-/// key: where every row has one and the shorter key stands in the last row, some 3 * 10^10 times on
-/// 200,000 rows.
+/// It takes no memory but some 100 kB of the stack. Conditions 1 to 4 take time in proportion to the table.
+/// Condition 5 looks for up to 4,096 shorter keys in each pass over the rows, and looks each row's key up among
+/// them by halving: tables like Unicode's take one such pass, and 200,000 rows that all have a shorter key take 49.
+/// Where a shorter key is missing, all rows are looked at once more.
 ///
 /// # Errors
 ///
