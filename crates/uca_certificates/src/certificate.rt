@@ -1,21 +1,22 @@
 //! Certificates as values.
 
+use std::alloc::{Allocator, Global};
 use std::marker::Model;
 use uca_weights::WeightMap;
 
 /// What becomes of the weights of a base in a tailored table: a map for each level. The levels of the three are `One`,
 /// `Two` and `Three`.
 #[derive(Drop)]
-pub struct Certificate {
+pub struct Certificate<A: Allocator = Global> {
     /// The map of level 1.
-    pub primary: WeightMap,
+    pub primary: WeightMap<A>,
     /// The map of level 2.
-    pub secondary: WeightMap,
+    pub secondary: WeightMap<A>,
     /// The map of level 3.
-    pub tertiary: WeightMap,
+    pub tertiary: WeightMap<A>,
 }
 
-impl Model for Certificate {
+impl<A: Allocator> Model for Certificate<A> {
     ghost use Rattle.std.specs.Prelude.{◌≡◌};
     ghost use Rattle.uca_weights.specs.declared.Level.TheVariants.{One, Two, Three};
     ghost use Rattle.uca_certificates.specs.Certificates.{CertificateContent, IsCertificate};

@@ -7,7 +7,7 @@ ghost use Rattle.uca_certificates.specs.Steps.{RefusesRuns, fault_line};
 
 use crate::spelling::read_line;
 use crate::{CERTIFICATE_FORM, Certificate, CertificateFault, CertificateFaultKind};
-use std::alloc::Global;
+use std::alloc::{Allocator, Global};
 use std::marker::Model;
 use uca_files::{FileForm, TakesLines};
 use uca_weights::{Level, MapFault, MapFaultKind, Run, WeightMap};
@@ -17,13 +17,13 @@ const MOST_RUNS: usize = 0xFFFF;
 
 /// The runs of each level that the lines so far say.
 #[derive(Drop)]
-pub struct Lines {
-    primary: Vec<Run>,
-    secondary: Vec<Run>,
-    tertiary: Vec<Run>,
+pub struct Lines<A: Allocator = Global> {
+    primary: Vec<Run, A>,
+    secondary: Vec<Run, A>,
+    tertiary: Vec<Run, A>,
 }
 
-impl Model for Lines {
+impl<A: Allocator> Model for Lines<A> {
     ghost use Rattle.std.specs.Prelude.{◌≤◌, length};
     ghost use Rattle.uca_certificates.specs.Certificates.{CertificateContent};
 
@@ -39,7 +39,7 @@ impl Model for Lines {
         × (length l.tertiary.items ≤ 0xFFFF) };
 }
 
-impl Lines {
+impl<A: Allocator + Copy> Lines<A> {
     ghost use Rattle.std.specs.Prelude.{◌≡◌, ◌⊎◌, ◌<◌, ◌↔◌, [], length, IsTrue, OnOk, IfOk, IfErr};
     ghost use Rattle.uca_certificates.specs.declared.faults.CertificateFaultKind.{CertificateFaultKind};
     ghost use Rattle.uca_certificates.specs.Certificates.{IsCertificate, runs_at};
@@ -47,7 +47,7 @@ impl Lines {
     ghost use Rattle.uca_certificates.specs.Steps.{put_last, RefusesContent};
 
     /// Nothing is said yet. It takes no memory.
-    pub fn new(alloc: Global) -> Lines
+    pub fn new(alloc: A) -> Lines<A>
         ensures { result ≡ record { primary = []; secondary = []; tertiary = [] } }
     {
         Lines {
@@ -87,7 +87,7 @@ impl Lines {
     /// # Errors
     ///
     /// `Map` for the lowest level whose runs make no map.
-    pub fn into_certificate(self) -> Result<Certificate, CertificateFault>
+    pub fn into_certificate(self) -> Result<Certificate<A>, CertificateFault>
         ensures certificate { IfOk result (λ certificate. certificate ≡ self) }
         ensures maps { OnOk result (IsCertificate self) }
         ensures fault { IfErr result (RefusesContent self) }
@@ -111,7 +111,7 @@ impl Lines {
     }
 }
 
-impl TakesLines for Lines {
+impl<A: Allocator + Copy> TakesLines for Lines<A> {
     ghost use Rattle.std.specs.Prelude.{refl};
     ghost use Rattle.uca_certificates.specs.declared.TheConstants.{CERTIFICATE_FORM};
     ghost use Rattle.uca_certificates.specs.Texts.{Says, Cause, is_read_kind};
@@ -154,7 +154,7 @@ impl TakesLines for Lines {
 }
 
 // Adds a run to those of a level.
-fn push_run(runs: &mut Vec<Run>, run: Run) -> Result<(), CertificateFaultKind>
+fn push_run<A: Allocator>(runs: &mut Vec<Run, A>, run: Run) -> Result<(), CertificateFaultKind>
     requires { length runs.old.items ≤ 0xFFFF }
     ensures room { OnOk result (length runs.old.items < 0xFFFF) }
     ensures ok { OnOk result (runs.new.items ≡ runs.old.items ++ run ∷ []) }
@@ -170,12 +170,12 @@ fn push_run(runs: &mut Vec<Run>, run: Run) -> Result<(), CertificateFaultKind>
 }
 
 // The map of the runs of a level, before which `below` runs stand among `all`.
-fn map_of(
+fn map_of<A: Allocator>(
     level: Level,
-    runs: Vec<Run>,
+    runs: Vec<Run, A>,
     below: usize,
     all: usize,
-) -> Result<WeightMap, CertificateFault>
+) -> Result<WeightMap<A>, CertificateFault>
     requires within { below + length runs.items ≤ all }
     requires few { all ≤ 0x10_0000 }
     ensures map { IfOk result (λ map. map ≡ record { level = level; runs = runs.items }) }

@@ -6,7 +6,7 @@ ghost use Rattle.uca_certificates.specs.Texts.{IsStop, Means, Refuses, is_read};
 
 use crate::lines::Lines;
 use crate::{Certificate, CertificateFault};
-use std::alloc::Global;
+use std::alloc::Allocator;
 use std::io::Read;
 use uca_files::read_lines;
 use uca_weights::Source;
@@ -26,10 +26,10 @@ use uca_weights::Source;
 /// Where all lines are acceptable, `Map` for the lowest level whose runs make no map, by its first fault: at the line of
 /// the run, for `Fixed` at the number of lines plus one. `Read` where the source failed, and `Memory` where an allocation
 /// failed, come with the line that was being read.
-pub fn read_certificate<R: Read>(
-    alloc: Global,
+pub fn read_certificate<R: Read, A: Allocator + Copy>(
+    alloc: A,
     source: &mut Source<R>,
-) -> Result<Certificate, CertificateFault>
+) -> Result<Certificate<A>, CertificateFault>
     // Where the bytes are known.
     ensures found { IfSome source.old.remaining (λ bytes. IfOk result (Means bytes)) }
     ensures only { IfSome source.old.remaining (λ bytes. (content : CertificateContent) → Means bytes content →
@@ -42,10 +42,10 @@ pub fn read_certificate<R: Read>(
     read_to_end(alloc, source)
 }
 
-fn read_to_end<R: Read>(
-    alloc: Global,
+fn read_to_end<R: Read, A: Allocator + Copy>(
+    alloc: A,
     source: &mut Source<R>,
-) -> Result<Certificate, CertificateFault>
+) -> Result<Certificate<A>, CertificateFault>
     ensures found { IfSome source.old.remaining (λ bytes. IfOk result (Means bytes)) }
     ensures fault { IfSome source.old.remaining (λ bytes. IfErr result (Refuses bytes source.new.remaining)) }
     ensures failed { source.new.failed ≡ (source.old.failed || is_read result) }

@@ -8,6 +8,7 @@ ghost use Rattle.uca_certificates.specs.Steps.{level_text};
 
 use crate::Certificate;
 use crate::spelling::run_line;
+use std::alloc::Allocator;
 use std::io::Write;
 use uca_lines::OutputBuffer;
 use uca_weights::{Level, Run, Sink, WriteFault};
@@ -18,8 +19,8 @@ use uca_weights::{Level, Run, Sink, WriteFault};
 /// # Errors
 ///
 /// The writer failed: `written` says how many bytes went out, which are the first of the text.
-pub fn write_certificate<W: Write>(
-    certificate: &Certificate,
+pub fn write_certificate<W: Write, A: Allocator>(
+    certificate: &Certificate<A>,
     out: &mut Sink<W>,
 ) -> Result<(), WriteFault>
     ensures text { Writes out.old.contents out.new.contents (certificate_text certificate.now) result }

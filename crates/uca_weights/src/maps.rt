@@ -8,6 +8,7 @@ ghost use Rattle.uca_weights.specs.Runs as map_runs;
 ghost use Rattle.uca_weights.specs.Runs.{AreProperRuns, AreRising, IsAbove, IsInRange, IsMapFault, IsProperRun, KeepsPairWeight, RefusesRun, run_image, weight_image, ProperRunsRise, FaultyRunsAreNotProper, RunsThatStayKeepWeights};
 
 use crate::Level;
+use std::alloc::{Allocator, Global};
 use std::fmt;
 use std::marker::Model;
 use thiserror::Error;
@@ -71,12 +72,12 @@ impl fmt::Display for MapFault {
 /// level 1 each weight from 8000 up stays, and those below are sent below 8000; level 2 keeps 0020 and level 3 keeps
 /// 0002, the weights of implicit weights (UTS #10, section 10.1.3).
 #[derive(Drop)]
-pub struct WeightMap {
+pub struct WeightMap<A: Allocator = Global> {
     level: Level,
-    runs: Vec<Run>,
+    runs: Vec<Run, A>,
 }
 
-impl Model for WeightMap {
+impl<A: Allocator> Model for WeightMap<A> {
     ghost use Rattle.uca_weights.specs.Runs.{MapContent, AreProperRuns};
 
     ghost Value = { MapContent };
@@ -86,13 +87,13 @@ impl Model for WeightMap {
     ghost invariant = { λ m. AreProperRuns m.level m.runs.items };
 }
 
-impl WeightMap {
+impl<A: Allocator> WeightMap<A> {
     /// The map of a level by its runs. It takes no memory.
     ///
     /// # Errors
     ///
     /// The first run that has a fault, in the order `Empty`, `OutOfRange`, `NotRising`; where no run has one, `Fixed`.
-    pub fn from_runs(level: Level, runs: Vec<Run>) -> Result<WeightMap, MapFault>
+    pub fn from_runs(level: Level, runs: Vec<Run, A>) -> Result<WeightMap<A>, MapFault>
         ensures map { IfOk result (λ map. map ≡ record { level = level; runs = runs.items }) }
         ensures proper { IfOk result (λ map. AreProperRuns level runs.items) }
         ensures fault { IfErr result (IsMapFault level runs.items) }

@@ -8,7 +8,7 @@ use Rattle.uca_certificates.proofs.MapLaws.{refuses_primary, refuses_secondary, 
 use Rattle.uca_certificates.proofs.lines.Lines.into_certificate.Goals as goal
 
 pub returns-in_err-primary-clause-fault : goal.returns-in_err-primary-clause-fault
-returns-in_err-primary-clause-fault c =
+returns-in_err-primary-clause-fault g c =
     let p = err_from_is_err_and c.from_residual.result c.from_residual.ensures.1 in
     let first = ap (λ (s : CertificateContent). s.primary) c.self.view_is in
     let second = ap (λ (s : CertificateContent). s.secondary) c.self.view_is in
@@ -16,7 +16,7 @@ returns-in_err-primary-clause-fault c =
     rw (p.1, p.2) (refuses_primary c.args.self _ _ _ first (rw (← first, ← second, ← third) (omega arith)) c.in_err-primary.ensures.fault)
 
 pub returns-in_err-secondary-clause-fault : goal.returns-in_err-secondary-clause-fault
-returns-in_err-secondary-clause-fault c =
+returns-in_err-secondary-clause-fault g c =
     let p = err_from_is_err_and c.from_residual-in_err-secondary.result c.from_residual-in_err-secondary.ensures.1 in
     let first = ap (λ (s : CertificateContent). s.primary) c.self.view_is in
     let second = ap (λ (s : CertificateContent). s.secondary) c.self.view_is in
@@ -25,7 +25,7 @@ returns-in_err-secondary-clause-fault c =
     (rw (← first, ← second, ← third) (omega arith)) c.in_err-secondary.ensures.fault)
 
 pub returns-in_err-tertiary-clause-fault : goal.returns-in_err-tertiary-clause-fault
-returns-in_err-tertiary-clause-fault c =
+returns-in_err-tertiary-clause-fault g c =
     let p = err_from_is_err_and c.from_residual-in_err-tertiary.result c.from_residual-in_err-tertiary.ensures.1 in
     let first = ap (λ (s : CertificateContent). s.primary) c.self.view_is in
     let second = ap (λ (s : CertificateContent). s.secondary) c.self.view_is in

@@ -3,16 +3,16 @@ use Rattle.uca_certificates.proofs.TakeLaws.{line_fault, order_fault, denied, ad
 use Rattle.uca_certificates.proofs.lines.LinesTakesLines.take.Goals as goal
 
 pub returns-in_default-clause-fault : goal.returns-in_default-clause-fault
-returns-in_default-clause-fault c = line_fault c.args.self.now c.args.line.now c.in_default.ensures
+returns-in_default-clause-fault g c = line_fault c.args.self.now c.args.line.now c.in_default.ensures
 
 pub returns-then-is_passed-clause-fault : goal.returns-then-is_passed-clause-fault
-returns-then-is_passed-clause-fault c =
+returns-then-is_passed-clause-fault g c =
     order_fault c.args.self.now c.args.line.now c.in-Some.level c.in-Some.run' c.in-Some.ensures (c.is_passed.ensures.0 c.if-is_passed.true)
 
 pub returns-clause-ok : goal.returns-clause-ok
-returns-clause-ok c =
+returns-clause-ok g c =
     added_takes c.args.self.now c.add.new.self c.args.line.now c.in-Some.level c.in-Some.run' c.add.result c.in-Some.ensures
     (denied c.is_passed.result c.is_passed.ensures.1 c.if-is_passed.false) c.add.ensures.room c.add.ensures.ok
 
 pub returns-clause-fault : goal.returns-clause-fault
-returns-clause-fault c = add_fault c.args.self.now c.args.line.now c.in-Some.level c.in-Some.run' c.add.result c.in-Some.ensures c.add.ensures.fault
+returns-clause-fault g c = add_fault c.args.self.now c.args.line.now c.in-Some.level c.in-Some.run' c.add.result c.in-Some.ensures c.add.ensures.fault

@@ -6,5 +6,5 @@ use Rattle.uca_weights.proofs.RunMaps.{IsRisingMap-runs}
 use Rattle.uca_weights.proofs.maps.WeightMap.runs.Goals as goal
 
 pub returns-clause-rising : goal.returns-clause-rising
-returns-clause-rising c =
+returns-clause-rising g c =
     subst (λ (map : MapContent). IsRisingMap map.level (weight_image map.level map.runs)) c.self.view_is (IsRisingMap-runs _ _ c.self.invariant)
