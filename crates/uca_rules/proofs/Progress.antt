@@ -170,19 +170,19 @@ ends_behind_reset properties end cs state read open_chain =
 
 -- ---- What a reader is for
 
-pub kept_properties : {A : Type 0} (old new : TextReader A) → Keeps old new → properties_in new ≡ properties_in old
+pub kept_properties : {A T : Type 0} (old new : TextReader A T) → Keeps old new → properties_in new ≡ properties_in old
 kept_properties {A} old new kept = ap (λ p. properties_of p.now) kept.properties
 
-pub keeps_both : {A : Type 0} (old middle new : TextReader A) → Keeps old middle → Keeps middle new → Keeps old new
+pub keeps_both : {A T : Type 0} (old middle new : TextReader A T) → Keeps old middle → Keeps middle new → Keeps old new
 keeps_both {A} old middle new first second = record { properties = second.properties ∙ first.properties; end = second.end ∙ first.end }
 
-pub kept_fault : {A : Type 0} (old new : TextReader A) (state : State) (cs : List Character) (fault : RuleFault) → Keeps old new
+pub kept_fault : {A T : Type 0} (old new : TextReader A T) (state : State) (cs : List Character) (fault : RuleFault) → Keeps old new
     → IsNextFault (properties_in new) new.end state cs fault → IsNextFault (properties_in old) old.end state cs fault
 kept_fault {A} old new state cs fault kept h =
     subst (λ (p : Properties). IsNextFault p old.end state cs fault) (kept_properties old new kept)
     (subst (λ (n : ℕ). IsNextFault (properties_in new) n state cs fault) kept.end h)
 
-pub kept_next : {A : Type 0} (old new : TextReader A) (before after : State) (cs rest : List Character) → Keeps old new
+pub kept_next : {A T : Type 0} (old new : TextReader A T) (before after : State) (cs rest : List Character) → Keeps old new
     → BeginsNext (properties_in new) before after cs rest → BeginsNext (properties_in old) before after cs rest
 kept_next {A} old new before after cs rest kept h = subst (λ (p : Properties). BeginsNext p before after cs rest) (kept_properties old new kept) h
 

@@ -51,7 +51,7 @@ short_further (x ∷ xs) ys first second = (first.0, short_further xs ys first.1
 -- ---- What readers add
 
 -- no targets
-pub adds_none : {A : Type 0} → (strength : Strength) (r : Reader A) → IsReady r → IsRuleText r.anchor → Adds (Starred strength []) r r
+pub adds_none : {A T : Type 0} → (strength : Strength) (r : Reader A T) → IsReady r → IsRuleText r.anchor → Adds (Starred strength []) r r
 adds_none strength r ready anchored = record {
   kept = record { properties = refl; end = refl };
   growing = ready.growing;
@@ -63,13 +63,13 @@ adds_none strength r ready anchored = record {
 }
 
 -- a reader that has added relations is ready for the next ones
-pub ready_behind : {A : Type 0} {s : Statement} {old new : Reader A} → Adds s old new → IsReady new
+pub ready_behind : {A T : Type 0} {s : Statement} {old new : Reader A T} → Adds s old new → IsReady new
 ready_behind adds = record { growing = adds.growing; anchored = λ _. adds.anchored }
 
-pub same_properties : {A : Type 0} {s : Statement} {old new : Reader A} → Adds s old new → properties_in new.texts ≡ properties_in old.texts
+pub same_properties : {A T : Type 0} {s : Statement} {old new : Reader A T} → Adds s old new → properties_in new.texts ≡ properties_in old.texts
 same_properties adds = ap (λ p. properties_of p.now) adds.kept.properties
 
-pub adds_further : {A : Type 0} (strength : Strength) (xs ys : List Character) (old mid new : Reader A) → Adds (Starred strength xs) old mid → Adds (Starred strength ys) mid new
+pub adds_further : {A T : Type 0} (strength : Strength) (xs ys : List Character) (old mid new : Reader A T) → Adds (Starred strength xs) old mid → Adds (Starred strength ys) mid new
     → Adds (Starred strength (xs ++ ys)) old new
 adds_further strength xs ys old mid new first second =
     let P : Properties = properties_in old.texts in
@@ -238,7 +238,7 @@ range_at symbols at before x p c d ranges has ends is =
 
 -- ---- Faults of some of the targets
 
-pub fault_within : {A : Type 0} (strength : Strength) (front mid back : List Character) (here : ℕ) (fault : RuleFault) (old new : Reader A)
+pub fault_within : {A T : Type 0} (strength : Strength) (front mid back : List Character) (here : ℕ) (fault : RuleFault) (old new : Reader A T)
     → Adds (Starred strength front) old new → HasTargetFault (properties_in new.texts) (state_of new) strength mid here fault
     → HasTargetFault (properties_in old.texts) (state_of old) strength (front ++ (mid ++ back)) here fault
 fault_within {A} strength front mid back here fault old new adds has = ⊎_elim inl (⊎_elim (λ cause. inr (inl (of_relation cause))) (λ over. inr (inr (over_limit over)))) has
@@ -294,7 +294,7 @@ fault_within {A} strength front mid back here fault old new adds has = ⊎_elim 
 
 -- ---- One target
 
-pub adds_one : {A : Type 0} (strength : Strength) (c : Character) (text : Spelled) (texts : TextReader A) (old new : Reader A) → Keeps old.texts texts
+pub adds_one : {A T : Type 0} (strength : Strength) (c : Character) (text : Spelled) (texts : TextReader A T) (old new : Reader A T) → Keeps old.texts texts
     → IsTextOf (properties_in old.texts) (c.code ∷ []) text → AddsOne (relation_of old strength text None) (record old { texts = texts }) new → Adds (Starred strength (c ∷ [])) old new
 adds_one strength c text texts old new kept is adds = record {
   kept = record { properties = adds.kept.properties ∙ kept.properties; end = adds.kept.end ∙ kept.end };
@@ -307,7 +307,7 @@ adds_one strength c text texts old new kept is adds = record {
 }
 
 -- a relation of one target has a cause
-pub fault_of_one : {A : Type 0} (strength : Strength) (c : Character) (text : Spelled) (here : ℕ) (fault : RuleFault) (old : Reader A) → text ≡ one_letter (properties_in old.texts) c
+pub fault_of_one : {A T : Type 0} (strength : Strength) (c : Character) (text : Spelled) (here : ℕ) (fault : RuleFault) (old : Reader A T) → text ≡ one_letter (properties_in old.texts) c
     → IsMemoryAt here fault ⊎ ((fault.byte ≡ c.place) × RelationCause old.rules.relations.items (relation_of old strength text None) fault.kind)
     → HasTargetFault (properties_in old.texts) (state_of old) strength (c ∷ []) here fault
 fault_of_one {A} strength c text here fault old is has = ⊎_elim inl (λ cause. inr (inl (of_relation cause))) has
@@ -378,12 +378,12 @@ inside_range x y point range above below most out =
 -- ---- A character behind the symbols before it
 
 -- the targets before a character, those of the range that it ends included, have been added
-pub record Before {A : Type 0} (strength : Strength) (symbols : List Symbol) (at : ℕ) (c : Character) (old new : Reader A) : Type 0 where
+pub record Before {A T : Type 0} (strength : Strength) (symbols : List Symbol) (at : ℕ) (c : Character) (old new : Reader A T) : Type 0 where
   pub gap : List Character
   pub further : Further symbols at c gap
   pub adds : Adds (Starred strength (targets_of (take at symbols) ++ gap)) old new
 
-pub range_before : {A : Type 0} (strength : Strength) (symbols : List Symbol) (at : ℕ) (front : List Symbol) (x : Character) (p : ℕ) (c : Character) (d : Symbol) (old mid new : Reader A)
+pub range_before : {A T : Type 0} (strength : Strength) (symbols : List Symbol) (at : ℕ) (front : List Symbol) (x : Character) (p : ℕ) (c : Character) (d : Symbol) (old mid new : Reader A T)
     → at < length symbols → take at symbols ≡ front ++ Literal x ∷ Hyphen p ∷ [] → get_or symbols at d ≡ Literal c
     → Adds (Starred strength (targets_of (take at symbols))) old mid → Adds (Starred strength (between p x.code c.code)) mid new → Before strength symbols at c old new
 range_before strength symbols at front x p c d old mid new has ends is first second = record {
@@ -392,7 +392,7 @@ range_before strength symbols at front x p c d old mid new has ends is first sec
   adds = adds_further strength (targets_of (take at symbols)) (between p x.code c.code) old mid new first second;
 }
 
-pub none_before : {A : Type 0} (strength : Strength) (symbols : List Symbol) (at : ℕ) (c : Character) (d : Symbol) (old new : Reader A)
+pub none_before : {A T : Type 0} (strength : Strength) (symbols : List Symbol) (at : ℕ) (c : Character) (d : Symbol) (old new : Reader A T)
     → at < length symbols → ((front : List Symbol) (x : Character) (p : ℕ) → take at symbols ≢ front ++ Literal x ∷ Hyphen p ∷ []) → get_or symbols at d ≡ Literal c
     → Adds (Starred strength (targets_of (take at symbols))) old new → Before strength symbols at c old new
 none_before strength symbols at c d old new has other is adds = record {
@@ -401,13 +401,13 @@ none_before strength symbols at c d old new has other is adds = record {
   adds = subst (λ (l : List Character). Adds (Starred strength l) old new) (sym (append-nil (targets_of (take at symbols)))) adds;
 }
 
-pub adds_character : {A : Type 0} (strength : Strength) (symbols : List Symbol) (at : ℕ) (c : Character) (old mid new : Reader A) → Before strength symbols at c old mid
+pub adds_character : {A T : Type 0} (strength : Strength) (symbols : List Symbol) (at : ℕ) (c : Character) (old mid new : Reader A T) → Before strength symbols at c old mid
     → Adds (Starred strength (c ∷ [])) mid new → Adds (Starred strength (targets_of (take (at + 1) symbols))) old new
 adds_character strength symbols at c old mid new before adds =
     subst (λ (l : List Character). Adds (Starred strength l) old new) (sym before.further.next)
     (adds_further strength (targets_of (take at symbols) ++ before.gap) (c ∷ []) old mid new before.adds adds)
 
-pub fault_in_range : {A : Type 0} (strength : Strength) (symbols : List Symbol) (at : ℕ) (c : Character) (gap : List Character) (here : ℕ) (fault : RuleFault) (old new : Reader A)
+pub fault_in_range : {A T : Type 0} (strength : Strength) (symbols : List Symbol) (at : ℕ) (c : Character) (gap : List Character) (here : ℕ) (fault : RuleFault) (old new : Reader A T)
     → Further symbols at c gap → Adds (Starred strength (targets_of (take at symbols))) old new → HasTargetFault (properties_in new.texts) (state_of new) strength gap here fault
     → HasTargetFault (properties_in old.texts) (state_of old) strength (targets_of symbols) here fault
 fault_in_range strength symbols at c gap here fault old new further adds has =
@@ -417,7 +417,7 @@ fault_in_range strength symbols at c gap here fault old new further adds has =
     subst (λ (l : List Character). HasTargetFault (properties_in old.texts) (state_of old) strength l here fault) (sym all)
     (fault_within strength front gap (c ∷ [] ++ further.more) here fault old new adds has)
 
-pub fault_of_character : {A : Type 0} (strength : Strength) (symbols : List Symbol) (at : ℕ) (c : Character) (here : ℕ) (fault : RuleFault) (old new : Reader A)
+pub fault_of_character : {A T : Type 0} (strength : Strength) (symbols : List Symbol) (at : ℕ) (c : Character) (here : ℕ) (fault : RuleFault) (old new : Reader A T)
     → Before strength symbols at c old new → HasTargetFault (properties_in new.texts) (state_of new) strength (c ∷ []) here fault
     → HasTargetFault (properties_in old.texts) (state_of old) strength (targets_of symbols) here fault
 fault_of_character strength symbols at c here fault old new before has =

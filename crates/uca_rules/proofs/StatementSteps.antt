@@ -111,7 +111,7 @@ starred_next_fault properties end state cs text strength fault due follows few (
     })
 
 -- the relations of a statement have been added, and it stands last
-pub goes_on : {A : Type 0} (s : Statement) (old new : Reader A) (cs rest : List Character) → BeginsStatement cs s rest → MayFollow old.last (opening s) → last_is s ≡ lasts.Relation → Adds s old new
+pub goes_on : {A T : Type 0} (s : Statement) (old new : Reader A T) (cs rest : List Character) → BeginsStatement cs s rest → MayFollow old.last (opening s) → last_is s ≡ lasts.Relation → Adds s old new
     → GoesOn old (record { texts = new.texts; rules = new.rules; anchor = new.anchor; before = new.before; last = lasts.Relation }) cs rest
 goes_on {A} s old new cs rest begins follows is adds = record {
   kept = adds.kept;
@@ -129,12 +129,12 @@ goes_on {A} s old new cs rest begins follows is adds = record {
   };
 }
 
-pub plain_goes_on : {A : Type 0} (old new : Reader A) (strength : Strength) (cs text rest : List Character) → IsTargetDue cs strength false text → MayFollow old.last (Signs strength) → AddsPlain old new strength text rest
+pub plain_goes_on : {A T : Type 0} (old new : Reader A T) (strength : Strength) (cs text rest : List Character) → IsTargetDue cs strength false text → MayFollow old.last (Signs strength) → AddsPlain old new strength text rest
     → GoesOn old (record { texts = new.texts; rules = new.rules; anchor = new.anchor; before = new.before; last = lasts.Relation }) cs rest
 plain_goes_on {A} old new strength cs text rest due follows h =
     goes_on (Plain strength h.target h.expansion) old new cs rest (record { text = text; due = due; more = h.more; begins = h.begins; expands = h.expands }) follows refl h.adds
 
-pub starred_goes_on : {A : Type 0} (old new : Reader A) (strength : Strength) (cs text rest : List Character) → IsTargetDue cs strength true text → MayFollow old.last (Signs strength) → AddsStarred old new strength text rest
+pub starred_goes_on : {A T : Type 0} (old new : Reader A T) (strength : Strength) (cs text rest : List Character) → IsTargetDue cs strength true text → MayFollow old.last (Signs strength) → AddsStarred old new strength text rest
     → GoesOn old (record { texts = new.texts; rules = new.rules; anchor = new.anchor; before = new.before; last = lasts.Relation }) cs rest
 starred_goes_on {A} old new strength cs text rest due follows h =
     goes_on (Starred strength (targets_of h.symbols)) old new cs rest (record { text = text; due = due; symbols = h.symbols; begins = h.begins; ranges = h.ranges; are = refl }) follows refl h.adds
@@ -199,7 +199,7 @@ relation_fault properties end state strength text more rest target expansion t e
       cause = subst (λ (l : List Relation). RelationCause l (record { anchor = state.anchor.text; before = state.anchor.before; strength = strength; target = t; expansion = e }) fault.kind) (sym (append-nil state.relations)) cause.1;
     })
 
-pub plain_adds : {A : Type 0} (old middle new : Reader A) (strength : Strength) (text more rest : List Character) (target : Written) (expansion : Option Written) (t : Spelled) (e : Option Spelled)
+pub plain_adds : {A T : Type 0} (old middle new : Reader A T) (strength : Strength) (text more rest : List Character) (target : Written) (expansion : Option Written) (t : Spelled) (e : Option Spelled)
     → BeginsWritten text target more → BeginsExpansion more expansion rest → IsTextOf (properties_in old.texts) target.points t → AreTextsOf (properties_in old.texts) expansion e
     → Keeps old.texts middle.texts → middle.rules ≡ old.rules → anchor_of middle ≡ anchor_of old → middle.last ≡ old.last
     → AddsOne (relation_of middle strength t e) middle new → AddsPlain old new strength text rest
@@ -248,7 +248,7 @@ target_due cs strength starred is behind text sign same gap = record {
 }
 
 -- a reset has been read
-pub reset_goes_on : {A : Type 0} (old : Reader A) (texts : TextReader A) (cs text rest : List Character) (asked : Option Strength) (before : Bool) (written : Written) (anchor : Spelled)
+pub reset_goes_on : {A T : Type 0} (old : Reader A T) (texts : TextReader A T) (cs text rest : List Character) (asked : Option Strength) (before : Bool) (written : Written) (anchor : Spelled)
     → before ≡ is_some asked → AreGrowing old.rules → Keeps old.texts texts → IsAnchorDue cs asked text → MayFollow old.last Resets → BeginsWritten text written rest → IsTextOf (properties_in old.texts) written.points anchor
     → GoesOn old (record { texts = texts; rules = old.rules; anchor = anchor; before = before; last = lasts.Reset asked }) cs rest
 reset_goes_on {A} old texts cs text rest asked before written anchor is growing kept due follows begins found = record {

@@ -1,29 +1,24 @@
 -- Rules that grow by one relation after the other. Only clauses inside this crate cite this file.
-use Rattle.std.specs.Prelude.{◌≡◌, ◌↔◌, ◌⊎◌, ℕ, List, map, Contains, Vec}
-use Rattle.std.specs.Global.{Global}
+use Rattle.std.specs.Prelude.{◌≡◌, ◌↔◌, ◌⊎◌, ℕ, List, Contains}
 use Rattle.uca_rules.specs.declared.relations.Relation.{Relation}
 use Rattle.uca_rules.specs.declared.growing.GrowingRules.{GrowingRules}
 use Rattle.uca_rules.specs.Relations.{AreRules, IsTarget, IsUsedBy, IsHeld}
 
--- a text that is held, in the memory that it has
-abbrev pub HeldText : Type 0
-HeldText = Vec ℕ Global
-
 -- the texts that are held
-abbrev pub held_texts : GrowingRules → List (List ℕ)
-held_texts g = map (λ text. text.items) g.held.items
+abbrev pub held_texts : {A : Type 0} → GrowingRules A → List (List ℕ)
+held_texts g = g.held.items
 
 -- the relations are rules, and the texts that are held are those in which no later target may occur
-pub record AreGrowing (g : GrowingRules) : Type 0 where
+pub record AreGrowing {A : Type 0} (g : GrowingRules A) : Type 0 where
   pub rules : AreRules g.relations.items
   pub are_held : (text : List ℕ) → Contains (held_texts g) text ↔ IsHeld g.relations.items text
 
 -- one more text is held, unless it is a target
-pub record Holds (text : List ℕ) (old new : GrowingRules) : Type 0 where
+pub record Holds {A : Type 0} (text : List ℕ) (old new : GrowingRules A) : Type 0 where
   pub same : new.relations ≡ old.relations
   pub held : (t : List ℕ) → Contains (held_texts new) t ↔ (Contains (held_texts old) t ⊎ ((t ≡ text) × ¬ (IsTarget old.relations.items text)))
 
 -- the texts of a relation are held, those that are a target aside
-pub record HoldsOwn (r : Relation) (old new : GrowingRules) : Type 0 where
+pub record HoldsOwn {A : Type 0} (r : Relation) (old new : GrowingRules A) : Type 0 where
   pub same : new.relations ≡ old.relations
   pub held : (t : List ℕ) → Contains (held_texts new) t ↔ (Contains (held_texts old) t ⊎ (IsUsedBy r t × ¬ (IsTarget old.relations.items t)))

@@ -36,11 +36,11 @@ AreTextsOf properties None None = Unit {0}
 AreTextsOf properties (Some written) (Some text) = IsTextOf properties written.points text
 AreTextsOf properties written text = ⊥
 
-abbrev pub properties_in : {A : Type 0} → TextReader A → Properties
+abbrev pub properties_in : {A T : Type 0} → TextReader A T → Properties
 properties_in r = properties_of r.properties.now
 
 -- what a reader of texts is for stays the same
-pub record Keeps {A : Type 0} (old new : TextReader A) : Type 0 where
+pub record Keeps {A T : Type 0} (old new : TextReader A T) : Type 0 where
   pub properties : new.properties ≡ old.properties
   pub end : new.end ≡ old.end
 
@@ -163,25 +163,25 @@ IsReadingFault properties end cs fault = IsMemoryIn end cs fault ⊎ HasCause pr
 
 -- ---- The reader
 
-abbrev pub anchor_of : {A : Type 0} → Reader A → Anchor
+abbrev pub anchor_of : {A T : Type 0} → Reader A T → Anchor
 anchor_of r = record { text = r.anchor; before = r.before }
 
-abbrev pub state_of : {A : Type 0} → Reader A → State
+abbrev pub state_of : {A T : Type 0} → Reader A T → State
 state_of r = record { relations = r.rules.relations.items; anchor = anchor_of r; last = r.last }
 
 -- what the reader keeps from one statement to the next
-pub record IsReady {A : Type 0} (r : Reader A) : Type 0 where
+pub record IsReady {A T : Type 0} (r : Reader A T) : Type 0 where
   pub growing : AreGrowing r.rules
   pub anchored : r.last ≢ lasts.Nothing → IsRuleText r.anchor
 
 -- one more statement has been read
-pub record GoesOn {A : Type 0} (old new : Reader A) (cs rest : List Character) : Type 0 where
+pub record GoesOn {A T : Type 0} (old new : Reader A T) (cs rest : List Character) : Type 0 where
   pub kept : Keeps old.texts new.texts
   pub ready : IsReady new
   pub next : BeginsNext (properties_in old.texts) (state_of old) (state_of new) cs rest
 
 -- the relations of a statement have been added
-pub record Adds {A : Type 0} (s : Statement) (old new : Reader A) : Type 0 where
+pub record Adds {A T : Type 0} (s : Statement) (old new : Reader A T) : Type 0 where
   pub kept : Keeps old.texts new.texts
   pub growing : AreGrowing new.rules
   pub anchored : IsRuleText new.anchor
@@ -191,11 +191,11 @@ pub record Adds {A : Type 0} (s : Statement) (old new : Reader A) : Type 0 where
   pub last : new.last ≡ old.last
 
 -- a relation behind the anchor
-abbrev pub relation_of : {A : Type 0} → Reader A → Strength → Spelled → Option Spelled → Relation
+abbrev pub relation_of : {A T : Type 0} → Reader A T → Strength → Spelled → Option Spelled → Relation
 relation_of r strength target expansion = record { anchor = r.anchor; before = r.before; strength = strength; target = target; expansion = expansion }
 
 -- it has been added, and its target is the next anchor
-pub record AddsOne {A : Type 0} (relation : Relation) (old new : Reader A) : Type 0 where
+pub record AddsOne {A T : Type 0} (relation : Relation) (old new : Reader A T) : Type 0 where
   pub kept : Keeps old.texts new.texts
   pub growing : AreGrowing new.rules
   pub relations : new.rules.relations.items ≡ old.rules.relations.items ++ relation ∷ []
@@ -204,7 +204,7 @@ pub record AddsOne {A : Type 0} (relation : Relation) (old new : Reader A) : Typ
   pub last : new.last ≡ old.last
 
 -- a text that is not starred, and perhaps an expansion, have been read, and their relation has been added
-pub record AddsPlain {A : Type 0} (old new : Reader A) (strength : Strength) (text rest : List Character) : Type 0 where
+pub record AddsPlain {A T : Type 0} (old new : Reader A T) (strength : Strength) (text rest : List Character) : Type 0 where
   pub target : Written
   pub more : List Character
   pub begins : BeginsWritten text target more
@@ -213,7 +213,7 @@ pub record AddsPlain {A : Type 0} (old new : Reader A) (strength : Strength) (te
   pub adds : Adds (Plain strength target expansion) old new
 
 -- a starred text has been read, and its relations have been added
-pub record AddsStarred {A : Type 0} (old new : Reader A) (strength : Strength) (text rest : List Character) : Type 0 where
+pub record AddsStarred {A T : Type 0} (old new : Reader A T) (strength : Strength) (text rest : List Character) : Type 0 where
   pub symbols : List Symbol
   pub begins : BeginsText true text symbols rest
   pub ranges : HasRanges symbols

@@ -4,7 +4,7 @@ ghost use Rattle.std.specs.Prelude.{◌≡◌, ◌≤◌, IfErr, IfOk, length};
 ghost use Rattle.uca_rules.specs.Characters;
 
 use crate::faults::{RuleFault, RuleFaultKind};
-use std::alloc::Global;
+use std::alloc::Allocator;
 
 /// A character of rules, or one that an escape stands for.
 #[derive(Clone, Copy)]
@@ -25,7 +25,7 @@ pub(crate) enum Symbol {
 }
 
 /// The characters of rules.
-pub(crate) fn characters(alloc: Global, text: &str) -> Result<Vec<Character>, RuleFault>
+pub(crate) fn characters<A: Allocator>(alloc: A, text: &str) -> Result<Vec<Character, A>, RuleFault>
     ensures found { IfOk result (λ found. found.items ≡ Characters.characters text.now) }
     ensures fault { IfErr result (λ fault. (fault.kind ≡ RuleFaultKind.Memory) × (fault.byte ≤ length text.now)) }
 {

@@ -1,6 +1,6 @@
 //! Rules that grow by one relation after the other.
 
-ghost use Rattle.std.specs.Prelude.{◌≡◌, ◌<◌, ◌++◌, ◌∷◌, [], ◌⊎◌, ℕ, Contains, IfErr, IsFalse, IsTrue, List, OnOk, length, map};
+ghost use Rattle.std.specs.Prelude.{◌≡◌, ◌<◌, ◌++◌, ◌∷◌, [], ◌⊎◌, ℕ, Contains, IfErr, IsFalse, IsTrue, List, OnOk, length};
 ghost use Rattle.uca_text.specs.Occurring.{OccursInOrder};
 ghost use Rattle.uca_rules.specs.declared.faults.RuleFaultKind.{RuleFaultKind};
 ghost use Rattle.uca_rules.specs.Relations.{AreRules, HasRuleTexts};
@@ -9,21 +9,36 @@ ghost use Rattle.uca_rules.specs.Growing.{AreGrowing, Holds, HoldsOwn};
 
 use crate::faults::RuleFaultKind;
 use crate::relations::{Relation, Rules, is_target, occurs_in_order};
-use std::alloc::{AllocError, Global};
+use std::alloc::{AllocError, Allocator};
+use std::marker::Model;
 
 /// The relations that have been read.
 #[derive(Drop)]
-pub(crate) struct GrowingRules {
-    alloc: Global,
-    relations: Vec<Relation>,
+pub(crate) struct GrowingRules<A: Allocator> {
+    alloc: A,
+    relations: Vec<Relation, A>,
     // the anchors and expansions that are no target of a relation before their own: no later target may occur in
     // them in order
-    held: Vec<Vec<char>>,
+    held: Vec<HeldText<A>, A>,
 }
 
-impl GrowingRules {
+/// A text that is held.
+#[derive(Drop)]
+struct HeldText<A: Allocator> {
+    text: Vec<char, A>,
+}
+
+impl<A: Allocator> Model for HeldText<A> {
+    ghost use Rattle.std.specs.Prelude.{ℕ, List};
+
+    ghost Value = { List ℕ };
+
+    ghost view = { λ h. h.text.items };
+}
+
+impl<A: Allocator + Copy> GrowingRules<A> {
     /// No relations.
-    pub(crate) fn new(alloc: Global) -> GrowingRules
+    pub(crate) fn new(alloc: A) -> GrowingRules<A>
         ensures none { result.relations.items ≡ [] }
         ensures growing { AreGrowing result }
     {
@@ -84,13 +99,13 @@ impl GrowingRules {
     {
         if !is_target(&self.relations, text) {
             let text = Vec::from_slice(self.alloc, text)?;
-            self.held.push(text)?;
+            self.held.push(HeldText { text })?;
         }
         Ok(())
     }
 
     /// The rules that the relations make up.
-    pub(crate) fn finish(self) -> Rules
+    pub(crate) fn finish(self) -> Rules<A>
         requires { AreGrowing self }
         ensures { result ≡ self.relations.items }
     {
@@ -101,11 +116,11 @@ impl GrowingRules {
 }
 
 /// Whether the part occurs in order in one of the texts.
-fn occurs_in_one(part: &[char], texts: &[Vec<char>]) -> bool
-    ensures found { IsTrue result → (text : List ℕ) × Contains (map (λ t. t.items) texts.now) text × OccursInOrder part.now text }
-    ensures none { IsFalse result → (text : List ℕ) → Contains (map (λ t. t.items) texts.now) text → ¬ (OccursInOrder part.now text) }
+fn occurs_in_one<A: Allocator>(part: &[char], texts: &[HeldText<A>]) -> bool
+    ensures found { IsTrue result → (text : List ℕ) × Contains texts.now text × OccursInOrder part.now text }
+    ensures none { IsFalse result → (text : List ℕ) → Contains texts.now text → ¬ (OccursInOrder part.now text) }
 {
-    for text in texts {
+    for HeldText { text } in texts {
         if occurs_in_order(part, text) {
             return true;
         }

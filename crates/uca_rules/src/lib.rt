@@ -18,5 +18,5 @@ pub use faults::{RuleFault, RuleFaultKind};
 pub use laws::{
     bytes_mean_at_most_one_list_of_relations, bytes_with_a_fault_mean_nothing, worked_rules,
 };
-pub use reader::read_rules;
+pub use reader::{read_rules, read_rules_in};
 pub use relations::{Relation, Rules};

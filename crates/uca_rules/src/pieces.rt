@@ -5,7 +5,7 @@ ghost use Rattle.uca_rules.specs.Pieces;
 ghost use Rattle.uca_rules.specs.Views.{Takes, slice_view};
 
 use crate::characters::{Character, Symbol, is_white};
-use std::alloc::AllocError;
+use std::alloc::{AllocError, Allocator};
 
 /// Whether a piece may begin with the character: of a starred text also `-`.
 pub(crate) fn begins_piece(starred: bool, c: char) -> bool
@@ -26,8 +26,8 @@ fn is_plain(c: char) -> bool
 
 /// Takes the piece at the front: its symbols come behind those that are there. What follows it is given back, or nothing
 /// where no piece stands.
-pub(crate) fn take_piece<'a>(
-    symbols: &mut Vec<Symbol>,
+pub(crate) fn take_piece<'a, A: Allocator>(
+    symbols: &mut Vec<Symbol, A>,
     characters: &'a [Character],
     starred: bool,
 ) -> Result<Option<&'a [Character]>, AllocError>
@@ -55,8 +55,8 @@ pub(crate) fn take_piece<'a>(
 }
 
 /// Behind an apostrophe: another one, and both stand for an apostrophe, or the inside of quotes.
-fn behind_apostrophe<'a>(
-    symbols: &mut Vec<Symbol>,
+fn behind_apostrophe<'a, A: Allocator>(
+    symbols: &mut Vec<Symbol, A>,
     first: Character,
     characters: &'a [Character],
 ) -> Result<Option<&'a [Character]>, AllocError>
@@ -73,8 +73,8 @@ fn behind_apostrophe<'a>(
 }
 
 /// The inside of quotes, up to the next single apostrophe.
-fn inside_quotes<'a>(
-    symbols: &mut Vec<Symbol>,
+fn inside_quotes<'a, A: Allocator>(
+    symbols: &mut Vec<Symbol, A>,
     characters: &'a [Character],
 ) -> Result<Option<&'a [Character]>, AllocError>
     ensures { IfOk result (λ found. Takes symbols.old.items symbols.new.items (slice_view found) (Pieces.inside_quotes characters.now)) }
@@ -95,8 +95,8 @@ fn inside_quotes<'a>(
 }
 
 /// Behind a backslash: `u` and four digits, `U` and eight, or another character, which stands for itself.
-fn behind_backslash<'a>(
-    symbols: &mut Vec<Symbol>,
+fn behind_backslash<'a, A: Allocator>(
+    symbols: &mut Vec<Symbol, A>,
     first: Character,
     characters: &'a [Character],
 ) -> Result<Option<&'a [Character]>, AllocError>

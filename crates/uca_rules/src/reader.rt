@@ -52,15 +52,36 @@ pub fn read_rules<A: Allocator>(
         MatchResult result (λ rules. rules ≡ relations) (λ fault. fault.kind ≡ RuleFaultKind.Memory) }
     ensures fault { IfErr result (λ fault. IsCause (properties_of properties.now) bytes.now fault.byte fault.kind) }
 {
-    read_all(alloc, bytes, properties)
+    read_rules_in(alloc, alloc, bytes, properties)
+}
+
+/// Reads rules as [`read_rules`] does, in memory of the caller's choice. Texts in Normalization Form D are taken from
+/// `global`; everything else, the list of relations among it, is taken from `alloc`.
+///
+/// # Errors
+///
+/// Those of [`read_rules`]: `Memory` comes where an allocation from either fails.
+pub fn read_rules_in<A: Allocator + Copy, T: Allocator>(
+    alloc: A,
+    global: Global,
+    bytes: &[u8],
+    properties: &Data<T>,
+) -> Result<Rules<A>, RuleFault>
+    ensures found { IfOk result (λ rules. Means (properties_of properties.now) bytes.now rules) }
+    ensures only { (relations : List Relation) → Means (properties_of properties.now) bytes.now relations →
+        MatchResult result (λ rules. rules ≡ relations) (λ fault. fault.kind ≡ RuleFaultKind.Memory) }
+    ensures fault { IfErr result (λ fault. IsCause (properties_of properties.now) bytes.now fault.byte fault.kind) }
+{
+    read_all(alloc, global, bytes, properties)
 }
 
 /// Reads rules to their end or their first fault.
-fn read_all<A: Allocator>(
-    alloc: Global,
+fn read_all<A: Allocator + Copy, T: Allocator>(
+    alloc: A,
+    global: Global,
     bytes: &[u8],
-    properties: &Data<A>,
-) -> Result<Rules, RuleFault>
+    properties: &Data<T>,
+) -> Result<Rules<A>, RuleFault>
     ensures found { IfOk result (λ rules. Means (properties_of properties.now) bytes.now rules) }
     ensures fault { IfErr result (λ fault. IsCause (properties_of properties.now) bytes.now fault.byte fault.kind) }
 {
@@ -78,34 +99,34 @@ fn read_all<A: Allocator>(
         }),
     };
     let characters = characters(alloc, text)?;
-    let mut reader = Reader::new(alloc, properties, bytes.len());
+    let mut reader = Reader::new(alloc, global, properties, bytes.len());
     reader.read_statements(&characters)?;
     Ok(reader.rules.finish())
 }
 
 /// What has been read, and what the next statement stands behind.
 #[derive(Drop)]
-pub(crate) struct Reader<'a, A: Allocator> {
-    pub(crate) texts: TextReader<'a, A>,
-    pub(crate) rules: GrowingRules,
+pub(crate) struct Reader<'a, A: Allocator, T: Allocator> {
+    pub(crate) texts: TextReader<'a, A, T>,
+    pub(crate) rules: GrowingRules<A>,
     // what the next relation is placed by, and whether before it
     anchor: Normal,
     before: bool,
     last: Last,
 }
 
-impl<'a, A: Allocator> Reader<'a, A> {
+impl<'a, A: Allocator + Copy, T: Allocator> Reader<'a, A, T> {
     /// Before the first statement.
-    fn new(alloc: Global, properties: &'a Data<A>, end: usize) -> Reader<'a, A>
+    fn new(alloc: A, global: Global, properties: &'a Data<T>, end: usize) -> Reader<'a, A, T>
         ensures properties { properties_in result.texts ≡ properties_of properties.now }
         ensures end { result.texts.end ≡ end }
         ensures state { state_of result ≡ start }
         ensures ready { IsReady result }
     {
         Reader {
-            texts: TextReader::new(alloc, properties, end),
+            texts: TextReader::new(alloc, global, properties, end),
             rules: GrowingRules::new(alloc),
-            anchor: Normal::new(alloc),
+            anchor: Normal::new(global),
             before: false,
             last: Last::Nothing,
         }

@@ -4,6 +4,7 @@ ghost use Rattle.std.specs.Prelude.{◌≡◌, ◌↔◌, ℕ, IsTrue, List};
 ghost use Rattle.uca_text.specs.Occurring.{OccursInOrder};
 ghost use Rattle.uca_rules.specs.Relations.{AreRules, IsTarget, IsUntouched};
 
+use std::alloc::{Allocator, Global};
 use std::marker::Model;
 use uca_text::Normal;
 use uca_weights::Strength;
@@ -28,11 +29,11 @@ pub struct Relation {
 /// Form D. No two have the same target. No anchor and no expansion of a relation holds, in order, the relation's own target
 /// or a later one, unless it is itself the target of a relation before that one.
 #[derive(Drop)]
-pub struct Rules {
-    pub(crate) relations: Vec<Relation>,
+pub struct Rules<A: Allocator = Global> {
+    pub(crate) relations: Vec<Relation, A>,
 }
 
-impl Model for Rules {
+impl<A: Allocator> Model for Rules<A> {
     ghost use Rattle.std.specs.Prelude.{List};
     ghost use Rattle.uca_rules.specs.declared.relations.Relation.{Relation};
     ghost use Rattle.uca_rules.specs.Relations.{AreRules};
@@ -44,7 +45,7 @@ impl Model for Rules {
     ghost invariant = { λ r. AreRules r.relations.items };
 }
 
-impl Rules {
+impl<A: Allocator> Rules<A> {
     /// The relations, in the order in which they are written.
     pub fn relations(&self) -> &[Relation]
         ensures value { result.now ≡ self.now }

@@ -14,7 +14,7 @@ use crate::texts::{place_of, read_text};
 use std::alloc::Allocator;
 use uca_weights::Strength;
 
-impl<'a, A: Allocator> Reader<'a, A> {
+impl<'a, A: Allocator + Copy, T: Allocator> Reader<'a, A, T> {
     /// Reads a starred text, and adds a relation for each of its targets.
     pub(crate) fn read_starred<'c>(
         &mut self,

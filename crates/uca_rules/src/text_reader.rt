@@ -19,24 +19,32 @@ use uca_values::Data;
 
 /// What reading a text takes.
 #[derive(Drop)]
-pub(crate) struct TextReader<'a, A: Allocator> {
-    pub(crate) alloc: Global,
-    pub(crate) properties: &'a Data<A>,
+pub(crate) struct TextReader<'a, A: Allocator, T: Allocator> {
+    pub(crate) alloc: A,
+    // what texts in Normalization Form D are taken from
+    global: Global,
+    pub(crate) properties: &'a Data<T>,
     /// The length of the rules.
     pub(crate) end: usize,
     // memory for the symbols of a text, and for its letters
-    symbols: Vec<Symbol>,
-    letters: String,
+    symbols: Vec<Symbol, A>,
+    letters: String<A>,
 }
 
-impl<'a, A: Allocator> TextReader<'a, A> {
+impl<'a, A: Allocator + Copy, T: Allocator> TextReader<'a, A, T> {
     /// For rules of a length.
-    pub(crate) fn new(alloc: Global, properties: &'a Data<A>, end: usize) -> TextReader<'a, A>
+    pub(crate) fn new(
+        alloc: A,
+        global: Global,
+        properties: &'a Data<T>,
+        end: usize,
+    ) -> TextReader<'a, A, T>
         ensures properties { properties_in result ≡ properties_of properties.now }
         ensures end { result.end ≡ end }
     {
         TextReader {
             alloc,
+            global,
             properties,
             end,
             symbols: Vec::new(alloc),
@@ -60,7 +68,7 @@ impl<'a, A: Allocator> TextReader<'a, A> {
         let byte = place_of(self.end, text);
         let rest = read_text(&mut self.symbols, text, false, self.end)?;
         match rule_text(
-            self.alloc,
+            self.global,
             &mut self.letters,
             &self.symbols,
             self.properties,
@@ -99,7 +107,7 @@ impl<'a, A: Allocator> TextReader<'a, A> {
         ensures found { IfOk result (λ found. MatchOption found (16 < length (nfd (c.code ∷ []))) (IsTextOf (properties_in self.old) (c.code ∷ []))) }
     {
         rule_text(
-            self.alloc,
+            self.global,
             &mut self.letters,
             &[Symbol::Literal(c)],
             self.properties,

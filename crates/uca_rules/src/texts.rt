@@ -37,8 +37,8 @@ pub(crate) fn place_of(end: usize, characters: &[Character]) -> usize
 /// # Errors
 ///
 /// `EmptyText`, `Syntax`, `Escape` or `Memory`.
-pub(crate) fn read_text<'a>(
-    symbols: &mut Vec<Symbol>,
+pub(crate) fn read_text<'a, A: Allocator>(
+    symbols: &mut Vec<Symbol, A>,
     text: &'a [Character],
     starred: bool,
     end: usize,
@@ -211,11 +211,11 @@ fn ends_text(rest: &[Character], starred: bool) -> bool
 }
 
 /// The text of the symbols in Normalization Form D, unless it has more than 16 code points there.
-pub(crate) fn rule_text<A: Allocator>(
-    alloc: Global,
-    letters: &mut String,
+pub(crate) fn rule_text<A: Allocator, T: Allocator>(
+    global: Global,
+    letters: &mut String<A>,
     symbols: &[Symbol],
-    properties: &Data<A>,
+    properties: &Data<T>,
 ) -> Result<Option<Normal>, AllocError>
     requires { points_of symbols.now ≢ [] }
     ensures { IfOk result (λ found. MatchOption found (16 < length (nfd (points_of symbols.now))) (λ text. (text ≡ spelled (properties_of properties.now) (points_of symbols.now)) × IsRuleText text)) }
@@ -226,7 +226,7 @@ pub(crate) fn rule_text<A: Allocator>(
             letters.push(c.code)?;
         }
     }
-    match normal(alloc, letters, properties) {
+    match normal(global, letters, properties) {
         Ok(text) => Ok(if text.chars().len() <= LONGEST_TEXT {
             Some(text)
         } else {

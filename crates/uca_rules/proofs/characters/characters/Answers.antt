@@ -8,7 +8,7 @@ use Rattle.uca_rules.proofs.Placing.{placed_more, placed_all}
 use Rattle.uca_rules.proofs.characters.characters.Goals as goal
 
 pub loop-place-preserved : goal.loop-place-preserved
-loop-place-preserved c =
+loop-place-preserved g c =
     let s = c.in-Some.ensures.steps in
     let i = c.loop-place.invariant in
     let more = placed_more c.loop-place.characters.items (char_indices_offset c.loop-place.place-iterator) c.in-Some.code c.in-Some.place (char_indices_offset c.next.new.self) _ _ i.utf8 s.1 s.0 s.2 in
@@ -19,4 +19,4 @@ loop-place-preserved c =
     }
 
 pub returns-clause-found : goal.returns-clause-found
-returns-clause-found c = sym (placed_all _ _ _ c.in-None.ensures.steps.0) ∙ c.loop-place.invariant.items
+returns-clause-found g c = sym (placed_all _ _ _ c.in-None.ensures.steps.0) ∙ c.loop-place.invariant.items

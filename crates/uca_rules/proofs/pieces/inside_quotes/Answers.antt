@@ -6,10 +6,10 @@ use Rattle.uca_rules.proofs.pieces.inside_quotes.Goals as goal
 use Rattle.uca_rules.proofs.pieces.inside_quotes.Goals.{then-c-eq39+else-at-characters+else-characters-at-ne39, else-c-eq39}
 
 pub loop-at-init : goal.loop-at-init
-loop-at-init c = inside_first c.args.symbols.now.items c.args.characters.now
+loop-at-init g c = inside_first c.args.symbols.now.items c.args.characters.now
 
 pub loop-at-preserved : goal.loop-at-preserved
-loop-at-preserved c =
+loop-at-preserved g c =
     let old = c.args.symbols.now.items in
     let cs = c.args.characters.now in
     let at = c.loop-at.at in

@@ -1,19 +1,19 @@
-use Rattle.std.proofs.Common.{◌≡◌, ◌↔◌, ◌++◌, ◌∷◌, [], List, ℕ, Contains, map, ap, subst, sym, refl, ◌∙◌, inl, inr, ⊎_elim, true, false}
+use Rattle.std.proofs.Common.{◌≡◌, ◌↔◌, ◌++◌, ◌∷◌, [], List, ℕ, Contains, ap, subst, sym, refl, ◌∙◌, inl, inr, ⊎_elim, true, false}
 use Rattle.uca_text.specs.Occurring.{OccursInOrder}
 use Rattle.uca_rules.specs.declared.relations.Relation.{Relation}
-use Rattle.uca_rules.specs.Growing.{HeldText, held_texts, HoldsOwn}
+use Rattle.uca_rules.specs.Growing.{held_texts, HoldsOwn}
 use Rattle.uca_rules.specs.Relations.{AreRules, IsTarget, IsHeld}
 use Rattle.uca_rules.proofs.HeldTexts.{held_more, rules_more}
 use Rattle.uca_rules.proofs.growing.GrowingRules.add.Goals as goal
 
 pub returns-then-occurs_in_one-clause-fault : goal.returns-then-occurs_in_one-clause-fault
-returns-then-occurs_in_one-clause-fault c =
+returns-then-occurs_in_one-clause-fault g c =
     let rs : List Relation = c.args.self.now.relations.items in
     let r : Relation = c.args.relation in
     let own : HoldsOwn r c.args.self.now c.hold_own.new.self = c.in_ok-hold_own.ensures in
     let found : (text : List ℕ) × Contains (held_texts c.hold_own.new.self) text × OccursInOrder r.target.points text =
     subst (λ (p : List ℕ). (text : List ℕ) × Contains (held_texts c.hold_own.new.self) text × OccursInOrder p text) c.chars-target.ensures.value
-    (subst (λ (l : List HeldText). (text : List ℕ) × Contains (map (λ t. t.items) l) text × OccursInOrder c.chars-target.result.now text) c.deref-2.ensures.value (c.if-occurs_in_one.ensures.found refl)) in
+    (subst (λ (l : List (List ℕ)). (text : List ℕ) × Contains l text × OccursInOrder c.chars-target.result.now text) c.deref-2.ensures.value (c.if-occurs_in_one.ensures.found refl)) in
     inr (record {
       text = found.0;
       held = (held_more rs r found.0).1 (⊎_elim (λ before. inl ((c.requires.growing.are_held found.0).0 before)) (λ it. inr it) ((own.held found.0).0 found.1));
@@ -21,7 +21,7 @@ returns-then-occurs_in_one-clause-fault c =
     })
 
 pub returns-clause-growing : goal.returns-clause-growing
-returns-clause-growing c =
+returns-clause-growing g c =
     let rs : List Relation = c.args.self.now.relations.items in
     let r : Relation = c.args.relation in
     let own : HoldsOwn r c.args.self.now c.hold_own.new.self = c.in_ok-hold_own.ensures in
@@ -37,7 +37,7 @@ returns-clause-growing c =
     cc in
     let none : (text : List ℕ) → IsHeld (rs ++ r ∷ []) text → ¬ (OccursInOrder r.target.points text) = λ text h occurs.
     c.if-occurs_in_one.ensures.none refl text
-    (subst (λ (l : List HeldText). Contains (map (λ t. t.items) l) text) (sym c.deref-2.ensures.value) ((held text).1 h))
+    (subst (λ (l : List (List ℕ)). Contains l text) (sym c.deref-2.ensures.value) ((held text).1 h))
     (subst (λ (p : List ℕ). OccursInOrder p text) (sym c.chars-target.ensures.value) occurs) in
     record {
       rules = subst AreRules (sym is) (rules_more rs r c.requires.growing.rules c.requires.few c.requires.texts new_target none);

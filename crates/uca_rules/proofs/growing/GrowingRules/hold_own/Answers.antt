@@ -6,7 +6,7 @@ use Rattle.uca_rules.proofs.HeldTexts.{both_held, anchor_held}
 use Rattle.uca_rules.proofs.growing.GrowingRules.hold_own.Goals as goal
 
 pub returns-in_ok-hold-2 : goal.returns-in_ok-hold-2
-returns-in_ok-hold-2 c =
+returns-in_ok-hold-2 g c =
     let r : Relation = c.args.relation.now in
     let target : List ℕ → Type 0 = λ t. IsTarget c.args.self.now.relations.items t in
     let first : Holds r.anchor.points c.args.self.now c.hold.new.self = subst (λ (p : List ℕ). Holds p c.args.self.now c.hold.new.self) c.chars.ensures.value c.in_ok-hold.ensures in
@@ -20,7 +20,7 @@ returns-in_ok-hold-2 c =
     }
 
 pub returns-in_default : goal.returns-in_default
-returns-in_default c =
+returns-in_default g c =
     let r : Relation = c.args.relation.now in
     let target : List ℕ → Type 0 = λ t. IsTarget c.args.self.now.relations.items t in
     let first : Holds r.anchor.points c.args.self.now c.hold.new.self = subst (λ (p : List ℕ). Holds p c.args.self.now c.hold.new.self) c.chars.ensures.value c.in_ok-hold.ensures in

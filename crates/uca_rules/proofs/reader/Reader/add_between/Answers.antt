@@ -46,7 +46,7 @@ loop-point-preserved g c =
     elim c.match-from_u32.branch [
       | in-Some+in_ok-add_character w ↦
           let one : Adds (Starred c.args.strength (record { code = point; place = c.args.place } ∷ [])) c.loop-point.self c.match-from_u32.self =
-          subst (λ (r : Reader g.row.A.Denot). Adds (Starred c.args.strength (record { code = point; place = c.args.place } ∷ [])) c.loop-point.self r) (sym w.self-is)
+          subst (λ (r : Reader g.row.A.Denot g.row.T.Denot). Adds (Starred c.args.strength (record { code = point; place = c.args.place } ∷ [])) c.loop-point.self r) (sym w.self-is)
           (subst (λ (code : ℕ). Adds (Starred c.args.strength (record { code = code; place = c.args.place } ∷ [])) c.loop-point.self w.add_character.new.self) w.in-Some.ensures.value.1 w.in_ok-add_character.ensures.added) in
           subst (λ (l : List Character). Adds (Starred c.args.strength l) c.args.self.now c.match-from_u32.self) (sym (placed_more c.args.place a point c.loop-point.auto.point))
           (adds_further c.args.strength so_far (record { code = point; place = c.args.place } ∷ []) c.args.self.now c.loop-point.self c.match-from_u32.self c.loop-point.invariant one)

@@ -43,11 +43,11 @@ returns-in_err-add_character-clause-fault g c =
     let before : Before c.args.strength symbols at c.in-Literal.c c.args.self.now c.match-open_range.self =
     elim c.match-open_range.branch [
       | in-Some+in_ok-add_between w ↦
-          subst (λ (r : Reader g.row.A.Denot). Before c.args.strength symbols at c.in-Literal.c c.args.self.now r) (sym w.self-is)
+          subst (λ (r : Reader g.row.A.Denot g.row.T.Denot). Before c.args.strength symbols at c.in-Literal.c c.args.self.now r) (sym w.self-is)
           (range_before c.args.strength symbols at w.in-Some.ensures.found.0 w.in-Some.start w.in-Some.place c.in-Literal.c none c.args.self.now c.loop-at.self w.add_between.new.self
           c.loop-at-test.true w.in-Some.ensures.found.1 c.in-Literal.is c.loop-at.invariant w.in_ok-add_between.ensures.added)
       | in_default-open_range w ↦
-          subst (λ (r : Reader g.row.A.Denot). Before c.args.strength symbols at c.in-Literal.c c.args.self.now r) (sym w.self-is)
+          subst (λ (r : Reader g.row.A.Denot g.row.T.Denot). Before c.args.strength symbols at c.in-Literal.c c.args.self.now r) (sym w.self-is)
           (none_before c.args.strength symbols at c.in-Literal.c none c.args.self.now c.loop-at.self c.loop-at-test.true w.in_default-open_range.ensures.none c.in-Literal.is c.loop-at.invariant)
     ] in
     rw (p.1, p.2)
@@ -60,11 +60,11 @@ loop-at-preserved g c =
     let before : Before c.args.strength symbols at c.in-Literal.c c.args.self.now c.match-open_range.self =
     elim c.match-open_range.branch [
       | in-Some+in_ok-add_between w ↦
-          subst (λ (r : Reader g.row.A.Denot). Before c.args.strength symbols at c.in-Literal.c c.args.self.now r) (sym w.self-is)
+          subst (λ (r : Reader g.row.A.Denot g.row.T.Denot). Before c.args.strength symbols at c.in-Literal.c c.args.self.now r) (sym w.self-is)
           (range_before c.args.strength symbols at w.in-Some.ensures.found.0 w.in-Some.start w.in-Some.place c.in-Literal.c none c.args.self.now c.loop-at.self w.add_between.new.self
           c.loop-at-test.true w.in-Some.ensures.found.1 c.in-Literal.is c.loop-at.invariant w.in_ok-add_between.ensures.added)
       | in_default-open_range w ↦
-          subst (λ (r : Reader g.row.A.Denot). Before c.args.strength symbols at c.in-Literal.c c.args.self.now r) (sym w.self-is)
+          subst (λ (r : Reader g.row.A.Denot g.row.T.Denot). Before c.args.strength symbols at c.in-Literal.c c.args.self.now r) (sym w.self-is)
           (none_before c.args.strength symbols at c.in-Literal.c none c.args.self.now c.loop-at.self c.loop-at-test.true w.in_default-open_range.ensures.none c.in-Literal.is c.loop-at.invariant)
     ] in
     adds_character c.args.strength symbols at c.in-Literal.c c.args.self.now c.match-open_range.self c.add_character.new.self before c.in_ok-add_character.ensures.added
