@@ -8,3 +8,4 @@ pub mod PlacedRows
 pub mod WeightSets
 pub mod NewWeights
 pub mod KnownWeights
+pub mod ImageTables

@@ -11,7 +11,7 @@ use Rattle.uca_audit.specs.Inputs.{tailoring_of}
 use Rattle.uca_audit.specs.Refusals.{IsFirstRelationWithout}
 
 -- the tailoring that is handed in
-abbrev pub tailoring_in : Inputs → Tailoring
+abbrev pub tailoring_in : {T : Type 0} → Inputs T → Tailoring
 tailoring_in inputs = tailoring_of inputs.base.now (properties_of inputs.properties.now) inputs.rules.now inputs.tailored.now inputs.certificate.now
 
 -- what is found is the first relation without the property, by its index; or each has it

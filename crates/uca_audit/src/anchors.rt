@@ -14,7 +14,7 @@ ghost use Rattle.uca_audit.specs.Views.{FindsFirstRelation, tailoring_in};
 use crate::Condition;
 use crate::inputs::Inputs;
 use crate::readings::read_elements;
-use std::alloc::{AllocError, Global};
+use std::alloc::{AllocError, Allocator};
 use uca_match::{Collator, Lookup, Trie};
 use uca_weights::{Element, Level, Strength};
 
@@ -23,12 +23,12 @@ const FIRST_IMPLICIT: u16 = 0x8000;
 
 /// The first relation whose anchor has no element that a new weight can be put on, by its index. Relations of identical
 /// strength put none.
-pub(crate) fn first_without_anchor(
-    alloc: Global,
-    inputs: &Inputs,
-    collator: &Collator<Trie>,
+pub(crate) fn first_without_anchor<A: Allocator + Copy, T: Allocator>(
+    alloc: A,
+    inputs: &Inputs<T>,
+    collator: &Collator<Trie<A>, T>,
 ) -> Result<Option<usize>, AllocError>
-    requires { ReadsAs (collation_of ⟦<Trie as Lookup>⟧.content collator.now) (tailored_reading (tailoring_in inputs.now)) }
+    requires { ReadsAs (collation_of ⟦<Trie<A> as Lookup>⟧.content collator.now) (tailored_reading (tailoring_in inputs.now)) }
     ensures { IfOk result (FindsFirstRelation (Meets (tailoring_in inputs.now) Condition.Anchor)
         (λ before r after. HasAnchor (tailoring_in inputs.now) r) (tailoring_in inputs.now).relations) }
 {

@@ -1,6 +1,6 @@
 //! The audit.
 
-ghost use Rattle.std.specs.Prelude.{◌⊎◌, IfErr, OnOk};
+ghost use Rattle.std.specs.Prelude.{◌≡◌, ◌⊎◌, IfOk, IfErr, OnOk};
 ghost use Rattle.uca_values.specs.Content.{properties_of, IsHeader, IsTable};
 ghost use Rattle.uca_tailorings.specs.Images.{AreRisingMaps};
 ghost use Rattle.uca_tailorings.specs.Tailorings.{IsTailoring, IsAccepted};
@@ -15,11 +15,12 @@ use crate::conditions::{
     rows_are_expected, rows_are_present, rows_are_unchanged, tailored_is_well_formed,
     targets_are_nearest, targets_are_placed, weights_are_covered,
 };
+use crate::images::Images;
 use crate::inputs::Inputs;
 use crate::known::known_weights;
 use crate::targets::Targets;
 use crate::{AuditFault, Certificate};
-use std::alloc::Global;
+use std::alloc::Allocator;
 use uca_match::{Collator, Lookup, Trie};
 use uca_rules::Rules;
 use uca_tailorings::accepted_tailorings_are_faithful;
@@ -30,13 +31,13 @@ use uca_values::{Data, Header, Table};
 /// # Errors
 ///
 /// The first condition that fails, by its number, and the first place where it does; 12 where an allocation failed.
-pub fn audit(
-    alloc: Global,
-    base: &Table,
-    properties: &Data,
-    rules: &Rules,
-    tailored: &Table,
-    certificate: &Certificate,
+pub fn audit<A: Allocator + Copy, T: Allocator>(
+    alloc: A,
+    base: &Table<T>,
+    properties: &Data<T>,
+    rules: &Rules<T>,
+    tailored: &Table<T>,
+    certificate: &Certificate<T>,
 ) -> Result<(), AuditFault>
     // All conditions are met.
     ensures accepted { OnOk result (IsAccepted (tailoring_of base.now (properties_of properties.now) rules.now tailored.now certificate.now)) }
@@ -63,46 +64,67 @@ pub fn audit(
 }
 
 // The same of what is handed in, as one value. The tailored table's lookup serves all conditions from the fifth on.
-fn audit_inputs(alloc: Global, inputs: &Inputs) -> Result<(), AuditFault>
+fn audit_inputs<A: Allocator + Copy, T: Allocator>(
+    alloc: A,
+    inputs: &Inputs<T>,
+) -> Result<(), AuditFault>
     ensures accepted { OnOk result (IsAccepted (tailoring_in inputs.now)) }
     ensures faithful { OnOk result (IsFaithful (tailoring_in inputs.now)) }
     ensures refused { IfErr result (λ fault. IsFirstRefusal (tailoring_in inputs.now) fault ⊎ IsMemory fault) }
 {
-    audit_tables(inputs)?;
+    let images = audit_tables(alloc, inputs)?;
     let tailored = Trie::new(alloc, inputs.tailored)?;
-    audit_rows(alloc, inputs, &tailored)?;
-    audit_relations(alloc, inputs, &tailored)?;
+    audit_rows(alloc, inputs, &images, &tailored)?;
+    audit_relations(alloc, inputs, &images, &tailored)?;
     meaning(inputs);
     Ok(())
 }
 
-// Conditions 1 to 4, which need no memory.
-fn audit_tables(inputs: &Inputs) -> Result<(), AuditFault>
-    ensures { Passes (tailoring_in inputs.now) 5 result }
+// Conditions 1 to 4. The fourth and later ones look weights up in the images, which are made once the first three are
+// met.
+fn audit_tables<'a, A: Allocator + Copy, T: Allocator>(
+    alloc: A,
+    inputs: &Inputs<'a, T>,
+) -> Result<Images<'a, A, T>, AuditFault>
+    ensures passes { Passes (tailoring_in inputs.now) 5 result }
+    ensures images { IfOk result (λ images. images ≡ inputs.now.certificate.now) }
 {
     base_is_well_formed(inputs)?;
     tailored_is_well_formed(inputs)?;
     headers_are_same(inputs)?;
-    weights_are_covered(inputs)?;
-    Ok(())
+    let images = Images::new(alloc, inputs.certificate)?;
+    weights_are_covered(inputs, &images)?;
+    Ok(images)
 }
 
 // Conditions 5 to 7, by a lookup of the tailored table.
-fn audit_rows(alloc: Global, inputs: &Inputs, tailored: &Trie) -> Result<(), AuditFault>
-    requires rows { FindsRowsOf (tailoring_in inputs.now).tailored (⟦<Trie as Lookup>⟧.content tailored.now) }
+fn audit_rows<A: Allocator + Copy, T: Allocator>(
+    alloc: A,
+    inputs: &Inputs<T>,
+    images: &Images<A, T>,
+    tailored: &Trie<A>,
+) -> Result<(), AuditFault>
+    requires images { images.now ≡ inputs.now.certificate.now }
+    requires rows { FindsRowsOf (tailoring_in inputs.now).tailored (⟦<Trie<A> as Lookup>⟧.content tailored.now) }
     requires met { MeetsBelow (tailoring_in inputs.now) 5 }
     ensures { Passes (tailoring_in inputs.now) 8 result }
 {
     let targets = Targets::new(alloc, inputs.rules.relations())?;
-    rows_are_unchanged(inputs, tailored, &targets)?;
+    rows_are_unchanged(inputs, tailored, &targets, images)?;
     rows_are_present(inputs, tailored)?;
     rows_are_expected(alloc, inputs, &targets)?;
     Ok(())
 }
 
 // Conditions 8 to 11, by a lookup of the tailored table.
-fn audit_relations(alloc: Global, inputs: &Inputs, tailored: &Trie) -> Result<(), AuditFault>
-    requires rows { FindsRowsOf (tailoring_in inputs.now).tailored (⟦<Trie as Lookup>⟧.content tailored.now) }
+fn audit_relations<A: Allocator + Copy, T: Allocator>(
+    alloc: A,
+    inputs: &Inputs<T>,
+    images: &Images<A, T>,
+    tailored: &Trie<A>,
+) -> Result<(), AuditFault>
+    requires images { images.now ≡ inputs.now.certificate.now }
+    requires rows { FindsRowsOf (tailoring_in inputs.now).tailored (⟦<Trie<A> as Lookup>⟧.content tailored.now) }
     requires met { MeetsBelow (tailoring_in inputs.now) 8 }
     ensures { Passes (tailoring_in inputs.now) 12 result }
 {
@@ -110,14 +132,14 @@ fn audit_relations(alloc: Global, inputs: &Inputs, tailored: &Trie) -> Result<()
     let collator = Collator::new(tailored, &table.header, inputs.properties);
     anchors_are_there(alloc, inputs, &collator)?;
     let placements = targets_are_placed(alloc, inputs, &collator)?;
-    let known = known_weights(alloc, inputs)?;
+    let known = known_weights(alloc, inputs, images)?;
     new_weights_are_fresh(alloc, inputs, &placements, &known)?;
     targets_are_nearest(inputs, &placements, known)?;
     Ok(())
 }
 
 // What follows where all conditions are met.
-fn meaning(inputs: &Inputs)
+fn meaning<T: Allocator>(inputs: &Inputs<T>)
     requires { IsAccepted (tailoring_in inputs.now) }
     ensures { IsFaithful (tailoring_in inputs.now) }
 {
@@ -126,7 +148,7 @@ fn meaning(inputs: &Inputs)
 }
 
 // What the values that are handed in keep, so that none of it has to be audited.
-fn know(inputs: &Inputs)
+fn know<T: Allocator>(inputs: &Inputs<T>)
     ensures { IsTailoring (tailoring_in inputs.now) }
 {
     know_table(inputs.base);
@@ -136,7 +158,7 @@ fn know(inputs: &Inputs)
 }
 
 // What a table keeps.
-fn know_table(table: &Table)
+fn know_table<T: Allocator>(table: &Table<T>)
     ensures { IsTable table.now }
 {
     know_header(&table.header);
@@ -144,14 +166,14 @@ fn know_table(table: &Table)
 }
 
 // What a header keeps.
-fn know_header(header: &Header)
+fn know_header<T: Allocator>(header: &Header<T>)
     ensures { IsHeader header.now }
 {
     let _ = &header.ranges;
 }
 
 // What the maps of a certificate keep.
-fn know_certificate(certificate: &Certificate)
+fn know_certificate<T: Allocator>(certificate: &Certificate<T>)
     ensures { AreRisingMaps (maps_of certificate.now) }
 {
     let _ = certificate.primary.runs();

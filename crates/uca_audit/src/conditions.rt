@@ -10,6 +10,7 @@ ghost use Rattle.uca_audit.specs.Chaining.{AreTargetsOf, FindsRowsOf, Settles};
 ghost use Rattle.uca_audit.specs.NewWeights.{HoldsKnown};
 
 use crate::anchors::first_without_anchor;
+use crate::images::Images;
 use crate::inputs::Inputs;
 use crate::new_weights::{first_not_fresh, first_not_nearest};
 use crate::placements::{Placement, placements};
@@ -20,14 +21,14 @@ use crate::rows::{
 use crate::targets::Targets;
 use crate::weight_sets::WeightSet;
 use crate::{AuditFault, Condition, Place};
-use std::alloc::Global;
+use std::alloc::Allocator;
 use uca_check::check;
 use uca_match::{Collator, Lookup, Trie};
 use uca_rules::Rules;
 use uca_values::Table;
 
 /// Condition 1.
-pub(crate) fn base_is_well_formed(inputs: &Inputs) -> Result<(), AuditFault>
+pub(crate) fn base_is_well_formed<T: Allocator>(inputs: &Inputs<T>) -> Result<(), AuditFault>
     ensures { Settles (tailoring_in inputs.now) Condition.BaseIllFormed result }
 {
     match check(inputs.base, inputs.properties) {
@@ -40,7 +41,7 @@ pub(crate) fn base_is_well_formed(inputs: &Inputs) -> Result<(), AuditFault>
 }
 
 /// Condition 2.
-pub(crate) fn tailored_is_well_formed(inputs: &Inputs) -> Result<(), AuditFault>
+pub(crate) fn tailored_is_well_formed<T: Allocator>(inputs: &Inputs<T>) -> Result<(), AuditFault>
     ensures { Settles (tailoring_in inputs.now) Condition.TailoredIllFormed result }
 {
     match check(inputs.tailored, inputs.properties) {
@@ -53,7 +54,7 @@ pub(crate) fn tailored_is_well_formed(inputs: &Inputs) -> Result<(), AuditFault>
 }
 
 /// Condition 3.
-pub(crate) fn headers_are_same(inputs: &Inputs) -> Result<(), AuditFault>
+pub(crate) fn headers_are_same<T: Allocator>(inputs: &Inputs<T>) -> Result<(), AuditFault>
     ensures { Settles (tailoring_in inputs.now) Condition.Header result }
 {
     let (base, tailored) = (inputs.base, inputs.tailored);
@@ -67,34 +68,43 @@ pub(crate) fn headers_are_same(inputs: &Inputs) -> Result<(), AuditFault>
 }
 
 /// Condition 4.
-pub(crate) fn weights_are_covered(inputs: &Inputs) -> Result<(), AuditFault>
+pub(crate) fn weights_are_covered<A: Allocator + Copy, T: Allocator>(
+    inputs: &Inputs<T>,
+    images: &Images<A, T>,
+) -> Result<(), AuditFault>
+    requires { images.now ≡ inputs.now.certificate.now }
     ensures { Settles (tailoring_in inputs.now) Condition.Uncovered result }
 {
-    match first_uncovered(inputs) {
+    match first_uncovered(inputs, images) {
         None => Ok(()),
         Some(at) => Err(at_base_row(inputs, 4, at)),
     }
 }
 
 /// Condition 5.
-pub(crate) fn rows_are_unchanged(
-    inputs: &Inputs,
-    tailored: &Trie,
-    targets: &Targets,
+pub(crate) fn rows_are_unchanged<A: Allocator + Copy, T: Allocator>(
+    inputs: &Inputs<T>,
+    tailored: &Trie<A>,
+    targets: &Targets<A>,
+    images: &Images<A, T>,
 ) -> Result<(), AuditFault>
-    requires rows { FindsRowsOf (tailoring_in inputs.now).tailored (⟦<Trie as Lookup>⟧.content tailored.now) }
+    requires rows { FindsRowsOf (tailoring_in inputs.now).tailored (⟦<Trie<A> as Lookup>⟧.content tailored.now) }
     requires targets { AreTargetsOf (tailoring_in inputs.now).relations targets.now }
+    requires images { images.now ≡ inputs.now.certificate.now }
     ensures { Settles (tailoring_in inputs.now) Condition.RowChanged result }
 {
-    match first_changed(inputs, tailored, targets) {
+    match first_changed(inputs, tailored, targets, images) {
         None => Ok(()),
         Some(at) => Err(at_base_row(inputs, 5, at)),
     }
 }
 
 /// Condition 6.
-pub(crate) fn rows_are_present(inputs: &Inputs, tailored: &Trie) -> Result<(), AuditFault>
-    requires { FindsRowsOf (tailoring_in inputs.now).tailored (⟦<Trie as Lookup>⟧.content tailored.now) }
+pub(crate) fn rows_are_present<A: Allocator + Copy, T: Allocator>(
+    inputs: &Inputs<T>,
+    tailored: &Trie<A>,
+) -> Result<(), AuditFault>
+    requires { FindsRowsOf (tailoring_in inputs.now).tailored (⟦<Trie<A> as Lookup>⟧.content tailored.now) }
     ensures { Settles (tailoring_in inputs.now) Condition.RowMissing result }
 {
     if let Some(at) = first_missing_row(inputs, tailored) {
@@ -107,10 +117,10 @@ pub(crate) fn rows_are_present(inputs: &Inputs, tailored: &Trie) -> Result<(), A
 }
 
 /// Condition 7.
-pub(crate) fn rows_are_expected(
-    alloc: Global,
-    inputs: &Inputs,
-    targets: &Targets,
+pub(crate) fn rows_are_expected<A: Allocator + Copy, T: Allocator>(
+    alloc: A,
+    inputs: &Inputs<T>,
+    targets: &Targets<A>,
 ) -> Result<(), AuditFault>
     requires { AreTargetsOf (tailoring_in inputs.now).relations targets.now }
     ensures { Settles (tailoring_in inputs.now) Condition.RowExtra result }
@@ -125,12 +135,12 @@ pub(crate) fn rows_are_expected(
 }
 
 /// Condition 8.
-pub(crate) fn anchors_are_there(
-    alloc: Global,
-    inputs: &Inputs,
-    collator: &Collator<Trie>,
+pub(crate) fn anchors_are_there<A: Allocator + Copy, T: Allocator>(
+    alloc: A,
+    inputs: &Inputs<T>,
+    collator: &Collator<Trie<A>, T>,
 ) -> Result<(), AuditFault>
-    requires { ReadsAs (collation_of ⟦<Trie as Lookup>⟧.content collator.now) (tailored_reading (tailoring_in inputs.now)) }
+    requires { ReadsAs (collation_of ⟦<Trie<A> as Lookup>⟧.content collator.now) (tailored_reading (tailoring_in inputs.now)) }
     ensures { Settles (tailoring_in inputs.now) Condition.Anchor result }
 {
     match first_without_anchor(alloc, inputs, collator)? {
@@ -140,12 +150,12 @@ pub(crate) fn anchors_are_there(
 }
 
 /// Condition 9, and where the targets were placed.
-pub(crate) fn targets_are_placed(
-    alloc: Global,
-    inputs: &Inputs,
-    collator: &Collator<Trie>,
-) -> Result<Vec<Placement>, AuditFault>
-    requires { ReadsAs (collation_of ⟦<Trie as Lookup>⟧.content collator.now) (tailored_reading (tailoring_in inputs.now)) }
+pub(crate) fn targets_are_placed<A: Allocator + Copy, T: Allocator>(
+    alloc: A,
+    inputs: &Inputs<T>,
+    collator: &Collator<Trie<A>, T>,
+) -> Result<Vec<Placement, A>, AuditFault>
+    requires { ReadsAs (collation_of ⟦<Trie<A> as Lookup>⟧.content collator.now) (tailored_reading (tailoring_in inputs.now)) }
     ensures placed { IfOk result (λ list. AllZip (IsPlacement (tailoring_in inputs.now)) (tailoring_in inputs.now).relations list.items) }
     ensures settled { Settles (tailoring_in inputs.now) Condition.NotPlaced result }
 {
@@ -156,11 +166,11 @@ pub(crate) fn targets_are_placed(
 }
 
 /// Condition 10.
-pub(crate) fn new_weights_are_fresh(
-    alloc: Global,
-    inputs: &Inputs,
+pub(crate) fn new_weights_are_fresh<A: Allocator + Copy, T: Allocator>(
+    alloc: A,
+    inputs: &Inputs<T>,
     placements: &[Placement],
-    known: &WeightSet,
+    known: &WeightSet<A>,
 ) -> Result<(), AuditFault>
     requires placed { AllZip (IsPlacement (tailoring_in inputs.now)) (tailoring_in inputs.now).relations placements.now }
     requires known { HoldsKnown (tailoring_in inputs.now) known.now }
@@ -173,10 +183,10 @@ pub(crate) fn new_weights_are_fresh(
 }
 
 /// Condition 11.
-pub(crate) fn targets_are_nearest(
-    inputs: &Inputs,
+pub(crate) fn targets_are_nearest<A: Allocator + Copy, T: Allocator>(
+    inputs: &Inputs<T>,
     placements: &[Placement],
-    known: WeightSet,
+    known: WeightSet<A>,
 ) -> Result<(), AuditFault>
     requires placed { AllZip (IsPlacement (tailoring_in inputs.now)) (tailoring_in inputs.now).relations placements.now }
     requires known { HoldsKnown (tailoring_in inputs.now) known }
@@ -189,7 +199,7 @@ pub(crate) fn targets_are_nearest(
 }
 
 /// The fault of a condition at the row of the base with this index.
-fn at_base_row(inputs: &Inputs, number: u8, at: usize) -> AuditFault
+fn at_base_row<T: Allocator>(inputs: &Inputs<T>, number: u8, at: usize) -> AuditFault
     requires { at < length (tailoring_in inputs.now).base.rows }
     ensures { result ≡ record { number = number; place = Place.BaseRow (at + 1) } }
 {
@@ -200,7 +210,7 @@ fn at_base_row(inputs: &Inputs, number: u8, at: usize) -> AuditFault
 }
 
 /// The fault of a condition at the relation with this index.
-fn at_relation(inputs: &Inputs, number: u8, at: usize) -> AuditFault
+fn at_relation<T: Allocator>(inputs: &Inputs<T>, number: u8, at: usize) -> AuditFault
     requires { at < length (tailoring_in inputs.now).relations }
     ensures { result ≡ record { number = number; place = Place.Relation (suc at) } }
 {
@@ -211,7 +221,7 @@ fn at_relation(inputs: &Inputs, number: u8, at: usize) -> AuditFault
 }
 
 /// The number of the row with this index.
-fn row_number(table: &Table, at: usize) -> u32
+fn row_number<T: Allocator>(table: &Table<T>, at: usize) -> u32
     requires { at < length table.now.rows }
     ensures { result ≡ at + 1 }
 {
@@ -221,7 +231,7 @@ fn row_number(table: &Table, at: usize) -> u32
 }
 
 /// The number of the relation with this index.
-fn relation_number(rules: &Rules, at: usize) -> u32
+fn relation_number<T: Allocator>(rules: &Rules<T>, at: usize) -> u32
     requires { at < length rules.now }
     ensures { result ≡ suc at }
 {

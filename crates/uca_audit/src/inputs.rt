@@ -1,20 +1,21 @@
 //! What an audit is about.
 
 use crate::Certificate;
+use std::alloc::Allocator;
 use uca_rules::Rules;
 use uca_values::{Data, Table};
 
 /// What is handed in to an audit.
-#[derive(Clone, Copy)]
-pub(crate) struct Inputs<'a> {
+#[derive_where(Clone, Copy)]
+pub(crate) struct Inputs<'a, T: Allocator> {
     /// The base.
-    pub base: &'a Table,
+    pub base: &'a Table<T>,
     /// The combining classes and the Han ranges of code points.
-    pub properties: &'a Data,
+    pub properties: &'a Data<T>,
     /// The rules.
-    pub rules: &'a Rules,
+    pub rules: &'a Rules<T>,
     /// The table that is tailored from the base.
-    pub tailored: &'a Table,
+    pub tailored: &'a Table<T>,
     /// What becomes of the base's weights.
-    pub certificate: &'a Certificate,
+    pub certificate: &'a Certificate<T>,
 }

@@ -12,25 +12,30 @@ ghost use Rattle.uca_audit.specs.WeightSets.{HasWeight};
 ghost use Rattle.uca_audit.specs.KnownWeights.{HoldsImages, IsImageOf};
 ghost use Rattle.uca_audit.specs.NewWeights.{HoldsKnown};
 
+use crate::images::{Images, LevelImages};
 use crate::inputs::Inputs;
 use crate::weight_sets::WeightSet;
-use std::alloc::{AllocError, Global};
-use uca_certificates::Certificate;
+use std::alloc::{AllocError, Allocator};
 use uca_values::Row;
-use uca_weights::{Element, Level, WeightMap};
+use uca_weights::{Element, Level};
 
 /// The images of the base's weights other than 0, and the weights of implicit weights at levels 2 and 3.
-pub(crate) fn known_weights(alloc: Global, inputs: &Inputs) -> Result<WeightSet, AllocError>
+pub(crate) fn known_weights<A: Allocator + Copy, T: Allocator>(
+    alloc: A,
+    inputs: &Inputs<T>,
+    images: &Images<A, T>,
+) -> Result<WeightSet<A>, AllocError>
+    requires { images.now ≡ inputs.now.certificate.now }
     ensures { IfOk result (HoldsKnown (tailoring_in inputs.now)) }
 {
     let mut known = pair_weights(alloc)?;
     let base = inputs.base;
-    add_images(&mut known, inputs.certificate, &base.rows);
+    add_images(&mut known, images, &base.rows);
     Ok(known)
 }
 
 /// The weights that implicit weights have at levels 2 and 3.
-fn pair_weights(alloc: Global) -> Result<WeightSet, AllocError>
+fn pair_weights<A: Allocator + Copy>(alloc: A) -> Result<WeightSet<A>, AllocError>
     ensures { IfOk result (λ set. (level : Level) (w : ℕ) → HasWeight set level w ↔ IsPairWeight level w) }
 {
     let mut pairs = WeightSet::new(alloc)?;
@@ -40,36 +45,49 @@ fn pair_weights(alloc: Global) -> Result<WeightSet, AllocError>
 }
 
 /// Puts the images of the weights of all rows in.
-fn add_images(known: &mut WeightSet, certificate: &Certificate, rows: &[Row])
-    requires { HoldsImages (maps_of certificate.now) [] known.old }
-    ensures { HoldsImages (maps_of certificate.now) (elements_of rows.now) known.new }
+fn add_images<A: Allocator + Copy, T: Allocator>(
+    known: &mut WeightSet<A>,
+    images: &Images<A, T>,
+    rows: &[Row<T>],
+)
+    requires { HoldsImages (maps_of images.now) [] known.old }
+    ensures { HoldsImages (maps_of images.now) (elements_of rows.now) known.new }
 {
     for row in rows {
         for element in &row.elements {
-            add_element(known, certificate, *element);
+            add_element(known, images, *element);
         }
     }
 }
 
 /// Puts the images of the weights of an element in.
-fn add_element(known: &mut WeightSet, certificate: &Certificate, element: Element)
-    ensures { (elements : List Element) → HoldsImages (maps_of certificate.now) elements known.old →
-        HoldsImages (maps_of certificate.now) (elements ++ element ∷ []) known.new }
+fn add_element<A: Allocator + Copy, T: Allocator>(
+    known: &mut WeightSet<A>,
+    images: &Images<A, T>,
+    element: Element,
+)
+    ensures { (elements : List Element) → HoldsImages (maps_of images.now) elements known.old →
+        HoldsImages (maps_of images.now) (elements ++ element ∷ []) known.new }
 {
-    add_image(known, Level::One, &certificate.primary, element.primary);
-    add_image(known, Level::Two, &certificate.secondary, element.secondary);
-    add_image(known, Level::Three, &certificate.tertiary, element.tertiary);
+    add_image(known, Level::One, &images.primary, element.primary);
+    add_image(known, Level::Two, &images.secondary, element.secondary);
+    add_image(known, Level::Three, &images.tertiary, element.tertiary);
 }
 
 /// Puts the image of a weight in, if the weight is not 0 and has one.
-fn add_image(known: &mut WeightSet, level: Level, map: &WeightMap, weight: u16)
+fn add_image<A: Allocator + Copy, T: Allocator>(
+    known: &mut WeightSet<A>,
+    level: Level,
+    images: &LevelImages<A, T>,
+    weight: u16,
+)
     ensures { (l : Level) (w : ℕ) → HasWeight known.new l w
-        ↔ (((l ≡ level) × IsImageOf (weight_image map.now.level map.now.runs) weight w) ⊎ HasWeight known.old l w) }
+        ↔ (((l ≡ level) × IsImageOf (weight_image images.now.level images.now.runs) weight w) ⊎ HasWeight known.old l w) }
 {
     if weight == 0 {
         return;
     }
-    if let Some(image) = map.get(weight) {
+    if let Some(image) = images.get(weight) {
         known.insert(level, image);
     }
 }

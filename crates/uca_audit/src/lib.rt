@@ -6,6 +6,7 @@ mod anchors;
 mod auditing;
 mod conditions;
 mod faults;
+mod images;
 mod inputs;
 mod known;
 mod laws;

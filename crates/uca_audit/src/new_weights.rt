@@ -13,17 +13,17 @@ ghost use Rattle.uca_audit.specs.NewWeights.{HoldsKnown, HoldsNew, IsFreshPlacem
 use crate::inputs::Inputs;
 use crate::placements::Placement;
 use crate::weight_sets::WeightSet;
-use std::alloc::{AllocError, Global};
+use std::alloc::{AllocError, Allocator};
 use uca_tailorings::Condition;
 use uca_weights::Level;
 
 /// The index of the first relation whose new weight is a known one, or is that of another relation too, or is 8000 or more
 /// at level 1.
-pub(crate) fn first_not_fresh(
-    alloc: Global,
-    inputs: &Inputs,
+pub(crate) fn first_not_fresh<A: Allocator + Copy, T: Allocator>(
+    alloc: A,
+    inputs: &Inputs<T>,
     placements: &[Placement],
-    known: &WeightSet,
+    known: &WeightSet<A>,
 ) -> Result<Option<usize>, AllocError>
     requires placed { AllZip (IsPlacement (tailoring_in inputs.now)) (tailoring_in inputs.now).relations placements.now }
     requires known { HoldsKnown (tailoring_in inputs.now) known.now }
@@ -41,10 +41,10 @@ pub(crate) fn first_not_fresh(
 
 /// The index of the first relation between whose old and new weight a known weight lies, or the new weight of an earlier
 /// relation. It takes no memory: the new weights are put in with the known ones as the relations go by.
-pub(crate) fn first_not_nearest(
-    inputs: &Inputs,
+pub(crate) fn first_not_nearest<A: Allocator + Copy, T: Allocator>(
+    inputs: &Inputs<T>,
     placements: &[Placement],
-    mut known: WeightSet,
+    mut known: WeightSet<A>,
 ) -> Option<usize>
     requires placed { AllZip (IsPlacement (tailoring_in inputs.now)) (tailoring_in inputs.now).relations placements.now }
     requires known { HoldsKnown (tailoring_in inputs.now) known }
@@ -61,7 +61,10 @@ pub(crate) fn first_not_nearest(
 }
 
 /// The new weights that two relations or more have.
-fn shared_weights(alloc: Global, placements: &[Placement]) -> Result<WeightSet, AllocError>
+fn shared_weights<A: Allocator + Copy>(
+    alloc: A,
+    placements: &[Placement],
+) -> Result<WeightSet<A>, AllocError>
     ensures { IfOk result (HoldsNew 2 placements.now) }
 {
     let mut seen = WeightSet::new(alloc)?;
@@ -73,7 +76,11 @@ fn shared_weights(alloc: Global, placements: &[Placement]) -> Result<WeightSet, 
 }
 
 /// Puts the placement's new weight in with those that were seen, and with the shared ones if it was one of them already.
-fn add_again(seen: &mut WeightSet, shared: &mut WeightSet, placement: Placement)
+fn add_again<A: Allocator + Copy>(
+    seen: &mut WeightSet<A>,
+    shared: &mut WeightSet<A>,
+    placement: Placement,
+)
     ensures seen { (placements : List Placement) → HoldsNew 1 placements seen.old → HoldsNew 1 (placements ++ placement ∷ []) seen.new }
     ensures shared { (placements : List Placement) → HoldsNew 1 placements seen.old → HoldsNew 2 placements shared.old →
         HoldsNew 2 (placements ++ placement ∷ []) shared.new }
@@ -88,7 +95,11 @@ fn add_again(seen: &mut WeightSet, shared: &mut WeightSet, placement: Placement)
 }
 
 /// Whether the placement's new weight, if it puts one at a level, is low and neither known nor shared.
-fn is_fresh(placement: Placement, known: &WeightSet, shared: &WeightSet) -> bool
+fn is_fresh<A: Allocator + Copy>(
+    placement: Placement,
+    known: &WeightSet<A>,
+    shared: &WeightSet<A>,
+) -> bool
     ensures { IsTrue result ↔ IsFreshPlacement known.now shared.now placement }
 {
     let Some(level) = placement.level else {
@@ -100,7 +111,7 @@ fn is_fresh(placement: Placement, known: &WeightSet, shared: &WeightSet) -> bool
 }
 
 /// Whether no known weight lies strictly between the placement's old and new weight, if it has them at a level.
-fn is_nearest(placement: Placement, known: &WeightSet) -> bool
+fn is_nearest<A: Allocator + Copy>(placement: Placement, known: &WeightSet<A>) -> bool
     ensures { IsTrue result ↔ IsNearestPlacement known.now placement }
 {
     let Some(level) = placement.level else {
@@ -120,7 +131,7 @@ fn is_low(level: Level, weight: u16) -> bool
 }
 
 /// Puts the placement's new weight in, if it has one at a level.
-fn add_new(set: &mut WeightSet, placement: Placement)
+fn add_new<A: Allocator + Copy>(set: &mut WeightSet<A>, placement: Placement)
     ensures { (level : Level) (w : ℕ) →
         HasWeight set.new level w ↔ (IsTrue (puts level w placement) ⊎ HasWeight set.old level w) }
 {

@@ -15,7 +15,7 @@ use crate::Condition;
 use crate::anchors::{anchor_place, level_of, weight};
 use crate::inputs::Inputs;
 use crate::readings::Readings;
-use std::alloc::{AllocError, Global};
+use std::alloc::{AllocError, Allocator};
 use uca_match::{Collator, Lookup, Trie, row_of};
 use uca_rules::Relation;
 use uca_weights::{Element, Level};
@@ -33,12 +33,12 @@ pub(crate) struct Placement {
 
 /// How the target of each relation was placed, or else the first relation whose target was not, by its index. An error says
 /// that no memory was left.
-pub(crate) fn placements(
-    alloc: Global,
-    inputs: &Inputs,
-    collator: &Collator<Trie>,
-) -> Result<Result<Vec<Placement>, usize>, AllocError>
-    requires { ReadsAs (collation_of ⟦<Trie as Lookup>⟧.content collator.now) (tailored_reading (tailoring_in inputs.now)) }
+pub(crate) fn placements<A: Allocator + Copy, T: Allocator>(
+    alloc: A,
+    inputs: &Inputs<T>,
+    collator: &Collator<Trie<A>, T>,
+) -> Result<Result<Vec<Placement, A>, usize>, AllocError>
+    requires { ReadsAs (collation_of ⟦<Trie<A> as Lookup>⟧.content collator.now) (tailored_reading (tailoring_in inputs.now)) }
     ensures found { IfOk result (λ found. MatchResult found
         (λ list. AllZip (IsPlacement (tailoring_in inputs.now)) (tailoring_in inputs.now).relations list.items)
         (λ at. IsFirstRelationWithout (λ before r after. IsPlaced (tailoring_in inputs.now) r) (tailoring_in inputs.now).relations (suc at))) }
@@ -56,12 +56,12 @@ pub(crate) fn placements(
 }
 
 /// How the target of a relation was placed, if it was.
-fn placement_of(
-    collator: &Collator<Trie>,
+fn placement_of<A: Allocator + Copy, T: Allocator>(
+    collator: &Collator<Trie<A>, T>,
     relation: &Relation,
-    readings: &mut Readings,
+    readings: &mut Readings<A>,
 ) -> Result<Option<Placement>, AllocError>
-    ensures { (tailoring : Tailoring) → ReadsAs (collation_of ⟦<Trie as Lookup>⟧.content collator.now) (tailored_reading tailoring) →
+    ensures { (tailoring : Tailoring) → ReadsAs (collation_of ⟦<Trie<A> as Lookup>⟧.content collator.now) (tailored_reading tailoring) →
         IfOk result (IsFoundPlacement tailoring relation.now) }
 {
     readings.read(collator, relation)?;

@@ -4,7 +4,7 @@ ghost use Rattle.std.specs.Prelude.{◌≡◌, OnOk};
 ghost use Rattle.uca_match.specs.Collations.{collation_of, elements_of};
 ghost use Rattle.uca_tailorings.specs.Tailorings.{elements_of_expansion};
 
-use std::alloc::{AllocError, Global};
+use std::alloc::{AllocError, Allocator};
 use uca_match::{Collator, Lookup, Trie};
 use uca_rules::Relation;
 use uca_text::Normal;
@@ -12,16 +12,16 @@ use uca_weights::Element;
 
 /// The elements of the anchor and of the expansion of a relation. The lists serve one relation after the other.
 #[derive(Drop)]
-pub(crate) struct Readings {
+pub(crate) struct Readings<A: Allocator> {
     /// The elements of the anchor.
-    pub anchor: Vec<Element>,
+    pub anchor: Vec<Element, A>,
     /// The elements of the expansion, none where it is not there.
-    pub expansion: Vec<Element>,
+    pub expansion: Vec<Element, A>,
 }
 
-impl Readings {
+impl<A: Allocator + Copy> Readings<A> {
     /// Lists that take no memory yet.
-    pub(crate) fn new(alloc: Global) -> Readings {
+    pub(crate) fn new(alloc: A) -> Readings<A> {
         Readings {
             anchor: Vec::new(alloc),
             expansion: Vec::new(alloc),
@@ -29,15 +29,15 @@ impl Readings {
     }
 
     /// Reads the texts of a relation. An error says that no memory was left.
-    pub(crate) fn read(
+    pub(crate) fn read<T: Allocator>(
         &mut self,
-        collator: &Collator<Trie>,
+        collator: &Collator<Trie<A>, T>,
         relation: &Relation,
     ) -> Result<(), AllocError>
         ensures anchor { OnOk result (self.new.anchor.items
-            ≡ elements_of (collation_of ⟦<Trie as Lookup>⟧.content collator.now) relation.now.anchor) }
+            ≡ elements_of (collation_of ⟦<Trie<A> as Lookup>⟧.content collator.now) relation.now.anchor) }
         ensures expansion { OnOk result (self.new.expansion.items
-            ≡ elements_of_expansion (collation_of ⟦<Trie as Lookup>⟧.content collator.now) relation.now.expansion) }
+            ≡ elements_of_expansion (collation_of ⟦<Trie<A> as Lookup>⟧.content collator.now) relation.now.expansion) }
     {
         read_elements(&mut self.anchor, collator, &relation.anchor)?;
         match &relation.expansion {
@@ -51,13 +51,13 @@ impl Readings {
 }
 
 /// Puts the elements of a text in the place of those that stand in the list. An error says that no memory was left.
-pub(crate) fn read_elements(
-    elements: &mut Vec<Element>,
-    collator: &Collator<Trie>,
+pub(crate) fn read_elements<A: Allocator + Copy, T: Allocator>(
+    elements: &mut Vec<Element, A>,
+    collator: &Collator<Trie<A>, T>,
     text: &Normal,
 ) -> Result<(), AllocError>
     ensures { OnOk result (elements.new.items
-        ≡ elements_of (collation_of ⟦<Trie as Lookup>⟧.content collator.now) text.now) }
+        ≡ elements_of (collation_of ⟦<Trie<A> as Lookup>⟧.content collator.now) text.now) }
 {
     elements.clear();
     for element in collator.elements(text) {

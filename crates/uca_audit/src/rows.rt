@@ -3,23 +3,24 @@
 ghost use Rattle.std.specs.Prelude.{◌≡◌, ◌↔◌, IfOk, IsTrue};
 ghost use Rattle.std.specs.List.{AllByRecursion};
 ghost use Rattle.uca_check.specs.Searches.{FindsFirstWithout};
-ghost use Rattle.uca_match.specs.Rows.{IsKey, rows_of};
+ghost use Rattle.uca_match.specs.Rows.{IsKey};
 ghost use Rattle.uca_tailorings.specs.Images.{IsImage, AreImages};
 ghost use Rattle.uca_tailorings.specs.Tailorings.{IsCovered, IsCoveredRow, IsUnchangedRow, IsPresentRow, IsPresentTarget, IsExpectedRow};
 ghost use Rattle.uca_audit.specs.Inputs.{maps_of};
 ghost use Rattle.uca_audit.specs.Views.{FindsFirstRelation, tailoring_in};
 ghost use Rattle.uca_audit.specs.Chaining.{AreTargetsOf, FindsRowsOf};
 
-use crate::Certificate;
+use crate::images::Images;
 use crate::inputs::Inputs;
 use crate::targets::Targets;
-use std::alloc::{AllocError, Global};
+use std::alloc::{AllocError, Allocator};
 use uca_match::{Lookup, Trie, row_of};
+use uca_rules::Relation;
 use uca_values::{Header, ImplicitRange, Row};
 use uca_weights::{Element, Weighting};
 
 /// Whether two headers have the same version, variable setting and ranges for implicit weights.
-pub(crate) fn are_same_headers(one: &Header, other: &Header) -> bool
+pub(crate) fn are_same_headers<T: Allocator>(one: &Header<T>, other: &Header<T>) -> bool
     ensures { IsTrue result ↔ (one.now ≡ other.now) }
 {
     one.version == other.version
@@ -42,49 +43,64 @@ fn are_same_ranges(one: &[ImplicitRange], other: &[ImplicitRange]) -> bool
 }
 
 /// The first base row with a weight that has no image, by its index.
-pub(crate) fn first_uncovered(inputs: &Inputs) -> Option<usize>
+pub(crate) fn first_uncovered<A: Allocator + Copy, T: Allocator>(
+    inputs: &Inputs<T>,
+    images: &Images<A, T>,
+) -> Option<usize>
+    requires { images.now ≡ inputs.now.certificate.now }
     ensures { FindsFirstWithout (IsCoveredRow (tailoring_in inputs.now)) (tailoring_in inputs.now).base.rows result }
 {
     let base = inputs.base;
     base.rows
         .iter()
-        .position(|row| !is_covered_row(inputs.certificate, row))
+        .position(|row| !is_covered_row(images, row))
 }
 
 /// Whether each weight of the row has an image.
-fn is_covered_row(certificate: &Certificate, row: &Row) -> bool
-    ensures { IsTrue result ↔ AllByRecursion (IsCovered (maps_of certificate.now)) row.now.elements }
+fn is_covered_row<A: Allocator + Copy, T: Allocator>(images: &Images<A, T>, row: &Row<T>) -> bool
+    ensures { IsTrue result ↔ AllByRecursion (IsCovered (maps_of images.now)) row.now.elements }
 {
     row.elements
         .iter()
-        .all(|element| is_covered(certificate, *element))
+        .all(|element| is_covered(images, *element))
 }
 
 /// Whether each weight of the element has an image at its level.
-fn is_covered(certificate: &Certificate, element: Element) -> bool
-    ensures { IsTrue result ↔ IsCovered (maps_of certificate.now) element }
+fn is_covered<A: Allocator + Copy, T: Allocator>(images: &Images<A, T>, element: Element) -> bool
+    ensures { IsTrue result ↔ IsCovered (maps_of images.now) element }
 {
-    certificate.primary.get(element.primary).is_some()
-        && certificate.secondary.get(element.secondary).is_some()
-        && certificate.tertiary.get(element.tertiary).is_some()
+    images.primary.get(element.primary).is_some()
+        && images.secondary.get(element.secondary).is_some()
+        && images.tertiary.get(element.tertiary).is_some()
 }
 
 /// The first base row whose key is no target and whose tailored row is there, but is not its image, by its index.
-pub(crate) fn first_changed(inputs: &Inputs, tailored: &Trie, targets: &Targets) -> Option<usize>
-    requires rows { FindsRowsOf (tailoring_in inputs.now).tailored (⟦<Trie as Lookup>⟧.content tailored.now) }
+pub(crate) fn first_changed<A: Allocator + Copy, T: Allocator>(
+    inputs: &Inputs<T>,
+    tailored: &Trie<A>,
+    targets: &Targets<A>,
+    images: &Images<A, T>,
+) -> Option<usize>
+    requires rows { FindsRowsOf (tailoring_in inputs.now).tailored (⟦<Trie<A> as Lookup>⟧.content tailored.now) }
     requires targets { AreTargetsOf (tailoring_in inputs.now).relations targets.now }
+    requires images { images.now ≡ inputs.now.certificate.now }
     ensures { FindsFirstWithout (IsUnchangedRow (tailoring_in inputs.now)) (tailoring_in inputs.now).base.rows result }
 {
     let base = inputs.base;
-    base.rows
-        .iter()
-        .position(|row| !is_unchanged(inputs, tailored, targets, row))
+    base.rows.iter().position(|row| !is_unchanged(inputs, tailored, targets, images, row))
 }
 
 /// Whether the row's key is a target, or has no tailored row, or its tailored row is the image of the row.
-fn is_unchanged(inputs: &Inputs, tailored: &Trie, targets: &Targets, row: &Row) -> bool
-    requires rows { FindsRowsOf (tailoring_in inputs.now).tailored (⟦<Trie as Lookup>⟧.content tailored.now) }
+fn is_unchanged<A: Allocator + Copy, T: Allocator>(
+    inputs: &Inputs<T>,
+    tailored: &Trie<A>,
+    targets: &Targets<A>,
+    images: &Images<A, T>,
+    row: &Row<T>,
+) -> bool
+    requires rows { FindsRowsOf (tailoring_in inputs.now).tailored (⟦<Trie<A> as Lookup>⟧.content tailored.now) }
     requires targets { AreTargetsOf (tailoring_in inputs.now).relations targets.now }
+    requires images { images.now ≡ inputs.now.certificate.now }
     ensures { IsTrue result ↔ IsUnchangedRow (tailoring_in inputs.now) row.now }
 {
     if targets.contains(&row.key) {
@@ -92,69 +108,99 @@ fn is_unchanged(inputs: &Inputs, tailored: &Trie, targets: &Targets, row: &Row) 
     }
     match row_of(tailored, &row.key) {
         None => true,
-        Some(new) => are_images(inputs.certificate, &row.elements, new),
+        Some(new) => are_images(images, &row.elements, new),
     }
 }
 
 /// Whether the new elements are the images of the old ones, in order.
-fn are_images(certificate: &Certificate, old: &[Element], new: &[Element]) -> bool
-    ensures { IsTrue result ↔ AreImages (maps_of certificate.now) old.now new.now }
+fn are_images<A: Allocator + Copy, T: Allocator>(
+    images: &Images<A, T>,
+    old: &[Element],
+    new: &[Element],
+) -> bool
+    ensures { IsTrue result ↔ AreImages (maps_of images.now) old.now new.now }
 {
     if old.len() != new.len() {
         return false;
     }
     old.iter()
         .zip(new)
-        .all(|(old, new)| is_image(certificate, *old, *new))
+        .all(|(old, new)| is_image(images, *old, *new))
 }
 
 /// Whether each weight is put through the map of its level, and the element stays variable or not.
-fn is_image(certificate: &Certificate, old: Element, new: Element) -> bool
-    ensures { IsTrue result ↔ IsImage (maps_of certificate.now) old new }
+fn is_image<A: Allocator + Copy, T: Allocator>(
+    images: &Images<A, T>,
+    old: Element,
+    new: Element,
+) -> bool
+    ensures { IsTrue result ↔ IsImage (maps_of images.now) old new }
 {
-    certificate.primary.get(old.primary) == Some(new.primary)
-        && certificate.secondary.get(old.secondary) == Some(new.secondary)
-        && certificate.tertiary.get(old.tertiary) == Some(new.tertiary)
+    images.primary.get(old.primary) == Some(new.primary)
+        && images.secondary.get(old.secondary) == Some(new.secondary)
+        && images.tertiary.get(old.tertiary) == Some(new.tertiary)
         && old.mark == new.mark
 }
 
 /// The first base row whose key has no tailored row, by its index.
-pub(crate) fn first_missing_row(inputs: &Inputs, tailored: &Trie) -> Option<usize>
-    requires { FindsRowsOf (tailoring_in inputs.now).tailored (⟦<Trie as Lookup>⟧.content tailored.now) }
+pub(crate) fn first_missing_row<A: Allocator + Copy, T: Allocator>(
+    inputs: &Inputs<T>,
+    tailored: &Trie<A>,
+) -> Option<usize>
+    requires { FindsRowsOf (tailoring_in inputs.now).tailored (⟦<Trie<A> as Lookup>⟧.content tailored.now) }
     ensures { FindsFirstWithout (IsPresentRow (tailoring_in inputs.now)) (tailoring_in inputs.now).base.rows result }
 {
     let base = inputs.base;
     base.rows
         .iter()
-        .position(|row| !has_tailored_row(inputs, tailored, &row.key))
+        .position(|row| !is_present(inputs, tailored, row))
 }
 
 /// The first relation whose target has no tailored row, by its index.
-pub(crate) fn first_missing_target(inputs: &Inputs, tailored: &Trie) -> Option<usize>
-    requires { FindsRowsOf (tailoring_in inputs.now).tailored (⟦<Trie as Lookup>⟧.content tailored.now) }
+pub(crate) fn first_missing_target<A: Allocator + Copy, T: Allocator>(
+    inputs: &Inputs<T>,
+    tailored: &Trie<A>,
+) -> Option<usize>
+    requires { FindsRowsOf (tailoring_in inputs.now).tailored (⟦<Trie<A> as Lookup>⟧.content tailored.now) }
     ensures { FindsFirstRelation (AllByRecursion (IsPresentTarget (tailoring_in inputs.now)) (tailoring_in inputs.now).relations)
         (λ before r after. IsPresentTarget (tailoring_in inputs.now) r) (tailoring_in inputs.now).relations result }
 {
-    inputs.rules.relations().iter().position(|relation| !has_tailored_row(
-        inputs,
-        tailored,
-        relation.target.chars(),
-    ))
+    inputs
+        .rules
+        .relations()
+        .iter()
+        .position(|relation| !is_present_target(inputs, tailored, relation))
 }
 
-/// Whether some tailored row has these code points as its key.
-fn has_tailored_row(inputs: &Inputs, tailored: &Trie, key: &[char]) -> bool
-    requires { FindsRowsOf (tailoring_in inputs.now).tailored (⟦<Trie as Lookup>⟧.content tailored.now) }
-    ensures { IsTrue result ↔ IsKey (rows_of (tailoring_in inputs.now).tailored.rows) key.now }
+/// Whether the row's key has a tailored row.
+fn is_present<A: Allocator + Copy, T: Allocator>(
+    inputs: &Inputs<T>,
+    tailored: &Trie<A>,
+    row: &Row<T>,
+) -> bool
+    requires rows { FindsRowsOf (tailoring_in inputs.now).tailored (⟦<Trie<A> as Lookup>⟧.content tailored.now) }
+    ensures { IsTrue result ↔ IsPresentRow (tailoring_in inputs.now) row.now }
 {
-    is_key(tailored, key)
+    is_key(tailored, &row.key)
+}
+
+/// Whether the relation's target has a tailored row.
+fn is_present_target<A: Allocator + Copy, T: Allocator>(
+    inputs: &Inputs<T>,
+    tailored: &Trie<A>,
+    relation: &Relation,
+) -> bool
+    requires rows { FindsRowsOf (tailoring_in inputs.now).tailored (⟦<Trie<A> as Lookup>⟧.content tailored.now) }
+    ensures { IsTrue result ↔ IsPresentTarget (tailoring_in inputs.now) relation.now }
+{
+    is_key(tailored, relation.target.chars())
 }
 
 /// The first tailored row whose key is neither a base key nor a target, by its index. An error says that no memory was left.
-pub(crate) fn first_extra(
-    alloc: Global,
-    inputs: &Inputs,
-    targets: &Targets,
+pub(crate) fn first_extra<A: Allocator + Copy, T: Allocator>(
+    alloc: A,
+    inputs: &Inputs<T>,
+    targets: &Targets<A>,
 ) -> Result<Option<usize>, AllocError>
     requires { AreTargetsOf (tailoring_in inputs.now).relations targets.now }
     ensures { IfOk result (FindsFirstWithout (IsExpectedRow (tailoring_in inputs.now)) (tailoring_in inputs.now).tailored.rows) }
@@ -169,8 +215,13 @@ pub(crate) fn first_extra(
 }
 
 /// Whether the row's key is a base key or a target.
-fn is_expected(inputs: &Inputs, base: &Trie, targets: &Targets, row: &Row) -> bool
-    requires rows { FindsRowsOf (tailoring_in inputs.now).base (⟦<Trie as Lookup>⟧.content base.now) }
+fn is_expected<A: Allocator + Copy, T: Allocator>(
+    inputs: &Inputs<T>,
+    base: &Trie<A>,
+    targets: &Targets<A>,
+    row: &Row<T>,
+) -> bool
+    requires rows { FindsRowsOf (tailoring_in inputs.now).base (⟦<Trie<A> as Lookup>⟧.content base.now) }
     requires targets { AreTargetsOf (tailoring_in inputs.now).relations targets.now }
     ensures { IsTrue result ↔ IsExpectedRow (tailoring_in inputs.now) row.now }
 {
@@ -178,8 +229,8 @@ fn is_expected(inputs: &Inputs, base: &Trie, targets: &Targets, row: &Row) -> bo
 }
 
 /// Whether the lookup has a row for the code points.
-fn is_key(lookup: &Trie, key: &[char]) -> bool
-    ensures { IsTrue result ↔ IsKey (⟦<Trie as Lookup>⟧.content lookup.now) key.now }
+fn is_key<A: Allocator + Copy>(lookup: &Trie<A>, key: &[char]) -> bool
+    ensures { IsTrue result ↔ IsKey (⟦<Trie<A> as Lookup>⟧.content lookup.now) key.now }
 {
     row_of(lookup, key).is_some()
 }

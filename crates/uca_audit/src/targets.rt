@@ -3,18 +3,18 @@
 ghost use Rattle.std.specs.Prelude.{◌↔◌, IfOk, IsTrue, Contains};
 ghost use Rattle.uca_audit.specs.Chaining.{AreTargetsOf};
 
-use std::alloc::{AllocError, Global};
+use std::alloc::{AllocError, Allocator};
 use std::collections::BTreeSet;
 use std::marker::Model;
 use uca_rules::Relation;
 
 /// The targets of relations, to be looked up by their code points.
 #[derive(Drop)]
-pub(crate) struct Targets {
-    keys: BTreeSet<Vec<char>>,
+pub(crate) struct Targets<A: Allocator> {
+    keys: BTreeSet<Vec<char, A>, A>,
 }
 
-impl Model for Targets {
+impl<A: Allocator> Model for Targets<A> {
     ghost use Rattle.std.specs.Prelude.{ℕ, List, map};
 
     ghost Value = { List (List ℕ) };
@@ -22,9 +22,9 @@ impl Model for Targets {
     ghost view = { λ t. map (λ key. key.items) t.keys.keys };
 }
 
-impl Targets {
+impl<A: Allocator + Copy> Targets<A> {
     /// The targets of these relations. An error says that no memory was left.
-    pub(crate) fn new(alloc: Global, relations: &[Relation]) -> Result<Targets, AllocError>
+    pub(crate) fn new(alloc: A, relations: &[Relation]) -> Result<Targets<A>, AllocError>
         ensures { IfOk result (AreTargetsOf relations.now) }
     {
         let mut keys = BTreeSet::new(alloc);

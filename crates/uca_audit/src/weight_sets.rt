@@ -4,7 +4,7 @@ ghost use Rattle.std.specs.Prelude.{◌≡◌, ◌↔◌, ◌⊎◌, ℕ, length
 ghost use Rattle.uca_weights.specs.declared.Level.{Level};
 ghost use Rattle.uca_audit.specs.WeightSets.{flags_at, HasWeight, HasBetween, AddsWeight};
 
-use std::alloc::{AllocError, Global};
+use std::alloc::{AllocError, Allocator};
 use std::marker::Model;
 use uca_weights::Level;
 
@@ -13,16 +13,16 @@ const WEIGHT_COUNT: usize = 0x1_0000;
 
 /// A set of weights for each level.
 #[derive(Drop)]
-pub(crate) struct WeightSet {
+pub(crate) struct WeightSet<A: Allocator> {
     /// Whether each weight of level 1 is in it.
-    primary: Vec<bool>,
+    primary: Vec<bool, A>,
     /// The same of level 2.
-    secondary: Vec<bool>,
+    secondary: Vec<bool, A>,
     /// The same of level 3.
-    tertiary: Vec<bool>,
+    tertiary: Vec<bool, A>,
 }
 
-impl Model for WeightSet {
+impl<A: Allocator> Model for WeightSet<A> {
     ghost use Rattle.std.specs.Prelude.{◌≡◌, vec_len};
     ghost use Rattle.uca_audit.specs.WeightSets.{Flags};
 
@@ -33,9 +33,9 @@ impl Model for WeightSet {
     ghost invariant = { λ s. (vec_len s.primary ≡ 0x1_0000) × (vec_len s.secondary ≡ 0x1_0000) × (vec_len s.tertiary ≡ 0x1_0000) };
 }
 
-impl WeightSet {
+impl<A: Allocator + Copy> WeightSet<A> {
     /// The set without weights.
-    pub(crate) fn new(alloc: Global) -> Result<WeightSet, AllocError>
+    pub(crate) fn new(alloc: A) -> Result<WeightSet<A>, AllocError>
         ensures { IfOk result (λ set. (level : Level) (w : ℕ) → ¬ (HasWeight set level w)) }
     {
         Ok(WeightSet {
@@ -93,7 +93,7 @@ impl WeightSet {
 }
 
 /// As many flags, none of them set.
-fn no_flags(alloc: Global, count: usize) -> Result<Vec<bool>, AllocError>
+fn no_flags<A: Allocator + Copy>(alloc: A, count: usize) -> Result<Vec<bool, A>, AllocError>
     ensures length { IfOk result (λ flags. vec_len flags ≡ count) }
     ensures none { IfOk result (λ flags. (w : ℕ) → slice_index_or flags.items w false ≡ false) }
 {

@@ -8,7 +8,7 @@ use Rattle.uca_audit.proofs.RelationSteps.{each_further, first_here, read_alike,
 use Rattle.uca_audit.proofs.anchors.first_without_anchor.Goals as goal
 
 pub loop-at-preserved : goal.loop-at-preserved
-loop-at-preserved c =
+loop-at-preserved g c =
     let t = tailoring_in c.args.inputs.now in
     let r = c.relation-item.result in
     let strength : level_of r.strength ≡ Some c.in-Some.level = sym c.in-Some.ensures in
@@ -18,7 +18,7 @@ loop-at-preserved c =
     (found_has t r c.in-Some.level c.deref.result.now c.anchor_place.result strength read c.anchor_place.ensures c.if-is_none.ensures)
 
 pub returns-then-is_none : goal.returns-then-is_none
-returns-then-is_none c =
+returns-then-is_none g c =
     let t = tailoring_in c.args.inputs.now in
     let r = c.relation-item.result in
     let strength : level_of r.strength ≡ Some c.in-Some.level = sym c.in-Some.ensures in

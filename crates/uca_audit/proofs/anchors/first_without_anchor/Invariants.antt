@@ -5,4 +5,4 @@ use Rattle.uca_audit.specs.Views.{tailoring_in}
 use Rattle.uca_audit.proofs.anchors.first_without_anchor.Given as goal
 
 abbrev pub invariant-loop-at : goal.invariant-loop-at
-invariant-loop-at l = AllByRecursion (HasAnchor (tailoring_in l.inputs)) (take l.at l.relation-items)
+invariant-loop-at g l = AllByRecursion (HasAnchor (tailoring_in l.inputs)) (take l.at l.relation-items)

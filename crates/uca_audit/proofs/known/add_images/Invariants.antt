@@ -6,8 +6,8 @@ use Rattle.uca_audit.specs.KnownWeights.{HoldsImages}
 use Rattle.uca_audit.proofs.known.add_images.Given as goal
 
 abbrev pub invariant-loop-element : goal.invariant-loop-element
-invariant-loop-element l =
-    HoldsImages (maps_of l.certificate) (elements_of (take l.row-index l.rows) ++ take l.element-index l.element-items) l.known
+invariant-loop-element g l =
+    HoldsImages (maps_of l.images) (elements_of (take l.row-index l.rows) ++ take l.element-index l.element-items) l.known
 
 abbrev pub invariant-loop-row : goal.invariant-loop-row
-invariant-loop-row l = HoldsImages (maps_of l.certificate) (elements_of (take l.row-index l.rows)) l.known
+invariant-loop-row g l = HoldsImages (maps_of l.images) (elements_of (take l.row-index l.rows)) l.known

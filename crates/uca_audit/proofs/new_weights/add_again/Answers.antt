@@ -8,7 +8,7 @@ use Rattle.uca_audit.proofs.new_weights.add_again.Goals as goal
 use Rattle.uca_audit.proofs.new_weights.add_again.Goals.{then-contains, else-contains}
 
 pub returns-clause-shared : goal.returns-clause-shared
-returns-clause-shared c placements once twice =
+returns-clause-shared g c placements once twice =
     let p = c.args.placement in
     elim c.if-contains.branch [
       | then-contains w ↦

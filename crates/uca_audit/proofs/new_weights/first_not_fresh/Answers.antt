@@ -7,21 +7,21 @@ use Rattle.uca_audit.proofs.Fresh.{fresh_more, fresh_fails}
 use Rattle.uca_audit.proofs.new_weights.first_not_fresh.Goals as goal
 
 pub loop-at-init : goal.loop-at-init
-loop-at-init c = let tailoring = tailoring_in c.args.inputs.now in below_none (IsFresh tailoring) tailoring.relations
+loop-at-init g c = let tailoring = tailoring_in c.args.inputs.now in below_none (IsFresh tailoring) tailoring.relations
 
 pub returns-then-not-is_fresh : goal.returns-then-not-is_fresh
-returns-then-not-is_fresh c =
+returns-then-not-is_fresh g c =
     fresh_fails (tailoring_in c.args.inputs.now) c.args.placements.now c.args.known.now c.in_ok-shared.shared c.loop-at.at _ c.is_fresh.result
     c.requires.placed c.requires.known c.in_ok-shared.ensures c.loop-at-test.true c.loop-at.invariant c.is_fresh.ensures c.if-not-is_fresh.true
 
 pub loop-at-preserved : goal.loop-at-preserved
-loop-at-preserved c =
+loop-at-preserved g c =
     rw add-one
     (fresh_more (tailoring_in c.args.inputs.now) c.args.placements.now c.args.known.now c.in_ok-shared.shared c.loop-at.at _ c.is_fresh.result
     c.requires.placed c.requires.known c.in_ok-shared.ensures c.loop-at-test.true c.loop-at.invariant c.is_fresh.ensures c.if-not-is_fresh.false)
 
 pub returns : goal.returns
-returns c =
+returns g c =
     let tailoring = tailoring_in c.args.inputs.now in
     let same = length_in_step (IsPlacement tailoring) tailoring.relations c.args.placements.now c.requires.placed in
     below_whole (IsFresh tailoring) tailoring.relations c.loop-at.at (omega arith) c.loop-at.invariant

@@ -7,6 +7,6 @@ use Rattle.uca_audit.proofs.Passes.{AllBelow}
 use Rattle.uca_audit.proofs.new_weights.first_not_nearest.Given as goal
 
 abbrev pub invariant-loop-at : goal.invariant-loop-at
-invariant-loop-at l =
+invariant-loop-at g l =
     let tailoring = tailoring_in l.inputs in
     HoldsKnownAndNew tailoring (take l.at tailoring.relations) l.known × AllBelow (IsNearest tailoring) tailoring.relations l.at

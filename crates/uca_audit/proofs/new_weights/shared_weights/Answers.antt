@@ -5,7 +5,7 @@ use Rattle.uca_audit.specs.NewWeights.{HoldsNew}
 use Rattle.uca_audit.proofs.new_weights.shared_weights.Goals as goal
 
 pub loop-placement-preserved : goal.loop-placement-preserved
-loop-placement-preserved c =
+loop-placement-preserved g c =
     let placements = c.args.placements.now in
     let i = c.loop-placement.placement-index in
     let more = take_more placements i _ c.loop-placement-test.true in
@@ -15,6 +15,6 @@ loop-placement-preserved c =
     )
 
 pub returns : goal.returns
-returns c =
+returns g c =
     subst (λ l. HoldsNew 2 l c.loop-placement.shared)
     (take_all c.loop-placement.placement-index c.args.placements.now (omega arith)) c.loop-placement.invariant.1

@@ -6,7 +6,7 @@ use Rattle.uca_audit.proofs.TargetRows.{expansion_alike, target_row, found_by_we
 use Rattle.uca_audit.proofs.placements.placement_of.Goals as goal
 
 pub returns-in-Some-level_of : goal.returns-in-Some-level_of
-returns-in-Some-level_of c t reads =
+returns-in-Some-level_of g c t reads =
     let r = c.args.relation.now in
     let strength : level_of r.strength ≡ Some c.in-Some-level_of.level = sym c.in-Some-level_of.ensures in
     let anchors : c.deref.result.now ≡ anchor_elements t r =
@@ -17,7 +17,7 @@ returns-in-Some-level_of c t reads =
     expansions (target_row _ t r c.chars.result.now (Some c.in-Some.row.now) reads c.chars.ensures.value c.in-Some.ensures) c.weighted.ensures
 
 pub returns-in-None : goal.returns-in-None
-returns-in-None c t reads =
+returns-in-None g c t reads =
     let r = c.args.relation.now in
     let strength : level_of r.strength ≡ None = sym c.in-None.ensures in
     let anchors : c.deref-in-None.result.now ≡ anchor_elements t r =

@@ -10,7 +10,7 @@ use Rattle.uca_audit.proofs.TargetRows.{some_placed, none_placed}
 use Rattle.uca_audit.proofs.placements.placements.Goals as goal
 
 pub returns-in_default-clause-found : goal.returns-in_default-clause-found
-returns-in_default-clause-found c =
+returns-in_default-clause-found g c =
     let t = tailoring_in c.args.inputs.now in
     let r = c.relation-item.result in
     subst (λ (relations : List Relation). IsFirstRelationWithout (λ before s after. IsPlaced t s) relations (suc c.loop-at.at)) c.relations-relation-items.ensures.value
@@ -18,7 +18,7 @@ returns-in_default-clause-found c =
     (none_placed t r c.in_ok-placement.field-0 (c.in_ok-placement.ensures t c.requires) c.in_default.not-Some))
 
 pub loop-at-preserved : goal.loop-at-preserved
-loop-at-preserved c =
+loop-at-preserved g c =
     let t = tailoring_in c.args.inputs.now in
     let r = c.relation-item.result in
     let relations : List Relation = c.relations-relation-items.result.now in

@@ -5,7 +5,7 @@ use Rattle.uca_audit.specs.Views.{IsPlacement, tailoring_in}
 use Rattle.uca_audit.proofs.placements.placements.Given as goal
 
 abbrev pub invariant-loop-at : goal.invariant-loop-at
-invariant-loop-at l = record {
+invariant-loop-at g l = record {
   placed : AllByRecursion (IsPlaced (tailoring_in l.inputs)) (take l.at l.relation-items);
   list : AllZip (IsPlacement (tailoring_in l.inputs)) (take l.at l.relation-items) l.list.items;
 }

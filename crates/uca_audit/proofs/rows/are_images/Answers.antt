@@ -8,14 +8,14 @@ use Rattle.uca_audit.proofs.ImageLists.{images_length, images_tested}
 use Rattle.uca_audit.proofs.rows.are_images.Goals as goal
 
 pub returns-then-old-new : goal.returns-then-old-new
-returns-then-old-new c = (
+returns-then-old-new g c = (
   (λ h. absurd (false≢true h)),
-  λ h. absurd (c.if-old-new.true (images_length (maps_of c.args.certificate.now) c.args.old.now c.args.new.now h)),
+  λ h. absurd (c.if-old-new.true (images_length (maps_of c.args.images.now) c.args.old.now c.args.new.now h)),
 )
 
 pub returns : goal.returns
-returns c =
-    let maps = maps_of c.args.certificate.now in
+returns g c =
+    let maps = maps_of c.args.images.now in
     let Image : Element × Element → Type 0 = λ p. IsImage maps p.0 p.1 in
     let old = YieldsList-from_slice c.args.old.now (ap (λ i. i.rest.now) c.zip.ensures.first ∙ c.iter.ensures.rest) in
     let new = YieldsList-from_slice c.args.new.now c.zip.ensures.second.0 in

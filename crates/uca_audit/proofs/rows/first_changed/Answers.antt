@@ -7,9 +7,9 @@ use Rattle.uca_audit.specs.Views.{tailoring_in}
 use Rattle.uca_audit.proofs.rows.first_changed.Goals as goal
 
 pub returns : goal.returns
-returns c =
+returns g c =
     let rows = c.args.inputs.now.base.now.rows in
     let P : Entry → Type 0 = IsUnchangedRow (tailoring_in c.args.inputs.now) in
     let all = YieldsList-from_slice rows (c.iter.ensures.rest ∙ (c.deref.ensures.value ∙ ap (λ (t : TableContent). t.rows) c.base.view_is)) in
     first_found P rows _
-    (IsFirst-from_position _ _ _ (λ row. P row → ⊥) P c.position.ensures.ran all (λ x q k. search (rules, tests)) (λ x q k. search (rules, tests)))
+    (IsFirst-from_position _ _ _ (λ row. P row → ⊥) P c.position.ensures.ran all (λ x q k. search (rules, tests)) (λ x q k. search (rules, tests) fits 30000))

@@ -4,6 +4,6 @@ use Rattle.uca_audit.proofs.TargetSets.{targets_more}
 use Rattle.uca_audit.proofs.targets.Targets.new.Goals as goal
 
 pub loop-relation-preserved : goal.loop-relation-preserved
-loop-relation-preserved c =
+loop-relation-preserved g c =
     targets_more (λ k. k.items) _ (λ a b. exact_bytes a.items b.items) _ _ _ c.args.relations.now c.loop-relation.relation-index c.relation-item.result
     c.loop-relation-test.true c.relation-item.is (c.in_ok-key.ensures.items ∙ c.chars.ensures.value) c.in_ok-insert.ensures.keys c.loop-relation.invariant

@@ -1,0 +1,93 @@
+//! The images of all weights, each found in one step.
+
+ghost use Rattle.std.specs.Prelude.{◌≡◌, IfOk};
+ghost use Rattle.uca_weights.specs.Runs.{weight_image};
+
+use crate::Certificate;
+use std::alloc::{AllocError, Allocator};
+use std::marker::Model;
+use uca_weights::WeightMap;
+
+/// How many weights of 16 bits there are.
+const WEIGHT_COUNT: usize = 0x1_0000;
+
+/// A map of the weights of a level, with the image of each weight at hand: a look takes one step, however many runs
+/// there are.
+#[derive(Drop)]
+pub(crate) struct LevelImages<'a, A: Allocator, T: Allocator> {
+    /// The map.
+    map: &'a WeightMap<T>,
+    /// The image of each weight, `None` where it has none.
+    images: Vec<Option<u16>, A>,
+}
+
+impl<'a, A: Allocator, T: Allocator> Model for LevelImages<'a, A, T> {
+    ghost use Rattle.std.specs.Prelude.{◌≡◌, vec_len};
+    ghost use Rattle.uca_weights.specs.Runs.{MapContent};
+    ghost use Rattle.uca_audit.specs.ImageTables.{AreImagesBelow};
+
+    ghost Value = { MapContent };
+
+    ghost view = { λ s. s.map.now };
+
+    ghost invariant = { λ s. (vec_len s.images ≡ 0x1_0000) × AreImagesBelow 0x1_0000 s.map.now s.images.items };
+}
+
+impl<'a, A: Allocator + Copy, T: Allocator> LevelImages<'a, A, T> {
+    /// The images of all weights under a map. An error says that no memory was left.
+    fn new(alloc: A, map: &'a WeightMap<T>) -> Result<LevelImages<'a, A, T>, AllocError>
+        ensures { IfOk result (λ images. images ≡ map.now) }
+    {
+        let mut images = Vec::with_capacity(alloc, WEIGHT_COUNT)?;
+        for weight in 0..=u16::MAX {
+            images.push(map.get(weight))?;
+        }
+        Ok(LevelImages { map, images })
+    }
+
+    /// The image of a weight, or `None` where it has none.
+    pub(crate) fn get(&self, weight: u16) -> Option<u16>
+        ensures { result ≡ weight_image self.now.level self.now.runs weight }
+    {
+        self.images[usize::from(weight)]
+    }
+}
+
+/// What a certificate says becomes of the weights of a base, with the image of each weight at hand.
+#[derive(Drop)]
+pub(crate) struct Images<'a, A: Allocator, T: Allocator> {
+    /// The images at level 1.
+    pub primary: LevelImages<'a, A, T>,
+    /// The images at level 2.
+    pub secondary: LevelImages<'a, A, T>,
+    /// The images at level 3.
+    pub tertiary: LevelImages<'a, A, T>,
+}
+
+impl<'a, A: Allocator, T: Allocator> Model for Images<'a, A, T> {
+    ghost use Rattle.std.specs.Prelude.{◌≡◌};
+    ghost use Rattle.uca_weights.specs.declared.Level.TheVariants.{One, Two, Three};
+    ghost use Rattle.uca_certificates.specs.Certificates.{CertificateContent};
+
+    ghost Value = { CertificateContent };
+
+    ghost view = { λ s. record { primary = s.primary.runs; secondary = s.secondary.runs; tertiary = s.tertiary.runs } };
+
+    ghost invariant = { λ s. (s.primary.level ≡ One) × (s.secondary.level ≡ Two) × (s.tertiary.level ≡ Three) };
+}
+
+impl<'a, A: Allocator + Copy, T: Allocator> Images<'a, A, T> {
+    /// The images of all weights under the maps of a certificate. An error says that no memory was left.
+    pub(crate) fn new(
+        alloc: A,
+        certificate: &'a Certificate<T>,
+    ) -> Result<Images<'a, A, T>, AllocError>
+        ensures { IfOk result (λ images. images ≡ certificate.now) }
+    {
+        Ok(Images {
+            primary: LevelImages::new(alloc, &certificate.primary)?,
+            secondary: LevelImages::new(alloc, &certificate.secondary)?,
+            tertiary: LevelImages::new(alloc, &certificate.tertiary)?,
+        })
+    }
+}
