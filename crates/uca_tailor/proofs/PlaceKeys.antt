@@ -1,5 +1,5 @@
 -- The keys that have places.
-use Rattle.std.proofs.Common.{◌≡◌, ℕ, ◌+◌, ◌<◌, ◌≤◌, List, [], ◌∷◌, ◌++◌, length, take, drop, get_or, Bool, true, false, cond, is_some}
+use Rattle.std.proofs.Common.{◌≡◌, ℕ, ◌+◌, ◌<◌, ◌≤◌, List, [], ◌∷◌, ◌++◌, length, take, drop, get_or, true, false, is_some}
 use Rattle.std.proofs.Common.{Option, Some, None, MatchOption, refl}
 use Rattle.std.proofs.Common.{sym, ap, subst, ◌∙◌, ap₂, suc, ⊎_elim, arith, length-append, length-take, append_assoc, append-nil, take-append-drop}
 use Rattle.std.proofs.lemmas.List.{take_more, take_all, length-map, map-append}
@@ -9,7 +9,7 @@ use Rattle.uca_weights.specs.declared.Element.{Element}
 use Rattle.uca_values.specs.Content.{Entry, keys_of, IsEntry, AreRows}
 use Rattle.uca_rules.specs.declared.relations.Relation.{Relation}
 use Rattle.uca_rules.specs.Relations.{AreDistinct, HasRuleTexts, AreRules}
-use Rattle.uca_match.specs.Rows.{rows_of, same_key}
+use Rattle.uca_match.specs.Rows.{rows_of}
 use Rattle.uca_plans.specs.Drafts.{reference}
 use Rattle.uca_plans.specs.Keys.{is_among, with_key, with_targets, places_from}
 use Rattle.uca_plans.proofs.KeyPlaces.{with_key_is, each_with_key}

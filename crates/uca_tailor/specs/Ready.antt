@@ -11,7 +11,7 @@ use Rattle.uca_plans.specs.Tailors.{basis_of}
 use Rattle.uca_tailor.specs.declared.readings.Reader.{Reader}
 
 -- what a reader reads by
-abbrev pub basis_in : Reader → Basis
+abbrev pub basis_in : {A T : Type 0} → Reader A T → Basis
 basis_in reader = basis_of reader.base.now (properties_of reader.properties.now)
 
 -- the texts of the relation read over the places as over the rows

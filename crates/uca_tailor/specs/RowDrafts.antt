@@ -6,6 +6,6 @@ use Rattle.uca_tailor.specs.declared.row_drafts.RowElements.{RowElements}
 use Rattle.uca_tailor.specs.declared.row_drafts.RowElements.TheVariants.{Base, Target}
 
 -- those of the base as they are, and those of a target
-abbrev pub row_elements : RowElements → List DraftElement
+abbrev pub row_elements : {A : Type 0} → RowElements A → List DraftElement
 row_elements (Base elements) = map (as_draft false) elements.now
 row_elements (Target elements) = elements.items

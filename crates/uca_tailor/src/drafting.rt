@@ -19,7 +19,7 @@ use crate::readings::Reader;
 use crate::row_drafts::RowDraft;
 use crate::targets::draft_target;
 use crate::variables::{holds_implicit_variable, variable_span};
-use std::alloc::{AllocError, Global};
+use std::alloc::{AllocError, Allocator};
 use std::marker::Model;
 use uca_match::{Lookup, Trie};
 use uca_plans::{TailorFault, TailorKind};
@@ -33,12 +33,12 @@ const MOST_ELEMENTS: usize = 32;
 /// The rows of a tailored table before weights are numbered, and where the new weights go: base rows in their order, and then
 /// those of the targets that are no base keys. It borrows from the base and the rules what they have of it.
 #[derive(Drop)]
-pub(crate) struct Drafting<'a> {
-    rows: Vec<RowDraft<'a>>,
-    insertions: Vec<Insertion>,
+pub(crate) struct Drafting<'a, A: Allocator> {
+    rows: Vec<RowDraft<'a, A>, A>,
+    insertions: Vec<Insertion, A>,
 }
 
-impl<'a> Model for Drafting<'a> {
+impl<'a, A: Allocator> Model for Drafting<'a, A> {
     ghost use Rattle.uca_plans.specs.Plans as plans;
 
     ghost Value = { plans.Drafting };
@@ -46,9 +46,9 @@ impl<'a> Model for Drafting<'a> {
     ghost view = { λ d. record { rows = d.rows.items; insertions = d.insertions.items } };
 }
 
-impl<'a> Drafting<'a> {
+impl<'a, A: Allocator + Copy> Drafting<'a, A> {
     /// The rows of the base alone.
-    fn begun(alloc: Global, base: &'a Table) -> Result<Drafting<'a>, AllocError>
+    fn begun<T: Allocator>(alloc: A, base: &'a Table<T>) -> Result<Drafting<'a, A>, AllocError>
         ensures rows { IfOk result (λ drafting. drafting.rows ≡ map drafts.row_as_draft base.now.rows) }
         ensures insertions { IfOk result (λ drafting. drafting.insertions ≡ []) }
         ensures few { IfOk result (λ drafting. length drafting.rows ≤ 200000) }
@@ -62,9 +62,11 @@ impl<'a> Drafting<'a> {
             insertions: Vec::new(alloc),
         })
     }
+}
 
+impl<'a, A: Allocator> Drafting<'a, A> {
     /// The rows.
-    pub(crate) fn rows(&self) -> &[RowDraft<'a>]
+    pub(crate) fn rows(&self) -> &[RowDraft<'a, A>]
         ensures { result.now ≡ self.now.rows }
     {
         &self.rows
@@ -78,15 +80,15 @@ impl<'a> Drafting<'a> {
     }
 
     /// Adds what a relation gives its target, or tells why the relation is refused.
-    fn add(
+    fn add<T: Allocator>(
         &mut self,
-        alloc: Global,
-        reader: &Reader,
+        alloc: A,
+        reader: &Reader<A, T>,
         relation: &'a Relation,
         index: u32,
     ) -> Result<Result<(), TailorKind>, AllocError>
         requires bounds { AreBounds reader.now.variables (elements_of reader.now.base.now.rows) }
-        requires ready { IsReady (basis_in reader.now) (⟦<Trie as Lookup>⟧.content reader.now.places.now) self.old.rows relation.now }
+        requires ready { IsReady (basis_in reader.now) (⟦<Trie<A> as Lookup>⟧.content reader.now.places.now) self.old.rows relation.now }
         ensures { IfOk result (λ added. MatchResult added
             (λ _. with_relation (basis_in reader.now) self.old index relation.now ≡ Ok self.new)
             (λ kind. with_relation (basis_in reader.now) self.old index relation.now ≡ Err kind)) }
@@ -115,7 +117,7 @@ impl<'a> Drafting<'a> {
     fn put(
         &mut self,
         place: usize,
-        row: RowDraft<'a>,
+        row: RowDraft<'a, A>,
         insertion: Option<Insertion>,
     ) -> Result<(), AllocError>
         ensures replaced { place < length self.old.rows → OnOk result (self.new.rows ≡ slice_set self.old.rows place row.entry) }
@@ -139,12 +141,12 @@ impl<'a> Drafting<'a> {
 /// # Errors
 ///
 /// An allocation that fails.
-pub(crate) fn draft<'a>(
-    alloc: Global,
-    base: &'a Table,
-    properties: &Data,
-    rules: &'a Rules,
-) -> Result<Result<Drafting<'a>, TailorFault>, AllocError>
+pub(crate) fn draft<'a, A: Allocator + Copy, T: Allocator>(
+    alloc: A,
+    base: &'a Table<T>,
+    properties: &Data<T>,
+    rules: &'a Rules<T>,
+) -> Result<Result<Drafting<'a, A>, TailorFault>, AllocError>
     ensures drafted { let basis = basis_of base.now (properties_of properties.now) in IfOk result (λ found. MatchResult found
         (λ drafting. with_relations basis 0 rules.now (begun basis) ≡ Ok drafting)
         (λ fault. with_relations basis 0 rules.now (begun basis) ≡ Err fault)) }
@@ -172,8 +174,12 @@ pub(crate) fn draft<'a>(
 }
 
 /// Whether a target has three or more code points and ends in a non-starter, and without it is no key of the rows so far.
-fn needs_prefix(reader: &Reader, rows: &[RowDraft], target: &Normal) -> bool
-    requires { (more : List (List ℕ)) × ArePlacesWith (⟦<Trie as Lookup>⟧.content reader.now.places.now) rows.now more }
+fn needs_prefix<A: Allocator, T: Allocator>(
+    reader: &Reader<A, T>,
+    rows: &[RowDraft<A>],
+    target: &Normal,
+) -> bool
+    requires { (more : List (List ℕ)) × ArePlacesWith (⟦<Trie<A> as Lookup>⟧.content reader.now.places.now) rows.now more }
     ensures { result ≡ plans.needs_prefix (properties_of reader.now.properties.now).class rows.now target.now.points }
 {
     let points = target.chars();
@@ -187,8 +193,12 @@ fn needs_prefix(reader: &Reader, rows: &[RowDraft], target: &Normal) -> bool
 }
 
 /// Whether one of the rows so far has the key.
-fn has_key(reader: &Reader, rows: &[RowDraft], key: &[char]) -> bool
-    requires { (more : List (List ℕ)) × ArePlacesWith (⟦<Trie as Lookup>⟧.content reader.now.places.now) rows.now more }
+fn has_key<A: Allocator, T: Allocator>(
+    reader: &Reader<A, T>,
+    rows: &[RowDraft<A>],
+    key: &[char],
+) -> bool
+    requires { (more : List (List ℕ)) × ArePlacesWith (⟦<Trie<A> as Lookup>⟧.content reader.now.places.now) rows.now more }
     ensures { result ≡ drafts.has_key rows.now key.now }
 {
     match place_of(reader.places, key) {

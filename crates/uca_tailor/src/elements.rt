@@ -4,6 +4,7 @@ ghost use Rattle.std.specs.Prelude.{◌≡◌, ◌<◌, None, Some, MatchOption}
 ghost use Rattle.uca_weights.specs.Levels as levels;
 ghost use Rattle.uca_plans.specs.Drafts as drafts;
 
+use std::alloc::Allocator;
 use uca_plans::{DraftElement, DraftWeight};
 use uca_weights::{Element, Level, Strength};
 
@@ -71,7 +72,10 @@ pub(crate) fn draft_weight(level: Level, element: DraftElement) -> DraftWeight
 
 /// Takes the last element that has a weight at one of the levels from 1 to this one off a list, and all that stand behind
 /// it. Where there is none the list is empty then.
-pub(crate) fn take_last(level: Level, elements: &mut Vec<DraftElement>) -> Option<DraftElement>
+pub(crate) fn take_last<A: Allocator>(
+    level: Level,
+    elements: &mut Vec<DraftElement, A>,
+) -> Option<DraftElement>
     ensures { MatchOption result (drafts.anchor_part level elements.old.items ≡ None)
         (λ last. drafts.anchor_part level elements.old.items ≡ Some (record { front = elements.new.items; last = last })) }
 {

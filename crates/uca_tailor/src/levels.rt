@@ -16,7 +16,7 @@ use crate::lists::{
     low_segment, members,
 };
 use crate::numbers::numbers;
-use std::alloc::{AllocError, Global};
+use std::alloc::{AllocError, Allocator};
 use std::marker::Model;
 use uca_plans::DraftWeight;
 use uca_values::Row;
@@ -24,18 +24,18 @@ use uca_weights::{Level, Run};
 
 /// The list of a level and its numbers, with tables for the number of each weight.
 #[derive(Drop)]
-pub(crate) struct LevelNumbers {
+pub(crate) struct LevelNumbers<A: Allocator> {
     /// The list of the level.
-    members: Vec<DraftWeight>,
+    members: Vec<DraftWeight, A>,
     /// The number of each member.
-    numbers: Vec<u16>,
+    numbers: Vec<u16, A>,
     /// The number of each base weight; 0 where it is no member.
-    by_base: Vec<u16>,
+    by_base: Vec<u16, A>,
     /// The number of each relation's new weight; 0 where it is no member.
-    by_new: Vec<u16>,
+    by_new: Vec<u16, A>,
 }
 
-impl Model for LevelNumbers {
+impl<A: Allocator> Model for LevelNumbers<A> {
     ghost use Rattle.uca_plans.specs.Plans.{LevelPlan};
     ghost use Rattle.uca_tailor.specs.NumberTables.{AreTables};
 
@@ -47,13 +47,13 @@ impl Model for LevelNumbers {
 }
 
 /// The list of a level and its numbers, or `None` where the level has no room. All insertions are of relations below a number.
-pub(crate) fn level_numbers(
-    alloc: Global,
+pub(crate) fn level_numbers<A: Allocator + Copy, T: Allocator>(
+    alloc: A,
     level: Level,
-    rows: &[Row],
+    rows: &[Row<T>],
     insertions: &[Insertion],
     relations: usize,
-) -> Result<Option<LevelNumbers>, AllocError>
+) -> Result<Option<LevelNumbers<A>>, AllocError>
     requires { AllByRecursion (InsertsBelow relations) insertions.now }
     ensures { IfOk result (λ found. MatchOption found
         (lists.level_has_room level (members_of level (elements_of rows.now) insertions.now) ≡ false)
@@ -69,11 +69,11 @@ pub(crate) fn level_numbers(
 }
 
 /// The numbers of a level's list with room.
-fn numbers_of_level(
-    alloc: Global,
+fn numbers_of_level<A: Allocator + Copy>(
+    alloc: A,
     level: Level,
     members: &[DraftWeight],
-) -> Result<Vec<u16>, AllocError>
+) -> Result<Vec<u16, A>, AllocError>
     requires { lists.level_has_room level members.now ≡ true }
     ensures { IfOk result (λ numbers. numbers.items ≡ lists.level_numbers level members.now) }
 {
@@ -84,14 +84,14 @@ fn numbers_of_level(
     Ok(all)
 }
 
-impl LevelNumbers {
+impl<A: Allocator + Copy> LevelNumbers<A> {
     /// A list with its numbers, and the tables for them.
     fn new(
-        alloc: Global,
-        members: Vec<DraftWeight>,
-        numbers: Vec<u16>,
+        alloc: A,
+        members: Vec<DraftWeight, A>,
+        numbers: Vec<u16, A>,
         relations: usize,
-    ) -> Result<LevelNumbers, AllocError>
+    ) -> Result<LevelNumbers<A>, AllocError>
         requires same { vec_len numbers ≡ vec_len members }
         requires names { AllByRecursion (IsNamedBelow relations) members.items }
         ensures { IfOk result (λ n. n ≡ record { members = members.items; numbers = numbers.items }) }
@@ -106,7 +106,9 @@ impl LevelNumbers {
             by_new,
         })
     }
+}
 
+impl<A: Allocator> LevelNumbers<A> {
     /// The number of a weight. No weight stays, and so do at level 1 the weights from 8000 up.
     pub(crate) fn number(&self, level: Level, weight: DraftWeight) -> u16
         ensures { result ≡ numbered_weight level self.now weight }
@@ -126,7 +128,7 @@ impl LevelNumbers {
     }
 
     /// The base weights with their numbers, in runs as long as possible.
-    pub(crate) fn runs(&self, alloc: Global) -> Result<Vec<Run>, AllocError>
+    pub(crate) fn runs(&self, alloc: A) -> Result<Vec<Run, A>, AllocError>
         ensures { IfOk result (λ runs. runs.items ≡ plans.runs_of self.now.members self.now.numbers) }
     {
         runs_of(alloc, &self.members, &self.numbers)
@@ -144,7 +146,7 @@ fn stays(level: Level, weight: u16) -> bool
 }
 
 /// As many numbers, all of them 0.
-fn no_numbers(alloc: Global, count: usize) -> Result<Vec<u16>, AllocError>
+fn no_numbers<A: Allocator>(alloc: A, count: usize) -> Result<Vec<u16, A>, AllocError>
     ensures length { IfOk result (λ numbers. vec_len numbers ≡ count) }
     ensures none { IfOk result (λ numbers. (w : ℕ) → slice_index numbers.items w ≡ 0) }
 {
@@ -172,7 +174,11 @@ fn fill_tables(by_base: &mut [u16], by_new: &mut [u16], members: &[DraftWeight],
 }
 
 /// The runs of a list with its numbers, made from the last to the first.
-fn runs_of(alloc: Global, members: &[DraftWeight], numbers: &[u16]) -> Result<Vec<Run>, AllocError>
+fn runs_of<A: Allocator>(
+    alloc: A,
+    members: &[DraftWeight],
+    numbers: &[u16],
+) -> Result<Vec<Run, A>, AllocError>
     requires { length numbers.now ≡ length members.now }
     ensures { IfOk result (λ runs. runs.items ≡ plans.runs_of members.now numbers.now) }
 {
@@ -192,7 +198,7 @@ fn runs_of(alloc: Global, members: &[DraftWeight], numbers: &[u16]) -> Result<Ve
 
 /// Puts a weight with its number before runs that stand in reverse order: into the next run, where that goes on from it on
 /// both sides.
-fn put_before(runs: &mut Vec<Run>, from: u16, to: u16) -> Result<(), AllocError>
+fn put_before<A: Allocator>(runs: &mut Vec<Run, A>, from: u16, to: u16) -> Result<(), AllocError>
     requires some { 0 < from }
     requires low { AllByRecursion EndsLow (reverse runs.old.items) }
     ensures runs { OnOk result (reverse runs.new.items ≡ run_before from to (reverse runs.old.items)) }

@@ -4,16 +4,16 @@ ghost use Rattle.std.specs.Prelude.{◌≡◌, ◌+◌, ◌<◌, ◌≤◌, IfOk
 ghost use Rattle.uca_plans.specs.Numbering as numbering;
 ghost use Rattle.uca_plans.specs.Numbering.{HasPlaces, numbers_of};
 
-use std::alloc::{AllocError, Global};
+use std::alloc::{AllocError, Allocator};
 use uca_plans::{DraftWeight, Segment};
 
 /// The numbers of members that have places in a segment, in their order: each stands as far up as its base weight and
 /// those before it need, or as much lower as those behind it need.
-pub(crate) fn numbers(
-    alloc: Global,
+pub(crate) fn numbers<A: Allocator>(
+    alloc: A,
     segment: Segment,
     members: &[DraftWeight],
-) -> Result<Vec<u16>, AllocError>
+) -> Result<Vec<u16, A>, AllocError>
     requires { HasPlaces segment members.now }
     ensures { IfOk result (λ numbers. numbers.items ≡ numbers_of segment members.now) }
 {

@@ -7,7 +7,7 @@ ghost use Rattle.uca_plans.specs.Keys.{is_among, places_from, place_at};
 ghost use Rattle.uca_tailor.specs.Places.{IsPlaceOf, AreListed, ArePlaces};
 
 use crate::elements::{reference, referred};
-use std::alloc::{AllocError, Global};
+use std::alloc::{AllocError, Allocator};
 use uca_match::{Lookup, Trie, row_of};
 use uca_rules::{Relation, Rules};
 use uca_values::{Header, Row, Table};
@@ -22,8 +22,12 @@ const MOST_ROWS: usize = 200_000;
 /// # Errors
 ///
 /// An allocation that fails.
-pub(crate) fn places_of(alloc: Global, base: &Table, rules: &Rules) -> Result<Trie, AllocError>
-    ensures { IfOk result (λ places. ArePlaces (keys_of base.now.rows) rules.now (⟦<Trie as Lookup>⟧.content places)) }
+pub(crate) fn places_of<A: Allocator + Copy, T: Allocator>(
+    alloc: A,
+    base: &Table<T>,
+    rules: &Rules<T>,
+) -> Result<Trie<A>, AllocError>
+    ensures { IfOk result (λ places. ArePlaces (keys_of base.now.rows) rules.now (⟦<Trie<A> as Lookup>⟧.content places)) }
 {
     let rows = place_rows(alloc, base, rules.relations())?;
     let header = Header {
@@ -36,8 +40,8 @@ pub(crate) fn places_of(alloc: Global, base: &Table, rules: &Rules) -> Result<Tr
 }
 
 /// The place of a key, if it has one.
-pub(crate) fn place_of(places: &Trie, key: &[char]) -> Option<usize>
-    ensures { (keys : List (List ℕ)) → ((k : List ℕ) → ⟦<Trie as Lookup>⟧.content places.now k ≡ place_at 0 keys k) →
+pub(crate) fn place_of<A: Allocator>(places: &Trie<A>, key: &[char]) -> Option<usize>
+    ensures { (keys : List (List ℕ)) → ((k : List ℕ) → ⟦<Trie<A> as Lookup>⟧.content places.now k ≡ place_at 0 keys k) →
         MatchOption result (is_among keys key.now ≡ false) (IsPlaceOf keys key.now) }
 {
     let row = row_of(places, key)?;
@@ -46,7 +50,11 @@ pub(crate) fn place_of(places: &Trie, key: &[char]) -> Option<usize>
 }
 
 /// A row for each key, with the element that stands for its place.
-fn place_rows(alloc: Global, base: &Table, relations: &[Relation]) -> Result<Vec<Row>, AllocError>
+fn place_rows<A: Allocator + Copy, T: Allocator>(
+    alloc: A,
+    base: &Table<T>,
+    relations: &[Relation],
+) -> Result<Vec<Row<A>, A>, AllocError>
     requires { AreRules relations.now }
     ensures places { IfOk result (λ rows.
         (keys : List (List ℕ)) × AreListed (keys_of base.now.rows) relations.now keys × (rows.items ≡ places_from 0 keys)) }
@@ -71,7 +79,11 @@ fn place_rows(alloc: Global, base: &Table, relations: &[Relation]) -> Result<Vec
 }
 
 /// Puts a row for the key, with the element that stands for its place, behind the others.
-fn push_place(alloc: Global, rows: &mut Vec<Row>, key: &[char]) -> Result<(), AllocError>
+fn push_place<A: Allocator + Copy>(
+    alloc: A,
+    rows: &mut Vec<Row<A>, A>,
+    key: &[char],
+) -> Result<(), AllocError>
     requires { length rows.old.items < 200000 }
     ensures { (keys : List (List ℕ)) → rows.old.items ≡ places_from 0 keys →
         OnOk result (rows.new.items ≡ places_from 0 (keys ++ key.now ∷ [])) }

@@ -20,7 +20,7 @@ use crate::elements::as_draft;
 use crate::insertions::Insertion;
 use crate::levels::{LevelNumbers, level_numbers};
 use crate::row_drafts::{RowDraft, RowElements};
-use std::alloc::{AllocError, Global};
+use std::alloc::{AllocError, Allocator};
 use std::marker::Model;
 use uca_certificates::Certificate;
 use uca_plans::{DraftElement, TailorFault, TailorKind};
@@ -33,12 +33,12 @@ use uca_weights::{Element, Level, Run, WeightMap};
 /// # Errors
 ///
 /// Why there is no plan, or an allocation that fails.
-pub(crate) fn plan(
-    alloc: Global,
-    base: &Table,
-    properties: &Data,
-    rules: &Rules,
-) -> Result<(Table, Certificate), TailorFault>
+pub(crate) fn plan<A: Allocator + Copy, T: Allocator>(
+    alloc: A,
+    base: &Table<T>,
+    properties: &Data<T>,
+    rules: &Rules<T>,
+) -> Result<(Table<A>, Certificate<A>), TailorFault>
     requires { IsWellFormed (properties_of properties.now).class base.now.rows }
     ensures made { IfOk result (λ answer. IsMade base.now (properties_of properties.now) rules.now answer.0 answer.1) }
     ensures not_made { IfErr result (IsNotMade base.now (properties_of properties.now) rules.now) }
@@ -53,13 +53,13 @@ pub(crate) fn plan(
 
 /// The numbers of the weights of all levels.
 #[derive(Drop)]
-struct Numbers {
-    primary: LevelNumbers,
-    secondary: LevelNumbers,
-    tertiary: LevelNumbers,
+struct Numbers<A: Allocator> {
+    primary: LevelNumbers<A>,
+    secondary: LevelNumbers<A>,
+    tertiary: LevelNumbers<A>,
 }
 
-impl Model for Numbers {
+impl<A: Allocator> Model for Numbers<A> {
     ghost use Rattle.uca_plans.specs.Plans as plans;
 
     ghost Value = { plans.LevelPlans };
@@ -68,12 +68,12 @@ impl Model for Numbers {
 }
 
 /// The numbers of the weights of all levels. Where a level has no room, the fault names the lowest such level.
-fn number_levels(
-    alloc: Global,
-    base: &Table,
-    drafting: &Drafting,
+fn number_levels<A: Allocator + Copy, T: Allocator>(
+    alloc: A,
+    base: &Table<T>,
+    drafting: &Drafting<A>,
     relations: usize,
-) -> Result<Numbers, TailorFault>
+) -> Result<Numbers<A>, TailorFault>
     requires { AllByRecursion (InsertsBelow relations) drafting.now.insertions }
     ensures numbers { IfOk result (λ numbers.
         plan_drafted (elements_of base.now.rows) (Ok drafting.now) ≡ Ok (plan_of drafting.now.rows numbers)) }
@@ -90,13 +90,13 @@ fn number_levels(
 }
 
 /// The numbers of the weights of a level that has room.
-fn number_level(
-    alloc: Global,
+fn number_level<A: Allocator + Copy, T: Allocator>(
+    alloc: A,
     level: Level,
-    base: &[Row],
+    base: &[Row<T>],
     insertions: &[Insertion],
     relations: usize,
-) -> Result<LevelNumbers, TailorFault>
+) -> Result<LevelNumbers<A>, TailorFault>
     requires { AllByRecursion (InsertsBelow relations) insertions.now }
     ensures room { IfOk result (λ numbers.
         (lists.level_has_room level (lists.members_of level (elements_of base.now) insertions.now) ≡ true)
@@ -115,12 +115,12 @@ fn number_level(
 }
 
 /// The base's header, and the rows with their weights numbered.
-fn number_table(
-    alloc: Global,
-    base: &Table,
-    drafting: &Drafting,
-    numbers: &Numbers,
-) -> Result<Table, AllocError>
+fn number_table<A: Allocator + Copy, T: Allocator>(
+    alloc: A,
+    base: &Table<T>,
+    drafting: &Drafting<A>,
+    numbers: &Numbers<A>,
+) -> Result<Table<A>, AllocError>
     requires { IsTable base.now → IsTable (table_of base.now (plan_of drafting.now.rows numbers.now)) }
     ensures { IfOk result (λ table. table ≡ table_of base.now (plan_of drafting.now.rows numbers.now)) }
 {
@@ -130,7 +130,10 @@ fn number_table(
 }
 
 /// The header in memory of its own.
-fn copy_header(alloc: Global, header: &Header) -> Result<Header, AllocError>
+fn copy_header<A: Allocator + Copy, T: Allocator>(
+    alloc: A,
+    header: &Header<T>,
+) -> Result<Header<A>, AllocError>
     ensures { IfOk result (λ copy. copy ≡ header.now) }
 {
     Ok(Header {
@@ -141,7 +144,11 @@ fn copy_header(alloc: Global, header: &Header) -> Result<Header, AllocError>
 }
 
 /// The rows with their weights numbered, in their order.
-fn number_rows(alloc: Global, numbers: &Numbers, rows: &[RowDraft]) -> Result<Vec<Row>, AllocError>
+fn number_rows<A: Allocator + Copy>(
+    alloc: A,
+    numbers: &Numbers<A>,
+    rows: &[RowDraft<A>],
+) -> Result<Vec<Row<A>, A>, AllocError>
     ensures { IfOk result (λ numbered. numbered.items ≡ map (plans.numbered_row numbers.now) rows.now) }
 {
     let mut numbered = Vec::with_capacity(alloc, rows.len())?;
@@ -152,7 +159,11 @@ fn number_rows(alloc: Global, numbers: &Numbers, rows: &[RowDraft]) -> Result<Ve
 }
 
 /// A row with its weights numbered.
-fn number_row(alloc: Global, numbers: &Numbers, row: &RowDraft) -> Result<Row, AllocError>
+fn number_row<A: Allocator + Copy>(
+    alloc: A,
+    numbers: &Numbers<A>,
+    row: &RowDraft<A>,
+) -> Result<Row<A>, AllocError>
     ensures { IfOk result (λ numbered. numbered ≡ plans.numbered_row numbers.now row.now) }
 {
     let elements = number_elements(alloc, numbers, row.elements())?;
@@ -161,11 +172,11 @@ fn number_row(alloc: Global, numbers: &Numbers, row: &RowDraft) -> Result<Row, A
 }
 
 /// Elements with their weights numbered, in their order.
-fn number_elements(
-    alloc: Global,
-    numbers: &Numbers,
-    elements: &RowElements,
-) -> Result<Vec<Element>, AllocError>
+fn number_elements<A: Allocator>(
+    alloc: A,
+    numbers: &Numbers<A>,
+    elements: &RowElements<A>,
+) -> Result<Vec<Element, A>, AllocError>
     ensures { IfOk result (λ numbered. numbered.items ≡ map (plans.numbered numbers.now) (row_elements elements.now)) }
 {
     match elements {
@@ -181,7 +192,7 @@ fn number_elements(
 }
 
 /// An element with its weights numbered.
-fn number_element(numbers: &Numbers, element: DraftElement) -> Element
+fn number_element<A: Allocator>(numbers: &Numbers<A>, element: DraftElement) -> Element
     ensures { result ≡ plans.numbered numbers.now element }
 {
     Element {
@@ -193,7 +204,10 @@ fn number_element(numbers: &Numbers, element: DraftElement) -> Element
 }
 
 /// What becomes of the base's weights.
-fn certificate_by(alloc: Global, numbers: &Numbers) -> Result<Certificate, AllocError>
+fn certificate_by<A: Allocator + Copy>(
+    alloc: A,
+    numbers: &Numbers<A>,
+) -> Result<Certificate<A>, AllocError>
     requires { IsCertificate (parts.certificate_by numbers.now) }
     ensures { IfOk result (λ certificate. certificate ≡ parts.certificate_by numbers.now) }
 {
@@ -205,7 +219,7 @@ fn certificate_by(alloc: Global, numbers: &Numbers) -> Result<Certificate, Alloc
 }
 
 /// The map of proper runs.
-fn map_of(level: Level, runs: Vec<Run>) -> WeightMap
+fn map_of<A: Allocator>(level: Level, runs: Vec<Run, A>) -> WeightMap<A>
     requires { AreProperRuns level runs.items }
     ensures { result ≡ record { level = level; runs = runs.items } }
 {

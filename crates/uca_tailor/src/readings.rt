@@ -10,7 +10,7 @@ ghost use Rattle.uca_plans.specs.Keys.{read_over};
 use crate::elements::{as_draft, referred};
 use crate::row_drafts::RowDraft;
 use crate::variables::VariableSpan;
-use std::alloc::AllocError;
+use std::alloc::{AllocError, Allocator};
 use uca_match::{Collator, Lookup, Trie};
 use uca_plans::DraftElement;
 use uca_text::Normal;
@@ -18,19 +18,19 @@ use uca_values::{Data, Table};
 use uca_weights::Element;
 
 /// What texts are read by.
-#[derive(Clone, Copy)]
-pub(crate) struct Reader<'r> {
+#[derive_where(Clone, Copy)]
+pub(crate) struct Reader<'r, A: Allocator, T: Allocator> {
     /// The base, whose header has the ranges for implicit weights.
-    pub(crate) base: &'r Table,
+    pub(crate) base: &'r Table<T>,
     /// The combining classes and the Han ranges of code points.
-    pub(crate) properties: &'r Data,
+    pub(crate) properties: &'r Data<T>,
     /// The places of keys.
-    pub(crate) places: &'r Trie,
+    pub(crate) places: &'r Trie<A>,
     /// The primaries of the base's variable elements.
     pub(crate) variables: Option<VariableSpan>,
 }
 
-impl<'r> Reader<'r> {
+impl<'r, A: Allocator, T: Allocator> Reader<'r, A, T> {
     /// Puts the elements that a text has over some rows behind those of a list.
     ///
     /// # Errors
@@ -38,13 +38,13 @@ impl<'r> Reader<'r> {
     /// An allocation that fails.
     pub(crate) fn read(
         &self,
-        rows: &[RowDraft],
+        rows: &[RowDraft<A>],
         text: &Normal,
-        elements: &mut Vec<DraftElement>,
+        elements: &mut Vec<DraftElement, A>,
     ) -> Result<(), AllocError>
         ensures { OnOk result (elements.new.items ≡ elements.old.items
             ++ read_over self.now.base.now.header.ranges (properties_of self.now.properties.now)
-            (⟦<Trie as Lookup>⟧.content self.now.places.now) rows.now text.now) }
+            (⟦<Trie<A> as Lookup>⟧.content self.now.places.now) rows.now text.now) }
     {
         let base = self.base;
         let collator = Collator::new(self.places, &base.header, self.properties);
@@ -53,14 +53,14 @@ impl<'r> Reader<'r> {
 }
 
 /// Puts what the elements of a text stand for behind the elements of a list.
-fn append_read(
-    collator: &Collator<Trie>,
-    rows: &[RowDraft],
+fn append_read<A: Allocator, T: Allocator>(
+    collator: &Collator<Trie<A>, T>,
+    rows: &[RowDraft<A>],
     text: &Normal,
-    elements: &mut Vec<DraftElement>,
+    elements: &mut Vec<DraftElement, A>,
 ) -> Result<(), AllocError>
     ensures { OnOk result (elements.new.items ≡ elements.old.items
-        ++ flat_map (resolved rows.now) (elements_of (collation_of ⟦<Trie as Lookup>⟧.content collator.now) text.now)) }
+        ++ flat_map (resolved rows.now) (elements_of (collation_of ⟦<Trie<A> as Lookup>⟧.content collator.now) text.now)) }
 {
     for element in collator.elements(text) {
         append_resolved(rows, element, elements)?;
@@ -69,10 +69,10 @@ fn append_read(
 }
 
 /// Puts what an element stands for behind the elements of a list: those of a row, or itself.
-fn append_resolved(
-    rows: &[RowDraft],
+fn append_resolved<A: Allocator>(
+    rows: &[RowDraft<A>],
     element: Element,
-    elements: &mut Vec<DraftElement>,
+    elements: &mut Vec<DraftElement, A>,
 ) -> Result<(), AllocError>
     ensures { OnOk result (elements.new.items ≡ elements.old.items ++ resolved rows.now element) }
 {

@@ -5,7 +5,7 @@ ghost use Rattle.uca_plans.specs.Drafts.{as_draft, row_as_draft};
 ghost use Rattle.uca_tailor.specs.RowDrafts.{row_elements};
 
 use crate::elements::as_draft;
-use std::alloc::AllocError;
+use std::alloc::{AllocError, Allocator};
 use std::marker::Model;
 use uca_plans::DraftElement;
 use uca_text::Normal;
@@ -14,12 +14,12 @@ use uca_weights::Element;
 
 /// A row before weights are numbered. It borrows what the base and the rules have of it.
 #[derive(Drop)]
-pub(crate) struct RowDraft<'a> {
+pub(crate) struct RowDraft<'a, A: Allocator> {
     key: &'a [char],
-    elements: RowElements<'a>,
+    elements: RowElements<'a, A>,
 }
 
-impl<'a> Model for RowDraft<'a> {
+impl<'a, A: Allocator> Model for RowDraft<'a, A> {
     ghost use Rattle.uca_plans.specs.Drafts.{DraftRow};
 
     ghost Value = { DraftRow };
@@ -31,16 +31,16 @@ impl<'a> Model for RowDraft<'a> {
 
 /// The elements of a row.
 #[derive(Drop)]
-pub(crate) enum RowElements<'a> {
+pub(crate) enum RowElements<'a, A: Allocator> {
     /// Those of a row of the base, as they are.
     Base(&'a [Element]),
     /// Those of a target.
-    Target(Vec<DraftElement>),
+    Target(Vec<DraftElement, A>),
 }
 
-impl<'a> RowDraft<'a> {
+impl<'a, A: Allocator> RowDraft<'a, A> {
     /// A row of the base as it is.
-    pub(crate) fn of_base(row: &'a Row) -> RowDraft<'a>
+    pub(crate) fn of_base<T: Allocator>(row: &'a Row<T>) -> RowDraft<'a, A>
         ensures { result ≡ row_as_draft row.now }
     {
         RowDraft {
@@ -50,7 +50,7 @@ impl<'a> RowDraft<'a> {
     }
 
     /// The row of a target with these elements.
-    pub(crate) fn of_target(target: &'a Normal, elements: Vec<DraftElement>) -> RowDraft<'a>
+    pub(crate) fn of_target(target: &'a Normal, elements: Vec<DraftElement, A>) -> RowDraft<'a, A>
         ensures { result ≡ record { key = target.now.points; elements = elements.items } }
     {
         RowDraft {
@@ -67,7 +67,7 @@ impl<'a> RowDraft<'a> {
     }
 
     /// The elements: those of the base, or those of a target.
-    pub(crate) fn elements(&self) -> &RowElements<'a>
+    pub(crate) fn elements(&self) -> &RowElements<'a, A>
         ensures { row_elements result.now ≡ self.now.elements }
     {
         &self.elements
@@ -78,7 +78,7 @@ impl<'a> RowDraft<'a> {
     /// # Errors
     ///
     /// An allocation that fails.
-    pub(crate) fn append_to(&self, elements: &mut Vec<DraftElement>) -> Result<(), AllocError>
+    pub(crate) fn append_to(&self, elements: &mut Vec<DraftElement, A>) -> Result<(), AllocError>
         ensures { OnOk result (elements.new.items ≡ elements.old.items ++ self.now.elements) }
     {
         match &self.elements {
@@ -89,7 +89,10 @@ impl<'a> RowDraft<'a> {
 }
 
 /// Puts elements of the base, with their weights as they are, behind those of a list.
-fn append_as_drafts(own: &[Element], elements: &mut Vec<DraftElement>) -> Result<(), AllocError>
+fn append_as_drafts<A: Allocator>(
+    own: &[Element],
+    elements: &mut Vec<DraftElement, A>,
+) -> Result<(), AllocError>
     ensures { OnOk result (elements.new.items ≡ elements.old.items ++ map (as_draft false) own.now) }
 {
     for element in own {

@@ -10,7 +10,7 @@ ghost use Rattle.uca_audit.specs.Inputs.{tailoring_of};
 ghost use Rattle.uca_plans.specs.Tailors.{IsPlanOf, TailorRefuses};
 
 use crate::plan::plan;
-use std::alloc::Global;
+use std::alloc::Allocator;
 use uca_accepted_plans::{plans_are_accepted, plans_are_faithful};
 use uca_certificates::Certificate;
 use uca_check::check;
@@ -20,19 +20,20 @@ use uca_values::{Data, Table};
 
 /// Makes a tailored table from a base and rules, and its certificate. The table has the base's header, then its rows in their
 /// order, then those of the targets that are no base keys, in the order of the rules. Weights of the base move only where a
-/// new weight needs their place.
+/// new weight needs their place. Both take their memory from `alloc`; the base, the data and the rules may have theirs from
+/// another allocator.
 ///
 /// # Errors
 ///
 /// `BaseIllFormed` comes first. Then, relation by relation, `Anchor`, `NeedsPrefix`, `Limit` and `ImplicitVariable`; then
 /// `NoRoom` of the lowest level that has none. `Memory` may come at any point. Each of the others comes exactly where its cause
 /// stands first.
-pub fn tailor(
-    alloc: Global,
-    base: &Table,
-    properties: &Data,
-    rules: &Rules,
-) -> Result<(Table, Certificate), TailorFault>
+pub fn tailor<A: Allocator + Copy, T: Allocator>(
+    alloc: A,
+    base: &Table<T>,
+    properties: &Data<T>,
+    rules: &Rules<T>,
+) -> Result<(Table<A>, Certificate<A>), TailorFault>
     // The plan of the definition.
     ensures planned { IfOk result (λ answer. IsPlanOf base.now (properties_of properties.now) rules.now answer.0 answer.1) }
 
@@ -53,7 +54,7 @@ pub fn tailor(
 }
 
 /// A plan over this base is accepted by an audit, with all that this means.
-fn plans_need_no_audit(base: &Table, rules: &Rules)
+fn plans_need_no_audit<T: Allocator>(base: &Table<T>, rules: &Rules<T>)
     ensures { (points : Properties) (table : TableContent) (certificate : CertificateContent) →
         IsPlanOf base.now points rules.now table certificate →
         IsAccepted (tailoring_of base.now points rules.now table certificate)
@@ -69,7 +70,7 @@ fn plans_need_no_audit(base: &Table, rules: &Rules)
 }
 
 /// Whether a table is well-formed.
-fn is_well_formed(table: &Table, properties: &Data) -> bool
+fn is_well_formed<T: Allocator>(table: &Table<T>, properties: &Data<T>) -> bool
     ensures { IsTrue result ↔ IsWellFormed (properties_of properties.now).class table.now.rows }
 {
     check(table, properties).is_ok()

@@ -11,7 +11,7 @@ use crate::elements::{draft_weight, is_refused, level_of, reweighted, take_last}
 use crate::insertions::Insertion;
 use crate::readings::Reader;
 use crate::row_drafts::RowDraft;
-use std::alloc::{AllocError, Global};
+use std::alloc::{AllocError, Allocator};
 use std::marker::Model;
 use uca_match::{Lookup, Trie};
 use uca_plans::{DraftElement, DraftWeight};
@@ -20,14 +20,14 @@ use uca_weights::Level;
 
 /// What a relation gives its target.
 #[derive(Drop)]
-pub(crate) struct TargetDraft {
+pub(crate) struct TargetDraft<A: Allocator> {
     /// The elements.
-    pub(crate) elements: Vec<DraftElement>,
+    pub(crate) elements: Vec<DraftElement, A>,
     /// Where the new weight goes, if there is one.
     pub(crate) insertion: Option<Insertion>,
 }
 
-impl Model for TargetDraft {
+impl<A: Allocator> Model for TargetDraft<A> {
     ghost use Rattle.std.specs.Option.{option_to_list};
     ghost use Rattle.uca_plans.specs.Plans as plans;
 
@@ -42,14 +42,14 @@ impl Model for TargetDraft {
 /// # Errors
 ///
 /// An allocation that fails.
-pub(crate) fn draft_target(
-    alloc: Global,
-    reader: &Reader,
-    rows: &[RowDraft],
+pub(crate) fn draft_target<A: Allocator, T: Allocator>(
+    alloc: A,
+    reader: &Reader<A, T>,
+    rows: &[RowDraft<A>],
     relation: &Relation,
     index: u32,
-) -> Result<Option<TargetDraft>, AllocError>
-    requires { ReadsAlike (basis_in reader.now) (⟦<Trie as Lookup>⟧.content reader.now.places.now) rows.now relation.now }
+) -> Result<Option<TargetDraft<A>>, AllocError>
+    requires { ReadsAlike (basis_in reader.now) (⟦<Trie<A> as Lookup>⟧.content reader.now.places.now) rows.now relation.now }
     ensures { IfOk result (λ found. found
         ≡ plans.drafted (basis_in reader.now) (record { rows = rows.now; insertions = [] }) (DraftWeight.New index) relation.now) }
 {
@@ -75,11 +75,11 @@ pub(crate) fn draft_target(
 
 /// Puts a new weight on the last element of an anchor that has a weight at one of the levels from 1 to this one, cuts off what
 /// stands behind it, and tells where the new weight goes. There is none where no element can have it.
-fn put_weight(
+fn put_weight<A: Allocator>(
     level: Level,
     before: bool,
     new: DraftWeight,
-    elements: &mut Vec<DraftElement>,
+    elements: &mut Vec<DraftElement, A>,
 ) -> Result<Option<Insertion>, AllocError>
     ensures { (expansion : List DraftElement) → IfOk result (λ found.
         option_map (λ i. record { elements = elements.new.items ++ expansion; insertions = i ∷ [] }) found
@@ -101,13 +101,13 @@ fn put_weight(
 }
 
 /// Puts the elements of a relation's expansion, if it has one, behind those of a list.
-fn read_expansion(
-    reader: &Reader,
-    rows: &[RowDraft],
+fn read_expansion<A: Allocator, T: Allocator>(
+    reader: &Reader<A, T>,
+    rows: &[RowDraft<A>],
     relation: &Relation,
-    elements: &mut Vec<DraftElement>,
+    elements: &mut Vec<DraftElement, A>,
 ) -> Result<(), AllocError>
-    requires { ReadsAlike (basis_in reader.now) (⟦<Trie as Lookup>⟧.content reader.now.places.now) rows.now relation.now }
+    requires { ReadsAlike (basis_in reader.now) (⟦<Trie<A> as Lookup>⟧.content reader.now.places.now) rows.now relation.now }
     ensures { OnOk result (elements.new.items ≡ elements.old.items
         ++ draft_expansion (basis_in reader.now) (record { rows = rows.now; insertions = [] }) relation.now.expansion) }
 {

@@ -6,6 +6,7 @@ ghost use Rattle.uca_weights.specs.declared.Element.{Element as ElementType};
 ghost use Rattle.uca_check.specs.WellFormed.{elements_of};
 ghost use Rattle.uca_tailor.specs.Variables.{AreBounds, is_within};
 
+use std::alloc::Allocator;
 use uca_plans::{DraftElement, DraftWeight};
 use uca_values::Row;
 use uca_weights::Element;
@@ -18,7 +19,7 @@ pub(crate) struct VariableSpan {
 }
 
 /// The span of the variable elements of some rows, if there are any.
-pub(crate) fn variable_span(rows: &[Row]) -> Option<VariableSpan>
+pub(crate) fn variable_span<T: Allocator>(rows: &[Row<T>]) -> Option<VariableSpan>
     ensures { AreBounds result (elements_of rows.now) }
 {
     let mut span = None;

@@ -14,10 +14,10 @@ use Rattle.uca_tailor.proofs.Names.{drafts_named, named_below}
 use Rattle.uca_tailor.proofs.drafting.draft.Goals as goal
 
 pub loop-at-init : goal.loop-at-init
-loop-at-init c = none_drafted _ _ c.in_ok-drafting.drafting c.in_ok-drafting.ensures.rows c.in_ok-drafting.ensures.insertions c.in_ok-drafting.ensures.few
+loop-at-init g c = none_drafted _ _ c.in_ok-drafting.drafting c.in_ok-drafting.ensures.rows c.in_ok-drafting.ensures.insertions c.in_ok-drafting.ensures.few
 
 pub add-requires-clause-ready : goal.add-requires-clause-ready
-add-requires-clause-ready c =
+add-requires-clause-ready g c =
     ready _ _ c.relations-relation-items.result.now c.loop-at.at c.relation-item.result c.loop-at.drafting
     (subst AreRules (sym c.relations-relation-items.ensures.value) c.relations-relation-items.ensures.rules)
     (subst (λ (rs : List Relation). ArePlaces (keys_of c.args.base.now.rows) rs (held c.in_ok-places.places)) (sym c.relations-relation-items.ensures.value)
@@ -25,12 +25,12 @@ add-requires-clause-ready c =
     c.loop-at-test.true c.relation-item.is c.loop-at.invariant
 
 pub loop-at-preserved : goal.loop-at-preserved
-loop-at-preserved c =
+loop-at-preserved g c =
     one_more _ c.relations-relation-items.result.now c.loop-at.at c.relation-item.result c.loop-at.drafting c.add.new.self
     c.loop-at-test.true c.relation-item.is c.loop-at.invariant (rw c.in_default.is at c.in_ok-kind.ensures)
 
 pub returns-clause-names : goal.returns-clause-names
-returns-clause-names c =
+returns-clause-names g c =
     let basis : Basis = basis_of c.args.base.now (properties_of c.args.properties.now) in
     subst (λ (rs : List Relation). AllByRecursion (InsertsBelow (length rs)) c.loop-at.drafting.insertions) c.relations-relation-items.ensures.value
     (named_below 0 (length c.relations-relation-items.result.now) c.loop-at.drafting.insertions

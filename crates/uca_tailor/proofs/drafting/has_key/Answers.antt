@@ -7,7 +7,7 @@ use Rattle.uca_tailor.proofs.KeyLookups.{front_is, not_in_front}
 use Rattle.uca_tailor.proofs.drafting.has_key.Goals as goal
 
 pub returns-in-Some : goal.returns-in-Some
-returns-in-Some c =
+returns-in-Some g c =
     let rows : List DraftRow = c.args.rows.now in
     let more : List (List ℕ) = c.requires.0 in
     ap (ltb c.in-Some.place) (sym (length-map rows (λ (r : DraftRow). r.key)))
@@ -15,7 +15,7 @@ returns-in-Some c =
     ∙ sym (has_key_is rows c.args.key.now)
 
 pub returns-in-None : goal.returns-in-None
-returns-in-None c =
+returns-in-None g c =
     let rows : List DraftRow = c.args.rows.now in
     let more : List (List ℕ) = c.requires.0 in
     sym (has_key_is rows c.args.key.now ∙ not_in_front (keys_in rows) more c.args.key.now (c.in-None.ensures _ c.requires.1))

@@ -7,7 +7,7 @@ use Rattle.uca_plans.proofs.Prefixes.{long_needs}
 use Rattle.uca_tailor.proofs.drafting.needs_prefix.Goals as goal
 
 pub returns-then-class-ne0 : goal.returns-then-class-ne0
-returns-then-class-ne0 c =
+returns-then-class-ne0 g c =
     let class : ℕ → ℕ = class_in c.args.reader.now.properties.now.classes in
     let rows = c.args.rows.now in
     let front : List ℕ = c.in-Some.front.now in
@@ -19,7 +19,7 @@ returns-then-class-ne0 c =
     ∙ ap (needs_prefix class rows) c.chars-points.ensures.value
 
 pub returns-else-class-ne0 : goal.returns-else-class-ne0
-returns-else-class-ne0 c =
+returns-else-class-ne0 g c =
     let class : ℕ → ℕ = class_in c.args.reader.now.properties.now.classes in
     let rows = c.args.rows.now in
     let front : List ℕ = c.in-Some.front.now in

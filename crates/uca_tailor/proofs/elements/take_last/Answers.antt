@@ -4,11 +4,11 @@ use Rattle.uca_tailor.proofs.AnchorParts.{silent_last, sounding_last}
 use Rattle.uca_tailor.proofs.elements.take_last.Goals as goal
 
 pub returns-then-not-is_silent : goal.returns-then-not-is_silent
-returns-then-not-is_silent c =
+returns-then-not-is_silent g c =
     sym c.loop-last.invariant ∙ ap (anchor_part c.args.level) c.in-Some.ensures.items
     ∙ sounding_last c.args.level c.pop.new.self.items c.in-Some.last (sym c.is_silent.ensures ∙ c.if-not-is_silent.true)
 
 pub loop-last-preserved : goal.loop-last-preserved
-loop-last-preserved c =
+loop-last-preserved g c =
     sym (silent_last c.args.level c.pop.new.self.items c.in-Some.last (sym c.is_silent.ensures ∙ c.if-not-is_silent.false))
     ∙ sym (ap (anchor_part c.args.level) c.in-Some.ensures.items) ∙ c.loop-last.invariant

@@ -3,7 +3,7 @@ use Rattle.uca_plans.specs.Drafts.{anchor_part}
 use Rattle.uca_tailor.proofs.elements.take_last.Given as goal
 
 abbrev pub invariant-loop-last : goal.invariant-loop-last
-invariant-loop-last l = anchor_part l.level l.elements.items ≡ anchor_part l.level l.initial.elements.items
+invariant-loop-last g l = anchor_part l.level l.elements.items ≡ anchor_part l.level l.initial.elements.items
 
 abbrev pub decreases-loop-last : goal.decreases-loop-last
-decreases-loop-last l = goal.left-loop-last l
+decreases-loop-last g l = goal.left-loop-last g l

@@ -7,7 +7,7 @@ use Rattle.uca_tailor.proofs.LevelLaws.{as_many_numbers, members_named}
 use Rattle.uca_tailor.proofs.levels.level_numbers.Goals as goal
 
 pub new-requires-clause-same : goal.new-requires-clause-same
-new-requires-clause-same c =
+new-requires-clause-same g c =
     let level = c.args.level in
     let members = c.in_ok-members.members in
     let numbers = c.in_ok-numbers.numbers in
@@ -19,6 +19,6 @@ new-requires-clause-same c =
     omega (arith, members.ok.0, numbers.ok.0)
 
 pub new-requires-clause-names : goal.new-requires-clause-names
-new-requires-clause-names c =
+new-requires-clause-names g c =
     subst (AllByRecursion (IsNamedBelow c.args.relations)) (sym c.in_ok-members.ensures)
     (members_named c.args.relations c.args.level (elements_of c.args.rows.now) c.args.insertions.now c.requires)

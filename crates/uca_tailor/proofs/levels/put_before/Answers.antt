@@ -9,14 +9,14 @@ use Rattle.uca_tailor.proofs.RunLaws.{grown, before_low}
 use Rattle.uca_tailor.proofs.levels.put_before.Goals as goal
 
 pub returns-then-goes_on-clause-runs : goal.returns-then-goes_on-clause-runs
-returns-then-goes_on-clause-runs c =
+returns-then-goes_on-clause-runs g c =
     let some : 0 < vec_len c.args.runs.now = c.in-Some.ensures.variant.0 refl in
     let last : (vec_len c.args.runs.now - 1) + 1 ≡ length c.args.runs.now.items = omega (arith, c.args.runs.now.ok.0) in
     grown c.args.runs.now.items (vec_len c.args.runs.now - 1) c.in-Some.next.now c.args.from c.args.to last
     c.in-Some.ensures.value (sym c.goes_on.ensures ∙ c.if-goes_on.true)
 
 pub returns-then-goes_on-clause-low : goal.returns-then-goes_on-clause-low
-returns-then-goes_on-clause-low c =
+returns-then-goes_on-clause-low g c =
     let some : 0 < vec_len c.args.runs.now = c.in-Some.ensures.variant.0 refl in
     let last : (vec_len c.args.runs.now - 1) + 1 ≡ length c.args.runs.now.items = omega (arith, c.args.runs.now.ok.0) in
     let next : Run = record { from = c.args.from; to = c.args.to; count = c.in-Some.next.now.count + 1 } in

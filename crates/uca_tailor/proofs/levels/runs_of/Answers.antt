@@ -4,7 +4,7 @@ use Rattle.uca_tailor.proofs.RunLaws.{one_zero, one_new}
 use Rattle.uca_tailor.proofs.levels.runs_of.Goals as goal
 
 pub loop-left-preserved-else-weight-gt0 : goal.loop-left-preserved-else-weight-gt0
-loop-left-preserved-else-weight-gt0 c = record {
+loop-left-preserved-else-weight-gt0 g c = record {
   within = omega arith;
   runs = c.loop-left.invariant.runs ∙ one_zero c.args.members.now c.args.numbers.now (c.loop-left.left - 1) c.loop-left.left c.in-Base.weight (Base 0)
       (omega arith) (omega arith) c.requires c.in-Base.is (omega arith);
@@ -12,7 +12,7 @@ loop-left-preserved-else-weight-gt0 c = record {
 }
 
 pub loop-left-preserved : goal.loop-left-preserved
-loop-left-preserved c = record {
+loop-left-preserved g c = record {
   within = omega arith;
   runs = c.loop-left.invariant.runs ∙ one_new c.args.members.now c.args.numbers.now (c.loop-left.left - 1) c.loop-left.left c.in_default.field-0 (Base 0)
       (omega arith) (omega arith) c.requires c.in_default.is;

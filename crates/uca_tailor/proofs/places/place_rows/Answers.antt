@@ -6,14 +6,14 @@ use Rattle.uca_tailor.proofs.PlaceKeys.{base_more, base_room, target_there, targ
 use Rattle.uca_tailor.proofs.places.place_rows.Goals as goal
 
 pub push_place-requires : goal.push_place-requires
-push_place-requires c =
+push_place-requires g c =
     let rows : c.deref-row-items.result.now ≡ c.args.base.now.rows = c.deref-row-items.ensures.value ∙ ap (λ (t : TableContent). t.rows) c.base.view_is in
     let few : length c.args.base.now.rows ≤ 200000 = subst (λ (t : TableContent). length t.rows ≤ 200000) c.base.view_is c.base.invariant.few in
     base_room c.args.base.now.rows c.loop-row.rows.items c.loop-row.row-index few
     (subst (λ (rs : List Entry). c.loop-row.row-index < length rs) rows c.loop-row-test.true) c.loop-row.invariant
 
 pub loop-row-preserved : goal.loop-row-preserved
-loop-row-preserved c =
+loop-row-preserved g c =
     let rows : c.deref-row-items.result.now ≡ c.args.base.now.rows = c.deref-row-items.ensures.value ∙ ap (λ (t : TableContent). t.rows) c.base.view_is in
     let few : length c.args.base.now.rows ≤ 200000 = subst (λ (t : TableContent). length t.rows ≤ 200000) c.base.view_is c.base.invariant.few in
     base_more c.args.base.now.rows c.loop-row.rows.items c.push_place.new.rows.items c.loop-row.row-index c.row-item.result few
@@ -23,7 +23,7 @@ loop-row-preserved c =
     subst (λ k. c.push_place.new.rows.items ≡ places_from 0 (ks ++ k ∷ [])) key (c.in_ok-push_place.ensures ks is))
 
 pub loop-relation-preserved-then-is_some : goal.loop-relation-preserved-then-is_some
-loop-relation-preserved-then-is_some c =
+loop-relation-preserved-then-is_some g c =
     target_there c.args.base.now.rows c.args.relations.now c.loop-relation.rows.items c.loop-relation.relation-index c.relation-item.result
     c.loop-relation-test.true c.relation-item.is c.loop-relation.invariant
     (found_row c.args.base.now.rows c.chars-target.result.now c.relation-item.result.target.points c.chars-target.ensures.value
@@ -31,7 +31,7 @@ loop-relation-preserved-then-is_some c =
     ∙ sym c.is_some.ensures ∙ c.if-is_some.true)
 
 pub returns-then-len-ge-MOST_ROWS-clause-places : goal.returns-then-len-ge-MOST_ROWS-clause-places
-returns-then-len-ge-MOST_ROWS-clause-places c =
+returns-then-len-ge-MOST_ROWS-clause-places g c =
     listed_some c.args.base.now.rows c.args.relations.now c.loop-relation.rows.items c.loop-relation.relation-index c.relation-item.result
     c.loop-relation-test.true c.relation-item.is c.loop-relation.invariant c.requires.distinct
     (found_row c.args.base.now.rows c.chars-target.result.now c.relation-item.result.target.points c.chars-target.ensures.value
@@ -39,7 +39,7 @@ returns-then-len-ge-MOST_ROWS-clause-places c =
     ∙ sym c.is_some.ensures ∙ c.if-is_some.false) (omega arith)
 
 pub loop-relation-preserved : goal.loop-relation-preserved
-loop-relation-preserved c =
+loop-relation-preserved g c =
     target_more c.args.base.now.rows c.args.relations.now c.loop-relation.rows.items c.loop-relation.relation-index c.relation-item.result
     c.loop-relation-test.true c.relation-item.is c.loop-relation.invariant c.push_place-in-loop-relation.new.rows.items c.requires.distinct
     (found_row c.args.base.now.rows c.chars-target.result.now c.relation-item.result.target.points c.chars-target.ensures.value
@@ -49,14 +49,14 @@ loop-relation-preserved c =
     (c.in_ok-push_place-2.ensures ks is))
 
 pub returns-clause-places : goal.returns-clause-places
-returns-clause-places c = listed_all c.args.base.now.rows c.args.relations.now c.loop-relation.rows.items c.loop-relation.relation-index c.loop-relation-test.false c.loop-relation.invariant
+returns-clause-places g c = listed_all c.args.base.now.rows c.args.relations.now c.loop-relation.rows.items c.loop-relation.relation-index c.loop-relation-test.false c.loop-relation.invariant
 
 pub returns-clause-rows : goal.returns-clause-rows
-returns-clause-rows c =
+returns-clause-rows g c =
     are_rows c.args.base.now.rows c.args.relations.now c.loop-relation.rows.items (subst (λ (t : TableContent). AreRows t.rows) c.base.view_is c.base.invariant)
-    c.requires (returns-clause-places c)
+    c.requires (returns-clause-places g c)
 
 pub returns-then-len-ge-MOST_ROWS-clause-rows : goal.returns-then-len-ge-MOST_ROWS-clause-rows
-returns-then-len-ge-MOST_ROWS-clause-rows c =
+returns-then-len-ge-MOST_ROWS-clause-rows g c =
     are_rows c.args.base.now.rows c.args.relations.now c.loop-relation.rows.items (subst (λ (t : TableContent). AreRows t.rows) c.base.view_is c.base.invariant)
-    c.requires (returns-then-len-ge-MOST_ROWS-clause-places c)
+    c.requires (returns-then-len-ge-MOST_ROWS-clause-places g c)

@@ -5,7 +5,7 @@ use Rattle.uca_tailor.proofs.PlaceKeys.{ArePlacesUpTo}
 use Rattle.uca_tailor.proofs.places.place_rows.Given as goal
 
 abbrev pub invariant-loop-row : goal.invariant-loop-row
-invariant-loop-row l = ArePlacesUpTo (keys_of (take l.row-index l.base.rows)) l.rows.items
+invariant-loop-row g l = ArePlacesUpTo (keys_of (take l.row-index l.base.rows)) l.rows.items
 
 abbrev pub invariant-loop-relation : goal.invariant-loop-relation
-invariant-loop-relation l = ArePlacesUpTo (with_targets (take l.relation-index l.relations) (keys_of l.base.rows)) l.rows.items
+invariant-loop-relation g l = ArePlacesUpTo (with_targets (take l.relation-index l.relations) (keys_of l.base.rows)) l.rows.items

@@ -7,10 +7,10 @@ use Rattle.uca_tailor.proofs.KeyLookups.{listed_places}
 use Rattle.uca_tailor.proofs.places.places_of.Goals as goal
 
 pub invariant_of-table : goal.invariant_of-table
-invariant_of-table c = c.in_ok-rows.ensures.rows
+invariant_of-table g c = c.in_ok-rows.ensures.rows
 
 pub returns : goal.returns
-returns c =
+returns g c =
     subst (λ (relations : List Relation). IfOk c.new-2.result (λ places. ArePlaces (keys_of c.args.base.now.rows) relations (held places)))
     c.relations.ensures.value
     (listed_places held c.new-2.result (keys_of c.args.base.now.rows) c.relations.result.now c.in_ok-rows.rows.items c.new-2.ensures c.in_ok-rows.ensures.places)

@@ -5,7 +5,7 @@ use Rattle.uca_tailor.proofs.PlaceKeys.{one_more_place}
 use Rattle.uca_tailor.proofs.places.push_place.Goals as goal
 
 pub returns : goal.returns
-returns c keys are =
+returns g c keys are =
     let count : c.len.result ≡ length c.args.rows.now.items = omega (arith, c.len.ensures, c.args.rows.now.ok) in
     let stands : c.reference.result ≡ reference (length c.args.rows.now.items) = c.reference.ensures ∙ ap reference count in
     let elements : c.push.new.self.items ≡ reference (length c.args.rows.now.items) ∷ [] =

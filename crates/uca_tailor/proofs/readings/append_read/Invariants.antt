@@ -4,4 +4,4 @@ use Rattle.uca_plans.specs.Drafts.{resolved}
 use Rattle.uca_tailor.proofs.readings.append_read.Given as goal
 
 abbrev pub invariant-loop-element : goal.invariant-loop-element
-invariant-loop-element l = l.elements.items ≡ l.initial.elements.items ++ flat_map (resolved l.rows) l.yielded
+invariant-loop-element g l = l.elements.items ≡ l.initial.elements.items ++ flat_map (resolved l.rows) l.yielded

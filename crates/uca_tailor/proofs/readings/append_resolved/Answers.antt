@@ -4,7 +4,7 @@ use Rattle.uca_tailor.proofs.RowLookups.{elements_there, elements_past, resolved
 use Rattle.uca_tailor.proofs.readings.append_resolved.Goals as goal
 
 pub returns-in-Some : goal.returns-in-Some
-returns-in-Some c =
+returns-in-Some g c =
     let stands : resolved c.args.rows.now c.args.element ≡ c.in-Some.row.now.elements =
     resolved_marked c.args.rows.now c.args.element c.if-element.true
     ∙ ap (λ place. elements_at place c.args.rows.now) (sym c.referred.ensures)
@@ -12,7 +12,7 @@ returns-in-Some c =
     subst (λ es. OnOk c.append_to.result (c.append_to.new.elements.items ≡ c.args.elements.now.items ++ es)) (sym stands) c.append_to.ensures
 
 pub returns-in-None : goal.returns-in-None
-returns-in-None c =
+returns-in-None g c =
     let stands : resolved c.args.rows.now c.args.element ≡ [] =
     resolved_marked c.args.rows.now c.args.element c.if-element.true
     ∙ ap (λ place. elements_at place c.args.rows.now) (sym c.referred.ensures)

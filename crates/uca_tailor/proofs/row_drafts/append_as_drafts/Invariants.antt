@@ -3,4 +3,4 @@ use Rattle.uca_plans.specs.Drafts.{as_draft}
 use Rattle.uca_tailor.proofs.row_drafts.append_as_drafts.Given as goal
 
 abbrev pub invariant-loop-element : goal.invariant-loop-element
-invariant-loop-element l = l.elements.items ≡ l.initial.elements.items ++ map (as_draft false) (take l.element-index l.own)
+invariant-loop-element g l = l.elements.items ≡ l.initial.elements.items ++ map (as_draft false) (take l.element-index l.own)

@@ -4,7 +4,7 @@ use Rattle.uca_tailor.proofs.PlanAudits.{plan_audited}
 use Rattle.uca_tailor.proofs.tailoring.plans_need_no_audit.Goals as goal
 
 pub returns : goal.returns
-returns c =
+returns g c =
     let table : IsTable c.args.base.now = record {
       header = subst IsHeader (c.header.view_is ∙ ap (λ (t : TableContent). t.header) c.base.view_is) c.header.invariant;
       rows = subst (λ (t : TableContent). AreRows t.rows) c.base.view_is c.base.invariant;

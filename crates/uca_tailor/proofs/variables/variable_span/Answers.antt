@@ -5,7 +5,7 @@ use Rattle.uca_tailor.specs.Variables.{AreBounds}
 use Rattle.uca_tailor.proofs.variables.variable_span.Goals as goal
 
 pub loop-element-preserved : goal.loop-element-preserved
-loop-element-preserved c =
+loop-element-preserved g c =
     subst (AreBounds c.widened-span.result)
     (behind_more (elements_of (take c.loop-row.row-index c.args.rows.now)) c.deref-element-items.result.now c.loop-element.element-index
     (record { primary = 0; secondary = 0; tertiary = 0; mark = false }) c.loop-element-test.true)

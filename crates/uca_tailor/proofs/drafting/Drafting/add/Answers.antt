@@ -13,7 +13,7 @@ use Rattle.uca_tailor.proofs.DraftingSteps.{drafted_by_rows, refused_room, refus
 use Rattle.uca_tailor.proofs.drafting.Drafting.add.Goals as goal
 
 pub returns-in_default-place_of : goal.returns-in_default-place_of
-returns-in_default-place_of c =
+returns-in_default-place_of g c =
     let basis : Basis = basis_in c.args.reader.now in
     let rows : c.deref.result.now ≡ c.args.self.now.rows = c.deref.ensures.value ∙ ap (λ (d : Drafting). d.rows) c.self.view_is in
     let gives : drafted basis c.args.self.now (New c.args.index) c.args.relation.now ≡ Some c.in-Some.new =
@@ -27,7 +27,7 @@ returns-in_default-place_of c =
     (ap (is_among (keys_in c.args.self.now.rows ++ c.requires.ready.more)) (sym c.chars.ensures.value) ∙ c.in_default-place_of.ensures _ c.requires.ready.each)
 
 pub returns : goal.returns
-returns c =
+returns g c =
     let basis : Basis = basis_in c.args.reader.now in
     let rows : c.deref.result.now ≡ c.args.self.now.rows = c.deref.ensures.value ∙ ap (λ (d : Drafting). d.rows) c.self.view_is in
     let gives : drafted basis c.args.self.now (New c.args.index) c.args.relation.now ≡ Some c.in-Some.new =
@@ -57,7 +57,7 @@ returns c =
     (c.in_ok-put.ensures.insertions ∙ ap (λ (d : Drafted). c.args.self.now.insertions ++ d.insertions) c.new.view_is)
 
 pub returns-then-holds_implicit_variable : goal.returns-then-holds_implicit_variable
-returns-then-holds_implicit_variable c =
+returns-then-holds_implicit_variable g c =
     let basis : Basis = basis_in c.args.reader.now in
     let rows : c.deref.result.now ≡ c.args.self.now.rows = c.deref.ensures.value ∙ ap (λ (d : Drafting). d.rows) c.self.view_is in
     let gives : drafted basis c.args.self.now (New c.args.index) c.args.relation.now ≡ Some c.in-Some.new =

@@ -3,4 +3,4 @@ use Rattle.uca_plans.specs.Drafts.{row_as_draft}
 use Rattle.uca_tailor.proofs.drafting.Drafting.begun.Given as goal
 
 abbrev pub invariant-loop-row : goal.invariant-loop-row
-invariant-loop-row l = l.rows.items ≡ map row_as_draft (take l.row-index l.base.rows)
+invariant-loop-row g l = l.rows.items ≡ map row_as_draft (take l.row-index l.base.rows)
