@@ -1,6 +1,6 @@
 -- The run of an audit, from what its five files mean and what is answered of them.
-use Rattle.std.proofs.Common.{◌≡◌, ℕ, List, false, ◌||◌, Option, Some, None, IfSome, IsSomeAnd, Result, Ok, Err, ap, subst, sym, ◌∙◌}
-use Rattle.uca_weights.specs.Streams.{SinkState}
+use Rattle.std.proofs.Common.{◌≡◌, ℕ, List, Bool, true, false, refl, ◌||◌, ◌&&◌, Option, Some, None, IfSome, IsSomeAnd, Result, Ok, Err, ap, subst, sym, ◌∙◌}
+use Rattle.uca_weights.specs.Streams.{SourceState, SinkState}
 use Rattle.uca_values.specs.Content.{TableContent, Properties}
 use Rattle.uca_table.specs.Lines as tables
 use Rattle.uca_data.specs.Said as data_files
@@ -10,9 +10,11 @@ use Rattle.uca_certificates.specs.Certificates.{CertificateContent}
 use Rattle.uca_certificates.specs.Texts as certificates
 use Rattle.uca_tailorings.specs.Tailorings.{Tailoring}
 use Rattle.uca_audit.specs.Inputs.{tailoring_of}
+use Rattle.uca_cli.specs.declared.faults.FileFault.{FileFault}
 use Rattle.uca_cli.specs.declared.faults.RunFault.{RunFault}
+use Rattle.uca_cli.specs.declared.faults.Role.{Role}
 use Rattle.uca_cli.specs.declared.faults.Role.TheVariants as roles
-use Rattle.uca_cli.specs.Runs.{OfLines, IsRefused, fault_of, is_file, is_write}
+use Rattle.uca_cli.specs.Runs.{OfLines, IsRefused, fault_of, is_file, is_file_read, is_read_fault, is_role, is_write}
 use Rattle.uca_cli.specs.AuditRun.{AuditSources, AuditContent, AuditsOver, IsStop, RefusesRules, RefusesCertificate, SourcesHaveFailed, AuditHasFailed, audit_content, tailoring_by}
 use Rattle.uca_cli.specs.AuditFiles.{MayMean}
 use Rattle.uca_cli.proofs.Running.{no_fault, no_file_read, known_value, over_value, known_weaker}
@@ -39,6 +41,71 @@ certificate_refused A old new base points relations tailored fault means_base me
     (known_value old.properties.remaining data_files.Means _ points means_data
     (known_value old.rules.remaining (rule_files.Means points) _ relations means_rules
     (known_value old.tailored.remaining tables.Means _ tailored means_tailored is.2))))
+
+-- ---- Which source has failed, where a file is refused
+
+-- no other one has
+pub not_read : (A : Type 0) (role other : Role) (old new : SourceState) (Refuses : List ℕ → Option (List ℕ) → FileFault → Type 0) (fault : RunFault)
+    → IsRefused role old new Refuses fault → is_role other role ≡ false → is_file_read {A = A} other (Err fault) ≡ false
+not_read A role other old new Refuses fault is apart =
+    subst (λ f. is_file_read {A = A} other (Err f) ≡ false) (sym is.1) (ap (λ b. b && is_read_fault is.0) apart)
+
+-- its own has where reading it failed, whatever else would have been answered
+pub own_read : (A B : Type 0) (role : Role) (old new : SourceState) (Refuses : List ℕ → Option (List ℕ) → FileFault → Type 0) (fault : RunFault)
+    → IsRefused role old new Refuses fault → is_file_read {A = A} role (Err fault) ≡ is_file_read {A = B} role (Err fault)
+own_read A B role old new Refuses fault is =
+    subst (λ f. is_file_read {A = A} role (Err f) ≡ is_file_read {A = B} role (Err f)) (sym is.1) refl
+
+-- nothing is added
+pub stays : (b : Bool) → b ≡ (b || false)
+stays true = refl
+stays false = refl
+
+-- the rules are refused
+pub failed_at_rules : {A : Type 0} (B : Type 0) (old new : AuditSources) (Refuses : List ℕ → Option (List ℕ) → FileFault → Type 0) (fault : RunFault)
+    → new.base.failed ≡ (old.base.failed || false) → new.properties.failed ≡ (old.properties.failed || false)
+    → new.rules.failed ≡ (old.rules.failed || is_file_read {A = B} roles.Rules (Err fault))
+    → new.tailored ≡ old.tailored → new.certificate ≡ old.certificate
+    → IsRefused roles.Rules old.rules new.rules Refuses fault → SourcesHaveFailed {A = A} old new (Err fault)
+failed_at_rules {A} B old new Refuses fault base points rules same_tailored same_certificate is = record {
+  base_failed = base ∙ ap (λ b. old.base.failed || b) (sym (not_read A roles.Rules roles.Base old.rules new.rules Refuses fault is refl));
+  data_failed = points ∙ ap (λ b. old.properties.failed || b) (sym (not_read A roles.Rules roles.Data old.rules new.rules Refuses fault is refl));
+  rules_failed = rules ∙ ap (λ b. old.rules.failed || b) (own_read B A roles.Rules old.rules new.rules Refuses fault is);
+  tailored_failed = ap (λ s. s.failed) same_tailored ∙ stays old.tailored.failed
+      ∙ ap (λ b. old.tailored.failed || b) (sym (not_read A roles.Rules roles.Tailored old.rules new.rules Refuses fault is refl));
+  certificate_failed = ap (λ s. s.failed) same_certificate ∙ stays old.certificate.failed
+      ∙ ap (λ b. old.certificate.failed || b) (sym (not_read A roles.Rules roles.Certificate old.rules new.rules Refuses fault is refl));
+}
+
+-- the tailored table is
+pub failed_at_tailored : {A : Type 0} (B : Type 0) (old new : AuditSources) (Refuses : List ℕ → Option (List ℕ) → FileFault → Type 0) (fault : RunFault)
+    → new.base.failed ≡ (old.base.failed || false) → new.properties.failed ≡ (old.properties.failed || false)
+    → new.rules.failed ≡ (old.rules.failed || false)
+    → new.tailored.failed ≡ (old.tailored.failed || is_file_read {A = B} roles.Tailored (Err fault))
+    → new.certificate ≡ old.certificate
+    → IsRefused roles.Tailored old.tailored new.tailored Refuses fault → SourcesHaveFailed {A = A} old new (Err fault)
+failed_at_tailored {A} B old new Refuses fault base points rules tailored same_certificate is = record {
+  base_failed = base ∙ ap (λ b. old.base.failed || b) (sym (not_read A roles.Tailored roles.Base old.tailored new.tailored Refuses fault is refl));
+  data_failed = points ∙ ap (λ b. old.properties.failed || b) (sym (not_read A roles.Tailored roles.Data old.tailored new.tailored Refuses fault is refl));
+  rules_failed = rules ∙ ap (λ b. old.rules.failed || b) (sym (not_read A roles.Tailored roles.Rules old.tailored new.tailored Refuses fault is refl));
+  tailored_failed = tailored ∙ ap (λ b. old.tailored.failed || b) (own_read B A roles.Tailored old.tailored new.tailored Refuses fault is);
+  certificate_failed = ap (λ s. s.failed) same_certificate ∙ stays old.certificate.failed
+      ∙ ap (λ b. old.certificate.failed || b) (sym (not_read A roles.Tailored roles.Certificate old.tailored new.tailored Refuses fault is refl));
+}
+
+-- the certificate is
+pub failed_at_certificate : {A : Type 0} (B : Type 0) (old new : AuditSources) (Refuses : List ℕ → Option (List ℕ) → FileFault → Type 0) (fault : RunFault)
+    → new.base.failed ≡ (old.base.failed || false) → new.properties.failed ≡ (old.properties.failed || false)
+    → new.rules.failed ≡ (old.rules.failed || false) → new.tailored.failed ≡ (old.tailored.failed || false)
+    → new.certificate.failed ≡ (old.certificate.failed || is_file_read {A = B} roles.Certificate (Err fault))
+    → IsRefused roles.Certificate old.certificate new.certificate Refuses fault → SourcesHaveFailed {A = A} old new (Err fault)
+failed_at_certificate {A} B old new Refuses fault base points rules tailored certificate is = record {
+  base_failed = base ∙ ap (λ b. old.base.failed || b) (sym (not_read A roles.Certificate roles.Base old.certificate new.certificate Refuses fault is refl));
+  data_failed = points ∙ ap (λ b. old.properties.failed || b) (sym (not_read A roles.Certificate roles.Data old.certificate new.certificate Refuses fault is refl));
+  rules_failed = rules ∙ ap (λ b. old.rules.failed || b) (sym (not_read A roles.Certificate roles.Rules old.certificate new.certificate Refuses fault is refl));
+  tailored_failed = tailored ∙ ap (λ b. old.tailored.failed || b) (sym (not_read A roles.Certificate roles.Tailored old.certificate new.certificate Refuses fault is refl));
+  certificate_failed = certificate ∙ ap (λ b. old.certificate.failed || b) (own_read B A roles.Certificate old.certificate new.certificate Refuses fault is);
+}
 
 -- ---- What is read of files that mean something
 

@@ -12,7 +12,7 @@ use crate::audit_files::{AuditFiles, read_audit_files};
 use crate::faults::RunFault;
 use crate::output::write_text;
 use crate::reporting::line::{Line, push_number};
-use std::alloc::Global;
+use std::alloc::{Allocator, Global};
 use std::io::{Read, Write};
 use uca_audit::{AuditFault, Place, audit};
 use uca_weights::{Sink, Source};
@@ -48,14 +48,55 @@ pub fn run_audit<B: Read, D: Read, U: Read, T: Read, C: Read, W: Write>(
     ensures failed { AuditHasFailed (audit_sources base.old properties.old rules.old tailored.old certificate.old)
         (audit_sources base.new properties.new rules.new tailored.new certificate.new) out.old out.new result }
 {
-    let files = read_audit_files(alloc, base, properties, rules, tailored, certificate)?;
+    run_audit_in(
+        alloc,
+        alloc,
+        base,
+        properties,
+        rules,
+        tailored,
+        certificate,
+        out,
+    )
+}
+
+/// The same with memory of any allocator; that of texts in Normalization Form D is in `global`.
+pub fn run_audit_in<A: Allocator + Copy, B: Read, D: Read, U: Read, T: Read, C: Read, W: Write>(
+    alloc: A,
+    global: Global,
+    base: &mut Source<B>,
+    properties: &mut Source<D>,
+    rules: &mut Source<U>,
+    tailored: &mut Source<T>,
+    certificate: &mut Source<C>,
+    out: &mut Sink<W>,
+) -> Result<bool, RunFault>
+    // Where the bytes of its files are known.
+    ensures runs { AuditsOver (audit_sources base.old properties.old rules.old tailored.old certificate.old)
+        (audit_sources base.new properties.new rules.new tailored.new certificate.new) (RunsAudit out.old out.new result) result }
+    ensures only { AcceptsAccepted (audit_sources base.old properties.old rules.old tailored.old certificate.old) result }
+
+    // Whatever the readers and the writer are.
+    ensures nothing_written { is_before_output result ≡ true → out.new ≡ out.old }
+    ensures failed { AuditHasFailed (audit_sources base.old properties.old rules.old tailored.old certificate.old)
+        (audit_sources base.new properties.new rules.new tailored.new certificate.new) out.old out.new result }
+{
+    let files = read_audit_files(
+        alloc,
+        global,
+        base,
+        properties,
+        rules,
+        tailored,
+        certificate,
+    )?;
     write_verdict(alloc, &files, out)
 }
 
 // Audits what the files mean, and writes the verdict as a line.
-fn write_verdict<W: Write>(
-    alloc: Global,
-    files: &AuditFiles,
+fn write_verdict<A: Allocator + Copy, W: Write>(
+    alloc: A,
+    files: &AuditFiles<A>,
     out: &mut Sink<W>,
 ) -> Result<bool, RunFault>
     ensures verdict { RunsAudit out.old out.new result

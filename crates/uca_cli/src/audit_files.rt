@@ -10,7 +10,7 @@ ghost use Rattle.uca_cli.specs.Runs.{is_file, is_file_read, IsRefused};
 use crate::faults::{FileFault, Role, RunFault};
 use crate::files::{read_data_file, read_table_file};
 use crate::rule_file::read_rule_file;
-use std::alloc::Global;
+use std::alloc::{Allocator, Global};
 use std::io::Read;
 use uca_certificates::{Certificate, read_certificate};
 use uca_rules::Rules;
@@ -19,17 +19,17 @@ use uca_weights::Source;
 
 /// What the files of an audit mean.
 #[derive(Drop)]
-pub struct AuditFiles {
+pub struct AuditFiles<A: Allocator = Global> {
     /// The weight table before the tailoring.
-    pub base: Table,
+    pub base: Table<A>,
     /// The properties of code points.
-    pub properties: Data,
+    pub properties: Data<A>,
     /// The rules.
-    pub rules: Rules,
+    pub rules: Rules<A>,
     /// The weight table after the tailoring.
-    pub tailored: Table,
+    pub tailored: Table<A>,
     /// What becomes of the base's weights.
-    pub certificate: Certificate,
+    pub certificate: Certificate<A>,
 }
 
 /// Reads the files of an audit, one after the other, each to its end or its first fault.
@@ -37,14 +37,15 @@ pub struct AuditFiles {
 /// # Errors
 ///
 /// `File` for the first that is refused.
-pub fn read_audit_files<B: Read, D: Read, U: Read, T: Read, C: Read>(
-    alloc: Global,
+pub fn read_audit_files<A: Allocator + Copy, B: Read, D: Read, U: Read, T: Read, C: Read>(
+    alloc: A,
+    global: Global,
     base: &mut Source<B>,
     properties: &mut Source<D>,
     rules: &mut Source<U>,
     tailored: &mut Source<T>,
     certificate: &mut Source<C>,
-) -> Result<AuditFiles, RunFault>
+) -> Result<AuditFiles<A>, RunFault>
     ensures means { IfOk result (λ files. MayMean (audit_sources base.old properties.old rules.old tailored.old certificate.old)
         (audit_content files.base (properties_of files.properties) files.rules files.tailored files.certificate)) }
     ensures only { (content : AuditContent) → HaveContent (audit_sources base.old properties.old rules.old tailored.old certificate.old) content →
@@ -57,7 +58,7 @@ pub fn read_audit_files<B: Read, D: Read, U: Read, T: Read, C: Read>(
 {
     let base = read_table_file(alloc, Role::Base, base)?;
     let properties = read_data_file(alloc, properties)?;
-    let rules = read_rule_file(alloc, rules, &properties)?;
+    let rules = read_rule_file(alloc, global, rules, &properties)?;
     let tailored = read_table_file(alloc, Role::Tailored, tailored)?;
     let certificate = read_certificate_file(alloc, certificate)?;
     Ok(AuditFiles {
@@ -70,10 +71,10 @@ pub fn read_audit_files<B: Read, D: Read, U: Read, T: Read, C: Read>(
 }
 
 // Reads the certificate, to its end or its first fault.
-fn read_certificate_file<C: Read>(
-    alloc: Global,
+fn read_certificate_file<A: Allocator + Copy, C: Read>(
+    alloc: A,
     source: &mut Source<C>,
-) -> Result<Certificate, RunFault>
+) -> Result<Certificate<A>, RunFault>
     ensures means { IfOk result (λ read. IfSome source.old.remaining (λ bytes. certificates.Means bytes read)) }
     ensures only { ReadsThat source.old.remaining certificates.Means result }
     ensures refused { IfErr result (IsRefused Role.Certificate source.old source.new RefusesCertificate) }

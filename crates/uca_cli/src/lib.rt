@@ -19,7 +19,7 @@ pub mod sort;
 pub mod tailor;
 mod tailor_files;
 
-pub use audit::run_audit;
+pub use audit::{run_audit, run_audit_in};
 pub use check::run_check;
 pub use command::{OpenFault, Opens, run_command};
 pub use compare::{compare_words, run_compare, run_compare_in};
@@ -31,5 +31,5 @@ pub use laws::{
 };
 pub use reporting::report;
 pub use sort::{run_sort, run_sort_in, sort_lines};
-pub use tailor::{run_tailor, write_tailored};
+pub use tailor::{run_tailor, run_tailor_in, write_tailored};
 pub use uca_words::{WordFault, Words, read_words};

@@ -11,7 +11,7 @@ ghost use Rattle.uca_cli.specs.Runs.{is_file_read, IsRefused};
 use crate::faults::{FileFault, Role, RunFault};
 use std::alloc::{Allocator, Global};
 use std::io::Read;
-use uca_rules::{Rules, read_rules};
+use uca_rules::{Rules, read_rules_in};
 use uca_values::Data;
 use uca_weights::Source;
 
@@ -22,16 +22,17 @@ const MOST_BYTES: usize = 1_048_577;
 const CHUNK: usize = 4096;
 
 /// Reads the rules, whose texts have the classes of `properties`, to their end or their first fault. No byte past the
-/// first that is too many is asked for.
+/// first that is too many is asked for. Texts in Normalization Form D are taken from `global`, all else from `alloc`.
 ///
 /// # Errors
 ///
 /// `File` with the role `Rules`, where they are refused.
-pub fn read_rule_file<A: Allocator, U: Read>(
-    alloc: Global,
+pub fn read_rule_file<A: Allocator + Copy, U: Read>(
+    alloc: A,
+    global: Global,
     source: &mut Source<U>,
     properties: &Data<A>,
-) -> Result<Rules, RunFault>
+) -> Result<Rules<A>, RunFault>
     ensures means { IfOk result (λ rules. IfSome source.old.remaining (λ bytes. rule_files.Means (properties_of properties.now) bytes rules)) }
     ensures only { ReadsThat source.old.remaining (rule_files.Means (properties_of properties.now)) result }
     ensures refused { IfErr result (IsRefused Role.Rules source.old source.new (RefusesRules (properties_of properties.now))) }
@@ -42,7 +43,7 @@ pub fn read_rule_file<A: Allocator, U: Read>(
         Ok(bytes) => bytes,
         Err(fault) => return Err(RunFault::File { role, fault }),
     };
-    match read_rules(alloc, &bytes, properties) {
+    match read_rules_in(alloc, global, &bytes, properties) {
         Ok(rules) => Ok(rules),
         Err(fault) => Err(RunFault::File {
             role,
@@ -52,7 +53,10 @@ pub fn read_rule_file<A: Allocator, U: Read>(
 }
 
 // The bytes of a source, of more than `MOST_BYTES` the first so many.
-fn read_bytes<R: Read>(alloc: Global, source: &mut Source<R>) -> Result<Vec<u8>, FileFault>
+fn read_bytes<A: Allocator, R: Read>(
+    alloc: A,
+    source: &mut Source<R>,
+) -> Result<Vec<u8, A>, FileFault>
     ensures bytes { IfOk result (λ bytes. AreRead source.old.remaining source.new.remaining bytes.items) }
     ensures refused { IfErr result (IsNotRead source.old.remaining source.new.remaining) }
     ensures failed { source.new.failed ≡ (source.old.failed || is_rules_read result) }
@@ -68,10 +72,10 @@ fn read_bytes<R: Read>(alloc: Global, source: &mut Source<R>) -> Result<Vec<u8>,
 }
 
 // Reads bytes behind those that were read, and returns whether there were some.
-fn read_more<R: Read>(
+fn read_more<A: Allocator, R: Read>(
     source: &mut Source<R>,
     chunk: &mut [u8; CHUNK],
-    bytes: &mut Vec<u8>,
+    bytes: &mut Vec<u8, A>,
 ) -> Result<bool, FileFault>
     requires room { length bytes.old.items < MOST_BYTES }
     ensures loses { OnOk result ((start : Option (List ℕ)) → Consumes start source.old.remaining bytes.old.items → Consumes start source.new.remaining bytes.new.items) }

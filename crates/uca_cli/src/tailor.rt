@@ -6,7 +6,7 @@ ghost use Rattle.uca_cli.specs.TailorRun.{PlansPlanned, RunsTailor, TailorHasFai
 
 use crate::faults::RunFault;
 use crate::tailor_files::read_tailor_files;
-use std::alloc::Global;
+use std::alloc::{Allocator, Global};
 use std::io::{Read, Write};
 use uca_canonical::write_table;
 use uca_certificates::{Certificate, write_certificate};
@@ -36,7 +36,27 @@ pub fn run_tailor<B: Read, D: Read, U: Read>(
     ensures failed { TailorHasFailed (tailor_sources base.old properties.old rules.old)
         (tailor_sources base.new properties.new rules.new) result }
 {
-    let files = read_tailor_files(alloc, base, properties, rules)?;
+    run_tailor_in(alloc, alloc, base, properties, rules)
+}
+
+/// The same with memory of any allocator; that of texts in Normalization Form D is in `global`.
+pub fn run_tailor_in<A: Allocator + Copy, B: Read, D: Read, U: Read>(
+    alloc: A,
+    global: Global,
+    base: &mut Source<B>,
+    properties: &mut Source<D>,
+    rules: &mut Source<U>,
+) -> Result<(Table<A>, Certificate<A>), RunFault>
+    // Where the bytes of its files are known.
+    ensures runs { TailorsOver (tailor_sources base.old properties.old rules.old)
+        (tailor_sources base.new properties.new rules.new) (RunsTailor result) result }
+    ensures only { PlansPlanned (tailor_sources base.old properties.old rules.old) result }
+
+    // Whatever the readers are.
+    ensures failed { TailorHasFailed (tailor_sources base.old properties.old rules.old)
+        (tailor_sources base.new properties.new rules.new) result }
+{
+    let files = read_tailor_files(alloc, global, base, properties, rules)?;
     Ok(tailor(alloc, &files.base, &files.properties, &files.rules)?)
 }
 
@@ -48,9 +68,9 @@ pub fn run_tailor<B: Read, D: Read, U: Read>(
 /// `CertificateWrite` where the writer of the certificate failed: the first `written` bytes of the certificate went out,
 /// and nothing of the table. `Write` where the writer of the table failed: the whole certificate went out, and the first
 /// `written` bytes of the table.
-pub fn write_tailored<C: Write, W: Write>(
-    table: &Table,
-    certificate: &Certificate,
+pub fn write_tailored<A: Allocator, C: Write, W: Write>(
+    table: &Table<A>,
+    certificate: &Certificate<A>,
     file: &mut Sink<C>,
     out: &mut Sink<W>,
 ) -> Result<(), RunFault>

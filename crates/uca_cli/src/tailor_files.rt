@@ -10,7 +10,7 @@ ghost use Rattle.uca_cli.specs.TailorRun.{HaveTailorContent, TailorContent, Tail
 use crate::faults::{Role, RunFault};
 use crate::files::{read_data_file, read_table_file};
 use crate::rule_file::read_rule_file;
-use std::alloc::Global;
+use std::alloc::{Allocator, Global};
 use std::io::Read;
 use uca_rules::Rules;
 use uca_values::{Data, Table};
@@ -18,13 +18,13 @@ use uca_weights::Source;
 
 /// What the files of a tailoring mean.
 #[derive(Drop)]
-pub struct TailorFiles {
+pub struct TailorFiles<A: Allocator = Global> {
     /// The weight table before the tailoring.
-    pub base: Table,
+    pub base: Table<A>,
     /// The properties of code points.
-    pub properties: Data,
+    pub properties: Data<A>,
     /// The rules.
-    pub rules: Rules,
+    pub rules: Rules<A>,
 }
 
 /// Reads the files of a tailoring, one after the other, each to its end or its first fault.
@@ -32,12 +32,13 @@ pub struct TailorFiles {
 /// # Errors
 ///
 /// `File` for the first that is refused.
-pub fn read_tailor_files<B: Read, D: Read, U: Read>(
-    alloc: Global,
+pub fn read_tailor_files<A: Allocator + Copy, B: Read, D: Read, U: Read>(
+    alloc: A,
+    global: Global,
     base: &mut Source<B>,
     properties: &mut Source<D>,
     rules: &mut Source<U>,
-) -> Result<TailorFiles, RunFault>
+) -> Result<TailorFiles<A>, RunFault>
     ensures means { IfOk result (λ files. MayMean (tailor_sources base.old properties.old rules.old)
         (tailor_content files.base (properties_of files.properties) files.rules)) }
     ensures only { (content : TailorContent) → HaveTailorContent (tailor_sources base.old properties.old rules.old) content →
@@ -50,7 +51,7 @@ pub fn read_tailor_files<B: Read, D: Read, U: Read>(
 {
     let base = read_table_file(alloc, Role::Table, base)?;
     let properties = read_data_file(alloc, properties)?;
-    let rules = read_rule_file(alloc, rules, &properties)?;
+    let rules = read_rule_file(alloc, global, rules, &properties)?;
     Ok(TailorFiles {
         base,
         properties,

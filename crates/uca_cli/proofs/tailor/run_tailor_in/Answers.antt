@@ -7,7 +7,7 @@ use Rattle.uca_plans.specs.Tailors.{IsPlanOf}
 use Rattle.uca_cli.specs.TailorRun.{RunsTailor, refused_plan, tailor_content, tailor_sources}
 use Rattle.uca_cli.proofs.Tailoring.{tailors_over_all}
 use Rattle.uca_cli.proofs.PlanAnswers.{no_file_of_plan, refusal_answered, plan_stops}
-use Rattle.uca_cli.proofs.tailor.run_tailor.Goals as goal
+use Rattle.uca_cli.proofs.tailor.run_tailor_in.Goals as goal
 
 pub returns-in_err-tailor-clause-runs : goal.returns-in_err-tailor-clause-runs
 returns-in_err-tailor-clause-runs g c =
