@@ -46,7 +46,7 @@ impl fmt::Display for IllFormed {
 /// 4. An element whose primary lies from the least to the greatest one of variable elements is variable.
 /// 5. Where a key of three or more code points ends with a non-starter, it is a key without it too.
 ///
-/// It takes no memory but some 100 kB of the stack. Conditions 1 to 4 take time in proportion to the table.
+/// It takes no memory but some 300 kB of the stack. Conditions 1 to 4 take time in proportion to the table.
 /// Condition 5 looks for up to 4,096 shorter keys in each pass over the rows, and looks each row's key up among
 /// them by halving: tables like Unicode's take one such pass, and 200,000 rows that all have a shorter key take 49.
 /// Where a shorter key is missing, all rows are looked at once more.
