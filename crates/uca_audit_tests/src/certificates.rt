@@ -2,13 +2,10 @@
 
 use crate::files::CERTIFICATE;
 use std::alloc::Global;
-use std::io::{ErrorKind, Read};
+use std::io::Read;
 use std::test::Fail;
 use uca_audit::{CertificateFaultKind, read_certificate, write_certificate};
-use uca_fakes::{
-    Calls, Failure, FakeReader, FakeWriter, Pace, bytes_of, halves, holds, is_remark, repeated,
-    same,
-};
+use uca_fakes::{Calls, FakeWriter, Pace, bytes_of, halves, holds, is_remark, repeated, same};
 use uca_weights::{Sink, Source};
 
 /// The bytes of a certificate, and what is said of them: that they are accepted, or the fault.
@@ -122,53 +119,6 @@ fn at_most_65_535_runs_of_a_level(rt: HostRuntime) -> Result<(), Fail> {
             wanted,
             "runs of a level",
         )?;
-    }
-    Ok(())
-}
-
-/// A reader that fails after so many bytes: the line that was being read is named.
-#[test]
-fn readers_that_fail(rt: HostRuntime) -> Result<(), Fail> {
-    let alloc = rt.alloc();
-    let bytes = CERTIFICATE.as_bytes();
-    for good in [0, 1, 16, 17, 18, 33, 34, 100] {
-        let calls = Calls::new();
-        let pace = Pace::failing(7, good, Failure::Error(ErrorKind::Interrupted));
-        let mut source = Source::new(FakeReader::new(bytes, pace, &calls));
-        let wanted = format!(in alloc; "line {}: Read", good / 17 + 1)?;
-        same(
-            &said(alloc, &mut source, bytes)?,
-            &wanted,
-            "a reader that fails",
-        )?;
-        holds(
-            source.failed() && calls.late.get() == 0,
-            "nothing is read again",
-        )?;
-    }
-    Ok(())
-}
-
-/// A writer that fails after so many bytes: these went out.
-#[test]
-fn writers_that_fail(rt: HostRuntime) -> Result<(), Fail> {
-    let alloc = rt.alloc();
-    let read = read_certificate(alloc, &mut Source::new(CERTIFICATE.as_bytes()))?;
-    for good in [0, 1, 17, 40] {
-        let calls = Calls::new();
-        let pace = Pace::failing(1, good, Failure::Nothing);
-        let mut out = Sink::new(FakeWriter::new(alloc, pace, &calls));
-        let Err(fault) = write_certificate(&read, &mut out) else {
-            return Err(Fail::new("a failed write that is not answered"));
-        };
-        holds(fault.written == good as u64, "how much went out")?;
-        holds(
-            out.failed() && calls.late.get() == 0,
-            "nothing is written again",
-        )?;
-        let text = out.into_inner().text;
-        let went_out = text.len() == good && CERTIFICATE.as_bytes().starts_with(&text);
-        holds(went_out, "what went out")?;
     }
     Ok(())
 }

@@ -5,13 +5,9 @@
 #[cfg(test)]
 mod any_lines;
 #[cfg(test)]
-mod broken;
-#[cfg(test)]
 mod data_files;
 #[cfg(test)]
 mod fields;
-#[cfg(test)]
-mod heaps;
 #[cfg(test)]
 mod lines;
 #[cfg(test)]

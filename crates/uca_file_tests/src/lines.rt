@@ -22,7 +22,7 @@ fn name_of(next: Result<NextLine, LineFault>) -> &'static str {
 }
 
 /// The next line and what came of it, in the memory of an allocator.
-pub fn next_in<A: Allocator, R: Read>(
+fn next_in<A: Allocator, R: Read>(
     reader: &mut LineReader,
     source: &mut Source<R>,
     line: &mut Vec<u8, A>,

@@ -2,7 +2,7 @@
 
 use std::alloc::{AllocError, Allocator, Global};
 use std::test::Fail;
-use uca_fakes::{bytes_of, halves, holds, is_remark, joined, repeated, same, table_of};
+use uca_fakes::{TABLE, bytes_of, halves, holds, is_remark, joined, repeated, same, table_of};
 use uca_table::write_table;
 use uca_values::Table;
 use uca_weights::{Sink, Source};
@@ -87,6 +87,9 @@ const FILES: &str = r"-- No version at the end.
 @version 1\n\n006G ; x\n0061\n | line 3: CodePoint
 -- A line of the table again.
 @version 1\n0061 ; [.1C47.0020.0002]\n0061 ; [.1C47.0020.0002]\n | line 3: DuplicateKey
+-- A range of 8000 code points, and of one more.
+@version 1\n@implicitweights 10000..17FFF; FB00\n | 1 ranges, 0 rows
+@version 1\n@implicitweights 10000..18000; FB00\n | line 2: Range
 -- The header alone.
 @version 1\n | 0 ranges, 0 rows
 @version abcdefghijklmnopqrstuvwxyz.-0123\n | 0 ranges, 0 rows";
@@ -139,6 +142,7 @@ D800..E000; FB01 | CodePoint
 17001..17002; FB01 | Range
 1EFFF..1F000; FB00 | Range
 10AFF..10AFF; FB00 | Range
+18A00..18B00; FB01 | Range
 -- Two causes: the first of Line, CodePoint, Weight and Range.
 2000..20fff FB01 | Line
 20000; FB0 | Line
@@ -306,6 +310,55 @@ fn at_most_200_000_rows(rt: HostRuntime) -> Result<(), Fail> {
         check_more(rt.alloc(), &text, case)?;
     }
     Ok(())
+}
+
+/// How many bytes a comment has with its `#`, what stands after it, and what is said.
+const LONG_LINES: &str = r"4096\n | 0 ranges, 0 rows
+4097\n | line 2: Limit
+4096 | line 2: Line
+4097 | line 2: Limit";
+
+fn check_long_line(alloc: Global, case: &str) -> Result<(), Fail> {
+    let (count, more) = case.split_at_checked(4).ok_or("no count")?;
+    let dashes = repeated(alloc, "-", count.parse::<usize>()?.saturating_sub(1))?;
+    let text = format!(in alloc; "@version 1\n#{dashes}")?;
+    check_more(alloc, &text, more)
+}
+
+#[test]
+fn long_lines(rt: HostRuntime) -> Result<(), Fail> {
+    for case in LONG_LINES.lines() {
+        check_long_line(rt.alloc(), case)?;
+    }
+    Ok(())
+}
+
+/// The first bytes of a table: with none the version is missing, behind an LF they are a table, and elsewhere the line
+/// that is cut is refused.
+fn check_cut(alloc: Global, table: &[u8], number: usize) -> Result<(), Fail> {
+    let found = said(alloc, table)?;
+    if table.is_empty() {
+        return same(&found, "line 1: Order", "no bytes");
+    }
+    if table.ends_with(b"\n") {
+        return holds(found.ends_with(" rows"), &found);
+    }
+    let line = format!(in alloc; "line {number}: ")?;
+    holds(found.starts_with(&line), &found)
+}
+
+/// The table cut behind each of its bytes.
+#[test]
+fn cut_tables(rt: HostRuntime) -> Result<(), Fail> {
+    let table = TABLE.as_bytes();
+    check_cut(rt.alloc(), b"", 1)?;
+    let mut number = 1usize;
+    for (place, byte) in table.iter().enumerate() {
+        let cut = table.get(..place.saturating_add(1)).ok_or("no such place")?;
+        check_cut(rt.alloc(), cut, number)?;
+        number = number.saturating_add(usize::from(*byte == b'\n'));
+    }
+    holds(number == 10, "another number of lines")
 }
 
 /// A table file, and the canonical text of its table.

@@ -2,16 +2,10 @@
 #![tactic(auto)]
 
 #[cfg(test)]
-mod audits;
-#[cfg(test)]
 mod paces;
 #[cfg(test)]
 mod pieces;
 #[cfg(test)]
 mod rule_files;
 #[cfg(test)]
-mod samples;
-#[cfg(test)]
 mod streams;
-#[cfg(test)]
-mod tailorings;

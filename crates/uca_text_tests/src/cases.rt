@@ -37,7 +37,7 @@ pub fn bytes_of(alloc: Global, groups: &str) -> Result<Vec<u8>, Fail> {
 }
 
 /// Bytes as groups of two in hexadecimal digits.
-pub fn groups_of(alloc: Global, bytes: &[u8]) -> Result<String, AllocError> {
+fn groups_of(alloc: Global, bytes: &[u8]) -> Result<String, AllocError> {
     let mut groups = String::new(alloc);
     for (place, byte) in bytes.iter().enumerate() {
         if place > 0 && place % 2 == 0 {

@@ -9,8 +9,6 @@ mod comparisons;
 #[cfg(test)]
 mod elements;
 #[cfg(test)]
-mod growths;
-#[cfg(test)]
 mod keys;
 #[cfg(test)]
 mod lookups;

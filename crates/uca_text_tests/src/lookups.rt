@@ -45,7 +45,7 @@ fn check_case<L: Lookup>(alloc: Global, lookup: &L, case: &str) -> Result<(), Fa
 }
 
 /// Cases over a lookup.
-pub fn check_lookup<L: Lookup>(alloc: Global, lookup: &L, cases: &str) -> Result<(), Fail> {
+fn check_lookup<L: Lookup>(alloc: Global, lookup: &L, cases: &str) -> Result<(), Fail> {
     for case in cases.lines() {
         check_case(alloc, lookup, case)?;
     }

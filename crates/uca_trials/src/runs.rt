@@ -3,11 +3,9 @@
 ghost use Rattle.std.specs.Prelude.{◌≡◌, ◌∷◌, []};
 
 use crate::files::{Files, joined};
-use std::alloc::{AllocError, Allocator, Global};
+use std::alloc::{AllocError, Global};
 use std::io::{Read, Write};
-use uca_cli::{
-    RunFault, run_check, run_compare, run_compare_in, run_keys, run_keys_in, run_sort, run_sort_in,
-};
+use uca_cli::{RunFault, run_check, run_compare, run_keys, run_sort};
 use uca_weights::{Depth, Sink, Source, Weighting};
 
 /// A run, the weighting that it is asked for, if any, and its depth.
@@ -93,31 +91,6 @@ impl<T: Read, D: Read, I: Read, W: Write> Streams<T, D, I, W> {
             Run::Check => return Ok(Answer::Verdict(run_check(alloc, table, properties, out)?)),
             Run::Compare(left, right, asked, depth) => {
                 run_compare(alloc, table, properties, left, right, out, asked, depth)?;
-            }
-        }
-        Ok(Answer::Done)
-    }
-
-    /// Runs over them in the memory of an allocator, with Normalization Form D in that of `global`.
-    pub fn run_in<A: Allocator + Copy>(
-        &mut self,
-        alloc: A,
-        global: Global,
-        run: Run,
-    ) -> Result<Answer, RunFault> {
-        let (table, properties, input, out) = self.parts();
-        match run {
-            Run::Keys(asked, depth) => {
-                run_keys_in(alloc, global, table, properties, input, out, asked, depth)?;
-            }
-            Run::Sort(asked, depth) => {
-                run_sort_in(alloc, global, table, properties, input, out, asked, depth)?;
-            }
-            Run::Check => return Ok(Answer::Verdict(run_check(alloc, table, properties, out)?)),
-            Run::Compare(left, right, asked, depth) => {
-                run_compare_in(
-                    alloc, global, table, properties, left, right, out, asked, depth,
-                )?;
             }
         }
         Ok(Answer::Done)

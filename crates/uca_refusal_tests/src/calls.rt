@@ -1,0 +1,240 @@
+//! The table of calls, and the documented rows.
+
+/// Calls of the libraries.
+pub const CALLS: &str = r"read table
+reads table
+table @version 1\n@implicitweights 17000..18AFF; FB00\n0020 ; [*0209.0020.0002]\n
+table 0061 ; [.1C47.0020.0002]\n0061 0301 ; [.1C50.0020.0002][.0000.0024.0002]\n
+table 0301 ; [.0000.0024.0002]\n
+printed @version 1\n@implicitweights 17000..18AFF; FB00\n0020 ; [*0209.0020.0002]\n
+printed 0061 ; [.1C47.0020.0002]\n0061 0301 ; [.1C50.0020.0002][.0000.0024.0002]\n
+printed 0301 ; [.0000.0024.0002]\n
+end done
+memory line @ 1 2 3 4 5 6
+
+read table
+reads table
+table @version 1\n0061 ; [.1C47.0020.0002]\n0061 ; [.1C47.0020.0002]\n
+end line 3: DuplicateKey
+memory line @ 1 2 3
+
+read data
+reads data
+data @data 1\nccc 0300..0314 230\nccc 0323..0323 220\n
+data core 4E00..9FFF\nother 20000..20FFF\n
+printed \xE6\xDC\x01\x01
+end done
+memory line @ 1 2 4 5
+
+read certificate
+reads certificate
+printed 1 1C47 1C47 0001\n2 0020 0020 0001\n2 0024 0024 0001\n3 0002 0002 0001\n
+end done
+memory line @ 1 2 4
+
+read lines
+reads input
+input xxx\n\nxxxxxxxxxxxxxxxxxxxxxxxxxxxxxxxxxxxxxxxxxxxxxxxxxxxxxxxxxxxx\nx
+printed xxxxxxxxxxxxxxxxxxxxxxxxxxxxxxxxxxxxxxxxxxxxxxxxxxxxxxxxxxxxxxxx
+end done
+memory line @ 1 3
+
+read rules
+printed a x b \nb y \ny z \n
+end done
+memory byte @ 0 4 8 16 1 10 18
+
+write table
+printed @version 1\n0061 ; [.1C47.0020.0002]\n0301 ; [.0000.0024.0002]\n
+end done
+
+write certificate
+printed 1 1C47 1C47 0001\n2 0020 0020 0001\n2 0024 0024 0001\n3 0002 0002 0001\n
+end done
+
+make trie
+printed \x1C\x58\x1C\x90\x1C\x50\x1C\x60\x00\x00\x00\x20\x00\x20\x00\x20\x00\x20
+printed \x00\x00\x00\x02\x00\x02\x00\x02\x00\x02
+end done
+memory memory
+
+make key
+printed \x1C\x47\x1C\x60\x00\x00\x00\x20\x00\x20\x00\x24\x00\x00\x00\x02\x00\x02\x00\x02
+printed \x00\x00\xFF\xFF\x02\x09\xFF\xFF\xFF\xFF
+printed \x00\x00\x00\x00\x61\x00\x00\x20\x00\x00\x62\x00\x03\x01
+end done
+memory memory
+
+make key in a buffer
+printed \x1C\x47\x1C\x60\x00\x00\x00\x20\x00\x20\x00\x24\x00\x00\x00\x02\x00\x02\x00\x02
+printed \x00\x00\xFF\xFF\x02\x09\xFF\xFF\xFF\xFF
+printed \x00\x00\x00\x00\x61\x00\x00\x20\x00\x00\x62\x00\x03\x01
+end done
+memory memory
+
+make audit
+end done
+memory refused 12 Memory
+
+make plan
+file 1 1C47 1C47 0001\n2 0020 0020 0001\n2 0024 0024 0001\n3 0002 0002 0001\n
+printed @version 1\n0061 ; [.1C47.0020.0002]\n0301 ; [.0000.0024.0002]\n
+printed 0078 ; [.1C48.0020.0002]\n
+end done
+memory Memory; done; Memory; done; Memory; done; Memory";
+
+/// The calls behind the commands.
+pub const COMMANDS: &str = r"run check
+reads table data
+printed well-formed\n
+end true
+memory table line @ 1 2 3; data line @ 1 2
+
+run check
+reads table data
+table @version 1\n0061 ; [.1C47.0020.0002]\n0301 ; [.0000.0024.0002]\n
+table 0061 0300 0301 ; [.1C58.0020.0002]\n
+printed WF5 row 3\n
+end false
+memory table line @ 1 2 3 4; data line @ 1 2
+
+run keys
+reads table data input
+input a\naaaaa\n\n\xC3\xA1\na
+printed 1C47 0000 0020 0000 0002\n
+printed 1C47 1C47 1C47 1C47 1C47 0000 0020 0020 0020 0020 0020 0000 0002 0002 0002 0002 0002\n
+printed 0000 0000\n
+printed 1C47 0000 0020 0024 0000 0002 0002\n
+printed 1C47 0000 0020 0000 0002\n
+end done
+memory table line @ 1 2 3; data line @ 1 2; memory; input line @ 1 2
+
+run keys
+reads table data input
+input a\n\xFF\n
+printed 1C47 0000 0020 0000 0002\n
+end input line 2: Utf8, status 1
+memory table line @ 1 2 3; data line @ 1 2; memory; input line @ 1
+
+run identical keys
+reads table data input
+input a\n
+printed 1C47 0000 0020 0000 0002 0000 000061\n
+end done
+memory table line @ 1 2 3; data line @ 1 2; memory; input line @ 1
+
+run sort
+reads table data input
+input b\na\n\xC3\xA1\n\na
+printed \na\na\n\xC3\xA1\nb\n
+end done
+memory table line @ 1 2 3; data line @ 1 2; memory; input line @ 1; memory; input line @ 2 3 4 5; memory
+
+run compare
+reads table data
+printed < 1\n
+end done
+memory table line @ 1 2 3; data line @ 1 2; memory
+
+run tailor
+reads table data rules
+file 1 1C47 1C47 0001\n2 0020 0020 0001\n2 0024 0024 0001\n3 0002 0002 0001\n
+printed @version 1\n0061 ; [.1C47.0020.0002]\n0301 ; [.0000.0024.0002]\n
+printed 0078 ; [.1C48.0020.0002]\n
+end done
+memory table line @ 1 2 3; data line @ 1 2; rules: Memory; rules byte @ 0 4 1 6; memory; done
+memory memory; done; memory; done; memory
+
+run tailor
+reads table data rules
+rules &\\u0301 < x
+end tailor relation 1: Anchor, status 1
+memory table line @ 1 2 3; data line @ 1 2; rules: Memory; rules byte @ 0 4 8 1 11; memory
+
+run audit
+reads base data rules tailored certificate
+printed accepted\n
+end true
+memory base line @ 1 2 3; data line @ 1 2; rules: Memory; rules byte @ 0 4 1 6
+memory tailored line @ 1 2 3 4; certificate line @ 1 2 4; memory
+
+run audit
+reads base data rules tailored certificate
+rules &a <<< x
+printed refused 9 NotPlaced relation 1\n
+end false
+memory base line @ 1 2 3; data line @ 1 2; rules: Memory; rules byte @ 0 4 1 8
+memory tailored line @ 1 2 3 4; certificate line @ 1 2 4; memory";
+
+/// What is documented of failures, a case for each. `fails` names the stream and the number of bytes that go well;
+/// `refused` stands where an allocation is refused with the end of the case. What goes out is what goes out then.
+pub const ROWS: &str = r"run keys
+reads table data input
+input a\na\naaaaa\n
+printed 1C47 0000 0020 0000 0002\n1C47 0000 0020 0000 0002\n
+end input line 3: Memory, status 4
+refused input
+
+run sort
+reads table data input
+input b\na\n
+end input line 2: Memory, status 4
+refused input
+
+run sort
+reads table data input
+input b\na\n
+end memory, status 4
+refused list
+
+run keys
+reads table data input
+input a\n
+end data line 2: Memory, status 4
+refused data
+
+run audit
+reads base data rules tailored certificate
+end rules: Memory, status 4
+refused rules
+
+run keys
+reads table data input
+input a\n
+end table line 1: Read, status 3
+fails table 10
+
+run keys
+reads table data input
+input a\n
+end table line 2: Read, status 3
+fails table 11
+
+run sort
+reads table data input
+input b\na\n
+printed a\nb
+end output: Write after 3, status 3
+fails out 3
+
+run sort
+reads table data input
+input b\na\n
+printed a\nb\n
+end done
+
+run audit
+reads base data rules tailored certificate
+end output: Write after 0, status 3
+fails out 0
+
+write certificate
+printed 1 1C47 1C47 0001\n
+end the writer failed after 17 bytes
+fails out 17
+
+run tailor
+reads table data rules
+file 1 1C47 1C47 0001\n
+end certificate: Write after 17, status 3
+fails file 17";

@@ -1,0 +1,268 @@
+//! Calls of the libraries.
+
+use crate::answers::Memory;
+use crate::streams::Streams;
+use crate::values::{
+    accented_text, base, certificate, classes, contractions, key_of_contractions, properties,
+    rules, tailored,
+};
+use std::alloc::{AllocError, Allocator, Global};
+use std::fmt::Display;
+use std::test::Fail;
+use uca_audit::audit;
+use uca_certificates::{CertificateFault, read_certificate, write_certificate};
+use uca_data::read_data;
+use uca_key::{KeyBuffer, key};
+use uca_lines::{LineFault, LineReader, NextLine};
+use uca_match::{Collator, RowList, Trie};
+use uca_rules::{Relation, RuleFault, Rules, read_rules_in};
+use uca_table::{read_table, write_table};
+use uca_tailor::tailor;
+use uca_text::Normal;
+use uca_values::{Data, Table, TableFault};
+use uca_weights::Depth::Identical;
+use uca_weights::Weighting::Shifted;
+
+// What is said of a result.
+fn said<E: Display + Drop>(ample: Global, answer: Result<(), E>) -> Result<String, Fail> {
+    match answer {
+        Ok(()) => Ok(String::from_str(ample, "done")?),
+        Err(fault) => Ok(format!(in ample; "{fault}")?),
+    }
+}
+
+// What is said of a result without a place.
+fn said_of_memory(ample: Global, answer: Result<(), AllocError>) -> Result<String, Fail> {
+    let said = if answer.is_ok() { "done" } else { "memory" };
+    Ok(String::from_str(ample, said)?)
+}
+
+// Writes what a call has made. No writer fails then.
+fn show(streams: &mut Streams, bytes: &[u8]) {
+    let _ = streams.out.write_all(bytes);
+}
+
+fn reads_table(memory: Memory, streams: &mut Streams) -> Result<(), TableFault> {
+    let table = read_table(memory.tried, &mut streams.table)?;
+    let _ = write_table(&table, &mut streams.out);
+    Ok(())
+}
+
+// The classes of two accents, and whether two ideographs are core Han or others.
+fn reads_data(memory: Memory, streams: &mut Streams) -> Result<(), TableFault> {
+    let data = read_data(memory.tried, &mut streams.table)?;
+    let above = data.class('\u{301}');
+    let below = data.class('\u{323}');
+    let core = u8::from(data.is_core('\u{4E00}'));
+    let other = u8::from(data.is_other('\u{20000}'));
+    show(streams, &[above, below, core, other]);
+    Ok(())
+}
+
+fn reads_certificate(memory: Memory, streams: &mut Streams) -> Result<(), CertificateFault> {
+    let certificate = read_certificate(memory.tried, &mut streams.table)?;
+    let _ = write_certificate(&certificate, &mut streams.out);
+    Ok(())
+}
+
+fn name_of(fault: LineFault) -> &'static str {
+    match fault {
+        LineFault::Read => "Read",
+        LineFault::Memory => "Memory",
+        _ => "another fault",
+    }
+}
+
+// Adds the lines to those before, without what ends them. There are fewer than 100.
+fn add_lines(
+    memory: Memory,
+    reader: &mut LineReader,
+    streams: &mut Streams,
+    lines: &mut Vec<u8>,
+) -> Result<(), LineFault> {
+    let mut line = Vec::new(memory.tried);
+    for _ in 0..100 {
+        if reader.next_line(&mut streams.table, &mut line)? == NextLine::EndOfInput {
+            return Ok(());
+        }
+        let _ = lines.extend_from_slice(&line);
+    }
+    Ok(())
+}
+
+fn reads_lines(memory: Memory, streams: &mut Streams) -> Result<String, Fail> {
+    let mut reader = LineReader::new(127);
+    let mut lines = Vec::new(memory.ample);
+    if let Err(fault) = add_lines(memory, &mut reader, streams, &mut lines) {
+        let name = name_of(fault);
+        let line = reader.number().saturating_add(1);
+        return Ok(format!(in memory.ample; "line {line}: {name}")?);
+    }
+    show(streams, &lines);
+    Ok(String::from_str(memory.ample, "done")?)
+}
+
+/// Rules of three relations, of which one has an expansion.
+const RULES: &str = "&a < x / b &b << y = z";
+
+fn push_text(found: &mut String, text: &Normal) -> Result<(), AllocError> {
+    for c in text.chars() {
+        found.push(*c)?;
+    }
+    found.push(' ')
+}
+
+fn push_relation(found: &mut String, relation: &Relation) -> Result<(), AllocError> {
+    push_text(found, &relation.anchor)?;
+    push_text(found, &relation.target)?;
+    if let Some(expansion) = &relation.expansion {
+        push_text(found, expansion)?;
+    }
+    found.push('\n')
+}
+
+// The texts of the relations.
+fn text_of_rules<A: Allocator>(ample: Global, rules: &Rules<A>) -> Result<String, AllocError> {
+    let mut text = String::new(ample);
+    for relation in rules.relations() {
+        push_relation(&mut text, relation)?;
+    }
+    Ok(text)
+}
+
+fn reads_rules(memory: Memory, streams: &mut Streams, data: &Data) -> Result<String, Fail> {
+    match read_rules_in(memory.tried, memory.ample, RULES.as_bytes(), data) {
+        Ok(rules) => {
+            let text = text_of_rules(memory.ample, &rules)?;
+            show(streams, text.as_bytes());
+            Ok(String::from_str(memory.ample, "done")?)
+        }
+        Err(fault) => said::<RuleFault>(memory.ample, Err(fault)),
+    }
+}
+
+/// A call that reads.
+pub fn reads(memory: Memory, streams: &mut Streams, name: &str) -> Result<String, Fail> {
+    match name {
+        "table" => said(memory.ample, reads_table(memory, streams)),
+        "data" => said(memory.ample, reads_data(memory, streams)),
+        "certificate" => said(memory.ample, reads_certificate(memory, streams)),
+        "lines" => reads_lines(memory, streams),
+        "rules" => reads_rules(memory, streams, &properties(memory.ample)?),
+        _ => Err(Fail::new(name)),
+    }
+}
+
+/// A call that writes. It takes no memory.
+pub fn writes(memory: Memory, streams: &mut Streams, name: &str) -> Result<String, Fail> {
+    match name {
+        "table" => {
+            let table = base(memory.ample)?;
+            said(memory.ample, write_table(&table, &mut streams.out))
+        }
+        "certificate" => {
+            let certificate = certificate(memory.ample)?;
+            said(
+                memory.ample,
+                write_certificate(&certificate, &mut streams.out),
+            )
+        }
+        _ => Err(Fail::new(name)),
+    }
+}
+
+// A trie that finds each row of a table: the key of a text with all of them is printed.
+fn makes_trie(memory: Memory, streams: &mut Streams, table: &Table) -> Result<String, Fail> {
+    let Ok(rows) = Trie::new(memory.tried, table) else {
+        return Ok(String::from_str(memory.ample, "memory")?);
+    };
+    let data = classes(memory.ample)?;
+    let collator = Collator::new(&rows, &table.header, &data);
+    show(streams, &key_of_contractions(memory.ample, &collator)?);
+    Ok(String::from_str(memory.ample, "done")?)
+}
+
+// A key as it is made at once.
+fn makes_key(
+    memory: Memory,
+    streams: &mut Streams,
+    collator: &Collator<RowList>,
+    text: &Normal,
+) -> Result<(), AllocError> {
+    let bytes = key(memory.tried, collator, Shifted, Identical, text)?;
+    show(streams, bytes.as_slice());
+    Ok(())
+}
+
+// A key that a buffer writes twice.
+fn writes_key(
+    memory: Memory,
+    streams: &mut Streams,
+    collator: &Collator<RowList>,
+    text: &Normal,
+) -> Result<(), AllocError> {
+    let mut buffer = KeyBuffer::new(memory.tried, Shifted, Identical);
+    buffer.write_text(collator, text)?;
+    buffer.write_text(collator, text)?;
+    show(streams, buffer.bytes());
+    Ok(())
+}
+
+fn makes_keys(memory: Memory, streams: &mut Streams, is_buffer: bool) -> Result<String, Fail> {
+    let table = contractions(memory.ample)?;
+    let data = classes(memory.ample)?;
+    let text = accented_text(memory.ample, &data)?;
+    let rows = RowList::new(&table);
+    let collator = Collator::new(&rows, &table.header, &data);
+    let answer = if is_buffer {
+        writes_key(memory, streams, &collator, &text)
+    } else {
+        makes_key(memory, streams, &collator, &text)
+    };
+    said_of_memory(memory.ample, answer)
+}
+
+fn makes_audit(memory: Memory, table: &Table, data: &Data, rules: &Rules) -> Result<String, Fail> {
+    let tailored = tailored(memory.ample)?;
+    let certificate = certificate(memory.ample)?;
+    let verdict = audit(memory.tried, table, data, rules, &tailored, &certificate);
+    said(memory.ample, verdict)
+}
+
+fn makes_plan(
+    memory: Memory,
+    streams: &mut Streams,
+    (table, data, rules): (&Table, &Data, &Rules),
+) -> Result<String, Fail> {
+    match tailor(memory.tried, table, data, rules) {
+        Ok((table, certificate)) => {
+            let _ = write_certificate(&certificate, &mut streams.file);
+            let _ = write_table(&table, &mut streams.out);
+            Ok(String::from_str(memory.ample, "done")?)
+        }
+        Err(fault) => Ok(format!(in memory.ample; "{fault}")?),
+    }
+}
+
+fn makes_tailoring(memory: Memory, streams: &mut Streams, is_plan: bool) -> Result<String, Fail> {
+    let table = base(memory.ample)?;
+    let data = properties(memory.ample)?;
+    let rules = rules(memory.ample, &data)?;
+    if is_plan {
+        makes_plan(memory, streams, (&table, &data, &rules))
+    } else {
+        makes_audit(memory, &table, &data, &rules)
+    }
+}
+
+/// A call that makes something of values.
+pub fn makes(memory: Memory, streams: &mut Streams, name: &str) -> Result<String, Fail> {
+    match name {
+        "trie" => makes_trie(memory, streams, &contractions(memory.ample)?),
+        "key" => makes_keys(memory, streams, false),
+        "key in a buffer" => makes_keys(memory, streams, true),
+        "audit" => makes_tailoring(memory, streams, false),
+        "plan" => makes_tailoring(memory, streams, true),
+        _ => Err(Fail::new(name)),
+    }
+}

@@ -1,0 +1,21 @@
+//! A read fails after each number of bytes of each file.
+
+use crate::calls::{CALLS, COMMANDS};
+use crate::trials::{Failing, check_cases};
+use std::test::Fail;
+
+#[test]
+fn calls_in_which_a_read_fails(rt: HostRuntime) -> Result<(), Fail> {
+    check_cases(rt.alloc(), CALLS, Failing::Reads)
+}
+
+#[test]
+fn runs_in_which_a_read_fails(rt: HostRuntime) -> Result<(), Fail> {
+    check_cases(rt.alloc(), COMMANDS, Failing::Reads)
+}
+
+#[test]
+fn streams_of_all_paces(rt: HostRuntime) -> Result<(), Fail> {
+    check_cases(rt.alloc(), CALLS, Failing::Nothing)?;
+    check_cases(rt.alloc(), COMMANDS, Failing::Nothing)
+}

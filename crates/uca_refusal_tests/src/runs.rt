@@ -1,0 +1,136 @@
+//! The calls behind the commands.
+
+use crate::answers::Memory;
+use crate::streams::Streams;
+use std::alloc::Global;
+use std::test::Fail;
+use uca_cli::{
+    RunFault, report, run_audit_in, run_check, run_compare_in, run_keys_in, run_sort_in,
+    run_tailor_in, write_tailored,
+};
+use uca_weights::Depth::{Identical, Weights};
+use uca_weights::Weighting::NonIgnorable;
+use uca_weights::{Depth, Sink};
+
+fn keys(memory: Memory, streams: &mut Streams, depth: Depth) -> Result<(), RunFault> {
+    run_keys_in(
+        memory.tried,
+        memory.ample,
+        &mut streams.table,
+        &mut streams.properties,
+        &mut streams.text,
+        &mut streams.out,
+        Some(NonIgnorable),
+        depth,
+    )
+}
+
+fn sort(memory: Memory, streams: &mut Streams) -> Result<(), RunFault> {
+    run_sort_in(
+        memory.tried,
+        memory.ample,
+        &mut streams.table,
+        &mut streams.properties,
+        &mut streams.text,
+        &mut streams.out,
+        Some(NonIgnorable),
+        Weights,
+    )
+}
+
+fn compare(memory: Memory, streams: &mut Streams) -> Result<(), RunFault> {
+    run_compare_in(
+        memory.tried,
+        memory.ample,
+        &mut streams.table,
+        &mut streams.properties,
+        "a",
+        "b",
+        &mut streams.out,
+        Some(NonIgnorable),
+        Weights,
+    )
+}
+
+fn tailor(memory: Memory, streams: &mut Streams) -> Result<(), RunFault> {
+    let (table, certificate) = run_tailor_in(
+        memory.tried,
+        memory.ample,
+        &mut streams.table,
+        &mut streams.properties,
+        &mut streams.text,
+    )?;
+    write_tailored(&table, &certificate, &mut streams.file, &mut streams.out)
+}
+
+fn check(memory: Memory, streams: &mut Streams) -> Result<bool, RunFault> {
+    run_check(
+        memory.tried,
+        &mut streams.table,
+        &mut streams.properties,
+        &mut streams.out,
+    )
+}
+
+fn audit(memory: Memory, streams: &mut Streams) -> Result<bool, RunFault> {
+    run_audit_in(
+        memory.tried,
+        memory.ample,
+        &mut streams.table,
+        &mut streams.properties,
+        &mut streams.text,
+        &mut streams.tailored,
+        &mut streams.certificate,
+        &mut streams.out,
+    )
+}
+
+// How many bytes went out before a write failed.
+fn written(fault: &RunFault) -> Option<u64> {
+    match fault {
+        RunFault::Write { written } => Some(*written),
+        RunFault::CertificateWrite { written } => Some(*written),
+        _ => None,
+    }
+}
+
+// The line of a fault and its status, and how much was written before it.
+fn told(ample: Global, fault: &RunFault) -> Result<String, Fail> {
+    let mut out = Sink::new(Vec::new(ample));
+    let mut err = Sink::new(Vec::new(ample));
+    let status = report(ample, fault, &mut out, &mut err);
+    let line = String::from_utf8(err.into_inner())?;
+    let line = line.trim_end();
+    match written(fault) {
+        Some(count) => Ok(format!(in ample; "{line} after {count}, status {status}")?),
+        None => Ok(format!(in ample; "{line}, status {status}")?),
+    }
+}
+
+fn end_of(ample: Global, answer: &Result<(), RunFault>) -> Result<String, Fail> {
+    match answer {
+        Ok(()) => Ok(String::from_str(ample, "done")?),
+        Err(fault) => told(ample, fault),
+    }
+}
+
+fn end_of_verdict(ample: Global, answer: &Result<bool, RunFault>) -> Result<String, Fail> {
+    match answer {
+        Ok(verdict) => Ok(format!(in ample; "{verdict}")?),
+        Err(fault) => told(ample, fault),
+    }
+}
+
+/// The run of this name, and what is said of its end.
+pub fn runs(memory: Memory, streams: &mut Streams, name: &str) -> Result<String, Fail> {
+    match name {
+        "check" => end_of_verdict(memory.ample, &check(memory, streams)),
+        "audit" => end_of_verdict(memory.ample, &audit(memory, streams)),
+        "keys" => end_of(memory.ample, &keys(memory, streams, Weights)),
+        "identical keys" => end_of(memory.ample, &keys(memory, streams, Identical)),
+        "sort" => end_of(memory.ample, &sort(memory, streams)),
+        "compare" => end_of(memory.ample, &compare(memory, streams)),
+        "tailor" => end_of(memory.ample, &tailor(memory, streams)),
+        _ => Err(Fail::new(name)),
+    }
+}
