@@ -1,0 +1,58 @@
+//! Certificates.
+
+use crate::answers::{Answer, Reader};
+use crate::damages::{Trial, judge_all};
+use std::alloc::Global;
+use std::test::Fail;
+use uca_certificates::{Certificate, CertificateFaultKind, read_certificate, write_certificate};
+use uca_fakes::{DATA, data_of, holds};
+use uca_weights::{Sink, Source};
+
+/// The text of a certificate, which is the file that was read.
+fn kept(alloc: Global, certificate: &Certificate, file: &[u8]) -> Result<Answer, Fail> {
+    let mut out = Sink::new(Vec::new(alloc));
+    write_certificate(certificate, &mut out)?;
+    let text = String::from_utf8(out.into_inner())?;
+    holds(text.as_bytes() == file, "the certificate again")?;
+    Ok(Answer {
+        place: None,
+        words: text,
+    })
+}
+
+/// What is said of a certificate.
+pub fn certificate_answer(alloc: Global, file: &[u8]) -> Result<Answer, Fail> {
+    let fault = match read_certificate(alloc, &mut Source::new(file)) {
+        Ok(certificate) => return kept(alloc, &certificate, file),
+        Err(fault) => fault,
+    };
+    let is_own = fault.kind != CertificateFaultKind::Read
+        && fault.kind != CertificateFaultKind::Memory;
+    holds(is_own, "a reader that fails, or no memory")?;
+    Ok(Answer {
+        place: Some(fault.line as usize),
+        words: format!(in alloc; "{}", fault.kind)?,
+    })
+}
+
+/// Runs of each level.
+const CERTIFICATE: &[u8] = b"1 0209 0209 0001\n\
+    1 1C47 1C48 0010\n\
+    1 1C60 1C70 0001\n\
+    2 0020 0020 0001\n\
+    2 0024 0025 0002\n\
+    3 0002 0002 0001\n\
+    3 0008 000A 0001\n";
+
+#[test]
+fn damaged_certificates(rt: HostRuntime) -> Result<(), Fail> {
+    let data = data_of(rt.alloc(), &mut Source::new(DATA.as_bytes()))?;
+    let trial = Trial {
+        reader: Reader::Certificate,
+        file: CERTIFICATE,
+        random: 324,
+        seed: 3,
+        count: 800,
+    };
+    judge_all(rt.alloc(), trial, &data)
+}
