@@ -57,6 +57,8 @@ pub struct Disk {
     bytes: RefCell<Vec<u8>>,
     // Whether no file can be made.
     is_closed: bool,
+    // How many bytes a file that is made takes: the write behind them fails.
+    room: usize,
 }
 
 impl Disk {
@@ -69,6 +71,7 @@ impl Disk {
             name: RefCell::new(String::from_str(alloc, name)?),
             bytes: RefCell::new(bytes),
             is_closed: false,
+            room: usize::MAX,
         })
     }
 
@@ -79,12 +82,34 @@ impl Disk {
         Ok(disk)
     }
 
+    /// The same, and a file that is made takes so many bytes.
+    pub fn with_room(
+        alloc: Global,
+        name: &str,
+        text: &str,
+        room: usize,
+    ) -> Result<Disk, AllocError> {
+        let mut disk = Disk::holding(alloc, name, text)?;
+        disk.room = room;
+        Ok(disk)
+    }
+
     /// Whether the file has this name and holds this text.
     pub fn holds(&self, name: &str, text: &str) -> bool {
         let (Ok(own), Ok(bytes)) = (self.name.try_borrow(), self.bytes.try_borrow()) else {
             return false;
         };
         own.as_str() == name && bytes.as_slice() == text.as_bytes()
+    }
+
+    /// Whether the file has this name and holds the first so many bytes of this text.
+    pub fn holds_first(&self, name: &str, text: &str, count: usize) -> bool {
+        let (Ok(own), Ok(bytes)) = (self.name.try_borrow(), self.bytes.try_borrow()) else {
+            return false;
+        };
+        own.as_str() == name
+            && bytes.len() == count
+            && text.as_bytes().starts_with(bytes.as_slice())
     }
 
     // An empty file of this name in place of the one before.
@@ -219,10 +244,14 @@ impl Read for FakeFile<'_> {
 
 impl Write for FakeMade<'_> {
     fn write(&mut self, buf: &[u8]) -> io::Result<usize> {
-        let count = buf.len().min(5);
         let Ok(mut bytes) = self.disk.bytes.try_borrow_mut() else {
             return Err(io::Error::from(ErrorKind::Other));
         };
+        let room = self.disk.room.saturating_sub(bytes.len());
+        let count = buf.len().min(5).min(room);
+        if room == 0 {
+            return Err(io::Error::from(ErrorKind::StorageFull));
+        }
         bytes.extend_from_slice(&buf[..count])?;
         Ok(count)
     }

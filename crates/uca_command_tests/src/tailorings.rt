@@ -209,6 +209,31 @@ fn a_certificate_in_place_of_its_rules(rt: HostRuntime) -> Result<(), Fail> {
     holds(disk.holds("rules.txt", UNMOVED), "another certificate")
 }
 
+/// A file that takes so many bytes of the certificate: it holds them, and nothing is printed.
+fn check_full(alloc: Global, room: usize) -> Result<(), Fail> {
+    let texts = [Some(TABLE), Some(DATA), Some("&a < x")];
+    let disk = Disk::with_room(alloc, "certificate.txt", OLD, room)?;
+    let end = End {
+        status: 3,
+        out: "",
+        err: "certificate: Write\n",
+        opened: 3,
+    };
+    check_tailor(alloc, texts, (WORDS, Pace::steps(64)), (&disk, true), &end)?;
+    holds(
+        disk.holds_first("certificate.txt", UNMOVED, room),
+        "other bytes",
+    )
+}
+
+#[test]
+fn certificates_without_room(rt: HostRuntime) -> Result<(), Fail> {
+    for room in [0, 1, 16, 17, 135] {
+        check_full(rt.alloc(), room)?;
+    }
+    Ok(())
+}
+
 /// Nothing is printed and no file is made, and this is said.
 fn check_fault(
     alloc: Global,

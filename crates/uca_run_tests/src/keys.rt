@@ -199,3 +199,40 @@ fn long_runs_of_accents(rt: HostRuntime) -> Result<(), Fail> {
     check_accents(rt.alloc(), 64, &keys_of_accents(rt.alloc())?, "done")?;
     check_accents(rt.alloc(), 65, "0000 0000\n", "input line 2: LongRun at 1")
 }
+
+// A line of a character so many times.
+fn check_many(
+    alloc: Global,
+    (part, count): (&str, usize),
+    printed: &str,
+    end: &str,
+) -> Result<(), Fail> {
+    let input = repeated(alloc, part, count)?;
+    let files = SMALL.with_input(input.as_bytes());
+    check(alloc, &files, BY_THREE, printed, end)
+}
+
+#[test]
+fn long_texts_of_letters_with_accents(rt: HostRuntime) -> Result<(), Fail> {
+    check_many(rt.alloc(), ("\u{E1}", 524_289), "", "input line 1: TooLong")?;
+    check_many(
+        rt.alloc(),
+        ("\u{301}", 1_048_577),
+        "",
+        "input line 1: TooLong",
+    )
+}
+
+#[test]
+fn accents_at_the_start_of_a_line(rt: HostRuntime) -> Result<(), Fail> {
+    let accents = repeated(rt.alloc(), " 0024", 64)?;
+    let variants = repeated(rt.alloc(), " 0002", 64)?;
+    let key = joined(rt.alloc(), &["0000", &accents, " 0000", &variants, "\n"])?;
+    check_many(rt.alloc(), ("\u{301}", 64), &key, "done")?;
+    check_many(
+        rt.alloc(),
+        ("\u{301}", 65),
+        "",
+        "input line 1: LongRun at 0",
+    )
+}

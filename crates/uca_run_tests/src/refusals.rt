@@ -15,7 +15,9 @@ const AGAIN: &str = "0061 ; [.1C47.0020.0002]\n";
 const TABLES: &str = r"@version 1\n0061 ; [.1C | table line 2: Weight
  | table line 1: Order
 @version 1\n0061 ; x\n | table line 2: Line
-@version 1 | table line 1: Line";
+@version 1 | table line 1: Line
+\xEF\xBB\xBF@version 1\n | table line 1: Order
+@version 1\r\n | table line 1: Line";
 
 /// A data file, and what is told.
 const DATA_FILES: &str = r" | data line 1: Order
