@@ -1,16 +1,24 @@
 #!/usr/bin/env python3
-"""Hands the program files that are nearly right, and random ones, and judges how each run ends.
+"""Hands the program files that are nearly right, random files and random words, and judges how each run ends.
 
     cd crates/uca && rt run              # proves and builds crates/uca/out/uca
-    tools/changed_files.py               # from the top of the repository; --random N for N random changes more
+    tools/changed_files.py --jobs 4      # from the top of the repository
+    tools/changed_files.py --jobs 4 --random 100000 --words 100000      # a million runs and more
 
 The files of examples/ are changed one at a time: at each place one byte is dropped, doubled, or changed to each of some others;
-then come random bytes, and random changes of several places. Each run has to end by itself, with nothing on standard error, or
-with status 1 and one line that names a place in the file that was changed, and nothing on standard output. What ends otherwise
-is printed, with the file that did it, and the status is then 1. No test of the gate reads as many.
+then come `--random` times random bytes, or random changes of several places. Each run has to end by itself, with nothing on standard
+error, or with status 1 and one line that names a place in the file that was changed, and nothing on standard output.
+
+Then come `--words` command lines: words of a right line that are dropped, doubled, changed, moved or put in, also names of other files, of
+files that are not there, of a folder, and words that are no UTF-8. Each has to end with a status of docs/FORMATS.md and what goes with it.
+
+`--jobs` says how many processes run side by side, each in a temporary folder of its own. The work is cut into parts, and each part has a
+seed of its own, made of `--seed`, its kind and its number: so what is tried is the same whatever the number of processes.
+What ends otherwise than it should is printed, with what did it, and the status is then 1. No test of the gate tries as many.
 """
 
 import argparse
+import multiprocessing
 import os
 import random
 import re
@@ -21,8 +29,12 @@ import tempfile
 FILES = ("table.txt", "data.txt", "rules.txt", "tailored.txt", "certificate.txt", "lines.txt")
 BYTES = (0x00, 0x09, 0x0A, 0x0D, 0x20, 0x23, 0x26, 0x27, 0x2A, 0x2D, 0x2E, 0x2F, 0x30, 0x3B, 0x3C, 0x3D, 0x40, 0x46, 0x5B, 0x5C, 0x5D, 0x7A, 0x80, 0xC3, 0xFF)
 KINDS = "[A-Za-z0-9]+( [A-Za-z]+)*( at [0-9]+)?"
+SECONDS = 20
 
-# How each file is read: the words of a command, and whether it is the file of standard input. NAME is its folder.
+# How many places of a file, and how many random changes or lines of words, are one part of the work.
+PLACES, NUMBER = 20, 250
+
+# How each file is read: the words of a command. `lines.txt` is standard input.
 RUNS = {
     "table.txt": (("check", "table.txt", "data.txt"), ("keys", "table.txt", "data.txt"), ("tailor", "table.txt", "data.txt", "rules.txt", "made.txt")),
     "data.txt": (("check", "table.txt", "data.txt"), ("tailor", "table.txt", "data.txt", "rules.txt", "made.txt")),
@@ -32,16 +44,39 @@ RUNS = {
     "lines.txt": (("keys", "table.txt", "data.txt"), ("sort", "table.txt", "data.txt")),
 }
 
+# Lines of words that are right.
+LINES = (
+    ("check", "table.txt", "data.txt"),
+    ("keys", "--weighting", "shifted", "table.txt", "data.txt"),
+    ("sort", "--identical", "--weighting=non-ignorable", "table.txt", "data.txt"),
+    ("compare", "table.txt", "data.txt", "--identical", "--", "a", "B"),
+    ("tailor", "table.txt", "data.txt", "rules.txt", "made.txt"),
+    ("audit", "table.txt", "data.txt", "rules.txt", "tailored.txt", "certificate.txt"),
+)
 
-def changes(content):
-    """The content with one byte less, one doubled, or one changed, at each place."""
-    for place in range(len(content)):
+# Words that are put in. None names anything outside the folder.
+WORDS = (
+    b"check", b"keys", b"sort", b"compare", b"tailor", b"audit", b"help", b"order", b"--weighting", b"--weighting=", b"--weighting=shifted", b"--weighting=x",
+    b"--identical", b"--identical=", b"--identically", b"-i", b"-", b"--", b"---", b"-h", b"--help", b"--version", b"shifted", b"non-ignorable", b"Shifted", b"",
+    b" ", b"=", b".", b"no-such-file", b"x" * 300, b"a" * 5000, b"\xc3\xa9", b"e\xcc\x81", b"\xff", b"a\xcc", b"table.txt\x01",
+) + tuple(name.encode() for name in FILES)
+
+ROLES = "table|data|base|rules|tailored|certificate"
+PLACED = "(%s|input) (line|byte) [0-9]+: %s\n" % (ROLES, KINDS)
+REFUSED = re.compile("%s|tailor( relation [0-9]+)?: %s\n|(left|right): %s\n" % (PLACED, KINDS, KINDS))
+NOT_OPENED = re.compile("(%s): (Open|Read|Write)\n|(%s|input) line [0-9]+: Read\n|output: Write\n" % (ROLES, ROLES))
+
+
+def changes(content, places):
+    """The content with one byte less, one doubled, or one changed, at each of some places; behind the last, one byte more."""
+    for place in places:
         yield content[:place] + content[place + 1:]
         yield content[:place] + content[place:place + 1] + content[place:]
         for byte in BYTES:
             if content[place] != byte:
                 yield content[:place] + bytes([byte]) + content[place + 1:]
-    yield content + b"\n"
+    if places and places[-1] == len(content) - 1:
+        yield content + b"\n"
 
 
 def random_change(numbers, content):
@@ -58,8 +93,37 @@ def random_change(numbers, content):
     return content
 
 
-def complaint(name, content, words, done):
-    """Why a run may not end so, or None."""
+def random_words(numbers):
+    """Random words, or those of a right line with some changes."""
+    if numbers.random() < 0.1:
+        return [numbers.choice(WORDS) for _ in range(numbers.randrange(8))]
+    words = [word.encode() for word in numbers.choice(LINES)]
+    for _ in range(numbers.randrange(1, 4)):
+        place = numbers.randrange(len(words) + 1)
+        kind = numbers.randrange(5)
+        if kind == 0:
+            del words[place:place + 1]
+        elif kind == 1:
+            words[place:place] = words[place:place + 1]
+        elif kind == 2:
+            words[place:place + 1] = [numbers.choice(WORDS)]
+        elif kind == 3:
+            words.insert(place, numbers.choice(WORDS))
+        elif words:
+            words.insert(min(place, len(words) - 1), words.pop(numbers.randrange(len(words))))
+    return words
+
+
+def is_utf8(word):
+    try:
+        word.decode("utf-8")
+    except UnicodeDecodeError:
+        return False
+    return True
+
+
+def file_complaint(name, content, words, done):
+    """Why a run over a changed file may not end so, or None."""
     said = done.stderr.decode("utf-8", "replace")
     verdict = words[0] in ("check", "audit") and done.returncode == 1 and not said
     if (done.returncode == 0 and not said) or verdict:
@@ -80,9 +144,30 @@ def complaint(name, content, words, done):
     return None
 
 
-class Trials:
-    def __init__(self, uca, folder):
-        self.uca, self.folder, self.count, self.failed = os.path.abspath(uca), folder, 0, 0
+def word_complaint(words, done):
+    """Why a line of words may not end so, or None."""
+    said = done.stderr.decode("utf-8", "replace")
+    status = done.returncode
+    if not all(is_utf8(word) for word in words):
+        goes = status == 4 and said == "memory\n" and not done.stdout
+    elif status == 0:
+        goes = not said
+    elif status == 1:
+        # A verdict, a fault, or keys of the lines before a fault.
+        goes = bool(done.stdout) if not said else REFUSED.fullmatch(said)
+    elif status == 2:
+        goes = not done.stdout and (said == "weighting: unknown\n" or said.startswith("error: ") or "Usage: uca" in said)
+    else:
+        goes = status == 3 and NOT_OPENED.fullmatch(said)
+    return None if goes else "status %d: %r" % (status, said)
+
+
+class Folder:
+    """A temporary folder with the files of examples/, in which one process runs the program."""
+
+    def __init__(self, uca, above):
+        self.uca = uca
+        self.folder = tempfile.mkdtemp(dir=above)
         self.contents = {}
         for name in FILES:
             with open(os.path.join("examples", name), "rb") as file:
@@ -93,41 +178,106 @@ class Trials:
         with open(os.path.join(self.folder, name), "wb") as file:
             file.write(content)
 
-    def judge(self, name, content):
-        self.write(name, content)
-        for words in RUNS[name]:
-            self.count += 1
-            with open(os.path.join(self.folder, "lines.txt"), "rb") as lines:
-                try:
-                    done = subprocess.run([self.uca, *words], stdin=lines, stdout=subprocess.PIPE, stderr=subprocess.PIPE, cwd=self.folder, timeout=20, check=False)
-                    said = complaint(name, content, words, done)
-                except subprocess.TimeoutExpired:
-                    said = "no end after 20 seconds"
-            if said:
-                self.failed += 1
-                print("%s of %s: %s\n    %r" % (" ".join(words), name, said, content), flush=True)
+    def run(self, words):
+        """How the program ends over some words, or None where it does not."""
+        with open(os.path.join(self.folder, "lines.txt"), "rb") as lines:
+            try:
+                return subprocess.run([self.uca, *words], stdin=lines, stdout=subprocess.PIPE, stderr=subprocess.PIPE, cwd=self.folder, timeout=SECONDS, check=False)
+            except subprocess.TimeoutExpired:
+                return None
 
-    def judge_all(self, name, contents):
+    def judge_files(self, name, contents):
+        count, found = 0, []
         for content in contents:
-            self.judge(name, content)
+            self.write(name, content)
+            for words in RUNS[name]:
+                count += 1
+                done = self.run(words)
+                said = "no end after %d seconds" % SECONDS if done is None else file_complaint(name, content, words, done)
+                if said:
+                    found.append("%s of %s: %s\n    %r" % (" ".join(words), name, said, content))
         self.write(name, self.contents[name])
+        return count, found
+
+    def judge_words(self, lines):
+        count, found = 0, []
+        for words in lines:
+            count += 1
+            done = self.run(words)
+            said = "no end after %d seconds" % SECONDS if done is None else word_complaint(words, done)
+            if said:
+                found.append("%r: %s" % (words, said))
+            self.restore()
+        return count, found
+
+    def restore(self):
+        """A certificate may have been written under any name: what was made goes, and the files stand as they did."""
+        for name in os.listdir(self.folder):
+            if name not in FILES:
+                os.remove(os.path.join(self.folder, name))
+        for name in FILES:
+            path = os.path.join(self.folder, name)
+            with open(path, "rb") as file:
+                if file.read() == self.contents[name]:
+                    continue
+            self.write(name, self.contents[name])
+
+
+FOLDER = None
+
+
+def begin(uca, above):
+    """What each process begins with."""
+    global FOLDER
+    FOLDER = Folder(uca, above)
+
+
+def judge(part):
+    """Judges one part of the work: its kind, the file if there is one, its number, and how much there is, or its places."""
+    kind, name, number, seed, amount = part
+    numbers = random.Random("%s %s %s %d" % (seed, kind, name, number))
+    if kind == "words":
+        return kind, FOLDER.judge_words(random_words(numbers) for _ in range(amount))
+    content = FOLDER.contents[name]
+    contents = changes(content, amount) if kind == "places" else (random_change(numbers, content) for _ in range(amount))
+    return name, FOLDER.judge_files(name, contents)
+
+
+def parts(options):
+    """The parts of the work, which do not depend on the number of processes."""
+    for name in options.files:
+        size = os.path.getsize(os.path.join("examples", name))
+        for first in range(0, size, PLACES):
+            yield "places", name, first, options.seed, range(first, min(first + PLACES, size))
+        for first in range(0, options.random, NUMBER):
+            yield "random", name, first, options.seed, min(NUMBER, options.random - first)
+    for first in range(0, options.words, NUMBER):
+        yield "words", "", first, options.seed, min(NUMBER, options.words - first)
 
 
 def main():
-    parser = argparse.ArgumentParser(description=__doc__.split("\n")[0])
+    parser = argparse.ArgumentParser(description=__doc__.split("\n", maxsplit=1)[0])
     parser.add_argument("--uca", default="crates/uca/out/uca", help="the program")
     parser.add_argument("--random", type=int, default=1000, help="random changes of each file")
-    parser.add_argument("--seed", type=int, default=1, help="of the random changes")
-    parser.add_argument("--files", nargs="+", default=list(FILES), choices=FILES)
+    parser.add_argument("--words", type=int, default=1000, help="random lines of words")
+    parser.add_argument("--seed", type=int, default=1, help="of the random changes and words")
+    parser.add_argument("--jobs", type=int, default=1, help="processes side by side")
+    parser.add_argument("--files", nargs="*", default=list(FILES), choices=FILES)
     options = parser.parse_args()
-    numbers = random.Random(options.seed)
-    with tempfile.TemporaryDirectory() as folder:
-        trials = Trials(options.uca, folder)
-        for name in options.files:
-            trials.judge_all(name, changes(trials.contents[name]))
-            trials.judge_all(name, (random_change(numbers, trials.contents[name]) for _ in range(options.random)))
-            print("%s: %d runs so far, %d not as they should" % (name, trials.count, trials.failed), flush=True)
-    sys.exit(1 if trials.failed else 0)
+    if not os.path.isfile(options.uca) or not os.path.isdir("examples"):
+        parser.error("the program is not built, or this is not the top of the repository")
+    counts, failed = {}, 0
+    work = list(parts(options))
+    with tempfile.TemporaryDirectory() as above, multiprocessing.Pool(options.jobs, begin, (os.path.abspath(options.uca), above)) as pool:
+        for name, (count, found) in pool.imap_unordered(judge, work):
+            counts[name] = counts.get(name, 0) + count
+            failed += len(found)
+            for line in found:
+                print(line, flush=True)
+    for name, count in sorted(counts.items()):
+        print("%s: %d runs" % (name, count))
+    print("%d runs, %d not as they should" % (sum(counts.values()), failed))
+    sys.exit(1 if failed else 0)
 
 
 if __name__ == "__main__":

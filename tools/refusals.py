@@ -1,0 +1,252 @@
+#!/usr/bin/env python3
+"""Refuses each allocation of the built program, and fails each of its reads and writes, in turn, and judges how each run ends.
+
+    cd crates/uca && rt run              # proves and builds crates/uca/out/uca
+    tools/refusals.py                    # from the top of the repository
+
+`refusals.c`, beside this script, is loaded before the C library and refuses what it is told to. It meets every allocation, also
+those that a library of the kit (`unicode_normalization`, `clap`) takes by itself. For each command line below one run goes with
+
+- the Nth allocation refused, alone, and with all behind it (malloc, calloc, realloc and their kin, from the start of `main` on);
+- the Nth read, write, or write to standard error failing;
+- reads, writes, or writes to standard error failing once N bytes were moved, the call before moving those up to N;
+- the Nth opening of a file failing;
+
+for each N from 0 until nothing is left to refuse (past 2,000 for each 97th), and one run whose reads and writes move one byte a call. Allowed are
+
+- of a refused allocation: status 4 and one line that names memory, and perhaps a place that is there; as N rises, a place in
+  no earlier file or line; or the ending without a refusal, since a list may ask again for less, or stay larger than it had to;
+- of a failed read: status 3 and the line of the file, and of its line, to which the bytes that were read lead;
+- of a failed write: status 3, `output: Write` or `certificate: Write`, and just the bytes that were moved. Help that does not
+  go out has status 0 and no line (docs/DECISIONS.md). Of a failed write to standard error: the ending without it but there;
+- of a file that does not open: status 3 and its role. The first opening, of the folder `/`, may end with status 3 and no line.
+
+Standard output has the key lines before the faulty line where `keys` ends at an input line, and nothing where another run ends
+early. The file of a certificate is not made before there is a plan. No run ends by a signal, or reads or writes again where it
+failed. What ends otherwise is printed, and the status is then 1. This is no part of the gate: it takes some minutes.
+"""
+
+import argparse
+import collections
+import os
+import re
+import struct
+import subprocess
+import sys
+import tempfile
+
+ROLES = {
+    "check": ("table", "data"),
+    "keys": ("table", "data", "input"),
+    "sort": ("table", "data", "input"),
+    "compare": ("table", "data"),
+    "tailor": ("table", "data", "rules"),
+    "audit": ("base", "data", "rules", "tailored", "certificate"),
+}
+
+# Each command line, and the file of its standard input if it reads one.
+CASES = (
+    ("check table.txt data.txt", None),
+    ("check ill-formed.txt data.txt", None),
+    ("check table.txt rules.txt", None),
+    ("keys table.txt data.txt", "lines.txt"),
+    ("keys --identical --weighting non-ignorable table.txt data.txt", "faulty.txt"),
+    ("keys table.txt data.txt", "many.txt"),
+    ("sort table.txt data.txt", "lines.txt"),
+    ("sort --identical --weighting non-ignorable table.txt data.txt", "lines.txt"),
+    ("compare table.txt data.txt \u1ea1\u0301ch a\u0323\u0301c-h", None),
+    ("compare --identical --weighting shifted table.txt data.txt \uac01\u00e1\u0323 \u1100", None),
+    ("tailor table.txt data.txt rules.txt made.txt", None),
+    ("tailor table.txt data.txt spellings.txt made.txt", None),
+    ("tailor table.txt data.txt anchor.txt made.txt", None),
+    ("tailor table.txt data.txt late.txt made.txt", None),
+    ("audit table.txt data.txt rules.txt tailored.txt certificate.txt", None),
+    ("audit table.txt data.txt rules.txt table.txt certificate.txt", None),
+    ("sort table.txt missing.txt", None),
+    ("tailor --help", None),
+    ("keys --weighting none table.txt data.txt", None),
+    ("audit table.txt", None),
+)
+MADE = "made.txt"
+
+# What is refused, by the letter that refusals.c knows.
+REFUSED = {
+    "a": "allocations, one alone",
+    "A": "allocations, one and all behind it",
+    "r": "reads",
+    "R": "reads, by bytes",
+    "w": "writes",
+    "W": "writes, by bytes",
+    "e": "writes to standard error",
+    "E": "writes to standard error, by bytes",
+    "o": "openings of files",
+}
+
+Ending = collections.namedtuple("Ending", "status out err made")
+
+
+def contents():
+    """The files, by name: those of examples/, and some made of them."""
+    files = {}
+    for name in ("table.txt", "data.txt", "rules.txt", "tailored.txt", "certificate.txt", "lines.txt"):
+        with open(os.path.join("examples", name), "rb") as file:
+            files[name] = file.read()
+    files["ill-formed.txt"] = files["table.txt"].replace(b"[.0000.0024.0002]", b"[.0000.0020.0002]")
+    files["spellings.txt"] = "# forms\n&[before 1]b < \u1ea1 / ch <<* x-z'q' &\u00e1h <<< \\u00C1h = \uac01".encode()
+    files["anchor.txt"] = "&b < bh &\u4e00 < x".encode()
+    files["late.txt"] = b"&ab < c &a < b"
+    files["lines.txt"] += "\u1e69\u0323a\u0301\n\uac01\n\U00020000 \ufdfa".encode()
+    files["many.txt"] = b"".join(b"%d ch-a d\n" % number for number in range(1500))
+    files["faulty.txt"] = files["lines.txt"] + b"\nx" + b"\xcc\x81" * 65 + b"\n"
+    return files
+
+
+class Case:
+    """A command line, the files that it reads under their roles, and how it ends where nothing is refused."""
+
+    def __init__(self, words, given, files):
+        self.words, self.given = words.split(" "), given
+        names = [word for word in self.words if word.endswith(".txt") and word != MADE]
+        self.opened = list(zip(ROLES[self.words[0]], names))
+        read = self.opened + ([("input", given)] if given else [])
+        self.read = [(role, files.get(name, b"")) for role, name in read]
+        self.plain, self.reached = None, (0, 0)
+
+    def out_before(self, role, line):
+        """What has gone out where the run ends at this line."""
+        if self.words[0] != "keys" or role != "input":
+            return b""
+        return b"".join(self.plain.out.splitlines(keepends=True)[: line - 1])
+
+    def of_memory(self, ending):
+        if ending == self.plain:
+            return True
+        found = re.fullmatch(r"memory\n|(left|right|rules): Memory\n|(\w+)( line| byte) ([0-9]+): Memory\n", ending.err)
+        if not found or ending.status != 4 or ending.made is not None:
+            return False
+        if found.group(2) is None:
+            return ending.out == b""
+        role, place = found.group(2), int(found.group(4))
+        names = [name for name, _ in self.read]
+        if role not in names or (role == "rules") != (found.group(3) == " byte"):
+            return False
+        index = names.index(role)
+        content, before, self.reached = self.read[index][1], self.reached, (index, place if role != "rules" else 0)
+        most = len(content) if role == "rules" else content.count(b"\n") + 1
+        return place <= most and before <= self.reached and ending.out == self.out_before(role, place)
+
+    def of_read(self, ends, moved):
+        role, content = self.read[ends]
+        if role == "rules":
+            return Ending(3, b"", "rules: Read\n", None)
+        line = content[:moved].count(b"\n") + 1
+        place = "input line" if role == "input" else role + " line"
+        return Ending(3, self.out_before(role, line), "%s %d: Read\n" % (place, line), None)
+
+    def of_write(self, moved):
+        if "--help" in self.words:
+            return self.plain._replace(out=self.plain.out[:moved])
+        made = self.plain.made or b""
+        if moved < len(made):
+            return Ending(3, b"", "certificate: Write\n", made[:moved])
+        return Ending(3, self.plain.out[: moved - len(made)], "output: Write\n", self.plain.made)
+
+    def of_opening(self, number):
+        said = ""
+        if number > 0:
+            said = self.opened[number - 1][0] + ": Open\n" if number <= len(self.opened) else "certificate: Write\n"
+        return Ending(3, b"", said, None)
+
+    def is_allowed(self, kind, number, told, ending):
+        """Whether a run may end so. told: for each event whether one had failed before, files read to their end, bytes moved."""
+        if not told:
+            return ending == self.plain
+        again, ends, moved = told[0]
+        if len(told) > 1 or again:
+            return False
+        if kind in "aA":
+            return self.of_memory(ending)
+        if kind in "rR":
+            return ending == self.of_read(ends, moved)
+        if kind in "wW":
+            return ending == self.of_write(moved)
+        if kind in "eE":
+            return ending == self.plain._replace(err=self.plain.err.encode()[:moved].decode())
+        return ending == self.of_opening(number)
+
+
+class Trials:
+    def __init__(self, options, folder):
+        self.uca, self.verbose, self.folder = os.path.abspath(options.uca), options.verbose, folder
+        self.shim, self.runs, self.wrong = os.path.join(folder, "refusals.so"), 0, 0
+        self.refused, self.done_without = collections.Counter(), 0
+        source = os.path.join(os.path.dirname(os.path.abspath(__file__)), "refusals.c")
+        subprocess.run(["cc", "-O2", "-shared", "-fPIC", "-o", self.shim, source], check=True)
+        self.files = contents()
+        for name, content in self.files.items():
+            with open(os.path.join(folder, name), "wb") as file:
+                file.write(content)
+
+    def run(self, case, refuse):
+        """How a run ends, and what the shim told of it."""
+        made, (reader, teller) = os.path.join(self.folder, MADE), os.pipe()
+        environment = {"LD_PRELOAD": self.shim, "REFUSE": refuse, "TELL": str(teller)}
+        streams = {"stdout": subprocess.PIPE, "stderr": subprocess.PIPE, "pass_fds": (teller,)}
+        with open(os.path.join(self.folder, case.given) if case.given else os.devnull, "rb") as given:
+            done = subprocess.run([self.uca, *case.words], stdin=given, env=environment, cwd=self.folder, timeout=20, check=False, **streams)
+        os.close(teller)
+        with open(reader, "rb") as pipe:
+            told = [numbers for numbers in struct.iter_unpack("3l", pipe.read())]
+        kept = None
+        if os.path.exists(made):
+            with open(made, "rb") as file:
+                kept = file.read()
+            os.remove(made)
+        self.runs += 1
+        return Ending(done.returncode, done.stdout, done.stderr.decode("utf-8", "replace"), kept), told
+
+    def judge(self, case, kind, number):
+        """One run; returns whether something was refused."""
+        ending, told = self.run(case, kind + str(number))
+        if not case.is_allowed(kind, number, told, ending):
+            self.wrong += 1
+            print("%s, %s%d: %r, told %r" % (" ".join(case.words), kind, number, ending, told), flush=True)
+        self.refused[kind] += bool(told)
+        if told and kind in "aA":
+            self.done_without += ending == case.plain
+            self.endings[ending.status, ending.err] += 1
+        return bool(told)
+
+    def judge_all(self, case):
+        case.plain, _ = self.run(case, "-0")
+        self.endings = collections.Counter()
+        self.judge(case, "s", 0)
+        for kind in REFUSED:
+            # Of bytes the number may be beyond what a call before the end of a run can reach, so all are tried.
+            last = sum(len(content) for _, content in case.read) if kind == "R" else -1
+            number, case.reached = 0, (0, 0)
+            while self.judge(case, kind, number) or number < last:
+                number += 1 if number < 2000 else 97
+        print("%s: status %d" % (" ".join(case.words), case.plain.status), flush=True)
+        for (status, said), count in self.endings.items() if self.verbose else ():
+            print("    %4d  %d %s" % (count, status, said.split("\n")[0]), flush=True)
+
+
+def main():
+    parser = argparse.ArgumentParser(description=__doc__.split("\n")[0])
+    parser.add_argument("--uca", default="crates/uca/out/uca", help="the program")
+    parser.add_argument("--verbose", action="store_true", help="print how often each ending of a refused allocation came")
+    options = parser.parse_args()
+    with tempfile.TemporaryDirectory() as folder:
+        trials = Trials(options, folder)
+        for words, given in CASES:
+            trials.judge_all(Case(words, given, trials.files))
+    print("%d command lines, %d runs, %d not as they should" % (len(CASES), trials.runs, trials.wrong))
+    for kind, name in REFUSED.items():
+        print("    %6d %s" % (trials.refused[kind], name))
+    print("    %6d runs ended well without a refused allocation" % trials.done_without)
+    sys.exit(1 if trials.wrong else 0)
+
+
+if __name__ == "__main__":
+    main()
