@@ -18,8 +18,8 @@ It prints three tables:
 
 - check: `uca check` of each table, beside `uca keys` of no lines over it, which reads the same files and
   builds the trie; and that again of the same rows in a random order. With `--worst N` also a table of N
-  rows, each of which but the last has a long key whose shorter one stands in the last row: the time of
-  the check grows with the square of N;
+  rows, each of which but the last has a long key whose shorter one stands in the last row: the check
+  goes over all rows once for each 4,096 of them;
 - sort: `uca sort` of lines of ten letters over a table of 27 rows, beside `uca keys` of the same;
 - keys: `uca keys` of each kind of lines.
 
