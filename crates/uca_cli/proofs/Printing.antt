@@ -55,7 +55,7 @@ all_printed c start begun before reader input buffer out p ends = record {
   printed = p.printed;
 }
 
--- a growth is refused
+-- an allocation fails
 pub no_memory : (c : Keying) (start begun : Option (List ℕ)) (before : List (List ℕ)) (reader : LineState) (input unread : SourceState) (buffer : BufferState) (out : SinkState) (number : ℕ) → HasPrinted c start begun before reader input buffer out → number ≡ reader.number + 1 → HasBytes (left_of reader input) → IsStopped c start begun before unread buffer out (Input number Memory)
 no_memory c start begun before reader input unread buffer out number p place left =
     (known_no_memory c.collation.properties start before reader input unread.remaining number p.behind p.count place left, p.printed)

@@ -1,7 +1,7 @@
 -- What the whole command does: it reads its words, opens the files that they name in their order, runs over them, and ends
 -- with a status. `gives` says what the opener gives where it is to open a file, and `makes` where it is to make one; `remaining`
 -- says what the bytes of an opened file are, and `contents` those of a file that was made.
-use Rattle.std.specs.Prelude.{◌≡◌, ◌⊎◌, ℕ, List, [], ◌∷◌, Bool, true, false, Option, Result, Ok, Err}
+use Rattle.std.specs.Prelude.{◌≡◌, ◌⊎◌, ℕ, List, [], ◌∷◌, ◌||◌, Bool, true, false, Option, Result, Ok, Err}
 use Rattle.uca_weights.specs.Streams.{SourceState, SinkState}
 use Rattle.uca_values.specs.Content.{TableContent}
 use Rattle.uca_certificates.specs.Certificates.{CertificateContent}
@@ -14,13 +14,13 @@ use Rattle.uca_cli.specs.declared.faults.Role.{Role}
 use Rattle.uca_cli.specs.declared.faults.Role.TheVariants as roles
 use Rattle.uca_cli.specs.declared.faults.RunFault.{RunFault}
 use Rattle.uca_cli.specs.declared.faults.RunFault.TheVariants.{CertificateWrite, Open, Words}
-use Rattle.uca_cli.specs.AuditRun.{AuditSources, audit_sources, AuditsOver, AcceptsAccepted, RunsAudit}
+use Rattle.uca_cli.specs.AuditRun.{AuditSources, audit_sources, AuditsOver, AcceptsAccepted, RunsAudit, AuditHasFailed}
 use Rattle.uca_cli.specs.CheckRun.{RunsCheck}
 use Rattle.uca_cli.specs.CompareRun.{RunsCompare}
-use Rattle.uca_cli.specs.KeysRun.{RunsKeys}
+use Rattle.uca_cli.specs.KeysRun.{RunsKeys, is_before_input}
 use Rattle.uca_cli.specs.SortRun.{RunsSort}
-use Rattle.uca_cli.specs.TailorRun.{TailorSources, tailor_sources, TailorsOver, RunsTailor, PlansPlanned, WritesTailored}
-use Rattle.uca_cli.specs.Runs.{RunsOver}
+use Rattle.uca_cli.specs.TailorRun.{TailorSources, tailor_sources, TailorsOver, RunsTailor, PlansPlanned, TailorHasFailed, WritesTailored, is_certificate_write}
+use Rattle.uca_cli.specs.Runs.{RunsOver, HaveFailed, is_before_output, is_file, is_input_read, is_write}
 use Rattle.uca_cli.specs.Reports.{Reports}
 use Rattle.uca_cli.specs.Statuses.{IsStatus}
 
@@ -88,6 +88,32 @@ abbrev pub OverFive : (AuditSources → AuditSources → Type 0) → List Source
 OverFive P (base ∷ properties ∷ rules ∷ tailored ∷ certificate ∷ []) = (new : AuditSources) × P (audit_sources base properties rules tailored certificate) new
 OverFive P _ = ⊥
 
+-- ---- Whatever the files and streams are
+
+-- What holds of a run of check or compare, whatever its files and its output are: where it ended before its output nothing was
+-- written, and a source or the output has failed where it had before, or where the run ended by just that.
+pub record OutputStreams {A : Type 0} (table table_new properties properties_new : SourceState) (out out_new : SinkState) (result : Result A RunFault) : Type 0 where
+  pub nothing_written : is_before_output result ≡ true → out_new ≡ out
+  pub failed : HaveFailed table table_new properties properties_new out out_new result
+
+-- the same of a run of sort, whose input is not looked at where a file is refused
+pub record SortStreams {A : Type 0} (table table_new properties properties_new input input_new : SourceState) (out out_new : SinkState) (result : Result A RunFault) : Type 0 where
+  pub nothing_written : is_before_output result ≡ true → out_new ≡ out
+  pub nothing_read : is_file result ≡ true → input_new ≡ input
+  pub input_failed : input_new.failed ≡ (input.failed || is_input_read result)
+  pub failed : HaveFailed table table_new properties properties_new out out_new result
+
+-- the same of a run of keys, which writes while it reads its input
+pub record KeysStreams {A : Type 0} (table table_new properties properties_new input input_new : SourceState) (out out_new : SinkState) (result : Result A RunFault) : Type 0 where
+  pub nothing_written : is_before_input result ≡ true → (out_new ≡ out) × (input_new ≡ input)
+  pub input_failed : is_write result ≡ false → input_new.failed ≡ (input.failed || is_input_read result)
+  pub failed : HaveFailed table table_new properties properties_new out out_new result
+
+-- the same of a run of audit
+pub record AuditStreams {A : Type 0} (old new : AuditSources) (out out_new : SinkState) (result : Result A RunFault) : Type 0 where
+  pub nothing_written : is_before_output result ≡ true → out_new ≡ out
+  pub failed : AuditHasFailed old new out out_new result
+
 -- ---- What is done
 
 -- the status of a run that was done, or its fault
@@ -108,6 +134,8 @@ pub record MakesFile {O M : Type 0} (makes : O → List ℕ → Result M OpenFau
   pub file_new : SinkState
   pub written : Result (Unit {0}) RunFault
   pub writes : WritesTailored table certificate (record { contents = contents file; failed = false }) file_new out out_new written
+  pub file_failed : file_new.failed ≡ is_certificate_write written
+  pub out_failed : out_new.failed ≡ (out.failed || is_write written)
   pub answers : result ≡ done_result written
 
 -- the file of this name cannot be made, and nothing was written
@@ -124,21 +152,25 @@ KeepsTailored makes contents old new name out out_new (Ok answer) result =
 -- what a subcommand does with its words, given what it reads and writes before and after
 abbrev pub DoesWords : {O F M : Type 0} → (O → List ℕ → Result F OpenFault → O → Type 0) → (F → Option (List ℕ)) → (O → List ℕ → Result M OpenFault → O → Type 0) → (M → Option (List ℕ)) → O → O → WordsType → SourceState → SourceState → SinkState → SinkState → Result ℕ RunFault → Type 0
 DoesWords gives remaining makes contents old new (Check table_name data_name) input input_new out out_new result = (input_new ≡ input) × OpensAndRuns gives remaining old new (table_and_data table_name.now data_name.now) (out_new ≡ out)
-    (OverTwo (λ table table_new properties properties_new. (run : Result Bool RunFault) × (result ≡ check_result run) × RunsOver table table_new properties properties_new (RunsCheck out out_new run) run)) result
+    (OverTwo (λ table table_new properties properties_new. (run : Result Bool RunFault) × (result ≡ check_result run) × RunsOver table table_new properties properties_new (RunsCheck out out_new run) run
+    × OutputStreams table table_new properties properties_new out out_new run)) result
 DoesWords gives remaining makes contents old new (Keys weighting depth table_name data_name) input input_new out out_new result = OpensAndRuns gives remaining old new (table_and_data table_name.now data_name.now) ((input_new ≡ input) × (out_new ≡ out))
-    (OverTwo (λ table table_new properties properties_new. (run : Result (Unit {0}) RunFault) × (result ≡ done_result run) × RunsOver table table_new properties properties_new (RunsKeys weighting depth input input_new out out_new run) run)) result
+    (OverTwo (λ table table_new properties properties_new. (run : Result (Unit {0}) RunFault) × (result ≡ done_result run) × RunsOver table table_new properties properties_new (RunsKeys weighting depth input input_new out out_new run) run
+    × KeysStreams table table_new properties properties_new input input_new out out_new run)) result
 DoesWords gives remaining makes contents old new (Sort weighting depth table_name data_name) input input_new out out_new result = OpensAndRuns gives remaining old new (table_and_data table_name.now data_name.now) ((input_new ≡ input) × (out_new ≡ out))
-    (OverTwo (λ table table_new properties properties_new. (run : Result (Unit {0}) RunFault) × (result ≡ done_result run) × RunsOver table table_new properties properties_new (RunsSort weighting depth input input_new out out_new run) run)) result
+    (OverTwo (λ table table_new properties properties_new. (run : Result (Unit {0}) RunFault) × (result ≡ done_result run) × RunsOver table table_new properties properties_new (RunsSort weighting depth input input_new out out_new run) run
+    × SortStreams table table_new properties properties_new input input_new out out_new run)) result
 DoesWords gives remaining makes contents old new (Compare weighting depth table_name data_name left right) input input_new out out_new result = (input_new ≡ input) × OpensAndRuns gives remaining old new (table_and_data table_name.now data_name.now) (out_new ≡ out)
-    (OverTwo (λ table table_new properties properties_new. (run : Result (Unit {0}) RunFault) × (result ≡ done_result run) × RunsOver table table_new properties properties_new (RunsCompare weighting depth left.now right.now out out_new run) run)) result
+    (OverTwo (λ table table_new properties properties_new. (run : Result (Unit {0}) RunFault) × (result ≡ done_result run) × RunsOver table table_new properties properties_new (RunsCompare weighting depth left.now right.now out out_new run) run
+    × OutputStreams table table_new properties properties_new out out_new run)) result
 DoesWords {O = O} gives remaining makes contents old new (Tailor table_name data_name rules certificate) input input_new out out_new result = (input_new ≡ input) × (between : O)
     × OpensAndRuns gives remaining old between (tailor_files table_name.now data_name.now rules.now) ((new ≡ between) × (out_new ≡ out))
     (OverThree (λ sources sources_new. (run : Result (TableContent × CertificateContent) RunFault) × TailorsOver sources sources_new (RunsTailor run) run
-    × PlansPlanned sources run × KeepsTailored makes contents between new certificate.now out out_new run result)) result
+    × PlansPlanned sources run × TailorHasFailed sources sources_new run × KeepsTailored makes contents between new certificate.now out out_new run result)) result
 DoesWords gives remaining makes contents old new (Audit base data_name rules tailored certificate) input input_new out out_new result = (input_new ≡ input)
     × OpensAndRuns gives remaining old new (audit_files base.now data_name.now rules.now tailored.now certificate.now) (out_new ≡ out)
     (OverFive (λ sources sources_new. (run : Result Bool RunFault) × (result ≡ check_result run) × AuditsOver sources sources_new (RunsAudit out out_new run) run
-    × AcceptsAccepted sources run)) result
+    × AcceptsAccepted sources run × AuditStreams sources sources_new out out_new run)) result
 
 -- how the command ends after a run: with its status, or with what its fault reports
 abbrev pub EndsWith : Result ℕ RunFault → ℕ → SinkState → SinkState → SinkState → SinkState → Type 0

@@ -45,7 +45,7 @@ WritesComparison c left right begun now (Err (Text true fault)) = IsWithinLimits
 WritesComparison c left right begun now (Err (Write written)) = IsWithinLimits c.collation.properties left × IsWithinLimits c.collation.properties right × WentOut begun now (comparison_line (lines_compared c left right)) written
 WritesComparison c left right begun now (Err _) = ⊥
 
--- What a run of compare answers under a table and properties. A growth that was refused for looking up rows says nothing of
+-- What a run of compare answers under a table and properties. An allocation that failed for looking up rows says nothing of
 -- the texts, and nothing was written.
 abbrev pub RunsCompare : {A : Type 0} → Option Weighting → Depth → List ℕ → List ℕ → SinkState → SinkState → Result A RunFault → TableContent → Properties → Type 0
 RunsCompare asked depth left right out out_new (Err Memory) table properties = out_new ≡ out

@@ -45,8 +45,8 @@ abbrev pub PrintsNext : Keying → Option (List ℕ) → Option (List ℕ) → L
 PrintsNext c start begun before reader input buffer out (Ok more) = OnTrue more ((line : List ℕ) × HasPrinted c start begun (before ++ line ∷ []) reader input buffer out) × OnFalse more (HasPrintedAll c start begun buffer out)
 PrintsNext c start begun before reader input buffer out (Err fault) = IsStopped c start begun before input buffer out fault
 
--- What is answered of a text that is to be handed over behind others: it was, or part of them all went out, or a
--- growth was refused and nothing changed.
+-- What is answered of a text that is to be handed over behind others: it was, or part of them all went out, or an
+-- allocation failed and nothing changed.
 abbrev pub PrintsText : {A : Type 0} → Option (List ℕ) → List ℕ → List ℕ → ℕ → BufferState → SinkState → BufferState → SinkState → Result A RunFault → Type 0
 PrintsText begun before text number buffer out held now (Ok x) = HandedOver begun now.contents (before ++ text) held
 PrintsText begun before text number buffer out held now (Err (Input line kind)) = (line ≡ number) × (kind ≡ InputMemory) × (held ≡ buffer) × (now ≡ out)

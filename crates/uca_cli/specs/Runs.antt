@@ -108,7 +108,7 @@ pub record HasLineCause (properties : Properties) (before rest : List (List ℕ)
   pub next : rest ≡ line ∷ later
   pub cause : cause_of properties (length before) line ≡ Some kind
 
--- why the line behind these is not read, where a growth may be refused at any line
+-- why the line behind these is not read, where an allocation may fail at any line
 abbrev pub HasCause : Properties → List ℕ → Option (List ℕ) → List (List ℕ) → List (List ℕ) → InputKind → Type 0
 HasCause properties bytes left before rest Utf8 = HasLineCause properties before rest Utf8
 HasCause properties bytes left before rest TooLong = HasLineCause properties before rest TooLong

@@ -33,7 +33,7 @@ pub record IsTextOf (properties : Properties) (before : ℕ) (line : List ℕ) (
   pub spelling : text ≡ spelled properties (chars line)
   pub lacks : Lacks is_lf line
 
--- the cause for which a line behind so many others is refused; a growth may be refused at any line
+-- the cause for which a line behind so many others is refused; an allocation may fail at any line
 abbrev pub HasTextCause : Properties → ℕ → List ℕ → InputKind → Type 0
 HasTextCause properties before line Utf8 = cause_of properties before line ≡ Some Utf8
 HasTextCause properties before line TooLong = cause_of properties before line ≡ Some TooLong

@@ -12,8 +12,8 @@ ghost use Rattle.uca_cli.specs.declared.command.OpenFault.{OpenFault};
 ghost use Rattle.uca_cli.specs.declared.faults.RunFault.{RunFault};
 ghost use Rattle.uca_values.specs.Content.{TableContent};
 ghost use Rattle.uca_certificates.specs.Certificates.{CertificateContent};
-ghost use Rattle.uca_cli.specs.TailorRun.{PlansPlanned, RunsTailor, TailorsOver};
-ghost use Rattle.uca_cli.specs.Command.{table_and_data, tailor_files, audit_files, AreOpened, DoesNotOpen, OpensAndRuns, OverTwo, OverThree, OverFive, done_result, check_result, DoesNotMake, MakesFile, KeepsTailored, DoesWords, DoesCommand};
+ghost use Rattle.uca_cli.specs.TailorRun.{PlansPlanned, RunsTailor, TailorHasFailed, TailorsOver};
+ghost use Rattle.uca_cli.specs.Command.{table_and_data, tailor_files, audit_files, AreOpened, DoesNotOpen, OpensAndRuns, OverTwo, OverThree, OverFive, OutputStreams, SortStreams, KeysStreams, AuditStreams, done_result, check_result, DoesNotMake, MakesFile, KeepsTailored, DoesWords, DoesCommand};
 
 use crate::faults::{Role, RunFault};
 use crate::reporting::{DONE, REFUSED, report};
@@ -180,7 +180,8 @@ fn check<O: Opens, W: Write>(
     out: &mut Sink<W>,
 ) -> Result<u8, RunFault>
     ensures { OpensAndRuns O.open_gives O.File.remaining opener.old opener.new (table_and_data table.now properties.now) (out.new ≡ out.old)
-        (OverTwo (λ t t_new d d_new. (run : Result Bool RunFault) × (result ≡ check_result run) × RunsOver t t_new d d_new (RunsCheck out.old out.new run) run)) result }
+        (OverTwo (λ t t_new d d_new. (run : Result Bool RunFault) × (result ≡ check_result run) × RunsOver t t_new d d_new (RunsCheck out.old out.new run) run
+        × OutputStreams t t_new d d_new out.old out.new run)) result }
 {
     let (mut table, mut properties) = match open_files(opener, table, properties) {
         Ok(files) => files,
@@ -201,7 +202,8 @@ fn keys<O: Opens, I: Read, W: Write>(
     out: &mut Sink<W>,
 ) -> Result<u8, RunFault>
     ensures { OpensAndRuns O.open_gives O.File.remaining opener.old opener.new (table_and_data table.now properties.now) ((input.new ≡ input.old) × (out.new ≡ out.old))
-        (OverTwo (λ t t_new d d_new. (run : Result (Unit {0}) RunFault) × (result ≡ done_result run) × RunsOver t t_new d d_new (RunsKeys weighting depth input.old input.new out.old out.new run) run)) result }
+        (OverTwo (λ t t_new d d_new. (run : Result (Unit {0}) RunFault) × (result ≡ done_result run) × RunsOver t t_new d d_new (RunsKeys weighting depth input.old input.new out.old out.new run) run
+        × KeysStreams t t_new d d_new input.old input.new out.old out.new run)) result }
 {
     let (mut table, mut properties) = match open_files(opener, table, properties) {
         Ok(files) => files,
@@ -230,7 +232,8 @@ fn sort<O: Opens, I: Read, W: Write>(
     out: &mut Sink<W>,
 ) -> Result<u8, RunFault>
     ensures { OpensAndRuns O.open_gives O.File.remaining opener.old opener.new (table_and_data table.now properties.now) ((input.new ≡ input.old) × (out.new ≡ out.old))
-        (OverTwo (λ t t_new d d_new. (run : Result (Unit {0}) RunFault) × (result ≡ done_result run) × RunsOver t t_new d d_new (RunsSort weighting depth input.old input.new out.old out.new run) run)) result }
+        (OverTwo (λ t t_new d d_new. (run : Result (Unit {0}) RunFault) × (result ≡ done_result run) × RunsOver t t_new d d_new (RunsSort weighting depth input.old input.new out.old out.new run) run
+        × SortStreams t t_new d d_new input.old input.new out.old out.new run)) result }
 {
     let (mut table, mut properties) = match open_files(opener, table, properties) {
         Ok(files) => files,
@@ -260,7 +263,8 @@ fn compare<O: Opens, W: Write>(
     out: &mut Sink<W>,
 ) -> Result<u8, RunFault>
     ensures { OpensAndRuns O.open_gives O.File.remaining opener.old opener.new (table_and_data table.now properties.now) (out.new ≡ out.old)
-        (OverTwo (λ t t_new d d_new. (run : Result (Unit {0}) RunFault) × (result ≡ done_result run) × RunsOver t t_new d d_new (RunsCompare weighting depth left.now right.now out.old out.new run) run)) result }
+        (OverTwo (λ t t_new d d_new. (run : Result (Unit {0}) RunFault) × (result ≡ done_result run) × RunsOver t t_new d d_new (RunsCompare weighting depth left.now right.now out.old out.new run) run
+        × OutputStreams t t_new d d_new out.old out.new run)) result }
 {
     let (mut table, mut properties) = match open_files(opener, table, properties) {
         Ok(files) => files,
@@ -291,7 +295,7 @@ fn tailor<O: Opens, W: Write>(
     ensures { (between : O) × OpensAndRuns O.open_gives O.File.remaining opener.old between
         (tailor_files table.now properties.now rules.now) ((opener.new ≡ between) × (out.new ≡ out.old))
         (OverThree (λ s s_new. (run : Result (TableContent × CertificateContent) RunFault) × TailorsOver s s_new (RunsTailor run) run
-        × PlansPlanned s run × KeepsTailored O.create_gives O.Made.contents between opener.new certificate.now out.old out.new run result)) result }
+        × PlansPlanned s run × TailorHasFailed s s_new run × KeepsTailored O.create_gives O.Made.contents between opener.new certificate.now out.old out.new run result)) result }
 {
     let (mut table, mut properties, mut rules) = match open_tailor_files(
         opener, table, properties, rules,
@@ -334,7 +338,7 @@ fn audit<O: Opens, W: Write>(
     ensures { OpensAndRuns O.open_gives O.File.remaining opener.old opener.new
         (audit_files base.now properties.now rules.now tailored.now certificate.now) (out.new ≡ out.old)
         (OverFive (λ s s_new. (run : Result Bool RunFault) × (result ≡ check_result run) × AuditsOver s s_new (RunsAudit out.old out.new run) run
-        × AcceptsAccepted s run)) result }
+        × AcceptsAccepted s run × AuditStreams s s_new out.old out.new run)) result }
 {
     let mut files = match open_audit_files(opener, base, properties, rules, tailored, certificate) {
         Ok(files) => files,

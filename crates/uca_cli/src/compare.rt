@@ -54,7 +54,7 @@ pub fn compare_words<L: Lookup, A: Allocator, W: Write>(
 ///
 /// # Errors
 ///
-/// `File` where the table, or else the data file, is refused; `Memory` where a growth was refused for
+/// `File` where the table, or else the data file, is refused; `Memory` where an allocation failed for
 /// looking up rows, before the texts are judged; `Text` where the left text, or else the right one, is
 /// refused. Nothing was written then. No key is made, so the comparison itself takes no memory. `Write` where the
 /// writer failed: the first `written` bytes of the line went out.
@@ -81,7 +81,7 @@ pub fn run_compare<T: Read, D: Read, W: Write>(
     )
 }
 
-/// The same with the growths of the two files and the trie in memory of any allocator; those of Normalization Form D
+/// The same with the allocations of the two files and the trie in memory of any allocator; those of Normalization Form D
 /// are in `global`.
 pub fn run_compare_in<A: Allocator + Copy, T: Read, D: Read, W: Write>(
     alloc: A,

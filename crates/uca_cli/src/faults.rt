@@ -27,7 +27,7 @@ pub enum Role {
     Rules,
     /// The certificate of a tailoring.
     Certificate,
-    /// The weight table before a tailoring.
+    /// The weight table before a tailoring, where the tailoring is audited. Where it is made, that table is `Table`.
     Base,
     /// The weight table after a tailoring.
     Tailored,
@@ -77,7 +77,7 @@ pub enum InputKind {
     /// It is line 1,000,001.
     #[error("Limit")]
     Limit,
-    /// A growth was refused.
+    /// An allocation failed.
     #[error("Memory")]
     Memory,
 }
@@ -137,7 +137,7 @@ pub enum RunFault {
         /// How many bytes of the whole output went out before.
         written: u64,
     },
-    /// A growth was refused that belongs to no file and to no line.
+    /// An allocation failed that belongs to no file and to no line.
     #[error("memory")]
     Memory,
     /// A word that is to be compared is refused.

@@ -69,7 +69,7 @@ fn take_text<D: Allocator>(
 /// # Errors
 ///
 /// The first that holds of the line: `Limit`, `TooLong` by its bytes, `Utf8`, `TooLong` by its code
-/// points, `LongRun`; `Read` where the source failed, and `Memory` where a growth was refused.
+/// points, `LongRun`; `Read` where the source failed, and `Memory` where an allocation failed.
 pub fn next_text<I: Read, A: Allocator, D: Allocator>(
     reader: &mut LineReader,
     line: &mut Vec<u8, A>,

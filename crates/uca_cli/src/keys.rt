@@ -207,7 +207,7 @@ pub fn print_keys<L: Lookup, T: Allocator, A: Allocator + Copy, I: Read, W: Writ
 ///
 /// # Errors
 ///
-/// `File` where the table, or else the data file, is refused, and then `Memory` where a growth was refused
+/// `File` where the table, or else the data file, is refused, and then `Memory` where an allocation failed
 /// for looking up rows: nothing was written, and nothing of the input was read. `Input` for the first
 /// faulty line, where the keys of the lines before it were written. `Write` where the writer failed, also
 /// where a later line is faulty: the first `written` bytes of the whole output went out.
@@ -235,7 +235,7 @@ pub fn run_keys<T: Read, D: Read, I: Read, W: Write>(
     )
 }
 
-/// The same with the growths of the two files, the trie, the lines and the keys in memory of any
+/// The same with the allocations of the two files, the trie, the lines and the keys in memory of any
 /// allocator; those of Normalization Form D are in `global`.
 pub fn run_keys_in<A: Allocator + Copy, T: Read, D: Read, I: Read, W: Write>(
     alloc: A,

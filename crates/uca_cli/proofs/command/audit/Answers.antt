@@ -9,6 +9,12 @@ returns g c = inr (record {
   opened = c.in-Ok.ensures;
   runs = (
     audit_sources c.run_audit.new.base c.run_audit.new.properties c.run_audit.new.rules c.run_audit.new.tailored c.run_audit.new.certificate,
-    (c.run_audit.result, c.checked.ensures, c.run_audit.ensures.runs, c.run_audit.ensures.only),
+    (
+      c.run_audit.result,
+      c.checked.ensures,
+      c.run_audit.ensures.runs,
+      c.run_audit.ensures.only,
+      record { nothing_written = c.run_audit.ensures.nothing_written; failed = c.run_audit.ensures.failed },
+    ),
   );
 })

@@ -6,5 +6,14 @@ pub returns : goal.returns
 returns g c = inr (record {
   sources = c.in-Ok.files.0 ∷ c.in-Ok.files.1 ∷ [];
   opened = c.in-Ok.ensures;
-  runs = (c.run_keys.new.table, c.run_keys.new.properties, (c.run_keys.result, c.done.ensures, c.run_keys.ensures.runs));
+  runs = (
+    c.run_keys.new.table,
+    c.run_keys.new.properties,
+    (
+      c.run_keys.result,
+      c.done.ensures,
+      c.run_keys.ensures.runs,
+      record { nothing_written = c.run_keys.ensures.nothing_written; input_failed = c.run_keys.ensures.input_failed; failed = c.run_keys.ensures.failed },
+    ),
+  );
 })

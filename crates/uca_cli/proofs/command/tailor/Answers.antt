@@ -18,7 +18,13 @@ returns-in_err-tailored g c =
         opened = c.in-Ok.ensures;
         runs = (
           tailor_sources c.run_tailor.new.base c.run_tailor.new.properties c.run_tailor.new.rules,
-          (Err c.in_err-tailored.field-0.0, c.in_err-tailored.ensures.runs, c.in_err-tailored.ensures.only, (refl, refl {a = c.open_tailor_files.new.opener}, refl {a = c.args.out.now})),
+          (
+            Err c.in_err-tailored.field-0.0,
+            c.in_err-tailored.ensures.runs,
+            c.in_err-tailored.ensures.only,
+            c.in_err-tailored.ensures.failed,
+            (refl, refl {a = c.open_tailor_files.new.opener}, refl {a = c.args.out.now}),
+          ),
         );
       }),
     )
@@ -32,7 +38,7 @@ returns g c =
         opened = c.in-Ok.ensures;
         runs = (
           tailor_sources c.run_tailor.new.base c.run_tailor.new.properties c.run_tailor.new.rules,
-          (Ok (c.in_ok-tailored.tailored, c.in_ok-tailored.weights), c.in_ok-tailored.ensures.runs, c.in_ok-tailored.ensures.only, c.keep_tailored.ensures),
+          (Ok (c.in_ok-tailored.tailored, c.in_ok-tailored.weights), c.in_ok-tailored.ensures.runs, c.in_ok-tailored.ensures.only, c.in_ok-tailored.ensures.failed, c.keep_tailored.ensures),
         );
       }),
     )
