@@ -82,17 +82,17 @@ def recipe(options, folder):
 
 
 def tibetan_texts():
-    """Each of the two letters with up to three Tibetan and other marks behind it, each text once."""
+    """Each of the two letters with up to four Tibetan and other marks behind it, each text once."""
     block = [chr(code) for code in range(0x0F00, 0x1000) if unicodedata.combining(chr(code))]
     marks = block + list("\u0301\u0334\u05b0\u3099")
-    found = (letter + "".join(more) for letter in LETTERS for count in range(4) for more in itertools.product(marks, repeat=count))
+    found = (letter + "".join(more) for letter in LETTERS for count in range(5) for more in itertools.product(marks, repeat=count))
     return sorted({unicodedata.normalize("NFD", text) for text in found}), len(marks)
 
 
 def changed_by_rows(text):
     """Whether the added rows change the key of such a text, by what docs/UNICODE.md says."""
     before, sign, behind = text.partition(SIGN)
-    return bool(sign) and (any(unicodedata.combining(mark) for mark in before) or (SIGN in behind and REVERSED in behind))
+    return bool(sign) and (any(unicodedata.combining(mark) for mark in before) or SIGN + REVERSED in behind)
 
 
 def keys(options, table, data, texts):
@@ -115,7 +115,7 @@ def tibetan(options, folder, table, data):
         pairs = zip(texts, base, keys(options, changed, data, texts), strict=True)
         other = [text for text, left, right in pairs if left != right]
         holds = other == said if changed == table else set(other) > set(said)
-        see("keys under " + name, holds, "%d of %d texts of a letter and up to 3 of %d marks have others" % (len(other), len(texts), marks))
+        see("keys under " + name, holds, "%d of %d texts of a letter and up to 4 of %d marks have others" % (len(other), len(texts), marks))
     for name, changed, expected in (("as published", options.allkeys, "< 1"), ("all rows", table, "< 1"), ("two rows alone", added, "> 1")):
         out = run([options.uca, "compare", changed, data, SHORT, LONG])[0].strip()
         see("short i beside long i, " + name, out == expected, out)
@@ -130,16 +130,26 @@ def moves(certificate):
     return ["level %s: %d from %s to %s" % (level, int(count, 16), first, to) for level, first, to, count in runs if first != to]
 
 
+def is_accented(letter):
+    """Whether this is a lower-case letter with a mark behind it in Normalization Form D."""
+    return unicodedata.category(letter) == "Ll" and any(map(unicodedata.combining, unicodedata.normalize("NFD", letter)))
+
+
 def changes(options, table, tailored, data):
     """How many rows of the base have other elements, and how many texts that are its keys have other keys."""
     base, now = rows_of(content(table)), rows_of(content(tailored))
+    changed = sum(1 for key, elements in base.items() if now[key] != elements)
+    said = ["%d rows, %d of them new; %d of the others have other weights" % (len(now), len(now) - len(base), changed)]
     texts = ["".join(chr(int(code, 16)) for code in key.split()) for key in base]
     texts = [text for text in texts if "\n" not in text]  # each is a line
-    pairs = zip(keys(options, table, data, texts), keys(options, tailored, data, texts))
-    rows = sum(1 for key, elements in base.items() if now[key] != elements)
-    other = sum(left != right for left, right in pairs)
-    numbers = (len(now), len(now) - len(base), rows, other, len(texts))
-    return "%d rows, %d of them new; %d of the others changed; %d keys of %d texts" % numbers
+    pairs = zip(texts, keys(options, table, data, texts), keys(options, tailored, data, texts), strict=True)
+    other = {text for text, left, right in pairs if left != right}
+    single = [text for text in texts if len(text) == 1]
+    upper = [text for text in single if unicodedata.category(text) == "Lu"]
+    for name, chosen in (("texts of a key", texts), ("capital letters", upper), ("lower-case letters with a mark", filter(is_accented, single))):
+        chosen = set(chosen)
+        said.append("%d keys of %d %s" % (len(chosen & other), len(chosen), name))
+    return "; ".join(said)
 
 
 def tailor(options, folder, table, data, language):
@@ -165,7 +175,8 @@ def tailor(options, folder, table, data, language):
 def main():
     parser = argparse.ArgumentParser(description=__doc__.split("\n")[0])
     parser.add_argument("--uca", default=PROGRAM, help="the program")
-    parser.add_argument("--allkeys", default=(sorted(glob.glob(PERL)) or [None])[-1], help="the table of Unicode")
+    found = [name for name in [WRITTEN, *sorted(glob.glob(PERL))] if os.path.exists(name)]
+    parser.add_argument("--allkeys", default=(found or [None])[0], help="the table of Unicode")
     parser.add_argument("--keep", help="the folder to make the files in")
     options = parser.parse_args()
     if not options.allkeys:
