@@ -28,6 +28,7 @@ ROWS, LINES, RELATIONS, LINE_BYTES = 200000, 1000000, 5000, 4096
 POINTS = 1048576  # code points of one text, and bytes of rules
 WORD_BYTES = 131071  # of one word of the command line, without its end
 FAR = 0x40000  # code points from here on stand for themselves in Normalization Form D, and are in no Han range
+TARGETS = 0x80000  # behind all code points of keys but marks
 MARKS = 0x90000  # those from here on get classes by data files below
 HEAD, DATA = "@version 1\n", "@data 1\n"
 OUT_OF_ORDER = "\u0345\u0315\u0301\u0323"  # of classes 240, 232, 230 and 220
@@ -214,23 +215,32 @@ def split(made):
             yield from ("%s %04X %04X 0001\n" % (level, int(first, 16) + n, int(to, 16) + n) for n in range(int(count, 16)))
 
 
+def planned(folder, level, sign, long, name):
+    """A base of letters and long keys, with as many weights as leave room for the targets; and each weight a run of the certificate."""
+    bound, letters = "200,000 rows, 5,000 relations, all weights of the three levels", 16384
+    room = [0x7FFF, 0xFFFF, 0xFFFF]
+    room[level - 1] -= RELATIONS
+    weights = in_turn(*room)
+    single = [([FAR + n], element(1 + n)) for n in range(letters)]
+    folder.table(single + [(long(n), of_row(n, weights)) for n in range(letters, ROWS - RELATIONS)])
+    anchors = ["".join(chr(FAR + (n + place) % letters) for place in range(1, 17)) for n in range(RELATIONS)]
+    texts = ((anchor, sign, chr(TARGETS) * 15 + chr(TARGETS + n), anchor) for n, anchor in enumerate(anchors))
+    folder.write("rules", ("&%s%s%s/%s" % text for text in texts))
+    yield Run(name, bound, "tailor table data rules made")
+    shutil.move(folder.name("out"), folder.name("tailored"))
+    folder.write("certificate", split(folder.name("made")))
+    yield Run("the same, each run of one weight", bound + ", each a run", "audit table data rules tailored certificate")
+
+
 def tailorings(folder):
-    """Lists of weights that the new ones fill, and each weight a run of the certificate."""
+    """Lists of weights that the new ones fill. In the last pair condition 5 also looks for the front of each of 178,615 keys."""
     folder.write("data", DATA)
-    letters, bound = 16384, "200,000 rows, 5,000 relations, all weights of the three levels"
     for level, sign in ((1, "<"), (2, "<<"), (3, "<<<")):
-        room = [0x7FFF, 0xFFFF, 0xFFFF]
-        room[level - 1] -= RELATIONS
-        weights = in_turn(*room)
-        single, long = [([FAR + n], element(1 + n)) for n in range(letters)], range(letters, ROWS - RELATIONS)
-        folder.table(single + [([FAR] * 15 + [FAR + n], of_row(n, weights)) for n in long])
-        anchors = ["".join(chr(FAR + (n + place) % letters) for place in range(1, 17)) for n in range(RELATIONS)]
-        texts = ((anchor, sign, chr(MARKS) * 15 + chr(MARKS + n), anchor) for n, anchor in enumerate(anchors))
-        folder.write("rules", ("&%s%s%s/%s" % text for text in texts))
-        yield Run("texts of 16 code points, level %d" % level, bound, "tailor table data rules made")
-        shutil.move(folder.name("out"), folder.name("tailored"))
-        folder.write("certificate", split(folder.name("made")))
-        yield Run("the same, each run of one weight", bound + ", each a run", "audit table data rules tailored certificate")
+        yield from planned(folder, level, sign, lambda n: [FAR] * 15 + [FAR + n], "texts of 16 code points, level %d" % level)
+    folder.write("data", DATA + "ccc %X..10FFFF 230\n" % MARKS)
+    last = ROWS - RELATIONS - 1
+    fronted = lambda n: [FAR] * 15 + [MARKS + n] * (n < last)
+    yield from planned(folder, 2, "<<", fronted, "texts of 16 code points, level 2, and 178,615 keys with one front, in the base's last row")
 
 
 def far_weights(folder):

@@ -5,16 +5,19 @@
     tools/unicode_files.py table ALLKEYS > table.txt
 
 `data` prints a data file: combining classes and Han ranges, by Python's `unicodedata`. `table` prints a weight table: the
-file ALLKEYS, an `allkeys.txt` as Unicode publishes it, with rows added where it is not well-formed (UTS #10, section 9.2,
-condition 5) for want of two keys. docs/UNICODE.md says more.
+file ALLKEYS, an `allkeys.txt` as Unicode publishes it, with rows added behind its own. Where it is not well-formed (UTS #10,
+section 9.2, condition 5) for want of two keys, the rows of these are added, and four more that keep what the file says of the
+signs behind them. docs/UNICODE.md says more.
 """
+import itertools
 import sys
 import unicodedata
 
 # Unified ideographs that stand in the block of compatibility ideographs: core Han too (UTS #10, section 10.1.3).
 COMPATIBLE = {0xFA0E, 0xFA0F, 0xFA11, 0xFA13, 0xFA14, 0xFA1F, 0xFA21, 0xFA23, 0xFA24, 0xFA27, 0xFA28, 0xFA29}
 
-# The two beginnings of Tibetan vowel signs that lack a row: the letter, and the sign U+0F71 behind it.
+# The two beginnings of Tibetan vowel signs that lack a row: the letter, and the sign U+0F71 behind it. The vowels that are
+# one sign with U+0F71 before them stay so behind these letters.
 LETTERS, SIGN = ("0FB2", "0FB3"), "0F71"
 
 
@@ -51,19 +54,30 @@ def print_data():
         print(f"{kind} {first:04X}..{last:04X}")
 
 
-def print_table(name):
+def rows_of(lines):
+    """The elements of each key, as texts."""
     rows = {}
-    with open(name, encoding="utf-8") as file:
-        lines = file.read().splitlines()
     for line in lines:
         key, sign, elements = line.split("#")[0].partition(";")
         if sign and not key.startswith("@"):
             rows[key.strip()] = elements.strip()
-    print("\n".join(lines))
+    return rows
+
+
+def missing(rows):
+    """The rows that are missing: a letter and the sign, and these with each vowel that follows the sign in a key."""
+    signs = [SIGN] + [key for key in rows if key.startswith(SIGN + " ")]
     for letter in LETTERS:
-        key = f"{letter} {SIGN}"
-        if key not in rows and f"{key} 0F80" in rows:
-            print(f"{key} ; {rows[letter]}{rows[SIGN]}")
+        if "%s %s" % (letter, SIGN) not in rows and "%s %s 0F80" % (letter, SIGN) in rows:
+            for key in signs:
+                if "%s %s" % (letter, key) not in rows:
+                    yield "%s %s ; %s%s" % (letter, key, rows[letter], rows[key])
+
+
+def print_table(name):
+    with open(name, encoding="utf-8") as file:
+        lines = file.read().splitlines()
+    print("\n".join(itertools.chain(lines, missing(rows_of(lines)))))
 
 
 def main(words):

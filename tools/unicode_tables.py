@@ -5,20 +5,29 @@
     tools/unicode_tables.py              # from the top of the repository
 
 It needs an `allkeys.txt`, which Debian has in the package perl-modules (Unicode::Collate); without one it says so and ends
-with status 2. It makes a data file and a table from it, checks the table, tailors it by each alphabet of examples/, audits
-what came of that, and sorts words of that language, which stand in their order in examples/. `--keep FOLDER` keeps the files.
+with status 2. It runs the commands of docs/UNICODE.md as they stand there, and then, step by step: it checks the table as it
+is published, with the rows that tools/unicode_files.py adds, and with two of these alone; counts the Tibetan texts whose keys
+these rows change; tailors the table by each alphabet of examples/, audits what came of that, says which weights moved and how
+many keys changed, and sorts words of that language, which stand in their order in examples/. `--keep FOLDER` keeps the files.
 """
 
 import argparse
 import glob
+import itertools
 import os
 import subprocess
 import sys
 import tempfile
 import time
+import unicodedata
 
+DOCUMENT, PROGRAM = "docs/UNICODE.md", "crates/uca/out/uca"
 LANGUAGES = ("danish", "spanish", "swedish")
 PERL = "/usr/share/perl/*/Unicode/Collate/allkeys.txt"
+WRITTEN = "/usr/share/perl/5.36.0/Unicode/Collate/allkeys.txt"  # as the recipe has it
+LETTERS, SIGN, REVERSED = "\u0fb2\u0fb3", "\u0f71", "\u0f80"
+# Short i and long ī behind the letters shr: they differ in U+0F71 alone.
+SHORT, LONG = "\u0f64\u0fb2\u0f72", "\u0f64\u0fb2\u0f71\u0f72"
 FAILED = []
 
 
@@ -29,10 +38,10 @@ def see(what, holds, said):
         FAILED.append(what)
 
 
-def run(words, lines=b"", out=None):
+def run(words, lines=b"", out=None, folder=None):
     """The output of a command as a text, its complaint, and its seconds; the output goes to a file where one is named."""
     start = time.perf_counter()
-    done = subprocess.run(words, input=lines, stdout=subprocess.PIPE, stderr=subprocess.PIPE, check=False)
+    done = subprocess.run(words, input=lines, stdout=subprocess.PIPE, stderr=subprocess.PIPE, check=False, cwd=folder)
     seconds = time.perf_counter() - start
     if out:
         with open(out, "wb") as file:
@@ -40,35 +49,134 @@ def run(words, lines=b"", out=None):
     return done.stdout.decode(), done.stderr.decode().strip(), seconds
 
 
-def moved(certificate):
-    """How many of a certificate's runs move their weights."""
-    with open(certificate, encoding="ascii") as file:
-        return sum(1 for line in file if line.split()[1] != line.split()[2])
+def content(name):
+    with open(name, encoding="utf-8") as file:
+        return file.read()
 
 
-def tailor(uca, folder, table, data, language):
+def rows_of(text):
+    """The elements of each key of a table, as texts without blanks."""
+    split = (line.split("#")[0].partition(";") for line in text.split("\n") if not line.startswith("@"))
+    return {" ".join(key.split()): elements.strip() for key, sign, elements in split if sign}
+
+
+# ---- The recipe as it stands
+
+
+def recipe(options, folder):
+    """The first block of commands behind the head "The way", in a folder of its own that sees the repository."""
+    commands = content(DOCUMENT).split("\n## The way\n")[1].split("\n```\n")[1]
+    for written, given in ((PROGRAM, options.uca), (WRITTEN, options.allkeys)):
+        if given != written:
+            commands = commands.replace(written, os.path.abspath(given))
+    folder = os.path.join(folder, "recipe")
+    os.mkdir(folder)
+    for name in ("crates", "examples", "tools"):
+        os.symlink(os.path.abspath(name), os.path.join(folder, name))
+    out, said, seconds = run(["sh", "-e", "-c", commands], folder=folder)
+    holds = out == "well-formed\naccepted\n" + content("examples/words_danish.txt") and not said
+    see("the commands of " + DOCUMENT, holds, said or "%s and %d more lines in %.1f s" % (", ".join(out.split("\n")[:2]), out.count("\n") - 2, seconds))
+
+
+# ---- Tibetan texts
+
+
+def tibetan_texts():
+    """Each of the two letters with up to four Tibetan and other marks behind it, each text once."""
+    block = [chr(code) for code in range(0x0F00, 0x1000) if unicodedata.combining(chr(code))]
+    marks = block + list("\u0301\u0334\u05b0\u3099")
+    found = (letter + "".join(more) for letter in LETTERS for count in range(5) for more in itertools.product(marks, repeat=count))
+    return sorted({unicodedata.normalize("NFD", text) for text in found}), len(marks)
+
+
+def changed_by_rows(text):
+    """Whether the added rows change the key of such a text, by what docs/UNICODE.md says."""
+    before, sign, behind = text.partition(SIGN)
+    return bool(sign) and (any(unicodedata.combining(mark) for mark in before) or SIGN + REVERSED in behind)
+
+
+def keys(options, table, data, texts):
+    return run([options.uca, "keys", table, data], "".join(text + "\n" for text in texts).encode())[0].splitlines()
+
+
+def tibetan(options, folder, table, data):
+    """Which keys change where rows are added to the published table: all of them, and two alone."""
+    published, added = content(options.allkeys), os.path.join(folder, "two_rows.txt")
+    more = content(table)[len(published) :].splitlines(True)
+    see("rows added", len(more) == 6 and content(table).startswith(published), "%d behind those of the file" % len(more))
+    two = [row for row in more if len(row.split(";")[0].split()) == 2]
+    with open(added, "w", encoding="utf-8") as file:
+        file.writelines([published, *two])
+    out, said, _ = run([options.uca, "check", added, data])
+    see("check with two rows alone", len(two) == 2 and out == "well-formed\n", out.strip() or said)
+    texts, marks = tibetan_texts()
+    base, said = keys(options, options.allkeys, data, texts), list(filter(changed_by_rows, texts))
+    for name, changed in (("all rows", table), ("two rows alone", added)):
+        pairs = zip(texts, base, keys(options, changed, data, texts), strict=True)
+        other = [text for text, left, right in pairs if left != right]
+        holds = other == said if changed == table else set(other) > set(said)
+        see("keys under " + name, holds, "%d of %d texts of a letter and up to 4 of %d marks have others" % (len(other), len(texts), marks))
+    for name, changed, expected in (("as published", options.allkeys, "< 1"), ("all rows", table, "< 1"), ("two rows alone", added, "> 1")):
+        out = run([options.uca, "compare", changed, data, SHORT, LONG])[0].strip()
+        see("short i beside long i, " + name, out == expected, out)
+
+
+# ---- Tailorings
+
+
+def moves(certificate):
+    """A certificate's runs that move their weights, in words."""
+    runs = [line.split() for line in content(certificate).splitlines()]
+    return ["level %s: %d from %s to %s" % (level, int(count, 16), first, to) for level, first, to, count in runs if first != to]
+
+
+def is_accented(letter):
+    """Whether this is a lower-case letter with a mark behind it in Normalization Form D."""
+    return unicodedata.category(letter) == "Ll" and any(map(unicodedata.combining, unicodedata.normalize("NFD", letter)))
+
+
+def changes(options, table, tailored, data):
+    """How many rows of the base have other elements, and how many texts that are its keys have other keys."""
+    base, now = rows_of(content(table)), rows_of(content(tailored))
+    changed = sum(1 for key, elements in base.items() if now[key] != elements)
+    said = ["%d rows, %d of them new; %d of the others have other weights" % (len(now), len(now) - len(base), changed)]
+    texts = ["".join(chr(int(code, 16)) for code in key.split()) for key in base]
+    texts = [text for text in texts if "\n" not in text]  # each is a line
+    pairs = zip(texts, keys(options, table, data, texts), keys(options, tailored, data, texts), strict=True)
+    other = {text for text, left, right in pairs if left != right}
+    single = [text for text in texts if len(text) == 1]
+    upper = [text for text in single if unicodedata.category(text) == "Lu"]
+    for name, chosen in (("texts of a key", texts), ("capital letters", upper), ("lower-case letters with a mark", filter(is_accented, single))):
+        chosen = set(chosen)
+        said.append("%d keys of %d %s" % (len(chosen & other), len(chosen), name))
+    return "; ".join(said)
+
+
+def tailor(options, folder, table, data, language):
     """Tailors the table by the alphabet of a language, audits it, and sorts words by it."""
     rules = "examples/rules_%s.txt" % language
     certificate = os.path.join(folder, "certificate_%s.txt" % language)
     tailored = os.path.join(folder, "tailored_%s.txt" % language)
-    out, said, seconds = run([uca, "tailor", table, data, rules, certificate], out=tailored)
-    see("tailor " + language, bool(out) and not said, said or "%d lines in %.2f s" % (out.count("\n"), seconds))
+    out, said, seconds = run([options.uca, "tailor", table, data, rules, certificate], out=tailored)
+    see("tailor " + language, bool(out) and not said, said or "%.2f s" % seconds)
     if said:
         return
-    out, said, seconds = run([uca, "audit", table, data, rules, tailored, certificate])
+    out, said, seconds = run([options.uca, "audit", table, data, rules, tailored, certificate])
     see("audit " + language, out == "accepted\n", "%s in %.2f s" % (out.strip() or said, seconds))
-    see("certificate " + language, True, "%d runs move weights" % moved(certificate))
-    with open("examples/words_%s.txt" % language, encoding="utf-8") as file:
-        words = file.read()
+    moved = moves(certificate)
+    see("moved " + language, not any(run.startswith("level 1") for run in moved), "; ".join(moved))
+    see("changed " + language, True, changes(options, table, tailored, data))
+    words = content("examples/words_%s.txt" % language)
     turned = "".join(sorted(words.splitlines(True), reverse=True)).encode()
-    see("sort " + language, run([uca, "sort", tailored, data], turned)[0] == words, "as in examples/words_%s.txt" % language)
-    see("untailored " + language, run([uca, "sort", table, data], turned)[0] != words, "another order")
+    see("sort " + language, run([options.uca, "sort", tailored, data], turned)[0] == words, "as in examples/words_%s.txt" % language)
+    see("untailored " + language, run([options.uca, "sort", table, data], turned)[0] != words, "another order")
 
 
 def main():
     parser = argparse.ArgumentParser(description=__doc__.split("\n")[0])
-    parser.add_argument("--uca", default="crates/uca/out/uca", help="the program")
-    parser.add_argument("--allkeys", default=(sorted(glob.glob(PERL)) or [None])[-1], help="the table of Unicode")
+    parser.add_argument("--uca", default=PROGRAM, help="the program")
+    found = [name for name in [WRITTEN, *sorted(glob.glob(PERL))] if os.path.exists(name)]
+    parser.add_argument("--allkeys", default=(found or [None])[0], help="the table of Unicode")
     parser.add_argument("--keep", help="the folder to make the files in")
     options = parser.parse_args()
     if not options.allkeys:
@@ -76,15 +184,17 @@ def main():
         sys.exit(2)
     with tempfile.TemporaryDirectory() as temporary:
         folder = options.keep or temporary
+        recipe(options, folder)
         data, table = os.path.join(folder, "data.txt"), os.path.join(folder, "table.txt")
         run([sys.executable, "tools/unicode_files.py", "data"], out=data)
         run([sys.executable, "tools/unicode_files.py", "table", options.allkeys], out=table)
         out, said, _ = run([options.uca, "check", options.allkeys, data])
         see("check " + options.allkeys, out.startswith("WF5 row "), out.strip() or said)
         out, said, seconds = run([options.uca, "check", table, data])
-        see("check with two rows more", out == "well-formed\n", "%s in %.2f s" % (out.strip() or said, seconds))
+        see("check with all rows", out == "well-formed\n", "%s in %.2f s" % (out.strip() or said, seconds))
+        tibetan(options, folder, table, data)
         for language in LANGUAGES:
-            tailor(options.uca, folder, table, data, language)
+            tailor(options, folder, table, data, language)
     print("as the recipe says" if not FAILED else "not so: " + ", ".join(FAILED))
     sys.exit(1 if FAILED else 0)
 
