@@ -7,7 +7,11 @@
 
 The files of examples/ are changed one at a time: at each place one byte is dropped, doubled, or changed to each of some others;
 then come `--random` times random bytes, or random changes of several places. Each run has to end by itself, with nothing on standard
-error, or with status 1 and one line that names a place in the file that was changed, and nothing on standard output.
+error, or with status 1 and one line that names a place in the file that was changed, with a kind of fault that such a file may have, and
+nothing on standard output but the keys of the lines before. No other file may be named: the base, the tailored table, the certificate and the
+input are read by themselves, and of the data file rules and texts take only the classes, which can make a text of more than 64 code points faulty
+and no shorter one, so that neither the rules nor the lines of examples/ become faulty by it. What is said of a table, a tailoring or a plan names
+a row or a relation that is there, where such a refusal has one.
 
 Then come `--words` command lines: words of a right line that are dropped, doubled, changed, moved or put in, also names of other files, of
 files that are not there, of a folder, and words that are no UTF-8. Each has to end with a status of docs/FORMATS.md and what goes with it.
@@ -66,6 +70,29 @@ PLACED = "(%s|input) (line|byte) [0-9]+: %s\n" % (ROLES, KINDS)
 REFUSED = re.compile("%s|tailor( relation [0-9]+)?: %s\n|(left|right): %s\n" % (PLACED, KINDS, KINDS))
 NOT_OPENED = re.compile("(%s): (Open|Read|Write)\n|(%s|input) line [0-9]+: Read\n|output: Write\n" % (ROLES, ROLES))
 
+# What is wrong in a file: the kinds of faults, by the name of the file.
+TABLE_FAULTS = "Line|Order|CodePoint|Weight|Range|DuplicateKey|Limit"
+FAULTS = {
+    "table.txt": TABLE_FAULTS,
+    "tailored.txt": TABLE_FAULTS,
+    "data.txt": "Line|Order|CodePoint|Weight|Range|Limit",
+    "rules.txt": "Limit|Utf8|EmptyText|Syntax|Escape|BeforeStrength|DuplicateTarget|LateTarget",
+    "certificate.txt": "Line|Order|Limit|Map (Empty|OutOfRange|NotRising|Fixed)",
+    "lines.txt": "TooLong|Utf8|LongRun at [0-9]+",
+}
+
+# Faults that are told at the line behind the last one.
+LATE_FAULTS = {"table.txt": "Order", "tailored.txt": "Order", "data.txt": "Order", "certificate.txt": "Map Fixed"}
+
+# Refusals of a plan, and whether they name a relation; the conditions of an audit, and what they name.
+PLANS = {"BaseIllFormed": False, "Anchor": True, "NeedsPrefix": True, "Limit": True, "ImplicitVariable": True, "NoRoom 1": False, "NoRoom 2": False, "NoRoom 3": False}
+BASE_ROW, TAILORED_ROW, RELATION = "base row", "tailored row", "relation"
+CONDITIONS = (
+    ("BaseIllFormed", (BASE_ROW,)), ("TailoredIllFormed", (TAILORED_ROW,)), ("Header", ("",)), ("Uncovered", (BASE_ROW,)), ("RowChanged", (BASE_ROW,)),
+    ("RowMissing", (BASE_ROW, RELATION)), ("RowExtra", (TAILORED_ROW,)), ("Anchor", (RELATION,)), ("NotPlaced", (RELATION,)), ("NotFresh", (RELATION,)),
+    ("NotNearest", (RELATION,)),
+)
+
 
 def changes(content, places):
     """The content with one byte less, one doubled, or one changed, at each of some places; behind the last, one byte more."""
@@ -122,26 +149,80 @@ def is_utf8(word):
     return True
 
 
-def file_complaint(name, content, words, done):
-    """Why a run over a changed file may not end so, or None."""
+def row_count(table):
+    """How many rows an accepted table has."""
+    contents = (line.split(b"#", 1)[0].strip(b" \t") for line in table.split(b"\n"))
+    return sum(1 for content in contents if content and not content.startswith(b"@"))
+
+
+def relation_count(rules):
+    """How many relations accepted rules have, at most: a relation for each sign, where none is starred."""
+    return 5000 if b"*" in rules else len(re.findall(b"<+|=", rules))
+
+
+def line_count(content):
+    """How many lines there are, also one that no LF ends."""
+    return content.count(b"\n") + (not content.endswith(b"\n") and content != b"")
+
+
+def fault_complaint(name, contents, words, done):
+    """Why a run over a changed file may not end with this line on standard error, or None."""
     said = done.stderr.decode("utf-8", "replace")
-    verdict = words[0] in ("check", "audit") and done.returncode == 1 and not said
-    if (done.returncode == 0 and not said) or verdict:
-        return None
     if done.returncode != 1 or not said.endswith("\n") or said.count("\n") != 1:
         return "status %d: %r" % (done.returncode, said)
-    if done.stdout and words[0] != "keys":
-        return "something on standard output"
-    role = {"lines.txt": "input"}.get(name, name[:-4])
-    roles = {role, "base"} if words[0] == "audit" else {role}
-    found = re.fullmatch("([a-z]+) (line|byte) ([0-9]+): %s\n" % KINDS, said)
+    plan = re.fullmatch("tailor( relation ([0-9]+))?: (%s)\n" % "|".join(PLANS), said)
+    if words[0] == "tailor" and plan:
+        goes = bool(plan.group(1)) == PLANS[plan.group(3)] and (not plan.group(1) or 1 <= int(plan.group(2)) <= relation_count(contents["rules.txt"]))
+        goes = goes and not done.stdout
+        return None if goes else "no such relation, or something on standard output: %r" % said
+    content = contents[name]
+    role = "base" if words[0] == "audit" and name == "table.txt" else {"lines.txt": "input"}.get(name, name[:-4])
+    found = re.fullmatch("%s %s ([0-9]+): (%s)\n" % (role, "byte" if name == "rules.txt" else "line", FAULTS[name]), said)
     if not found:
-        return None if re.fullmatch("tailor( relation [0-9]+)?: %s\n" % KINDS, said) else "another line: %r" % said
-    # Another file may be to blame where it goes by the one that was changed: rules by the classes of the data file.
-    most = content.count(b"\n") + 2 if found.group(2) == "line" else len(content)
-    if found.group(1) in roles and int(found.group(3)) > most:
+        return "another file, or another kind of fault: %r" % said
+    place, kind = int(found.group(1)), found.group(2)
+    if name == "rules.txt":
+        is_there = place <= len(content)
+    else:
+        is_late = place == content.count(b"\n") + 1 and kind == LATE_FAULTS.get(name)
+        is_there = 1 <= place <= line_count(content) or is_late
+    if not is_there:
         return "a place that is not there: %r" % said
+    if done.stdout.count(b"\n") != (place - 1 if words[0] == "keys" and name == "lines.txt" else 0):
+        return "%r on standard output, and %r" % (done.stdout, said)
     return None
+
+
+def verdict_complaint(contents, words, done):
+    """Why a run may not end so with nothing on standard error, or None."""
+    said = done.stdout.decode("utf-8", "replace")
+    if words[0] == "check":
+        found = re.fullmatch("WF[1-5] row ([0-9]+)\n", said)
+        goes = said == "well-formed\n" if done.returncode == 0 else found and 1 <= int(found.group(1)) <= row_count(contents["table.txt"])
+    elif words[0] == "audit" and done.returncode == 1:
+        most = {"base row": row_count(contents["table.txt"]), "tailored row": row_count(contents["tailored.txt"]), "relation": relation_count(contents["rules.txt"])}
+        found = re.fullmatch("refused ([0-9]+) ([A-Za-z]+)( (base row|tailored row|relation) ([0-9]+))?\n", said)
+        goes = found and 1 <= int(found.group(1)) <= len(CONDITIONS)
+        if goes:
+            condition, places = CONDITIONS[int(found.group(1)) - 1]
+            place = found.group(4) or ""
+            goes = found.group(2) == condition and place in places and (not place or 1 <= int(found.group(5)) <= most[place])
+    elif words[0] == "audit":
+        goes = said == "accepted\n"
+    elif words[0] == "keys":
+        goes = done.stdout.count(b"\n") == line_count(contents["lines.txt"])
+    elif words[0] == "sort":
+        lines = contents["lines.txt"].split(b"\n")
+        goes = sorted(done.stdout.split(b"\n")[:-1]) == sorted(lines[:-1] if lines[-1] == b"" else lines)
+    else:
+        goes = row_count(done.stdout) >= row_count(contents["table.txt"])
+    may_end = done.returncode == 0 or (done.returncode == 1 and words[0] in ("check", "audit"))
+    return None if may_end and goes else "status %d, nothing on standard error, and %r" % (done.returncode, done.stdout)
+
+
+def file_complaint(name, contents, words, done):
+    """Why a run over these files, of which one was changed, may not end so, or None."""
+    return fault_complaint(name, contents, words, done) if done.stderr else verdict_complaint(contents, words, done)
 
 
 def word_complaint(words, done):
@@ -190,10 +271,11 @@ class Folder:
         count, found = 0, []
         for content in contents:
             self.write(name, content)
+            now = {**self.contents, name: content}
             for words in RUNS[name]:
                 count += 1
                 done = self.run(words)
-                said = "no end after %d seconds" % SECONDS if done is None else file_complaint(name, content, words, done)
+                said = "no end after %d seconds" % SECONDS if done is None else file_complaint(name, now, words, done)
                 if said:
                     found.append("%s of %s: %s\n    %r" % (" ".join(words), name, said, content))
         self.write(name, self.contents[name])
