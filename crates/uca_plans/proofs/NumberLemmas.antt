@@ -1,13 +1,14 @@
--- The numbers of a segment: one pass gives the closed form, and they are proper.
-use Rattle.std.proofs.Common.{◌≡◌, inl, inr, ℕ, zero, suc, ◌+◌, ◌-◌, ◌<◌, ◌≤◌, List, [], ◌∷◌, ◌++◌, length, take, drop, min, get_or, refl, sym, ap}
+-- The numbers of a segment are proper, and one pass gives them.
+use Rattle.std.proofs.Common.{◌≡◌, inl, inr, ℕ, suc, ◌+◌, ◌-◌, ◌<◌, ◌≤◌, List, [], ◌∷◌, ◌++◌, length, take, drop, map, min, refl, sym, ap, ap₂}
 use Rattle.std.proofs.Common.{◌∙◌, arith, append_assoc}
+use Rattle.std.specs.List.{range_with_len}
 use Rattle.std.proofs.lemmas.List.{length-append, take_at, take-append-drop, length-take-le, length-drop, take-take}
 use Rattle.std.proofs.lemmas.Bool.{cases_lt}
 use Rattle.uca_plans.specs.declared.drafts.DraftWeight.{DraftWeight}
 use Rattle.uca_plans.specs.declared.drafts.DraftWeight.TheVariants.{Base, New}
 use Rattle.uca_plans.specs.declared.drafts.Segment.{Segment}
-use Rattle.uca_plans.specs.Numbering.{pushed_up, reached, number, one_further, numbers_from, InOnePass, IsBaseAt, HasRoomAt, HasPlaces}
-use Rattle.uca_plans.specs.Numbering.{NumbersAreProper}
+use Rattle.uca_plans.specs.Numbering.{pushed_up, reached, number, numbers_of, IsBaseAt, HasRoomAt, HasPlaces, NumbersAreProper}
+use Rattle.uca_plans.specs.OnePass.{one_further, numbers_from}
 
 -- ---- One member more
 
@@ -83,27 +84,30 @@ number_here segment before m behind =
     let left : length (before ++ m ∷ behind) - (length before + 1) ≡ length behind = omega arith in
     rw (place, left)
 
--- the pass goes on from what was reached
-pub number_in_pass : (segment : Segment) (before behind : List DraftWeight) (i : ℕ) → i < length behind
-    → get_or (numbers_from segment.top (reached segment before) behind) i 0 ≡ number segment (before ++ behind) (length before + suc i)
-number_in_pass segment before [] i within = absurd (omega arith)
-number_in_pass segment before (m ∷ behind) zero within =
-    let first : length before + 1 ≡ length before + suc zero = omega arith in
-    sym (number_here segment before m behind)
-number_in_pass segment before (m ∷ behind) (suc i) within =
-    let more = reached_more segment before m in
-    let later = number_in_pass segment (before ++ m ∷ []) behind i (omega arith) in
-    let same : (before ++ m ∷ []) ++ behind ≡ before ++ m ∷ behind = append_assoc before (m ∷ []) behind in
-    let place : length (before ++ m ∷ []) + suc i ≡ length before + suc (suc i) = omega (arith, length-append before (m ∷ [])) in
-    rw (← more, ← same, ← place) later
+-- ---- In one pass
 
--- one pass gives the number of each member
-pub in_one_pass : (segment : Segment) (members : List DraftWeight) → InOnePass segment members
-in_one_pass segment members i within =
-    let pass = number_in_pass segment [] members i within in
+-- the pass goes on from what was reached
+pass_behind : (segment : Segment) (before behind : List DraftWeight)
+    → map (number segment (before ++ behind)) (range_with_len (length before + 1) (length behind)) ≡ numbers_from segment.top (reached segment before) behind
+pass_behind segment before [] = refl
+pass_behind segment before (m ∷ behind) =
+    let all = before ++ m ∷ behind in
+    let here = number_here segment before m behind in
+    let later = pass_behind segment (before ++ m ∷ []) behind in
+    let same : (before ++ m ∷ []) ++ behind ≡ all = append_assoc before (m ∷ []) behind in
+    let place : length (before ++ m ∷ []) + 1 ≡ (length before + 1) + 1 = omega (arith, length-append before (m ∷ [])) in
+    let rest : map (number segment all) (range_with_len ((length before + 1) + 1) (length behind)) ≡ numbers_from segment.top (one_further m (reached segment before)) behind =
+    ap (λ xs. map (number segment xs) (range_with_len ((length before + 1) + 1) (length behind))) (sym same)
+    ∙ ap (λ i. map (number segment ((before ++ m ∷ []) ++ behind)) (range_with_len i (length behind))) (sym place)
+    ∙ later
+    ∙ ap (λ reach. numbers_from segment.top reach behind) (reached_more segment before m) in
+    ap₂ (λ (n : ℕ) (ns : List ℕ). n ∷ ns) here rest
+
+-- one pass gives all numbers
+pub numbers_in_one_pass : (segment : Segment) (members : List DraftWeight) → numbers_of segment members ≡ numbers_from segment.top segment.below members
+numbers_in_one_pass segment members =
     let start : segment.below + 0 ≡ segment.below = omega arith in
-    let place : 0 + suc i ≡ i + 1 = omega arith in
-    rw (start, place) at pass
+    pass_behind segment [] members ∙ ap (λ reach. numbers_from segment.top reach members) start
 
 -- ---- The order of numbers
 
@@ -157,19 +161,22 @@ number_kept segment members i weight at room =
     rw (at.2, at.3) (kept_here segment at.0 at.1 weight here)
 
 -- a number stands above the segment's beginning
-number_above : (segment : Segment) (members : List DraftWeight) → HasPlaces segment members → (i : ℕ) → 1 ≤ i → i ≤ length members
+pub number_above : (segment : Segment) (members : List DraftWeight) → HasPlaces segment members → (i : ℕ) → 1 ≤ i → i ≤ length members
     → segment.below < number segment members i
 number_above segment members places i first within =
     let least = pushed_least (segment.below + length (take i members)) (take i members) in
     let long = length-take-le i members within in
     omega arith
 
+-- and not above its end
+pub number_within : (segment : Segment) (members : List DraftWeight) (i : ℕ) → number segment members i ≤ segment.top
+number_within segment members i = omega arith
+
 -- numbers are proper
 pub proper_numbers : NumbersAreProper
 proper_numbers segment members places = record {
-  one_pass = in_one_pass segment members;
   above = number_above segment members places;
-  within = λ i _. omega arith;
+  within = λ i _. number_within segment members i;
   rising = number_order segment members places;
   between = λ i m j i_within m_within j_within first second.
       (less_number segment members places i m i_within m_within first, less_number segment members places m j m_within j_within second);

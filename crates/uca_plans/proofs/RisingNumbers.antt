@@ -1,62 +1,55 @@
 -- The numbers of a level with room rise along its list.
-use Rattle.std.proofs.Common.{◌≡◌, inl, inr, ℕ, suc, ◌+◌, ◌-◌, ◌<◌, ◌≤◌, Bool, true, false, ◌&&◌, List, [], ◌∷◌, ◌++◌, length, min, refl, sym, ap}
+use Rattle.std.proofs.Common.{◌≡◌, inl, inr, ℕ, zero, suc, ◌+◌, ◌-◌, ◌<◌, ◌≤◌, Bool, true, false, ◌&&◌, List, [], ◌∷◌, ◌++◌, length, map, refl, sym, ap}
 use Rattle.std.proofs.Common.{arith}
 use Rattle.std.proofs.lemmas.Bool.Decides.{nat_tests}
 use Rattle.std.proofs.lemmas.List.{length-append}
-use Rattle.std.specs.List.{AllByRecursion}
+use Rattle.std.proofs.lemmas.List.FromFn.{length-map-range_with_len}
+use Rattle.std.specs.List.{AllByRecursion, range_with_len}
 use Rattle.uca_weights.specs.declared.Level.{Level}
 use Rattle.uca_weights.specs.declared.Level.TheVariants.{One, Two, Three}
 use Rattle.uca_check.proofs.Elements.{each_weaker}
 use Rattle.uca_plans.specs.declared.drafts.DraftWeight.{DraftWeight}
-use Rattle.uca_plans.specs.declared.drafts.DraftWeight.TheVariants.{Base, New}
+use Rattle.uca_plans.specs.declared.drafts.DraftWeight.TheVariants.{Base}
 use Rattle.uca_plans.specs.declared.drafts.Segment.{Segment}
-use Rattle.uca_plans.specs.Numbering.{one_further, numbers_from, numbers_of}
+use Rattle.uca_plans.specs.Numbering.{number, numbers_of, HasPlaces}
 use Rattle.uca_plans.specs.Lists.{fixed_weight, top_weight, low_segment, high_segment, before_weight, low_members, high_members, has_room}
 use Rattle.uca_plans.specs.Lists.{level_has_room, level_numbers, number_in}
 use Rattle.uca_plans.specs.ListLaws.{IsRising, IsAmong, StandsBefore, AreApart, NumbersRiseAlongLists}
 use Rattle.uca_plans.proofs.ListMembers.{same_or_other, same_itself, first_among, second_among, among_same, weight_split}
 use Rattle.uca_plans.proofs.InsertionLemmas.{later_among}
+use Rattle.uca_plans.proofs.NumberLemmas.{number_above, number_within, number_order}
 
 -- ---- Numbers of one segment
 
--- one place further up is above the place
-further_above : (m : DraftWeight) (place : ℕ) → place < one_further m place
-further_above (Base w) place = omega arith
-further_above (New n) place = omega arith
+-- what holds of a function's value at each of some numbers in a row holds of each of these values
+each_counted : (P : ℕ → Type 0) (f : ℕ → ℕ) (from n : ℕ) → ((i : ℕ) → from ≤ i → i < from + n → P (f i)) → AllByRecursion P (map f (range_with_len from n))
+each_counted P f from zero each = tt
+each_counted P f from (suc n) each =
+    (each from (omega arith) (omega arith), each_counted P f (from + 1) n (λ i first last. each i (omega (arith, first)) (omega (arith, last))))
 
--- numbers from a place stand above it, or above the weight that leaves them room, and not above the top
-pub numbers_above : (top place : ℕ) (ms : List DraftWeight) → length ms ≤ top
-    → AllByRecursion (λ n. (min place (top - length ms) < n) × (n ≤ top)) (numbers_from top place ms)
-numbers_above top place [] room = tt
-numbers_above top place (m ∷ ms) room =
-    let further = further_above m place in
-    let rest = numbers_above top (one_further m place) ms (omega arith) in
-    let low : min place (top - length (m ∷ ms)) < min (one_further m place) (top - length ms) = omega arith in (
-      (low, omega arith),
-      each_weaker (λ n. (min (one_further m place) (top - length ms) < n) × (n ≤ top)) (λ n. (min place (top - length (m ∷ ms)) < n) × (n ≤ top))
-          (λ n h. (omega (arith, low, h.0), h.1)) (numbers_from top (one_further m place) ms) rest,
-    )
-
--- numbers from a place rise
-pub numbers_rising : (top place : ℕ) (ms : List DraftWeight) → length ms ≤ top → IsRising (numbers_from top place ms)
-numbers_rising top place [] room = tt
-numbers_rising top place (m ∷ ms) room = (
-  each_weaker (λ n. (min (one_further m place) (top - length ms) < n) × (n ≤ top)) (λ n. min (one_further m place) (top - length ms) < n)
-      (λ n h. h.0) (numbers_from top (one_further m place) ms) (numbers_above top (one_further m place) ms (omega arith)),
-  numbers_rising top (one_further m place) ms (omega arith),
+-- where the function rises along the numbers, its values rise
+rising_counted : (f : ℕ → ℕ) (from n : ℕ) → ((i j : ℕ) → from ≤ i → i < j → j < from + n → f i < f j) → IsRising (map f (range_with_len from n))
+rising_counted f from zero rise = tt
+rising_counted f from (suc n) rise = (
+  each_counted (λ v. f from < v) f (from + 1) n (λ i first last. rise from i (omega arith) (omega (arith, first)) (omega (arith, last))),
+  rising_counted f (from + 1) n (λ i j first order last. rise i j (omega (arith, first)) order (omega (arith, last))),
 )
 
 -- there is a number for each member
-pub numbers_length : (top place : ℕ) (ms : List DraftWeight) → length (numbers_from top place ms) ≡ length ms
-numbers_length top place [] = refl
-numbers_length top place (m ∷ ms) = ap suc (numbers_length top (one_further m place) ms)
+pub numbers_length : (segment : Segment) (ms : List DraftWeight) → length (numbers_of segment ms) ≡ length ms
+numbers_length segment ms = length-map-range_with_len (number segment ms) 1 (length ms)
 
 -- in a segment with room numbers are its places
-pub segment_numbers : (segment : Segment) (ms : List DraftWeight) → segment.below + length ms ≤ segment.top
+pub segment_numbers : (segment : Segment) (ms : List DraftWeight) → HasPlaces segment ms
     → AllByRecursion (λ n. (segment.below < n) × (n ≤ segment.top)) (numbers_of segment ms)
 segment_numbers segment ms room =
-    each_weaker (λ n. (min segment.below (segment.top - length ms) < n) × (n ≤ segment.top)) (λ n. (segment.below < n) × (n ≤ segment.top))
-    (λ n h. (omega (arith, h.0), h.1)) (numbers_of segment ms) (numbers_above segment.top segment.below ms (omega arith))
+    each_counted (λ n. (segment.below < n) × (n ≤ segment.top)) (number segment ms) 1 (length ms)
+    (λ i first last. (number_above segment ms room i first (omega (arith, last)), number_within segment ms i))
+
+-- and rise
+pub numbers_rising : (segment : Segment) (ms : List DraftWeight) → HasPlaces segment ms → IsRising (numbers_of segment ms)
+numbers_rising segment ms room =
+    rising_counted (number segment ms) 1 (length ms) (λ i j first order last. number_order segment ms room i j order (omega (arith, last)))
 
 -- ---- Joined lists
 
@@ -185,12 +178,12 @@ level_rising level ms room =
     let low = room_places (low_segment level) (low_members level ms) both.0 in
     let high = room_places (high_segment level) (high_members level ms) both.1 in
     rising_joined (lows level ms) (fixed_weight level) (highs level ms)
-    (numbers_rising (low_segment level).top (low_segment level).below (low_members level ms) (omega arith))
+    (numbers_rising (low_segment level) (low_members level ms) low)
     (each_weaker (λ n. (0 < n) × (n < fixed_weight level)) (λ n. n < fixed_weight level) (λ n h. h.1)
     (lows level ms) (low_numbers level ms room))
     (each_weaker (λ n. (fixed_weight level < n) × (n ≤ top_weight level)) (λ n. fixed_weight level < n) (λ n h. h.0)
     (highs level ms) (high_numbers level ms room))
-    (numbers_rising (high_segment level).top (high_segment level).below (high_members level ms) (omega arith))
+    (numbers_rising (high_segment level) (high_members level ms) high)
 
 -- with room the numbers of a level are not above its top
 pub level_within : (level : Level) (ms : List DraftWeight) → level_has_room level ms ≡ true
@@ -207,8 +200,8 @@ level_within level ms room =
 -- a level has a number for each member
 pub level_length : (level : Level) (ms : List DraftWeight) → IsAmong ms (Base (fixed_weight level)) → length (level_numbers level ms) ≡ length ms
 level_length level ms among =
-    let low = numbers_length (low_segment level).top (low_segment level).below (low_members level ms) in
-    let high = numbers_length (high_segment level).top (high_segment level).below (high_members level ms) in
+    let low = numbers_length (low_segment level) (low_members level ms) in
+    let high = numbers_length (high_segment level) (high_members level ms) in
     let numbers = length-append (lows level ms) (fixed_weight level ∷ highs level ms) in
     let members = length-append (low_members level ms) (Base (fixed_weight level) ∷ high_members level ms) in
     let split = ap length (weight_split (Base (fixed_weight level)) ms among) in
@@ -219,7 +212,7 @@ pub level_fixed : (level : Level) (ms : List DraftWeight) → IsAmong ms (Base (
     → number_in ms (level_numbers level ms) (Base (fixed_weight level)) ≡ fixed_weight level
 level_fixed level ms among =
     number_at (Base (fixed_weight level)) ms (lows level ms) (fixed_weight level) (highs level ms)
-    among (numbers_length (low_segment level).top (low_segment level).below (low_members level ms))
+    among (numbers_length (low_segment level) (low_members level ms))
 
 -- numbers rise along the list of a level
 pub rise_along_lists : NumbersRiseAlongLists

@@ -1,4 +1,5 @@
 pub mod Numbering
+pub mod OnePass
 pub mod Lists
 pub mod ListLaws
 pub mod Drafts

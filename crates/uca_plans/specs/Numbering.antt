@@ -1,5 +1,6 @@
 -- The numbers that the members of a level's list get within a segment, and the laws of them.
-use Rattle.std.specs.Prelude.{◌≡◌, ℕ, ◌+◌, ◌-◌, ◌<◌, ◌≤◌, List, [], ◌∷◌, ◌++◌, length, take, min, max, slice_index}
+use Rattle.std.specs.Prelude.{◌≡◌, ℕ, ◌+◌, ◌-◌, ◌<◌, ◌≤◌, List, [], ◌∷◌, ◌++◌, length, take, map, min, max}
+use Rattle.std.specs.List.{range_with_len}
 use Rattle.uca_plans.specs.declared.drafts.DraftWeight.{DraftWeight}
 use Rattle.uca_plans.specs.declared.drafts.DraftWeight.TheVariants.{Base, New}
 use Rattle.uca_plans.specs.declared.drafts.Segment.{Segment}
@@ -21,27 +22,11 @@ reached segment members = pushed_up (segment.below + length members) members
 abbrev pub number : Segment → List DraftWeight → ℕ → ℕ
 number segment members i = min (reached segment (take i members)) (segment.top - (length members - i))
 
--- ---- In one pass
-
--- one place further up, or at the weight of a base member where that is higher
-abbrev pub one_further : DraftWeight → ℕ → ℕ
-one_further (Base weight) place = max weight (place + 1)
-one_further (New _) place = place + 1
-
--- the numbers of members that follow a place
-abbrev pub numbers_from : ℕ → ℕ → List DraftWeight → List ℕ
-numbers_from top place [] = []
-numbers_from top place (m ∷ behind) = min (one_further m place) (top - length behind) ∷ numbers_from top (one_further m place) behind
-
 -- the numbers of all members, in their order
 abbrev pub numbers_of : Segment → List DraftWeight → List ℕ
-numbers_of segment members = numbers_from segment.top segment.below members
+numbers_of segment members = map (number segment members) (range_with_len 1 (length members))
 
 -- ---- The laws
-
--- each number of the one pass is that of its member
-abbrev pub InOnePass : Segment → List DraftWeight → Type 0
-InOnePass segment members = (i : ℕ) → i < length members → slice_index (numbers_of segment members) i ≡ number segment members (i + 1)
 
 -- the i-th member, counted from 1, is the base weight
 abbrev pub IsBaseAt : List DraftWeight → ℕ → ℕ → Type 0
@@ -57,7 +42,6 @@ pub record HasRoomAt (segment : Segment) (members : List DraftWeight) (i weight 
 -- order of the members; no other member's number lies between those of neighbours; and a base weight keeps its number
 -- where there is room.
 pub record AreNumbers (segment : Segment) (members : List DraftWeight) : Type 0 where
-  pub one_pass : InOnePass segment members
   pub above : (i : ℕ) → 1 ≤ i → i ≤ length members → segment.below < number segment members i
   pub within : (i : ℕ) → i ≤ length members → number segment members i ≤ segment.top
   pub rising : (i j : ℕ) → i < j → j ≤ length members → number segment members i < number segment members j

@@ -161,6 +161,10 @@ pub record WorkedPlans : Type 0 where
       ≡ with_rows (
       record { key = 0x64 ∷ 0x7A ∷ []; elements = plain 0xFBC0 0x20 2 ∷ plain 0x8064 0 0 ∷ plain 0xFBC0 0x20 2 ∷ plain 0x807A 0 0 ∷ [] } ∷
       row (0x64 ∷ 0x7A ∷ 0x30C ∷ []) (plain 0x1C48 0x20 2) ∷ row (0x71 ∷ []) (plain 0x1C48 0x21 2) ∷ row (0x7A ∷ 0x30C ∷ []) (plain 0x1C61 0x20 2) ∷ [])
+  -- the same without the first chain: U+0064 U+007A is no key
+  pub lacks_implicit_prefix : planned small (behind (0x61 ∷ []) Primary (0x64 ∷ 0x7A ∷ 0x30C ∷ []) ∷
+      behind (0x64 ∷ 0x7A ∷ 0x30C ∷ []) Secondary (0x71 ∷ []) ∷ behind (0x62 ∷ []) Primary (0x7A ∷ 0x30C ∷ []) ∷ [])
+      ≡ refused 1 kinds.NeedsPrefix
   -- 31 secondary weights below 0020, and one more
   pub below_fixed : planned small (chained_before 0x63 thirty)
       ≡ Ok (record {

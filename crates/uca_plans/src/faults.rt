@@ -19,7 +19,8 @@ pub enum TailorKind {
     /// A target of three or more code points ends in a non-starter, and without it is neither a base key nor an earlier
     /// target.
     NeedsPrefix,
-    /// On one side of the weight that stays, a level has more weights than places.
+    /// On one side of the weight that stays, a level has more weights than places. At level 2 that weight is 0020, and at
+    /// level 3 it is 0002. At level 1 there is none: the weights below 8000 would be more than 32,767.
     NoRoom(Level),
     /// A target has more than 32 elements, or the table more than 200,000 rows.
     Limit,

@@ -15,9 +15,8 @@ pub fn worked_plans()
     ensures { WorkedPlans }
 {}
 
-/// Where a segment has places for some members, each number of the one pass is that of the closed form; they are places of
-/// the segment, in the order of the members, with no other member's number between those of neighbours; and a base weight
-/// keeps its number where there is room.
+/// Where a segment has places for some members, their numbers are places of the segment, in the order of the members, with no
+/// other member's number between those of neighbours; and a base weight keeps its number where there is room.
 pub fn numbers_are_proper()
     ensures { NumbersAreProper }
 {}

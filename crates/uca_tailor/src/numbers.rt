@@ -1,8 +1,8 @@
 //! The numbers of the members of a list within a segment.
 
 ghost use Rattle.std.specs.Prelude.{◌≡◌, ◌+◌, ◌<◌, ◌≤◌, IfOk, max};
-ghost use Rattle.uca_plans.specs.Numbering as numbering;
 ghost use Rattle.uca_plans.specs.Numbering.{HasPlaces, numbers_of};
+ghost use Rattle.uca_plans.specs.OnePass as one_pass;
 
 use std::alloc::{AllocError, Allocator};
 use uca_plans::{DraftWeight, Segment};
@@ -32,7 +32,7 @@ pub(crate) fn numbers<A: Allocator>(
 /// One place further up, or at the weight of a base member where that is higher.
 fn one_further(member: DraftWeight, place: usize) -> usize
     requires { place < 0x10_0000 }
-    ensures place { result ≡ numbering.one_further member place }
+    ensures place { result ≡ one_pass.one_further member place }
     ensures bound { result ≤ max 0xFFFF (place + 1) }
 {
     match member {
