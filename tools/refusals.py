@@ -23,7 +23,8 @@ for each N from 0 until nothing is left to refuse (past 2,000 for each 97th), an
 
 Standard output has the key lines before the faulty line where `keys` ends at an input line, and nothing where another run ends
 early. The file of a certificate is not made before there is a plan. No run ends by a signal, or reads or writes again where it
-failed. What ends otherwise is printed, and the status is then 1. This is no part of the gate: it takes some minutes.
+failed. Lines that CASES names must come: `memory` for sorting, behind the last line of the input, and for the text that `clap`
+makes. What ends otherwise is printed, and the status is then 1. This is no part of the gate: it takes some minutes.
 """
 
 import argparse
@@ -44,28 +45,31 @@ ROLES = {
     "audit": ("base", "data", "rules", "tailored", "certificate"),
 }
 
-# Each command line, and the file of its standard input if it reads one.
+# Each command line, the file of its standard input if it reads one, and what must be among what is said of its refused
+# allocations: the lines in their order, and each once where it comes several times in a row.
+SORTED = "input line 30: Memory\nmemory\n"
 CASES = (
-    ("check table.txt data.txt", None),
-    ("check ill-formed.txt data.txt", None),
-    ("check table.txt rules.txt", None),
-    ("keys table.txt data.txt", "lines.txt"),
-    ("keys --identical --weighting non-ignorable table.txt data.txt", "faulty.txt"),
-    ("keys table.txt data.txt", "many.txt"),
-    ("sort table.txt data.txt", "lines.txt"),
-    ("sort --identical --weighting non-ignorable table.txt data.txt", "lines.txt"),
-    ("compare table.txt data.txt \u1ea1\u0301ch a\u0323\u0301c-h", None),
-    ("compare --identical --weighting shifted table.txt data.txt \uac01\u00e1\u0323 \u1100", None),
-    ("tailor table.txt data.txt rules.txt made.txt", None),
-    ("tailor table.txt data.txt spellings.txt made.txt", None),
-    ("tailor table.txt data.txt anchor.txt made.txt", None),
-    ("tailor table.txt data.txt late.txt made.txt", None),
-    ("audit table.txt data.txt rules.txt tailored.txt certificate.txt", None),
-    ("audit table.txt data.txt rules.txt table.txt certificate.txt", None),
-    ("sort table.txt missing.txt", None),
-    ("tailor --help", None),
-    ("keys --weighting none table.txt data.txt", None),
-    ("audit table.txt", None),
+    ("check table.txt data.txt", None, ""),
+    ("check ill-formed.txt data.txt", None, ""),
+    ("check table.txt rules.txt", None, ""),
+    ("keys table.txt data.txt", "lines.txt", ""),
+    ("keys --identical --weighting non-ignorable table.txt data.txt", "faulty.txt", ""),
+    ("keys table.txt data.txt", "many.txt", ""),
+    ("sort table.txt data.txt", "lines.txt", ""),
+    ("sort --identical --weighting non-ignorable table.txt data.txt", "lines.txt", ""),
+    ("sort table.txt data.txt", "unsorted.txt", SORTED),
+    ("compare table.txt data.txt \u1ea1\u0301ch a\u0323\u0301c-h", None, ""),
+    ("compare --identical --weighting shifted table.txt data.txt \uac01\u00e1\u0323 \u1100", None, ""),
+    ("tailor table.txt data.txt rules.txt made.txt", None, ""),
+    ("tailor table.txt data.txt spellings.txt made.txt", None, ""),
+    ("tailor table.txt data.txt anchor.txt made.txt", None, ""),
+    ("tailor table.txt data.txt late.txt made.txt", None, ""),
+    ("audit table.txt data.txt rules.txt tailored.txt certificate.txt", None, ""),
+    ("audit table.txt data.txt rules.txt table.txt certificate.txt", None, ""),
+    ("sort table.txt missing.txt", None, ""),
+    ("tailor --help", None, "memory\n"),
+    ("keys --weighting none table.txt data.txt", None, "memory\n"),
+    ("audit table.txt", None, "memory\n"),
 )
 MADE = "made.txt"
 
@@ -96,6 +100,7 @@ def contents():
     files["anchor.txt"] = "&b < bh &\u4e00 < x".encode()
     files["late.txt"] = b"&ab < c &a < b"
     files["lines.txt"] += "\u1e69\u0323a\u0301\n\uac01\n\U00020000 \ufdfa".encode()
+    files["unsorted.txt"] = b"".join(b"%d\n" % (number * 11 % 30) for number in range(30))
     files["many.txt"] = b"".join(b"%d ch-a d\n" % number for number in range(1500))
     files["faulty.txt"] = files["lines.txt"] + b"\nx" + b"\xcc\x81" * 65 + b"\n"
     return files
@@ -104,13 +109,13 @@ def contents():
 class Case:
     """A command line, the files that it reads under their roles, and how it ends where nothing is refused."""
 
-    def __init__(self, words, given, files):
-        self.words, self.given = words.split(" "), given
+    def __init__(self, words, given, must, files):
+        self.words, self.given, self.must = words.split(" "), given, must
         names = [word for word in self.words if word.endswith(".txt") and word != MADE]
         self.opened = list(zip(ROLES[self.words[0]], names))
         read = self.opened + ([("input", given)] if given else [])
         self.read = [(role, files.get(name, b"")) for role, name in read]
-        self.plain, self.reached = None, (0, 0)
+        self.plain, self.reached, self.said = None, (0, 0), []
 
     def out_before(self, role, line):
         """What has gone out where the run ends at this line."""
@@ -215,6 +220,8 @@ class Trials:
         if told and kind in "aA":
             self.done_without += ending == case.plain
             self.endings[ending.status, ending.err] += 1
+            if kind == "a" and ending != case.plain and case.said[-1:] != [ending.err]:
+                case.said.append(ending.err)
         return bool(told)
 
     def judge_all(self, case):
@@ -227,6 +234,9 @@ class Trials:
             number, case.reached = 0, (0, 0)
             while self.judge(case, kind, number) or number < last:
                 number += 1 if number < 2000 else 97
+        if case.must not in "".join(case.said):
+            self.wrong += 1
+            print("%s: nowhere %r" % (" ".join(case.words), case.must), flush=True)
         print("%s: status %d" % (" ".join(case.words), case.plain.status), flush=True)
         for (status, said), count in self.endings.items() if self.verbose else ():
             print("    %4d  %d %s" % (count, status, said.split("\n")[0]), flush=True)
@@ -236,12 +246,14 @@ def main():
     parser = argparse.ArgumentParser(description=__doc__.split("\n")[0])
     parser.add_argument("--uca", default="crates/uca/out/uca", help="the program")
     parser.add_argument("--verbose", action="store_true", help="print how often each ending of a refused allocation came")
+    parser.add_argument("--only", default="", help="only the command lines that begin so")
     options = parser.parse_args()
+    cases = [case for case in CASES if case[0].startswith(options.only)]
     with tempfile.TemporaryDirectory() as folder:
         trials = Trials(options, folder)
-        for words, given in CASES:
-            trials.judge_all(Case(words, given, trials.files))
-    print("%d command lines, %d runs, %d not as they should" % (len(CASES), trials.runs, trials.wrong))
+        for words, given, must in cases:
+            trials.judge_all(Case(words, given, must, trials.files))
+    print("%d command lines, %d runs, %d not as they should" % (len(cases), trials.runs, trials.wrong))
     for kind, name in REFUSED.items():
         print("    %6d %s" % (trials.refused[kind], name))
     print("    %6d runs ended well without a refused allocation" % trials.done_without)

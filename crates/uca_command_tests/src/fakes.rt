@@ -7,7 +7,7 @@ use std::io::{ErrorKind, Read, Write};
 use std::iter::once;
 use std::test::Fail;
 use uca_cli::{OpenFault, Opens, run_command};
-use uca_fakes::{Calls, FakeReader, FakeWriter, Pace};
+use uca_fakes::{Calls, Failure, FakeReader, FakeWriter, Pace};
 use uca_weights::{Sink, Source};
 
 /// The files of a command: their texts, or nothing where one does not open.
@@ -275,13 +275,20 @@ pub struct End<'a> {
     pub opened: u32,
 }
 
+/// A standard stream that does not fail, and moves seven bytes a call at most.
+pub const WHOLE: Pace = Pace {
+    step: 7,
+    good: None,
+    failure: Failure::Nothing,
+};
+
 /// What a command works with beside its files.
 #[derive(Clone, Copy)]
 pub struct Around<'a> {
     /// The input.
     pub input: &'a [u8],
-    /// How standard output takes its bytes.
-    pub pace: Pace,
+    /// How standard input gives its bytes, and how standard output and standard error take theirs.
+    pub paces: [Pace; 3],
     /// The file that may be made.
     pub disk: &'a Disk,
     /// Whether one is to be made.
@@ -294,9 +301,11 @@ struct Ended {
     status: u8,
     out: Vec<u8>,
     err: Vec<u8>,
+    // Whether a standard stream was called after it failed.
+    is_late: bool,
 }
 
-// A command over an opener, and a reader of the input that gives seven bytes a call.
+// A command over an opener.
 fn run(
     alloc: Global,
     opener: &mut FakeOpener,
@@ -304,15 +313,22 @@ fn run(
     around: &Around,
     calls: &Calls,
 ) -> Ended {
-    let mut input = Source::new(FakeReader::new(around.input, Pace::steps(7), calls));
-    let written = Calls::new();
-    let mut out = Sink::new(FakeWriter::new(alloc, around.pace, &written));
-    let mut err = Sink::new(Vec::new(alloc));
+    let [given, taken, told] = around.paces;
+    let (written, said) = (Calls::new(), Calls::new());
+    let mut input = Source::new(FakeReader::new(around.input, given, calls));
+    let mut out = Sink::new(FakeWriter::new(alloc, taken, &written));
+    let mut err = Sink::new(FakeWriter::new(alloc, told, &said));
     let status = run_command(alloc, opener, words, &mut input, &mut out, &mut err);
+    let late = calls
+        .late
+        .get()
+        .max(written.late.get())
+        .max(said.late.get());
     Ended {
         status,
         out: out.into_inner().text,
-        err: err.into_inner(),
+        err: err.into_inner().text,
+        is_late: late > 0,
     }
 }
 
@@ -345,7 +361,7 @@ pub fn check_words(
     let disk = Disk::holding(alloc, "kept.txt", "kept")?;
     let around = Around {
         input,
-        pace: Pace::steps(64),
+        paces: [WHOLE, WHOLE, WHOLE],
         disk: &disk,
         makes: false,
     };
@@ -386,7 +402,8 @@ fn check_run(
     let ended = run(alloc, &mut opener, words, around, &calls);
     let is_written = ended.out.as_slice() == end.out.as_bytes()
         && ended.err.as_slice() == end.err.as_bytes()
-        && ended.status == end.status;
+        && ended.status == end.status
+        && !ended.is_late;
     let is_in_order = seen.opened.get() == end.opened
         && seen.early.get() == 0
         && seen.back.get() == 0

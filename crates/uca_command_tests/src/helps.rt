@@ -28,7 +28,8 @@ const WHOLE: &str =
     \n\
     `uca COMMAND --help` says more of each, with an example.\n";
 
-const CHECK: &str =
+/// The help of `check`.
+pub const CHECK: &str =
     "Says whether a weight table is well-formed (UTS #10, section 9.2): prints `well-formed`, or the\n\
     condition that is broken and the row that breaks it, as `WF5 row 8`, with status 1.\n\
     \n\
@@ -232,7 +233,8 @@ const OTHER_SUBCOMMAND: &str = "error: unrecognized subcommand 'other'\n\
     \n\
     For more information, try '--help'.\n";
 
-const NO_DATA: &str = "error: the following required arguments were not provided:\n\
+/// What is said where the second word of `keys` is missing.
+pub const NO_DATA: &str = "error: the following required arguments were not provided:\n\
     \x20 <DATA>\n\
     \n\
     Usage: uca keys <TABLE> <DATA>\n\

@@ -12,6 +12,8 @@ mod helps;
 #[cfg(test)]
 mod lines;
 #[cfg(test)]
+mod streams;
+#[cfg(test)]
 mod tailorings;
 #[cfg(test)]
 mod words;

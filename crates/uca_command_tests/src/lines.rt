@@ -25,31 +25,38 @@ fn status_of<W: Write>(alloc: Global, fault: &RunFault, err: &mut Sink<W>) -> Op
 }
 
 // The text of the fault is this line, without its LF. The fault is reported by this line and this status; and where the
-// writer fails after six bytes, by these and this status.
+// writer fails before one of the bytes, by those before it and this status.
 fn check(alloc: Global, fault: &RunFault, line: &str, status: u8) -> Result<(), Fail> {
     let mut err = Sink::new(Vec::new(alloc));
     let found = status_of(alloc, fault, &mut err);
     let is_line = err.into_inner().as_slice() == line.as_bytes();
     holds(found == Some(status) && is_line, line)?;
     same(&format!(in alloc; "{fault}\n")?, line, line)?;
-    check_cut(alloc, fault, line, status, Failure::Nothing)?;
     let error = Failure::Error(ErrorKind::Interrupted);
-    check_cut(alloc, fault, line, status, error)
+    for good in 0..line.len() {
+        check_cut(alloc, fault, (line, status), Pace::failing(4, good, error))?;
+        check_cut(
+            alloc,
+            fault,
+            (line, status),
+            Pace::failing(4, good, Failure::Nothing),
+        )?;
+    }
+    Ok(())
 }
 
 fn check_cut(
     alloc: Global,
     fault: &RunFault,
-    line: &str,
-    status: u8,
-    failure: Failure,
+    (line, status): (&str, u8),
+    pace: Pace,
 ) -> Result<(), Fail> {
     let calls = Calls::new();
-    let mut err = Sink::new(FakeWriter::new(alloc, Pace::failing(4, 6, failure), &calls));
+    let mut err = Sink::new(FakeWriter::new(alloc, pace, &calls));
     let found = status_of(alloc, fault, &mut err);
     let is_told = err.failed() && calls.late.get() == 0;
     let text = err.into_inner().text;
-    let is_begun = Some(text.as_slice()) == line.as_bytes().get(..6);
+    let is_begun = Some(text.len()) == pace.good && line.as_bytes().starts_with(text.as_slice());
     holds(found == Some(status) && is_told && is_begun, line)
 }
 

@@ -1,6 +1,6 @@
 //! `tailor` over three files, what it writes under the other commands, and files that are refused, do not open or cannot be made.
 
-use crate::fakes::{Around, Disk, End, Files, check, check_around};
+use crate::fakes::{Around, Disk, End, Files, WHOLE, check, check_around};
 use std::alloc::Global;
 use std::io::ErrorKind;
 use std::test::Fail;
@@ -87,7 +87,7 @@ fn check_tailor(
     };
     let around = Around {
         input: b"a\n",
-        pace,
+        paces: [WHOLE, pace, WHOLE],
         disk,
         makes,
     };

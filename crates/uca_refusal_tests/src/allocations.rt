@@ -6,10 +6,10 @@ use std::test::Fail;
 
 #[test]
 fn calls_in_which_an_allocation_is_refused(rt: HostRuntime) -> Result<(), Fail> {
-    check_cases(rt.alloc(), CALLS, Failing::Allocations)
+    check_cases(rt.alloc(), CALLS, Failing::Allocations, 0)
 }
 
 #[test]
 fn runs_in_which_an_allocation_is_refused(rt: HostRuntime) -> Result<(), Fail> {
-    check_cases(rt.alloc(), COMMANDS, Failing::Allocations)
+    check_cases(rt.alloc(), COMMANDS, Failing::Allocations, 0)
 }

@@ -5,6 +5,7 @@
 //! - a role: the text of that file, in place of the small one that it has.
 //! - `printed`, `file`: what goes out, and what goes out to the file of a certificate.
 //! - `end`: what is said of the end.
+//! - `asks`: how many allocations it asks for where none fails.
 //! - `memory`: what is said of the end where an allocation is refused, in the order of the allocations. `; ` parts
 //!   these; numbers behind ` @ ` are the lines or the bytes of one role. `done` stands where the answer is whole all
 //!   the same: a list that is collected asks for its whole length first, and where that is refused for less at a time.
@@ -131,9 +132,10 @@ impl<'a> Case<'a> {
         self.name.starts_with("run")
     }
 
-    /// Whether it is refused for what it reads.
-    pub fn is_refused(&self) -> bool {
-        field(self.block, "end").contains(": ")
+    /// Whether it is refused for the last line of the file of this role: no more of it is read then, and not its end.
+    pub fn is_refused_for(&self, role: &str) -> bool {
+        let place = if self.is_run() { role } else { "line " };
+        field(self.block, "end").starts_with(place)
     }
 }
 

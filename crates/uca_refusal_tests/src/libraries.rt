@@ -4,7 +4,7 @@ use crate::answers::Memory;
 use crate::streams::Streams;
 use crate::values::{
     accented_text, base, certificate, classes, contractions, key_of_contractions, properties,
-    rules, tailored,
+    rules, tailored, worked_certificate,
 };
 use std::alloc::{AllocError, Allocator, Global};
 use std::fmt::Display;
@@ -12,14 +12,14 @@ use std::test::Fail;
 use uca_audit::audit;
 use uca_certificates::{CertificateFault, read_certificate, write_certificate};
 use uca_data::read_data;
-use uca_key::{KeyBuffer, key};
+use uca_key::{KeyBuffer, key, key_of};
 use uca_lines::{LineFault, LineReader, NextLine};
 use uca_match::{Collator, RowList, Trie};
 use uca_rules::{Relation, RuleFault, Rules, read_rules_in};
 use uca_table::{read_table, write_table};
 use uca_tailor::tailor;
 use uca_text::Normal;
-use uca_values::{Data, Table, TableFault};
+use uca_values::{ClassRange, CodePointRange, Data, RangeFault, Table, TableFault};
 use uca_weights::Depth::Identical;
 use uca_weights::Weighting::Shifted;
 
@@ -48,14 +48,18 @@ fn reads_table(memory: Memory, streams: &mut Streams) -> Result<(), TableFault> 
     Ok(())
 }
 
-// The classes of two accents, and whether two ideographs are core Han or others.
-fn reads_data(memory: Memory, streams: &mut Streams) -> Result<(), TableFault> {
-    let data = read_data(memory.tried, &mut streams.table)?;
+// Writes the classes of two accents, and whether two ideographs are core Han or others.
+fn show_properties<A: Allocator>(streams: &mut Streams, data: &Data<A>) {
     let above = data.class('\u{301}');
     let below = data.class('\u{323}');
     let core = u8::from(data.is_core('\u{4E00}'));
     let other = u8::from(data.is_other('\u{20000}'));
     show(streams, &[above, below, core, other]);
+}
+
+fn reads_data(memory: Memory, streams: &mut Streams) -> Result<(), TableFault> {
+    let data = read_data(memory.tried, &mut streams.table)?;
+    show_properties(streams, &data);
     Ok(())
 }
 
@@ -161,7 +165,7 @@ pub fn writes(memory: Memory, streams: &mut Streams, name: &str) -> Result<Strin
             said(memory.ample, write_table(&table, &mut streams.out))
         }
         "certificate" => {
-            let certificate = certificate(memory.ample)?;
+            let certificate = worked_certificate(memory.ample)?;
             said(
                 memory.ample,
                 write_certificate(&certificate, &mut streams.out),
@@ -169,6 +173,41 @@ pub fn writes(memory: Memory, streams: &mut Streams, name: &str) -> Result<Strin
         }
         _ => Err(Fail::new(name)),
     }
+}
+
+/// The classes of two accents.
+const ABOVE: ClassRange = ClassRange {
+    first: '\u{300}',
+    last: '\u{314}',
+    class: 230,
+};
+
+const BELOW: ClassRange = ClassRange {
+    first: '\u{323}',
+    last: '\u{323}',
+    class: 220,
+};
+
+/// Ideographs of the core and others.
+const CORE: CodePointRange = CodePointRange {
+    first: '\u{4E00}',
+    last: '\u{9FFF}',
+};
+
+const OTHER: CodePointRange = CodePointRange {
+    first: '\u{20000}',
+    last: '\u{20FFF}',
+};
+
+// Properties that are added one after the other.
+fn makes_properties(memory: Memory, streams: &mut Streams) -> Result<(), RangeFault> {
+    let mut data = Data::new(memory.tried);
+    data.add_class(ABOVE)?;
+    data.add_class(BELOW)?;
+    data.add_core(CORE)?;
+    data.add_other(OTHER)?;
+    show_properties(streams, &data);
+    Ok(())
 }
 
 // A trie that finds each row of a table: the key of a text with all of them is printed.
@@ -208,16 +247,28 @@ fn writes_key(
     Ok(())
 }
 
-fn makes_keys(memory: Memory, streams: &mut Streams, is_buffer: bool) -> Result<String, Fail> {
+// A key of elements alone.
+fn makes_key_of_elements(
+    memory: Memory,
+    streams: &mut Streams,
+    collator: &Collator<RowList>,
+    text: &Normal,
+) -> Result<(), AllocError> {
+    let bytes = key_of(memory.tried, Shifted, collator.elements(text))?;
+    show(streams, bytes.as_slice());
+    Ok(())
+}
+
+fn makes_keys(memory: Memory, streams: &mut Streams, name: &str) -> Result<String, Fail> {
     let table = contractions(memory.ample)?;
     let data = classes(memory.ample)?;
     let text = accented_text(memory.ample, &data)?;
     let rows = RowList::new(&table);
     let collator = Collator::new(&rows, &table.header, &data);
-    let answer = if is_buffer {
-        writes_key(memory, streams, &collator, &text)
-    } else {
-        makes_key(memory, streams, &collator, &text)
+    let answer = match name {
+        "key in a buffer" => writes_key(memory, streams, &collator, &text),
+        "key of elements" => makes_key_of_elements(memory, streams, &collator, &text),
+        _ => makes_key(memory, streams, &collator, &text),
     };
     said_of_memory(memory.ample, answer)
 }
@@ -259,8 +310,8 @@ fn makes_tailoring(memory: Memory, streams: &mut Streams, is_plan: bool) -> Resu
 pub fn makes(memory: Memory, streams: &mut Streams, name: &str) -> Result<String, Fail> {
     match name {
         "trie" => makes_trie(memory, streams, &contractions(memory.ample)?),
-        "key" => makes_keys(memory, streams, false),
-        "key in a buffer" => makes_keys(memory, streams, true),
+        "key" | "key in a buffer" | "key of elements" => makes_keys(memory, streams, name),
+        "properties" => said(memory.ample, makes_properties(memory, streams)),
         "audit" => makes_tailoring(memory, streams, false),
         "plan" => makes_tailoring(memory, streams, true),
         _ => Err(Fail::new(name)),

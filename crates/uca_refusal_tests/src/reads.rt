@@ -1,4 +1,4 @@
-//! A read fails after each number of bytes of each file.
+//! A read fails after each number of bytes of each file: two runs for each byte, and two where the end is asked for.
 
 use crate::calls::{CALLS, COMMANDS};
 use crate::trials::{Failing, check_cases};
@@ -6,16 +6,16 @@ use std::test::Fail;
 
 #[test]
 fn calls_in_which_a_read_fails(rt: HostRuntime) -> Result<(), Fail> {
-    check_cases(rt.alloc(), CALLS, Failing::Reads)
+    check_cases(rt.alloc(), CALLS, Failing::Reads, 1774)
 }
 
 #[test]
 fn runs_in_which_a_read_fails(rt: HostRuntime) -> Result<(), Fail> {
-    check_cases(rt.alloc(), COMMANDS, Failing::Reads)
+    check_cases(rt.alloc(), COMMANDS, Failing::Reads, 4584)
 }
 
 #[test]
 fn streams_of_all_paces(rt: HostRuntime) -> Result<(), Fail> {
-    check_cases(rt.alloc(), CALLS, Failing::Nothing)?;
-    check_cases(rt.alloc(), COMMANDS, Failing::Nothing)
+    check_cases(rt.alloc(), CALLS, Failing::Nothing, 0)?;
+    check_cases(rt.alloc(), COMMANDS, Failing::Nothing, 0)
 }

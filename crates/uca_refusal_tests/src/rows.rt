@@ -1,11 +1,12 @@
 //! What is documented of failures.
 
-use crate::answers::{Memory, Wanted, answered};
+use crate::answers::{Answer, Memory, Wanted, answered};
 use crate::calls::ROWS;
 use crate::cases::{Case, field};
 use crate::streams::{FILE, NONE, OUT, Trouble};
 use crate::trials::{Trial, check_each_way, check_whole, whole_of};
 use std::alloc::Global;
+use std::cell::Cell;
 use std::test::Fail;
 use uca_fakes::holds;
 use uca_refusals::Refusing;
@@ -37,30 +38,34 @@ fn check_failing(trial: Trial, fails: &str) -> Result<(), Fail> {
         stream: stream_of(trial.case.roles, name),
         ..trial.wanted()
     };
-    check_each_way(trial, good.parse::<usize>()?, wanted, true)
+    check_each_way(trial, good.parse::<usize>()?, wanted)
 }
 
-// Whether the call ends as the case says: what went out is then what the case says too.
-fn ends_so(trial: Trial) -> Result<bool, Fail> {
+// What comes of the call where the allocation of this number is refused.
+fn refused(trial: Trial, number: u32) -> Result<Answer, Fail> {
+    trial.memory.tried.refuse(Some(number));
     let found = answered(trial.memory, trial.case, Trouble::none(usize::MAX))?;
-    let wanted = trial.wanted();
-    if found.end.as_str() != wanted.end {
-        return Ok(false);
-    }
-    found.check(wanted, trial.case.block)?;
-    Ok(true)
+    holds(trial.memory.tried.asked() > number, trial.case.block)?;
+    Ok(found)
 }
 
-// An allocation is refused with the end of the case.
-fn check_refused(trial: Trial) -> Result<(), Fail> {
-    for number in 0..1000 {
-        trial.memory.tried.refuse(Some(number));
-        if ends_so(trial)? {
-            return Ok(());
+// The number of the first allocation from this one on that is refused with this end.
+fn refused_with(trial: Trial, first: u32, end: &str) -> Result<u32, Fail> {
+    for number in first..1000 {
+        if refused(trial, number)?.end.as_str() == end {
+            return Ok(number);
         }
-        holds(trial.memory.tried.asked() > number, trial.case.block)?;
     }
-    Err(Fail::new("allocations without end"))
+    Err(Fail::new(end))
+}
+
+// After the first allocation that is refused with an end of the call, one is refused with the end of the case.
+fn check_refused(trial: Trial, after: &str) -> Result<(), Fail> {
+    let end = after.strip_prefix("after ").ok_or("refused after nothing")?;
+    let first = refused_with(trial, 0, end)?;
+    let wanted = trial.wanted();
+    let number = refused_with(trial, first, wanted.end)?;
+    refused(trial, number)?.check(wanted, trial.case.block)
 }
 
 fn check_row(ample: Global, block: &str) -> Result<(), Fail> {
@@ -75,6 +80,7 @@ fn check_row(ample: Global, block: &str) -> Result<(), Fail> {
         case: &case,
         whole: &whole,
         is_repeated: false,
+        broken: &Cell::new(0),
     };
     check_kind(trial)
 }
@@ -84,8 +90,9 @@ fn check_kind(trial: Trial) -> Result<(), Fail> {
     if !fails.is_empty() {
         return check_failing(trial, fails);
     }
-    if !field(trial.case.block, "refused").is_empty() {
-        return check_refused(trial);
+    let after = field(trial.case.block, "refused");
+    if !after.is_empty() {
+        return check_refused(trial, after);
     }
     check_whole(trial, 1)
 }

@@ -40,12 +40,13 @@ impl Trouble {
     }
 }
 
-/// The calls of the readers, and those of the writers.
+/// The calls of the streams. Where a reader fails a writer may be called after it: keys of lines before go out then. Where
+/// a writer fails no stream is called after it.
 #[derive(Drop)]
 pub struct AllCalls {
-    /// Those of the readers.
+    /// Those of the readers where one of them fails.
     pub reads: Calls,
-    /// Those of the writers.
+    /// Those of the writers, and of the readers where none of them fails.
     pub writes: Calls,
 }
 
@@ -63,7 +64,16 @@ impl AllCalls {
         self.reads.failed.get() > 0 || self.writes.failed.get() > 0
     }
 
-    /// Whether a reader was called after one had failed, or a writer.
+    // The calls among which those of the readers are.
+    fn of_readers(&self, trouble: Trouble) -> &Calls {
+        if trouble.stream < READ {
+            &self.reads
+        } else {
+            &self.writes
+        }
+    }
+
+    /// Whether a stream was called that may not be called after one failed.
     pub fn are_late(&self) -> bool {
         self.reads.late.get() > 0 || self.writes.late.get() > 0
     }
@@ -103,7 +113,8 @@ fn reader<'a>(
     stream: usize,
 ) -> Source<FakeReader<'a>> {
     let pace = trouble.pace_of(stream);
-    Source::new(FakeReader::new(text_at(texts, stream), pace, &calls.reads))
+    let calls = calls.of_readers(trouble);
+    Source::new(FakeReader::new(text_at(texts, stream), pace, calls))
 }
 
 fn writer<'a>(

@@ -4,6 +4,7 @@ use crate::answers::{Answer, Memory, Wanted, answered};
 use crate::cases::{Case, bytes, field, length_of_lines, line_behind, lines_of, refused_ends};
 use crate::streams::{FILE, NONE, OUT, READ, Trouble};
 use std::alloc::{AllocError, Global};
+use std::cell::Cell;
 use std::io::ErrorKind;
 use std::test::Fail;
 use uca_fakes::{Failure, Pace, holds, same};
@@ -40,6 +41,8 @@ pub struct Trial<'a> {
     pub whole: &'a Whole,
     /// Whether the call is made again after each failure.
     pub is_repeated: bool,
+    /// In how many runs a reader or a writer has failed.
+    pub broken: &'a Cell<u32>,
 }
 
 /// What goes out by the lines of a case.
@@ -75,7 +78,7 @@ impl<'a> Trial<'a> {
     }
 
     // The same where this stream fails with this end, and this has gone out.
-    fn broken(self, end: &'a str, stream: usize, out: &'a [u8], file: &'a [u8]) -> Wanted<'a> {
+    fn failing(self, end: &'a str, stream: usize, out: &'a [u8], file: &'a [u8]) -> Wanted<'a> {
         Wanted {
             end,
             out,
@@ -142,7 +145,7 @@ fn check_end(trial: Trial, found: &Answer) -> Result<(), Fail> {
     if found.end.as_str() == whole.end {
         return found.check(whole, trial.case.name);
     }
-    let wanted = trial.broken(&found.end, NONE, trial.begun(&found.end), b"");
+    let wanted = trial.failing(&found.end, NONE, trial.begun(&found.end), b"");
     found.check(wanted, trial.case.name)
 }
 
@@ -171,10 +174,13 @@ fn ends_of_refusals(trial: Trial) -> Result<Vec<String>, Fail> {
     Err(Fail::new("allocations without end"))
 }
 
-// Each allocation is refused in turn: the ends are those of the case, in their order.
+// Each allocation is refused in turn: they are as many as the case says, and the ends are its ends, in their order.
 fn check_allocations(trial: Trial) -> Result<(), Fail> {
     let ample = trial.memory.ample;
     let found = ends_of_refusals(trial)?;
+    let count = trial.memory.tried.asked();
+    let asked = format!(in ample; "{count}")?;
+    same(&asked, field(trial.case.block, "asks"), trial.case.block)?;
     let wanted = refused_ends(ample, trial.case)?;
     same(
         &lines_of(ample, &found)?,
@@ -183,35 +189,23 @@ fn check_allocations(trial: Trial) -> Result<(), Fail> {
     )
 }
 
-// A stream fails: this is wanted, unless the call is refused before that or the stream is not asked for more.
-fn check_broken(
-    trial: Trial,
-    trouble: Trouble,
-    wanted: Wanted,
-    must_fail: bool,
-) -> Result<(), Fail> {
+// A stream fails, and this is wanted.
+fn check_broken(trial: Trial, trouble: Trouble, wanted: Wanted) -> Result<(), Fail> {
     trial.memory.tried.refuse(None);
     let found = answered(trial.memory, trial.case, trouble)?;
-    if found.is_broken {
-        return found.check(wanted, trial.case.name);
-    }
-    holds(!must_fail, wanted.end)?;
-    found.check(trial.wanted(), trial.case.name)
+    holds(found.is_broken, wanted.end)?;
+    trial.broken.set(trial.broken.get().saturating_add(1));
+    found.check(wanted, trial.case.name)
 }
 
 /// The same in each way in which a stream fails after so many bytes. The call answers afterwards as if nothing had
 /// been.
-pub fn check_each_way(
-    trial: Trial,
-    good: usize,
-    wanted: Wanted,
-    must_fail: bool,
-) -> Result<(), Fail> {
+pub fn check_each_way(trial: Trial, good: usize, wanted: Wanted) -> Result<(), Fail> {
     let stream = wanted.stream;
     let ways = if stream < READ { 2 } else { 3 };
     for (failure, step) in WAYS.iter().take(ways) {
         let pace = Pace::failing(*step, good, *failure);
-        check_broken(trial, Trouble { stream, pace }, wanted, must_fail)?;
+        check_broken(trial, Trouble { stream, pace }, wanted)?;
     }
     if !trial.is_repeated {
         return Ok(());
@@ -232,15 +226,16 @@ fn read_end(trial: Trial, role: &str, line: usize) -> Result<String, AllocError>
     }
 }
 
-// A reader fails after each number of the bytes of its file.
+// A reader fails after each number of the bytes of its file, and where its end is asked for after all of them.
 fn check_reader(trial: Trial, stream: usize, role: &str) -> Result<(), Fail> {
     let Some(text) = trial.case.texts.get(stream) else {
         return Err(Fail::new(role));
     };
-    for good in 0..=text.len() {
+    let ends = usize::from(!trial.case.is_refused_for(role));
+    for good in 0..text.len().saturating_add(ends) {
         let end = read_end(trial, role, line_behind(text, good))?;
-        let wanted = trial.broken(&end, stream, trial.begun(&end), b"");
-        check_each_way(trial, good, wanted, !trial.case.is_refused())?;
+        let wanted = trial.failing(&end, stream, trial.begun(&end), b"");
+        check_each_way(trial, good, wanted)?;
     }
     Ok(())
 }
@@ -268,25 +263,25 @@ fn write_end(trial: Trial, role: &str, good: usize) -> Result<String, AllocError
     }
 }
 
-// The writer of the output fails after each number of its bytes: these have gone out, and the whole file.
+// The writer of the output fails before each of its bytes: those before have gone out, and the whole file.
 fn check_output(trial: Trial) -> Result<(), Fail> {
     let text = trial.whole.out.as_slice();
-    for good in 0..=text.len() {
+    for good in 0..text.len() {
         let end = write_end(trial, "output", good)?;
         let out = first_bytes(text, good);
-        let wanted = trial.broken(&end, OUT, out, trial.whole.file.as_slice());
-        check_each_way(trial, good, wanted, good < text.len())?;
+        let wanted = trial.failing(&end, OUT, out, trial.whole.file.as_slice());
+        check_each_way(trial, good, wanted)?;
     }
     Ok(())
 }
 
-// The writer of the file fails after each number of its bytes: these have gone out, and nothing of the output.
+// The writer of the file fails before each of its bytes: those before have gone out, and nothing of the output.
 fn check_file(trial: Trial) -> Result<(), Fail> {
     let text = trial.whole.file.as_slice();
-    for good in 0..=text.len() {
+    for good in 0..text.len() {
         let end = write_end(trial, "certificate", good)?;
-        let wanted = trial.broken(&end, FILE, b"", first_bytes(text, good));
-        check_each_way(trial, good, wanted, good < text.len())?;
+        let wanted = trial.failing(&end, FILE, b"", first_bytes(text, good));
+        check_each_way(trial, good, wanted)?;
     }
     Ok(())
 }
@@ -316,7 +311,12 @@ fn check_trial(trial: Trial, failing: Failing) -> Result<(), Fail> {
     }
 }
 
-fn check_case(ample: Global, block: &str, failing: Failing) -> Result<(), Fail> {
+fn check_case(
+    ample: Global,
+    block: &str,
+    failing: Failing,
+    broken: &Cell<u32>,
+) -> Result<(), Fail> {
     let case = Case::new(ample, block)?;
     let whole = whole_of(ample, block)?;
     let tried = Refusing::new(ample);
@@ -329,14 +329,20 @@ fn check_case(ample: Global, block: &str, failing: Failing) -> Result<(), Fail> 
         case: &case,
         whole: &whole,
         is_repeated: true,
+        broken,
     };
     check_trial(trial, failing)
 }
 
-/// Tries each case of a table.
-pub fn check_cases(ample: Global, cases: &str, failing: Failing) -> Result<(), Fail> {
+/// Tries each case of a table. In so many runs a reader or a writer fails.
+pub fn check_cases(ample: Global, cases: &str, failing: Failing, runs: u32) -> Result<(), Fail> {
+    let broken = Cell::new(0);
     for block in cases.split("\n\n") {
-        check_case(ample, block, failing)?;
+        check_case(ample, block, failing, &broken)?;
     }
-    Ok(())
+    let found = broken.get();
+    if found == runs {
+        return Ok(());
+    }
+    Err(Fail::new(format_args!("{found} runs, and not {runs}")))
 }

@@ -5,10 +5,12 @@ use std::alloc::{Allocator, Global};
 use std::test::Fail;
 use uca_certificates::{Certificate, read_certificate};
 use uca_data::read_data;
+use uca_fakes::samples;
 use uca_key::key;
 use uca_match::{Collator, Lookup};
 use uca_rules::{Rules, read_rules};
 use uca_table::read_table;
+use uca_tailor::tailor;
 use uca_text::{Normal, normal};
 use uca_values::{Data, Table};
 use uca_weights::Depth::Weights;
@@ -70,6 +72,15 @@ pub fn rules(ample: Global, properties: &Data) -> Result<Rules, Fail> {
 pub fn certificate(ample: Global) -> Result<Certificate, Fail> {
     let mut source = Source::new(CERTIFICATE.as_bytes());
     Ok(read_certificate(ample, &mut source)?)
+}
+
+/// The certificate of the same rules over the table that other tests share.
+pub fn worked_certificate(ample: Global) -> Result<Certificate, Fail> {
+    let table = table_of(ample, samples::TABLE)?;
+    let properties = data_of(ample, samples::DATA)?;
+    let rules = rules(ample, &properties)?;
+    let (_, certificate) = tailor(ample, &table, &properties, &rules)?;
+    Ok(certificate)
 }
 
 /// A text with a variable element and an accent.
