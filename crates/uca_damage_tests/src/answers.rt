@@ -26,7 +26,7 @@ pub enum Reader {
 pub struct Answer {
     /// The line or the byte that is refused. None where the file is accepted.
     pub place: Option<usize>,
-    /// Why it is refused. Where it is accepted, what it means: the file again, or how many relations it has.
+    /// Why it is refused. Where it is accepted, what it means: the file again, or its relations.
     pub words: String,
 }
 
@@ -52,15 +52,15 @@ pub fn answer_of(alloc: Global, reader: Reader, data: &Data, file: &[u8]) -> Res
     }
 }
 
-/// Fails unless what a reader says of a file is true of it.
-pub fn judge(alloc: Global, reader: Reader, data: &Data, file: &[u8]) -> Result<(), Fail> {
+/// Fails unless what a reader says of a file is true of it. Returns whether the file is accepted.
+pub fn judge(alloc: Global, reader: Reader, data: &Data, file: &[u8]) -> Result<bool, Fail> {
     let found = answer_of(alloc, reader, data, file)?;
     let is_true = match reader {
         Reader::Rules => judge_rules(alloc, data, file, &found)?,
         _ => judge_lines(alloc, reader, data, file, &found)?,
     };
     if is_true {
-        return Ok(());
+        return Ok(found.place.is_none());
     }
     let found = told(alloc, &found)?;
     Err(Fail::new(format_args!("{found}\nat {file:?}")))

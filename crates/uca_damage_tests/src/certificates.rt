@@ -1,11 +1,12 @@
 //! Certificates.
 
 use crate::answers::{Answer, Reader};
+use crate::counts::Counts;
 use crate::damages::{Trial, judge_all};
-use std::alloc::Global;
+use std::alloc::{AllocError, Global};
 use std::test::Fail;
 use uca_certificates::{Certificate, CertificateFaultKind, read_certificate, write_certificate};
-use uca_fakes::{DATA, data_of, holds};
+use uca_fakes::{DATA, data_of, holds, joined};
 use uca_weights::{Sink, Source};
 
 /// The text of a certificate, which is the file that was read.
@@ -52,7 +53,37 @@ fn damaged_certificates(rt: HostRuntime) -> Result<(), Fail> {
         file: CERTIFICATE,
         random: 324,
         seed: 3,
-        count: 800,
+        counts: Counts {
+            judged: 800,
+            accepted: 12,
+            sum: 2375,
+        },
     };
     judge_all(rt.alloc(), trial, &data)
+}
+
+/// A run for each weight of level 2.
+fn most_runs(alloc: Global) -> Result<String, AllocError> {
+    let mut text = String::new(alloc);
+    for weight in 1..=0xFFFFu32 {
+        text.push_str(&format!(in alloc; "2 {weight:04X} {weight:04X} 0001\n")?)?;
+    }
+    Ok(text)
+}
+
+/// Where a certificate of these runs and one line is refused, if it is.
+fn place_behind(alloc: Global, runs: &str, line: &str) -> Result<Option<usize>, Fail> {
+    let text = joined(alloc, &[runs, line])?;
+    let answer = certificate_answer(alloc, text.as_bytes())?;
+    Ok(answer.place)
+}
+
+/// As many runs as a level may have are accepted. One more is too many.
+#[test]
+fn as_many_runs_as_weights(rt: HostRuntime) -> Result<(), Fail> {
+    let runs = most_runs(rt.alloc())?;
+    let accepted = place_behind(rt.alloc(), &runs, "3 0002 0002 0001\n")?;
+    holds(accepted.is_none(), "65535 runs of level 2")?;
+    let refused = place_behind(rt.alloc(), &runs, "2 FFFF FFFF 0001\n")?;
+    holds(refused == Some(65_536), "65536 runs of level 2")
 }

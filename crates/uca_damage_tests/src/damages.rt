@@ -1,6 +1,7 @@
 //! Files with one byte less, one doubled or one changed at each place, and files that are random behind some beginning.
 
 use crate::answers::{Reader, judge};
+use crate::counts::Counts;
 use crate::numbers::Numbers;
 use std::alloc::{AllocError, Global};
 use std::test::Fail;
@@ -11,7 +12,7 @@ use uca_values::Data;
 const TELLING: &[u8] = b"\0\t\n\r !\"#&'*+-./0129;<=@AFGZ[\\]afgz\x7F\x80\xC3\xFF";
 
 /// How many files come of each place.
-pub const A_PLACE: usize = 4;
+const A_PLACE: usize = 4;
 
 /// How many bytes a random file has at most, behind its beginning.
 const RANDOM_BYTES: usize = 64;
@@ -27,8 +28,8 @@ pub struct Trial<'a> {
     pub random: usize,
     /// The seed of the random bytes.
     pub seed: u64,
-    /// How many files there are in all.
-    pub count: usize,
+    /// How many files there are in all, and which of them are accepted by the forms of docs/FORMATS.md.
+    pub counts: Counts,
 }
 
 /// How a file is damaged at a place.
@@ -67,35 +68,46 @@ fn one_of(numbers: &mut Numbers, bytes: &[u8]) -> u8 {
     bytes.get(place).copied().unwrap_or(0)
 }
 
-/// Each damage of a place. The last but one is a byte that means something, and the last is any.
-fn damages(numbers: &mut Numbers) -> [Damage; A_PLACE] {
+/// A byte that means something, other than the one that stands there: in place of that one the next of them.
+fn telling(numbers: &mut Numbers, own: u8) -> u8 {
+    let place = numbers.below(TELLING.len());
+    let byte = TELLING.get(place).copied().unwrap_or(0);
+    if byte != own {
+        return byte;
+    }
+    TELLING.get(place.saturating_add(1)).copied().unwrap_or(0)
+}
+
+/// Any byte other than the one that stands there.
+fn other(numbers: &mut Numbers, own: u8) -> u8 {
+    let byte = numbers.byte();
+    if byte == own { byte ^ 1 } else { byte }
+}
+
+/// Each damage of a place where this byte stands. The last but one is a byte that means something, and the last is any.
+fn damages(numbers: &mut Numbers, own: u8) -> [Damage; A_PLACE] {
     [
         Damage::Dropped,
         Damage::Doubled,
-        Damage::Changed(one_of(numbers, TELLING)),
-        Damage::Changed(numbers.byte()),
+        Damage::Changed(telling(numbers, own)),
+        Damage::Changed(other(numbers, own)),
     ]
 }
 
-/// Judges the files that are damaged at a place, and returns how many.
+/// Judges the files that are damaged at a place, where this byte stands.
 fn judge_place(
     alloc: Global,
     trial: Trial,
     data: &Data,
+    (place, own): (usize, u8),
     numbers: &mut Numbers,
-    place: usize,
-) -> Result<usize, Fail> {
-    let mut count = 0usize;
-    for damage in damages(numbers) {
-        judge(
-            alloc,
-            trial.reader,
-            data,
-            &damaged(alloc, trial.file, place, damage)?,
-        )?;
-        count = count.saturating_add(1);
+    counts: &mut Counts,
+) -> Result<(), Fail> {
+    for damage in damages(numbers, own) {
+        let file = damaged(alloc, trial.file, place, damage)?;
+        counts.count(judge(alloc, trial.reader, data, &file)?);
     }
-    Ok(count)
+    Ok(())
 }
 
 /// A beginning of the file, and bytes behind it: of each two about one is of the file, and the other is any.
@@ -113,18 +125,30 @@ fn random_file(alloc: Global, file: &[u8], numbers: &mut Numbers) -> Result<Vec<
     Ok(made)
 }
 
-/// Judges each damaged file and each random one.
-pub fn judge_all(alloc: Global, trial: Trial, data: &Data) -> Result<(), Fail> {
-    let mut numbers = Numbers::new(trial.seed);
-    let mut count = 0usize;
-    for place in 0..trial.file.len() {
-        let more = judge_place(alloc, trial, data, &mut numbers, place)?;
-        count = count.saturating_add(more);
-    }
+/// Judges the random files.
+fn judge_random(
+    alloc: Global,
+    trial: Trial,
+    data: &Data,
+    numbers: &mut Numbers,
+    counts: &mut Counts,
+) -> Result<(), Fail> {
     for _ in 0..trial.random {
-        let file = random_file(alloc, trial.file, &mut numbers)?;
-        judge(alloc, trial.reader, data, &file)?;
-        count = count.saturating_add(1);
+        let file = random_file(alloc, trial.file, numbers)?;
+        counts.count(judge(alloc, trial.reader, data, &file)?);
     }
-    holds(count == trial.count, "another number of files")
+    Ok(())
+}
+
+/// Judges each damaged file and each random one. The file itself is accepted.
+pub fn judge_all(alloc: Global, trial: Trial, data: &Data) -> Result<(), Fail> {
+    let is_accepted = judge(alloc, trial.reader, data, trial.file)?;
+    holds(is_accepted, "the file itself is refused")?;
+    let mut numbers = Numbers::new(trial.seed);
+    let mut counts = Counts::new();
+    for (place, own) in trial.file.iter().enumerate() {
+        judge_place(alloc, trial, data, (place, *own), &mut numbers, &mut counts)?;
+    }
+    judge_random(alloc, trial, data, &mut numbers, &mut counts)?;
+    counts.check(trial.counts)
 }

@@ -1,23 +1,68 @@
 //! Rules: a fault stands at a byte that may have it, whatever comes before the rules.
 
 use crate::answers::{Answer, Reader};
+use crate::counts::Counts;
 use crate::damages::{Trial, judge_all};
-use std::alloc::Global;
+use std::alloc::{AllocError, Global};
 use std::test::Fail;
-use uca_fakes::{DATA, data_of, holds};
-use uca_rules::{RuleFaultKind, read_rules};
+use uca_fakes::{DATA, data_of, holds, same};
+use uca_rules::{Relation, RuleFaultKind, Rules, read_rules};
+use uca_text::Normal;
 use uca_values::Data;
-use uca_weights::Source;
+use uca_weights::{Source, Strength};
+
+/// Adds a text: ASCII letters and digits as they stand, and other code points by their numbers.
+fn push_text(words: &mut String, text: &Normal) -> Result<(), AllocError> {
+    let alloc = *words.allocator();
+    for point in text.chars() {
+        if point.is_ascii_alphanumeric() {
+            words.push(*point)?;
+        } else {
+            let number = u32::from(*point);
+            words.push_str(&format!(in alloc; "({number:X})")?)?;
+        }
+    }
+    Ok(())
+}
+
+/// The sign of a relation, which is turned round where the target stands before the anchor.
+fn sign(relation: &Relation) -> &'static str {
+    match (relation.strength, relation.before) {
+        (Strength::Primary, false) => " < ",
+        (Strength::Secondary, false) => " << ",
+        (Strength::Tertiary, false) => " <<< ",
+        (Strength::Primary, true) => " > ",
+        (Strength::Secondary, true) => " >> ",
+        (Strength::Tertiary, true) => " >>> ",
+        (Strength::Identical, _) => " = ",
+    }
+}
+
+/// Adds a relation as a line.
+fn push_relation(words: &mut String, relation: &Relation) -> Result<(), AllocError> {
+    push_text(words, &relation.anchor)?;
+    words.push_str(sign(relation))?;
+    push_text(words, &relation.target)?;
+    if let Some(expansion) = &relation.expansion {
+        words.push_str(" / ")?;
+        push_text(words, expansion)?;
+    }
+    words.push('\n')
+}
+
+/// The relations of rules, a line each.
+fn meaning(alloc: Global, rules: &Rules) -> Result<Answer, AllocError> {
+    let mut words = String::new(alloc);
+    for relation in rules.relations() {
+        push_relation(&mut words, relation)?;
+    }
+    Ok(Answer { place: None, words })
+}
 
 /// What is said of rules.
 pub fn rules_answer(alloc: Global, data: &Data, file: &[u8]) -> Result<Answer, Fail> {
     let fault = match read_rules(alloc, file, data) {
-        Ok(rules) => {
-            return Ok(Answer {
-                place: None,
-                words: format!(in alloc; "{}", rules.relations().len())?,
-            });
-        }
+        Ok(rules) => return Ok(meaning(alloc, &rules)?),
         Err(fault) => fault,
     };
     holds(fault.kind != RuleFaultKind::Memory, "no memory")?;
@@ -29,6 +74,9 @@ pub fn rules_answer(alloc: Global, data: &Data, file: &[u8]) -> Result<Answer, F
 
 /// A chain of one relation, of characters that the rules do not have.
 const CHAIN: &str = "&\u{4E01} < \u{4E02} # \u{E9}\n";
+
+/// What it means.
+const CHAIN_MEANS: &str = "(4E01) < (4E02)\n";
 
 /// A comment.
 const COMMENT: &str = "# \u{E9}\n";
@@ -53,7 +101,7 @@ fn moved(alloc: Global, front: &str, found: &Answer) -> Result<Answer, Fail> {
         }),
         None => Ok(Answer {
             place: None,
-            words: format!(in alloc; "{}", found.words.parse::<usize>()?.saturating_add(1))?,
+            words: format!(in alloc; "{CHAIN_MEANS}{}", found.words)?,
         }),
     }
 }
@@ -100,22 +148,72 @@ pub fn judge_rules(alloc: Global, data: &Data, file: &[u8], found: &Answer) -> R
 }
 
 /// Each form of a reset, a relation, a text and a comment.
-const RULES: &[u8] = b"# a tailoring\n\
-    &[before 1]b < x <<< X\n\
-    &c < ch / k <<< 'C H'\n\
-    &[before 2]d << \\u0111 = \\U00000180\n\
-    & e <* f-jm <<<* Q''\n\
-    &l = \xC3\xA9 <<< n''o\n";
+const RULES: &str = "# a tailoring\n\
+    &[before 1]B < X <<< Y\n\
+    &C < DH / K <<< 'L M'\n\
+    &[before 2]N << \\u0111 = \\U00000180\n\
+    & E <* F-JP <<<* Q''\n\
+    &R = \u{E9} <<< S''T\n";
+
+/// The relations that they mean.
+const MEANS: &str = "B > X
+X <<< Y
+C < DH / K
+DH <<< L(20)M
+N >> (111)
+(111) = (180)
+E < F
+F < G
+G < H
+H < I
+I < J
+J < P
+P <<< Q
+Q <<< (27)
+R = e(301)
+e(301) <<< S(27)T
+";
 
 #[test]
 fn damaged_rules(rt: HostRuntime) -> Result<(), Fail> {
     let data = data_of(rt.alloc(), &mut Source::new(DATA.as_bytes()))?;
     let trial = Trial {
         reader: Reader::Rules,
-        file: RULES,
+        file: RULES.as_bytes(),
         random: 568,
         seed: 4,
-        count: 1100,
+        counts: Counts {
+            judged: 1100,
+            accepted: 203,
+            sum: 53_822,
+        },
     };
     judge_all(rt.alloc(), trial, &data)
+}
+
+/// Letters that stand once in the rules, each in a text, and in what they mean in no range.
+const LETTERS: &str = "B X Y C D K L M N E P Q R S T";
+
+/// Letters and a digit that stand in no text of the rules.
+const OTHERS: &str = "A z W 0";
+
+/// The rules with another letter in the place of one mean the same with this letter.
+fn check_letter(alloc: Global, data: &Data, own: &str, other: &str) -> Result<(), Fail> {
+    let rules = RULES.replace(alloc, own, other)?;
+    let wanted = MEANS.replace(alloc, own, other)?;
+    let found = rules_answer(alloc, data, rules.as_bytes())?;
+    holds(found.place.is_none(), &rules)?;
+    same(&found.words, &wanted, &rules)
+}
+
+#[test]
+fn other_letters(rt: HostRuntime) -> Result<(), Fail> {
+    let data = data_of(rt.alloc(), &mut Source::new(DATA.as_bytes()))?;
+    check_letter(rt.alloc(), &data, "B", "B")?;
+    for own in LETTERS.split(' ') {
+        for other in OTHERS.split(' ') {
+            check_letter(rt.alloc(), &data, own, other)?;
+        }
+    }
+    Ok(())
 }

@@ -1,7 +1,9 @@
 //! Table files and data files.
 
 use crate::answers::{Answer, Reader};
+use crate::counts::Counts;
 use crate::damages::{Trial, judge_all};
+use crate::meanings::{data_meaning, same_lines, table_meaning};
 use std::alloc::Global;
 use std::test::Fail;
 use uca_fakes::{DATA, data_of, holds, same, table_of};
@@ -29,9 +31,10 @@ fn text_of(alloc: Global, table: &Table) -> Result<String, Fail> {
     Ok(String::from_utf8(out.into_inner())?)
 }
 
-/// The canonical text of a table, which means a table of the same text.
-fn kept_table(alloc: Global, table: &Table) -> Result<Answer, Fail> {
+/// The canonical text of the table of a file, which is what the file's lines say, and means a table of the same text.
+fn kept_table(alloc: Global, table: &Table, file: &[u8]) -> Result<Answer, Fail> {
     let text = text_of(alloc, table)?;
+    same(&text, &table_meaning(alloc, file)?, "what a table means")?;
     let again = table_of(alloc, &mut Source::new(text.as_bytes()))?;
     same(&text_of(alloc, &again)?, &text, "the table again")?;
     Ok(Answer {
@@ -43,7 +46,7 @@ fn kept_table(alloc: Global, table: &Table) -> Result<Answer, Fail> {
 /// What is said of a table file.
 pub fn table_answer(alloc: Global, file: &[u8]) -> Result<Answer, Fail> {
     match table_of(alloc, &mut Source::new(file)) {
-        Ok(table) => kept_table(alloc, &table),
+        Ok(table) => kept_table(alloc, &table, file),
         Err(fault) => refused(alloc, fault),
     }
 }
@@ -66,9 +69,10 @@ fn data_text(alloc: Global, data: &Data) -> Result<String, Fail> {
     Ok(text)
 }
 
-/// The ranges of a data file as a data file, which means the same ranges.
-fn kept_data(alloc: Global, data: &Data) -> Result<Answer, Fail> {
+/// The ranges of a data file as a data file, which are those of its lines, and mean the same ranges.
+fn kept_data(alloc: Global, data: &Data, file: &[u8]) -> Result<Answer, Fail> {
     let text = data_text(alloc, data)?;
+    same_lines(&text, &data_meaning(alloc, file)?)?;
     let again = data_of(alloc, &mut Source::new(text.as_bytes()))?;
     same(&data_text(alloc, &again)?, &text, "the data again")?;
     Ok(Answer {
@@ -80,7 +84,7 @@ fn kept_data(alloc: Global, data: &Data) -> Result<Answer, Fail> {
 /// What is said of a data file.
 pub fn data_answer(alloc: Global, file: &[u8]) -> Result<Answer, Fail> {
     match data_of(alloc, &mut Source::new(file)) {
-        Ok(data) => kept_data(alloc, &data),
+        Ok(data) => kept_data(alloc, &data, file),
         Err(fault) => refused(alloc, fault),
     }
 }
@@ -105,7 +109,11 @@ fn damaged_tables(rt: HostRuntime) -> Result<(), Fail> {
         file: TABLE,
         random: 324,
         seed: 1,
-        count: 1300,
+        counts: Counts {
+            judged: 1300,
+            accepted: 140,
+            sum: 59_907,
+        },
     };
     judge_all(rt.alloc(), trial, &data)
 }
@@ -128,7 +136,11 @@ fn damaged_data_files(rt: HostRuntime) -> Result<(), Fail> {
         file: DATA_FILE,
         random: 336,
         seed: 2,
-        count: 800,
+        counts: Counts {
+            judged: 800,
+            accepted: 105,
+            sum: 18_023,
+        },
     };
     judge_all(rt.alloc(), trial, &data)
 }

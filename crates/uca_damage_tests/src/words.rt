@@ -1,5 +1,7 @@
-//! Lines of words: what is read means the same when it is written out, and what is refused is refused with a text.
+//! Lines of words: what is read is what a small model reads, and means the same when it is written out; what is refused is
+//! refused with a text.
 
+use crate::counts::Counts;
 use crate::numbers::Numbers;
 use std::alloc::{AllocError, Global};
 use std::test::Fail;
@@ -28,20 +30,32 @@ const NAMES: &[&str] = &["check", "keys", "sort", "compare", "tailor", "audit"];
 /// Names of files, and texts.
 const TEXTS: &[&str] = &["t", "d", "", "-", "--identical"];
 
-/// How many lines come of one change.
-const CHANGED: usize = 2459;
+/// The lines that come of one change, and those of them that are read.
+const CHANGED: Counts = Counts {
+    judged: 2459,
+    accepted: 495,
+    sum: 658_371,
+};
 
-/// How many lines are random.
-const RANDOM: usize = 400;
+/// The random lines, and those of them that are read.
+const RANDOM: Counts = Counts {
+    judged: 400,
+    accepted: 78,
+    sum: 15_528,
+};
 
-/// How many of these make a command, at least.
-const TAKEN: usize = 40;
+/// How many names and texts a command has at most.
+const MOST: usize = 5;
 
 /// What the words behind a subcommand's name ask for.
-#[derive(Clone, Copy, PartialEq, Eq)]
-struct Asked {
+#[derive(Clone, Copy)]
+struct Asked<'a> {
+    /// The names and texts, of those that are too many none.
+    texts: [&'a str; MOST],
     /// How many names and texts there are.
-    texts: usize,
+    count: usize,
+    /// The last weighting.
+    weighting: Option<&'a str>,
     /// How many weightings.
     weightings: usize,
     /// How often all levels are asked for.
@@ -56,7 +70,9 @@ struct Asked {
 
 /// Before any word.
 const NOTHING: Asked = Asked {
-    texts: 0,
+    texts: [""; MOST],
+    count: 0,
+    weighting: None,
     weightings: 0,
     identicals: 0,
     is_due: false,
@@ -64,31 +80,51 @@ const NOTHING: Asked = Asked {
     is_strange: false,
 };
 
-/// What is asked for with one more word, where a name takes options or not.
-fn with_word(asked: Asked, word: &str, has_options: bool) -> Asked {
-    let mut asked = asked;
-    if asked.are_texts || !word.starts_with("-") || word.len() == 1 {
-        if asked.is_due {
-            asked.is_due = false;
-        } else {
-            asked.texts = asked.texts.saturating_add(1);
-        }
-        return asked;
+/// Takes a word that is a value, a name or a text.
+fn take_text<'a>(asked: &mut Asked<'a>, word: &'a str) {
+    if asked.is_due {
+        asked.is_due = false;
+        asked.weighting = Some(word);
+        return;
     }
-    asked.is_strange = asked.is_strange || asked.is_due;
+    let place = asked.count;
+    if let Some(text) = asked.texts.get_mut(place) {
+        *text = word;
+    }
+    asked.count = place.saturating_add(1);
+}
+
+/// Takes a word that is an option of a subcommand.
+fn take_option<'a>(asked: &mut Asked<'a>, word: &'a str) {
+    if let Some(weighting) = word.strip_prefix("--weighting=") {
+        asked.weighting = Some(weighting);
+        asked.weightings = asked.weightings.saturating_add(1);
+        return;
+    }
     match word {
-        "--" => asked.are_texts = true,
-        "--weighting" if has_options => {
+        "--weighting" => {
             asked.weightings = asked.weightings.saturating_add(1);
             asked.is_due = true;
         }
-        "--identical" if has_options => asked.identicals = asked.identicals.saturating_add(1),
-        _ if has_options && word.starts_with("--weighting=") => {
-            asked.weightings = asked.weightings.saturating_add(1);
-        }
+        "--identical" => asked.identicals = asked.identicals.saturating_add(1),
         _ => asked.is_strange = true,
     }
-    asked
+}
+
+/// Takes one more word, where a name takes options or not.
+fn take_word<'a>(asked: &mut Asked<'a>, word: &'a str, has_options: bool) {
+    if asked.are_texts || !word.starts_with("-") || word.len() == 1 {
+        take_text(asked, word);
+        return;
+    }
+    asked.is_strange = asked.is_strange || asked.is_due;
+    if word == "--" {
+        asked.are_texts = true;
+    } else if has_options {
+        take_option(asked, word);
+    } else {
+        asked.is_strange = true;
+    }
 }
 
 /// How many names and texts stand behind a subcommand's name, and whether it takes options.
@@ -103,20 +139,59 @@ fn form_of(name: &str) -> Option<(usize, bool)> {
     }
 }
 
-/// Whether the words of a line, of which the first is the program's name, make a command, worked out from their number.
-fn make_command(words: &[&str]) -> bool {
-    let Some(name) = words.get(1) else {
-        return false;
-    };
-    let Some((texts, has_options)) = form_of(name) else {
-        return false;
-    };
-    let mut asked = NOTHING;
-    for word in words.iter().skip(2) {
-        asked = with_word(asked, word, has_options);
+/// What is said of a line.
+#[derive(Clone, Copy, PartialEq, Eq)]
+enum Said {
+    /// What it asks for.
+    Taken,
+    /// That the weighting is neither of the two.
+    Unknown,
+    /// That it is no command.
+    Refused,
+}
+
+/// What the model says of a line.
+#[derive(Clone, Copy)]
+struct Model<'a> {
+    /// What is said of it.
+    said: Said,
+    /// The name of the subcommand.
+    name: &'a str,
+    /// What the words behind the name ask for.
+    asked: Asked<'a>,
+}
+
+/// Whether this is all that a subcommand with so many names and texts asks for.
+fn is_whole(asked: &Asked, texts: usize) -> bool {
+    let is_once = asked.weightings < 2 && asked.identicals < 2;
+    is_once && asked.count == texts && !asked.is_due && !asked.is_strange
+}
+
+/// What is said where this is asked for of a subcommand of this form.
+fn said_of(asked: &Asked, (texts, _): (usize, bool)) -> Said {
+    if !is_whole(asked, texts) {
+        return Said::Refused;
     }
-    let is_whole = asked.texts == texts && !asked.is_due && !asked.is_strange;
-    is_whole && asked.weightings < 2 && asked.identicals < 2
+    match asked.weighting {
+        None | Some("shifted" | "non-ignorable") => Said::Taken,
+        Some(_) => Said::Unknown,
+    }
+}
+
+/// What the model says of the words of a line, of which the first is the program's name.
+fn model_of<'a>(words: &[&'a str]) -> Model<'a> {
+    let mut asked = NOTHING;
+    let name = words.get(1).copied().unwrap_or("");
+    let Some(form) = form_of(name) else {
+        let said = Said::Refused;
+        return Model { said, name, asked };
+    };
+    let (_, has_options) = form;
+    for word in words.iter().skip(2) {
+        take_word(&mut asked, *word, has_options);
+    }
+    let said = said_of(&asked, form);
+    Model { said, name, asked }
 }
 
 /// The words of a subcommand with these options and names.
@@ -205,11 +280,31 @@ fn spelled<'a>(alloc: Global, words: Words<'a>) -> Result<Vec<&'a str>, AllocErr
     }
 }
 
-/// Whether words mean the same when they are written out.
-fn is_kept(alloc: Global, words: Words) -> Result<bool, Fail> {
+/// The line that says what the model read.
+fn meant<'a>(alloc: Global, model: &Model<'a>) -> Result<Vec<&'a str>, AllocError> {
+    let asked = model.asked;
+    let weighting = match asked.weighting {
+        Some("shifted") => Some(Weighting::Shifted),
+        Some(_) => Some(Weighting::NonIgnorable),
+        None => None,
+    };
+    let depth = if asked.identicals > 0 {
+        Depth::Identical
+    } else {
+        Depth::Weights
+    };
+    let texts: &[&str] = &asked.texts;
+    let texts = texts.get(..asked.count).unwrap_or(texts);
+    with_options(alloc, model.name, (weighting, depth), texts)
+}
+
+/// Whether words are what the model says, and mean the same when they are written out.
+fn is_read(alloc: Global, words: Words, model: &Model) -> Result<bool, Fail> {
     let line = spelled(alloc, words)?;
     let again = read_words(alloc, &line);
-    Ok(matches!(again, Ok(found) if found == words))
+    let is_kept = matches!(again, Ok(found) if found == words);
+    let wanted = meant(alloc, model)?;
+    Ok(is_kept && line.as_slice() == wanted.as_slice())
 }
 
 /// Whether a text may be what is printed where words are refused.
@@ -217,22 +312,23 @@ fn is_refusal(text: &str) -> bool {
     text.ends_with("\n") && (text.starts_with("error: ") || text.contains("Usage: uca"))
 }
 
-/// Whether what is said of a line is true of it.
-fn is_true(alloc: Global, line: &[&str]) -> Result<bool, Fail> {
-    let is_command = make_command(line);
+/// Whether what is said of a line is what the model says.
+fn is_true(alloc: Global, line: &[&str], model: &Model) -> Result<bool, Fail> {
     match read_words(alloc, line) {
-        Ok(words) => Ok(is_command && is_kept(alloc, words)?),
+        Ok(words) => Ok(model.said == Said::Taken && is_read(alloc, words, model)?),
         Err(WordFault::Refused(error)) => Ok(
-            !is_command && is_refusal(&format!(in alloc; "{error}")?),
+            model.said == Said::Refused && is_refusal(&format!(in alloc; "{error}")?),
         ),
-        Err(WordFault::Weighting) => Ok(is_command),
+        Err(WordFault::Weighting) => Ok(model.said == Said::Unknown),
         Err(fault) => Err(Fail::from(fault)),
     }
 }
 
-fn judge(alloc: Global, line: &[&str]) -> Result<(), Fail> {
-    if is_true(alloc, line)? {
-        return Ok(());
+/// Fails unless what is said of a line is true of it. Returns whether it is read.
+fn judge(alloc: Global, line: &[&str]) -> Result<bool, Fail> {
+    let model = model_of(line);
+    if is_true(alloc, line, &model)? {
+        return Ok(model.said == Said::Taken);
     }
     Err(Fail::new(format_args!("at {line:?}")))
 }
@@ -272,40 +368,43 @@ fn words_of(alloc: Global, line: &str) -> Result<Vec<&str>, AllocError> {
     Ok(words)
 }
 
-/// Judges a line with each of the other words in place of one, and behind it. Returns how many lines these are.
-fn judge_place(alloc: Global, line: &[&str], place: usize) -> Result<usize, Fail> {
-    let mut count = 0usize;
+/// Judges a line with each of the other words in place of one, and behind it.
+fn judge_place(
+    alloc: Global,
+    line: &[&str],
+    place: usize,
+    counts: &mut Counts,
+) -> Result<(), Fail> {
     for word in PUT_IN.split(' ') {
-        judge(alloc, &changed(alloc, line, place, (false, word))?)?;
-        judge(alloc, &changed(alloc, line, place, (true, word))?)?;
-        count = count.saturating_add(2);
+        for stays in [false, true] {
+            let made = changed(alloc, line, place, (stays, word))?;
+            counts.count(judge(alloc, &made)?);
+        }
     }
-    Ok(count)
+    Ok(())
 }
 
 /// Judges a line that is read, its beginnings, and all that are made of it by one change behind the program's name.
-/// Returns how many lines these are.
-fn judge_changes(alloc: Global, line: &str) -> Result<usize, Fail> {
+fn judge_changes(alloc: Global, line: &str, counts: &mut Counts) -> Result<(), Fail> {
     let line = words_of(alloc, line)?;
-    holds(make_command(&line), "a line that is not read")?;
-    judge(alloc, &line)?;
-    let mut count = 1usize;
+    let is_accepted = judge(alloc, &line)?;
+    holds(is_accepted, "a line that is not read")?;
+    counts.count(is_accepted);
     for place in 1..line.len() {
-        judge(alloc, line.get(..place).ok_or("no beginning")?)?;
-        let more = judge_place(alloc, &line, place)?;
-        count = count.saturating_add(more).saturating_add(1);
+        let beginning = line.get(..place).ok_or("no beginning")?;
+        counts.count(judge(alloc, beginning)?);
+        judge_place(alloc, &line, place, counts)?;
     }
-    Ok(count)
+    Ok(())
 }
 
 #[test]
 fn changed_lines(rt: HostRuntime) -> Result<(), Fail> {
-    let mut count = 0usize;
+    let mut counts = Counts::new();
     for line in LINES.lines() {
-        let more = judge_changes(rt.alloc(), line)?;
-        count = count.saturating_add(more);
+        judge_changes(rt.alloc(), line, &mut counts)?;
     }
-    holds(count == CHANGED, "another number of lines")
+    counts.check(CHANGED)
 }
 
 /// The name of a subcommand, and random words behind it: as many as it needs, or one or two more.
@@ -324,7 +423,7 @@ fn random_line<'a>(
     Ok(line)
 }
 
-/// Judges a random line, and returns whether it makes a command.
+/// Judges a random line, and returns whether it is read.
 fn judge_random<'a>(
     alloc: Global,
     (names, words): (&[&'a str], &[&'a str]),
@@ -332,19 +431,16 @@ fn judge_random<'a>(
 ) -> Result<bool, Fail> {
     let name = one_of(numbers, names)?;
     let line = random_line(alloc, name, words, numbers)?;
-    judge(alloc, &line)?;
-    Ok(make_command(&line))
+    judge(alloc, &line)
 }
 
 #[test]
 fn random_lines(rt: HostRuntime) -> Result<(), Fail> {
     let mut numbers = Numbers::new(5);
     let words = words_of(rt.alloc(), PUT_IN)?;
-    let mut taken = 0usize;
-    for _ in 0..RANDOM {
-        if judge_random(rt.alloc(), (NAMES, &words), &mut numbers)? {
-            taken = taken.saturating_add(1);
-        }
+    let mut counts = Counts::new();
+    for _ in 0..RANDOM.judged {
+        counts.count(judge_random(rt.alloc(), (NAMES, &words), &mut numbers)?);
     }
-    holds(taken >= TAKEN, "too few lines that make a command")
+    counts.check(RANDOM)
 }

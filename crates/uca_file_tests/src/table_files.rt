@@ -300,7 +300,8 @@ fn many_rows(alloc: Global) -> Result<String, AllocError> {
 }
 
 /// What follows 200,000 rows, and what is said. A key that stands already comes first.
-const AFTER_ROWS: &str = r"0061 ; [.0001.0001.0001]\n | line 200002: Limit
+const AFTER_ROWS: &str = r" | 0 ranges, 200000 rows
+0061 ; [.0001.0001.0001]\n | line 200002: Limit
 0061 0061 ; [.0001.0001.0001]\n | line 200002: DuplicateKey";
 
 #[test]

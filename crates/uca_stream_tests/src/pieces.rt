@@ -5,7 +5,7 @@ use crate::paces::{
 };
 use std::alloc::{AllocError, Global};
 use std::test::Fail;
-use uca_fakes::{Pace, holds};
+use uca_fakes::{Pace, holds, repeated};
 use uca_trials::{Run, push_key};
 
 /// How many bytes a call gives or takes at most. The last gives or takes all.
@@ -155,4 +155,25 @@ fn keys_about_the_size_of_the_buffer(rt: HostRuntime) -> Result<(), Fail> {
     check_key_size(rt.alloc(), 16_380, &[0, 0, 1090])?;
     check_key_size(rt.alloc(), 16_385, &[0, 1091])?;
     check_key_size(rt.alloc(), 32_770, &[2184])
+}
+
+// The keys of a million empty lines, and then the end of the run, where this stands behind the lines.
+fn check_million(alloc: Global, more: &str, end: &str) -> Result<(), Fail> {
+    let mut lines = repeated(alloc, "\n", 1_000_000)?;
+    lines.push_str(more)?;
+    let keys = repeated(alloc, "0000 0000\n", 1_000_000)?;
+    let case = Case {
+        end,
+        ..with_input(&KEYS, lines.as_bytes(), &keys)
+    };
+    let outcome = run_at(alloc, &case, [Pace::steps(usize::MAX); 4])?;
+    holds(is_whole(&case, &outcome), &outcome.end)
+}
+
+#[test]
+fn at_most_a_million_lines(rt: HostRuntime) -> Result<(), Fail> {
+    check_million(rt.alloc(), "", "done")?;
+    let limit = "input line 1000001: Limit, status 1";
+    check_million(rt.alloc(), "\n", limit)?;
+    check_million(rt.alloc(), "a", limit)
 }
