@@ -65,6 +65,11 @@ const REFUSED: &str = r"-- the form of the base, and of the tailored table
 0301 ; [.0000.0024. => 0301 ; [.0000.0020., 0323 ; [.0000.002C. => 0323 ; [.0000.0020. | . | . | . | refused 1 BaseIllFormed base row 6
 . | . | .1C48.0020. => .0000.0020. | . | refused 2 TailoredIllFormed tailored row 8
 . | . | .1C48.0020. => .0000.0020., 1 => 2 | . | refused 2 TailoredIllFormed tailored row 8
+-- of the rows that fail, the first one of the lowest condition of well-formedness, whatever an earlier row fails
+@version 1\n0061 0301 0300 ; [.1C47.0020.0002]\n0301 ; [.0000.0024.0002]\n | # | . | . | refused 1 BaseIllFormed base row 1
+@version 1\n0061 0301 0300 ; [.1C47.0020.0002]\n0301 ; [.0000.0020.0002]\n | # | . | . | refused 1 BaseIllFormed base row 2
+. | # | @version 1\n0061 0301 0300 ; [.1C47.0020.0002]\n0301 ; [.0000.0024.0002]\n | . | refused 2 TailoredIllFormed tailored row 1
+. | # | @version 1\n0061 0301 0300 ; [.1C47.0020.0002]\n0301 ; [.0000.0020.0002]\n | . | refused 2 TailoredIllFormed tailored row 2
 -- the header
 . | . | version 1 => version 2 | . | refused 3 Header
 . | . | FB00 => FB01 | . | refused 3 Header

@@ -4,7 +4,9 @@ use crate::files::CERTIFICATE;
 use std::alloc::Global;
 use std::io::Read;
 use std::test::Fail;
-use uca_audit::{CertificateFaultKind, read_certificate, write_certificate};
+use uca_audit::{
+    Certificate, CertificateFault, CertificateFaultKind, read_certificate, write_certificate,
+};
 use uca_fakes::{Calls, FakeWriter, Pace, bytes_of, halves, holds, is_remark, repeated, same};
 use uca_weights::{Sink, Source};
 
@@ -60,21 +62,32 @@ const CASES: &str = r"-- the least one, and runs of which each lies above the on
 2 0020 0020 0001\n3 0000 0001 0001\n | line 2: Map OutOfRange
 1 0001 0001 0000\n2 0020 | line 2: Line";
 
-/// What is said of the bytes. Where they are accepted they are written again.
-fn said<R: Read>(alloc: Global, source: &mut Source<R>, bytes: &[u8]) -> Result<String, Fail> {
-    let read = match read_certificate(alloc, source) {
-        Ok(read) => read,
-        Err(fault) if fault.kind == CertificateFaultKind::Memory => return Err(Fail::from(fault)),
-        Err(fault) => return Ok(format!(in alloc; "{fault}")?),
-    };
+/// The certificate is accepted: it is written as the bytes that it was read from.
+fn accepted(alloc: Global, read: &Certificate, bytes: &[u8]) -> Result<String, Fail> {
     let calls = Calls::new();
     let mut out = Sink::new(FakeWriter::new(alloc, Pace::steps(5), &calls));
-    write_certificate(&read, &mut out)?;
+    write_certificate(read, &mut out)?;
     holds(
         out.into_inner().text.as_slice() == bytes,
         "the text that is written",
     )?;
-    Ok(format!(in alloc; "accepted")?)
+    Ok(String::from_str(alloc, "accepted")?)
+}
+
+/// The fault. Where an allocation failed that is the error.
+fn refused(alloc: Global, fault: CertificateFault) -> Result<String, Fail> {
+    if fault.kind == CertificateFaultKind::Memory {
+        return Err(Fail::from(fault));
+    }
+    Ok(format!(in alloc; "{fault}")?)
+}
+
+/// What is said of the bytes. Where they are accepted they are written again.
+fn said<R: Read>(alloc: Global, source: &mut Source<R>, bytes: &[u8]) -> Result<String, Fail> {
+    match read_certificate(alloc, source) {
+        Ok(read) => accepted(alloc, &read, bytes),
+        Err(fault) => refused(alloc, fault),
+    }
 }
 
 fn check(alloc: Global, case: &str) -> Result<(), Fail> {

@@ -2,11 +2,12 @@
 
 use std::alloc::Global;
 use std::test::Fail;
-use uca_audit::{Certificate, audit, read_certificate};
-use uca_fakes::{DATA, TABLE, bytes_of, data_of, table_of};
+use uca_audit::{Certificate, audit, read_certificate, write_certificate};
+use uca_fakes::{DATA, TABLE, bytes_of, data_of, joined, table_of};
 use uca_rules::{Rules, read_rules};
+use uca_tailor::{TailorFault, TailorKind};
 use uca_values::{Data, Table};
-use uca_weights::Source;
+use uca_weights::{Sink, Source};
 
 /// The first rules.
 pub const RULES: &str = "&a < x";
@@ -42,17 +43,17 @@ fn unescaped(alloc: Global, field: &str) -> Result<String, Fail> {
 /// A text with one change: `+LINE` adds a line, `-LINE` takes one away, `OLD => NEW` puts one text in place of another.
 fn changed(alloc: Global, text: &str, change: &str) -> Result<String, Fail> {
     if let Some(line) = change.strip_prefix("+") {
-        return Ok(format!(in alloc; "{text}{line}\n")?);
+        return Ok(joined(alloc, &[text, line, "\n"])?);
     }
     if let Some(line) = change.strip_prefix("-") {
         let (front, rest) = text.split_once(line).ok_or("no such line")?;
         let (_, rest) = rest.split_once("\n").ok_or("no end of line")?;
-        return Ok(format!(in alloc; "{front}{rest}")?);
+        return Ok(joined(alloc, &[front, rest])?);
     }
     let (old, new) = change.split_once(" => ").ok_or("no change")?;
     let (front, rest) = text.split_once(old).ok_or("nothing to change")?;
     let new = unescaped(alloc, new)?;
-    Ok(format!(in alloc; "{front}{new}{rest}")?)
+    Ok(joined(alloc, &[front, &new, rest])?)
 }
 
 /// A text with changes, which `, ` parts; none where the field is `.`, and another text where it begins as a table does.
@@ -60,7 +61,7 @@ fn edited(alloc: Global, text: &str, field: &str) -> Result<Vec<u8>, Fail> {
     if field.starts_with("@version") {
         return Ok(bytes_of(alloc, field)?);
     }
-    let mut text = format!(in alloc; "{text}")?;
+    let mut text = String::from_str(alloc, text)?;
     if field != "." {
         for change in field.split(", ") {
             text = changed(alloc, &text, change)?;
@@ -69,24 +70,61 @@ fn edited(alloc: Global, text: &str, field: &str) -> Result<Vec<u8>, Fail> {
     Ok(text.into_bytes())
 }
 
-fn table(alloc: Global, bytes: &[u8]) -> Result<Table, Fail> {
-    Ok(table_of(alloc, &mut Source::new(bytes))?)
+/// The table of a text with changes.
+fn table(alloc: Global, text: &str, field: &str) -> Result<Table, Fail> {
+    let bytes = edited(alloc, text, field)?;
+    Ok(table_of(alloc, &mut Source::new(bytes.as_slice()))?)
+}
+
+/// The tailored table of a case.
+fn tailored_table(alloc: Global, field: &str) -> Result<Table, Fail> {
+    let text = joined(alloc, &[TABLE, ROW])?;
+    table(alloc, &text, field)
+}
+
+/// The certificate of a case.
+fn certificate_of(alloc: Global, field: &str) -> Result<Certificate, Fail> {
+    let bytes = edited(alloc, CERTIFICATE, field)?;
+    Ok(read_certificate(alloc, &mut Source::new(bytes.as_slice()))?)
+}
+
+/// What a tailoring is made of: the base, the properties and the rules of a case.
+fn given(alloc: Global, base: &str, rules: &str) -> Result<(Table, Data, Rules), Fail> {
+    let rules = if rules == "." { RULES } else { rules };
+    let data = data_of(alloc, &mut Source::new(DATA.as_bytes()))?;
+    let rules = read_rules(alloc, rules.as_bytes(), &data)?;
+    let base = table(alloc, TABLE, base)?;
+    Ok((base, data, rules))
 }
 
 /// The files that the fields of a case stand for: the base, the rules, the tailored table, the certificate.
 pub fn files_of(alloc: Global, fields: [&str; 4]) -> Result<Files, Fail> {
     let [base, rules, tailored, certificate] = fields;
-    let rules = if rules == "." { RULES } else { rules };
-    let with_row = format!(in alloc; "{TABLE}{ROW}")?;
-    let data = data_of(alloc, &mut Source::new(DATA.as_bytes()))?;
-    let certificate = edited(alloc, CERTIFICATE, certificate)?;
+    let tailored = tailored_table(alloc, tailored)?;
+    let certificate = certificate_of(alloc, certificate)?;
+    let (base, data, rules) = given(alloc, base, rules)?;
     Ok(Files {
-        base: table(alloc, &edited(alloc, TABLE, base)?)?,
-        rules: read_rules(alloc, rules.as_bytes(), &data)?,
-        tailored: table(alloc, &edited(alloc, &with_row, tailored)?)?,
-        certificate: read_certificate(alloc, &mut Source::new(certificate.as_slice()))?,
+        base,
         data,
+        rules,
+        tailored,
+        certificate,
     })
+}
+
+/// The text of a certificate.
+pub fn certificate_text(alloc: Global, certificate: &Certificate) -> Result<String, Fail> {
+    let mut text = Sink::new(Vec::new(alloc));
+    write_certificate(certificate, &mut text)?;
+    Ok(String::from_utf8(text.into_inner())?)
+}
+
+/// Why there is no plan. Where an allocation failed that is the error.
+pub fn no_plan(alloc: Global, fault: TailorFault) -> Result<String, Fail> {
+    if fault.kind == TailorKind::Memory {
+        return Err(Fail::from(fault));
+    }
+    Ok(format!(in alloc; "{fault}")?)
 }
 
 /// The verdict of an audit. Where an allocation failed that is the error.
@@ -99,7 +137,7 @@ pub fn verdict(alloc: Global, files: &Files) -> Result<String, Fail> {
         certificate,
     } = files;
     match audit(alloc, base, data, rules, tailored, certificate) {
-        Ok(()) => Ok(format!(in alloc; "accepted")?),
+        Ok(()) => Ok(String::from_str(alloc, "accepted")?),
         Err(fault) if fault.number == 12 => Err(Fail::from(fault)),
         Err(fault) => Ok(format!(in alloc; "{fault}")?),
     }

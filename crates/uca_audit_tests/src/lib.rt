@@ -11,6 +11,8 @@ mod files;
 #[cfg(test)]
 mod full_levels;
 #[cfg(test)]
+mod full_tables;
+#[cfg(test)]
 mod maps;
 #[cfg(test)]
 mod plans;

@@ -117,6 +117,11 @@ fn said(alloc: Global, files: &Files, texts: &str) -> Result<String, Fail> {
     let (left, right) = texts.split_once(" / ").ok_or("two texts")?;
     let left = normal(alloc, left, &files.data)?;
     let right = normal(alloc, right, &files.data)?;
+    said_of_pair(alloc, files, &[left, right])
+}
+
+/// What is said of two texts under both tables.
+fn said_of_pair(alloc: Global, files: &Files, pair: &[Normal; 2]) -> Result<String, Fail> {
     let base = Trie::new(alloc, &files.base)?;
     let tailored = Trie::new(alloc, &files.tailored)?;
     let old = Reading {
@@ -129,7 +134,7 @@ fn said(alloc: Global, files: &Files, texts: &str) -> Result<String, Fail> {
         table: &files.tailored,
         trie: &tailored,
     };
-    said_of(alloc, [old, new], &[left, right])
+    said_of(alloc, [old, new], pair)
 }
 
 fn check(alloc: Global, case: &str) -> Result<(), Fail> {
