@@ -157,17 +157,20 @@ fn keys_about_the_size_of_the_buffer(rt: HostRuntime) -> Result<(), Fail> {
     check_key_size(rt.alloc(), 32_770, &[2184])
 }
 
+// The keys of these lines, and the end of the run.
+fn check_end<'a>(alloc: Global, lines: &'a str, keys: &'a str, end: &'a str) -> Result<(), Fail> {
+    let whole = with_input(&KEYS, lines.as_bytes(), keys);
+    let case = Case { end, ..whole };
+    let outcome = run_at(alloc, &case, [Pace::steps(usize::MAX); 4])?;
+    holds(is_whole(&case, &outcome), &outcome.end)
+}
+
 // The keys of a million empty lines, and then the end of the run, where this stands behind the lines.
 fn check_million(alloc: Global, more: &str, end: &str) -> Result<(), Fail> {
     let mut lines = repeated(alloc, "\n", 1_000_000)?;
     lines.push_str(more)?;
     let keys = repeated(alloc, "0000 0000\n", 1_000_000)?;
-    let case = Case {
-        end,
-        ..with_input(&KEYS, lines.as_bytes(), &keys)
-    };
-    let outcome = run_at(alloc, &case, [Pace::steps(usize::MAX); 4])?;
-    holds(is_whole(&case, &outcome), &outcome.end)
+    check_end(alloc, &lines, &keys, end)
 }
 
 #[test]
