@@ -47,7 +47,7 @@ pub record AddsOther (old : DataContent) (r : CodePointRange) (new : DataContent
   pub other : length new.other ≡ length old.other + 1
 
 -- Why a range is not added to the ranges of its kind, of which there are `count`: it is empty; one of its
--- code points has the property that it gives; there are enough ranges; or a growth was refused.
+-- code points has the property that it gives; there are enough ranges; or an allocation failed.
 abbrev pub RefusesRange : (ℕ → ℕ → Type 0) → ℕ → ℕ → ℕ → RangeFault → Type 0
 RefusesRange HasBetween count first last faults.Empty = last < first
 RefusesRange HasBetween count first last faults.Overlap = (first ≤ last) × HasBetween first last

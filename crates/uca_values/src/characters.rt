@@ -47,7 +47,7 @@ pub enum RangeFault {
     /// There are 4,096 ranges of its kind.
     #[error("there are too many ranges")]
     Limit,
-    /// A growth was refused.
+    /// An allocation failed.
     #[error("out of memory")]
     Memory,
 }
@@ -71,7 +71,7 @@ impl<A: Allocator> Data<A> {
     /// # Errors
     ///
     /// The range stays out, and nothing changes, if it is empty, if one of its code points has a class
-    /// already, if there are 4,096 ranges with a class, or if a growth is refused.
+    /// already, if there are 4,096 ranges with a class, or if an allocation fails.
     pub fn add_class(&mut self, range: ClassRange) -> Result<(), RangeFault>
         requires { IsClass range.class }
         ensures added { OnOk result (AddsClass self.old range self.new) }
@@ -97,8 +97,8 @@ impl<A: Allocator> Data<A> {
     /// # Errors
     ///
     /// The range stays out, and nothing changes, if it is empty, if one of its code points is core Han or
-    /// another unified ideograph already, if there are 4,096 ranges of core Han, or if a growth is
-    /// refused.
+    /// another unified ideograph already, if there are 4,096 ranges of core Han, or if an allocation
+    /// fails.
     pub fn add_core(&mut self, range: CodePointRange) -> Result<(), RangeFault>
         ensures added { OnOk result (AddsCore self.old range self.new) }
         ensures refused { IfErr result (λ fault. (self.new ≡ self.old) × RefusesCore self.old range fault) }
