@@ -13,7 +13,7 @@ use Rattle.uca_tailorings.specs.Images.{map_of}
 use Rattle.uca_tailorings.specs.Tailorings.{IsPairWeight, IsKnownWeight, IsImageOfBase}
 use Rattle.uca_tailorings.proofs.Members.{each_contained}
 use Rattle.uca_tailorings.proofs.Nearest.{IsHigh}
-use Rattle.uca_audit.proofs.KnownImages.{element_of_row}
+use Rattle.uca_check.proofs.RowElements.{element_of_row}
 use Rattle.uca_plans.specs.declared.drafts.DraftWeight.{DraftWeight}
 use Rattle.uca_plans.specs.declared.drafts.DraftWeight.TheVariants.{Base}
 use Rattle.uca_plans.specs.Lists.{top_weight}

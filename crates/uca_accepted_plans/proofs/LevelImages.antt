@@ -13,7 +13,7 @@ use Rattle.uca_values.specs.Content.{TableContent, Properties, Fits}
 use Rattle.uca_check.specs.WellFormed.{elements_of}
 use Rattle.uca_rules.specs.declared.relations.Relation.{Relation}
 use Rattle.uca_tailorings.specs.Images.{map_of, Maps, IsImage}
-use Rattle.uca_audit.specs.Inputs.{maps_of}
+use Rattle.uca_tailorings.specs.Inputs.{maps_of}
 use Rattle.uca_weights.specs.declared.Element.{Element}
 use Rattle.uca_plans.specs.declared.drafts.DraftWeight.{DraftWeight}
 use Rattle.uca_plans.specs.declared.drafts.DraftWeight.TheVariants.{Base, New}

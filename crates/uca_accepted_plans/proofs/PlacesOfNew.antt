@@ -8,7 +8,7 @@ use Rattle.uca_check.specs.WellFormed.{elements_of}
 use Rattle.uca_rules.specs.declared.relations.Relation.{Relation}
 use Rattle.uca_tailorings.specs.Tailorings.{IsPlacedAt, IsNewWeight, IsBetween}
 use Rattle.uca_tailorings.proofs.Relating.{one_new}
-use Rattle.uca_audit.proofs.PlacedWeights.{one_old}
+use Rattle.uca_tailorings.proofs.Relating.{one_old}
 use Rattle.uca_plans.specs.declared.drafts.DraftWeight.{DraftWeight}
 use Rattle.uca_plans.specs.declared.drafts.DraftWeight.TheVariants.{Base, New}
 use Rattle.uca_plans.specs.Lists.{Insertion, inserted, all_inserted}

@@ -7,7 +7,7 @@ use Rattle.uca_rules.specs.Relations.{AreRules}
 use Rattle.uca_tailorings.specs.declared.conditions.Condition.{Condition}
 use Rattle.uca_tailorings.specs.Tailorings.{Tailoring, IsTailoring, Meets}
 use Rattle.uca_tailorings.specs.Meaning.{IsFaithful}
-use Rattle.uca_audit.specs.Inputs.{tailoring_of}
+use Rattle.uca_tailorings.specs.Inputs.{tailoring_of}
 use Rattle.uca_plans.specs.Plans.{Plan, planned}
 use Rattle.uca_plans.specs.Tailors.{basis_of, table_of, certificate_of}
 

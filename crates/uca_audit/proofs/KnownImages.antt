@@ -13,6 +13,7 @@ use Rattle.uca_weights.specs.Runs.{weight_image, MapContent}
 use Rattle.uca_values.specs.Content.{Entry}
 use Rattle.uca_check.specs.WellFormed.{elements_of}
 use Rattle.uca_check.proofs.Elements.{taken_more}
+use Rattle.uca_check.proofs.RowElements.{none_contained, row_of_element, element_of_row}
 use Rattle.uca_tailorings.specs.Images.{Maps, map_of}
 use Rattle.uca_tailorings.specs.Tailorings.{Tailoring, IsPairWeight}
 use Rattle.uca_audit.specs.WeightSets.{Flags, HasWeight}
@@ -20,29 +21,6 @@ use Rattle.uca_audit.specs.KnownWeights.{IsImageOf, HoldsImages}
 use Rattle.uca_audit.specs.NewWeights.{HoldsKnown}
 
 -- ---- Elements of rows
-
--- an empty list has no element
-none_contained : {X : Type 0} (x : X) → ¬ (Contains [] x)
-none_contained x (k, within, there) = absurd (omega arith)
-
--- an element of all rows is one of a row
-row_of_element : (rows : List Entry) (e : Element) → Contains (elements_of rows) e → (row : Entry) × Contains rows row × Contains row.elements e
-row_of_element [] e is = absurd (none_contained e is)
-row_of_element (r ∷ rows) e is = ⊎_elim
-    (λ here. (r, Contains-append_left (r ∷ []) rows r (Contains-push [] r), here))
-    (λ later. let (row, is_row, there) = row_of_element rows e later in (row, Contains-append_right (r ∷ []) rows row is_row, there))
-    (Contains-append_cases r.elements (elements_of rows) e is)
-
--- and an element of a row is one of all rows
-pub element_of_row : (rows : List Entry) (row : Entry) (e : Element) → Contains rows row → Contains row.elements e → Contains (elements_of rows) e
-element_of_row [] row e is there = absurd (none_contained row is)
-element_of_row (r ∷ rows) row e is there = ⊎_elim
-    (λ first. ⊎_elim
-    (λ none. absurd (none_contained row none))
-    (λ same. Contains-append_left r.elements (elements_of rows) e (subst (λ s. Contains s.elements e) (sym same) there))
-    (Contains-push_cases [] r row first))
-    (λ later. Contains-append_right r.elements (elements_of rows) e (element_of_row rows row e later there))
-    (Contains-append_cases (r ∷ []) rows row is)
 
 -- the elements of one more row
 pub row_more : (rows : List Entry) (i n : ℕ) (row : Entry) (items : List Element) → i < length rows → row ≡ get_or rows i row →

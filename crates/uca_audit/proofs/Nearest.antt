@@ -15,7 +15,8 @@ use Rattle.uca_audit.specs.Views.{IsPlacement}
 use Rattle.uca_audit.specs.WeightSets.{Flags, HasWeight, HasBetween}
 use Rattle.uca_audit.specs.NewWeights.{puts, HoldsKnown, HoldsKnownAndNew, IsNearestPlacement}
 use Rattle.uca_audit.proofs.Passes.{in_step, AllBelow, below_one_more, first_here}
-use Rattle.uca_audit.proofs.PlacedWeights.{one_old, placed_there, puts_there, puts_new}
+use Rattle.uca_tailorings.proofs.Relating.{one_old}
+use Rattle.uca_audit.proofs.PlacedWeights.{placed_there, puts_there, puts_new}
 
 -- the known weights alone
 pub known_alone : (tailoring : Tailoring) (set : Flags) → HoldsKnown tailoring set → HoldsKnownAndNew tailoring [] set

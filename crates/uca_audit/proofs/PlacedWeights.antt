@@ -10,20 +10,12 @@ use Rattle.uca_weights.specs.declared.Level.TheVariants.{One, Two, Three}
 use Rattle.uca_weights.specs.Levels.{weight, level_number, level_of}
 use Rattle.uca_rules.specs.declared.relations.Relation.{Relation}
 use Rattle.uca_tailorings.specs.Tailorings.{Tailoring, IsPlacedAt, IsNewWeight}
-use Rattle.uca_tailorings.proofs.Relating.{one_anchor, one_new}
+use Rattle.uca_tailorings.proofs.Relating.{one_new}
 use Rattle.uca_audit.specs.declared.placements.Placement.{Placement}
 use Rattle.uca_audit.specs.Views.{IsPlacement, IsPlacementBy}
 use Rattle.uca_audit.specs.NewWeights.{is_level, puts, times_new}
 
 -- ---- One placement
-
--- a relation puts its new weight in the place of one old one
-pub one_old : (tailoring : Tailoring) (r : Relation) (level : Level) (old new was now : ℕ) → IsPlacedAt tailoring r level old new →
-    IsPlacedAt tailoring r level was now → old ≡ was
-one_old tailoring r level old new was now at also =
-    let parts = one_anchor level at.before also.before at.last also.last at.trailing also.trailing (sym at.anchor.whole ∙ also.anchor.whole)
-    at.anchor.silent also.anchor.silent at.anchor.sounds also.anchor.sounds in
-    sym at.old_weight ∙ ap (weight level) parts.1 ∙ also.old_weight
 
 -- a relation that puts a new weight at a level is placed there
 pub placed_there : (tailoring : Tailoring) (r : Relation) (p : Placement) (level : Level) (old new : ℕ) → IsPlacement tailoring r p →

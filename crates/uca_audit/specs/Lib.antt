@@ -1,4 +1,3 @@
-pub mod Inputs
 pub mod Refusals
 pub mod FaultText
 pub mod Views

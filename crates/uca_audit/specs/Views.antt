@@ -7,7 +7,7 @@ use Rattle.uca_rules.specs.declared.relations.Relation.{Relation}
 use Rattle.uca_tailorings.specs.Tailorings.{Tailoring, IsPlacedAt}
 use Rattle.uca_audit.specs.declared.inputs.Inputs.{Inputs}
 use Rattle.uca_audit.specs.declared.placements.Placement.{Placement}
-use Rattle.uca_audit.specs.Inputs.{tailoring_of}
+use Rattle.uca_tailorings.specs.Inputs.{tailoring_of}
 use Rattle.uca_audit.specs.Refusals.{IsFirstRelationWithout}
 
 -- the tailoring that is handed in

@@ -5,7 +5,7 @@ ghost use Rattle.uca_values.specs.Content.{properties_of, IsHeader, IsTable};
 ghost use Rattle.uca_tailorings.specs.Images.{AreRisingMaps};
 ghost use Rattle.uca_tailorings.specs.Tailorings.{IsTailoring, IsAccepted};
 ghost use Rattle.uca_tailorings.specs.Meaning.{IsFaithful};
-ghost use Rattle.uca_audit.specs.Inputs.{maps_of, tailoring_of};
+ghost use Rattle.uca_tailorings.specs.Inputs.{maps_of, tailoring_of};
 ghost use Rattle.uca_audit.specs.Views.{tailoring_in};
 ghost use Rattle.uca_audit.specs.Refusals.{IsFirstRefusal, IsMemory};
 ghost use Rattle.uca_audit.specs.Chaining.{FindsRowsOf, MeetsBelow, Passes};

@@ -6,7 +6,7 @@ ghost use Rattle.uca_weights.specs.declared.Level.{Level};
 ghost use Rattle.uca_weights.specs.Runs.{weight_image};
 ghost use Rattle.uca_check.specs.WellFormed.{elements_of};
 ghost use Rattle.uca_tailorings.specs.Tailorings.{IsPairWeight};
-ghost use Rattle.uca_audit.specs.Inputs.{maps_of};
+ghost use Rattle.uca_tailorings.specs.Inputs.{maps_of};
 ghost use Rattle.uca_audit.specs.Views.{tailoring_in};
 ghost use Rattle.uca_audit.specs.WeightSets.{HasWeight};
 ghost use Rattle.uca_audit.specs.KnownWeights.{HoldsImages, IsImageOf};

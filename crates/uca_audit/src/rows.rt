@@ -6,7 +6,7 @@ ghost use Rattle.uca_check.specs.Searches.{FindsFirstWithout};
 ghost use Rattle.uca_match.specs.Rows.{IsKey};
 ghost use Rattle.uca_tailorings.specs.Images.{IsImage, AreImages};
 ghost use Rattle.uca_tailorings.specs.Tailorings.{IsCovered, IsCoveredRow, IsUnchangedRow, IsPresentRow, IsPresentTarget, IsExpectedRow};
-ghost use Rattle.uca_audit.specs.Inputs.{maps_of};
+ghost use Rattle.uca_tailorings.specs.Inputs.{maps_of};
 ghost use Rattle.uca_audit.specs.Views.{FindsFirstRelation, tailoring_in};
 ghost use Rattle.uca_audit.specs.Chaining.{AreTargetsOf, FindsRowsOf};
 

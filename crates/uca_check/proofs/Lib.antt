@@ -6,3 +6,4 @@ pub mod Raised
 pub mod Spans
 pub mod Keyed
 pub mod Faults
+pub mod WellFormedLemmas

@@ -9,7 +9,7 @@ use Rattle.uca_rules.specs.Meaning as rule_files
 use Rattle.uca_certificates.specs.Certificates.{CertificateContent}
 use Rattle.uca_certificates.specs.Texts as certificates
 use Rattle.uca_tailorings.specs.Tailorings.{Tailoring}
-use Rattle.uca_audit.specs.Inputs.{tailoring_of}
+use Rattle.uca_tailorings.specs.Inputs.{tailoring_of}
 use Rattle.uca_cli.specs.declared.faults.FileFault.{FileFault}
 use Rattle.uca_cli.specs.declared.faults.RunFault.{RunFault}
 use Rattle.uca_cli.specs.declared.faults.Role.{Role}

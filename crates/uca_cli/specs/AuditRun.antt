@@ -14,7 +14,7 @@ use Rattle.uca_certificates.specs.Texts as certificates
 use Rattle.uca_tailorings.specs.Tailorings.{Tailoring, IsAccepted}
 use Rattle.uca_tailorings.specs.Meaning.{IsFaithful}
 use Rattle.uca_audit.specs.declared.faults.AuditFault.{AuditFault}
-use Rattle.uca_audit.specs.Inputs.{tailoring_of}
+use Rattle.uca_tailorings.specs.Inputs.{tailoring_of}
 use Rattle.uca_audit.specs.Refusals.{IsFirstRefusal}
 use Rattle.uca_audit.specs.FaultText.{audit_fault_text}
 use Rattle.uca_cli.specs.declared.faults.FileFault.{FileFault}

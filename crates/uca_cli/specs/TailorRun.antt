@@ -13,7 +13,7 @@ use Rattle.uca_certificates.specs.Certificates.{CertificateContent}
 use Rattle.uca_certificates.specs.Texts.{certificate_text}
 use Rattle.uca_tailorings.specs.Tailorings.{IsAccepted}
 use Rattle.uca_tailorings.specs.Meaning.{IsFaithful}
-use Rattle.uca_audit.specs.Inputs.{tailoring_of}
+use Rattle.uca_tailorings.specs.Inputs.{tailoring_of}
 use Rattle.uca_plans.specs.declared.faults.TailorFault.{TailorFault}
 use Rattle.uca_plans.specs.declared.faults.TailorKind.{TailorKind}
 use Rattle.uca_plans.specs.declared.faults.TailorKind.TheVariants as kinds

@@ -4,7 +4,7 @@ ghost use Rattle.std.specs.Prelude.{◌≡◌, ◌++◌, ◌∷◌, [], ◌||◌
 ghost use Rattle.uca_values.specs.Content.{properties_of};
 ghost use Rattle.uca_tailorings.specs.Tailorings.{IsAccepted};
 ghost use Rattle.uca_audit.specs.FaultText.{audit_fault_text};
-ghost use Rattle.uca_audit.specs.Inputs.{tailoring_of};
+ghost use Rattle.uca_tailorings.specs.Inputs.{tailoring_of};
 ghost use Rattle.uca_cli.specs.AuditRun.{AcceptsAccepted, AcceptsOrStops, AuditHasFailed, AuditsOver, RunsAudit, audit_sources};
 ghost use Rattle.uca_cli.specs.Runs.{is_before_output, is_file, is_write};
 

@@ -8,7 +8,7 @@ use Rattle.uca_rules.specs.Relations.{AreRules}
 use Rattle.uca_certificates.specs.Certificates.{CertificateContent}
 use Rattle.uca_tailorings.specs.Tailorings.{IsAccepted}
 use Rattle.uca_tailorings.specs.Meaning.{IsFaithful}
-use Rattle.uca_audit.specs.Inputs.{tailoring_of}
+use Rattle.uca_tailorings.specs.Inputs.{tailoring_of}
 use Rattle.uca_plans.specs.declared.faults.TailorFault.{TailorFault}
 use Rattle.uca_plans.specs.Tailors.{plan_in, table_of, IsPlanOf, TailorRefuses}
 use Rattle.uca_accepted_plans.specs.Accepted.{PlansAreAccepted, PlansAreFaithful, IsPlanFor}

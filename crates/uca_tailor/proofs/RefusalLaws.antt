@@ -6,7 +6,7 @@ use Rattle.std.specs.Result.{is_ok}
 use Rattle.uca_values.specs.Content.{Entry, TableContent, Properties}
 use Rattle.uca_check.specs.declared.IllFormed.{IllFormed}
 use Rattle.uca_check.specs.WellFormed.{IsWellFormed, IsFirstFailure, elements_of}
-use Rattle.uca_audit.proofs.NotAccepted.{no_form_fails}
+use Rattle.uca_check.proofs.WellFormedLemmas.{no_form_fails}
 use Rattle.uca_rules.specs.declared.relations.Relation.{Relation}
 use Rattle.uca_weights.specs.declared.Level.TheVariants.{One, Two, Three}
 use Rattle.uca_plans.specs.declared.drafts.DraftWeight.TheVariants.{New}

@@ -6,7 +6,7 @@ ghost use Rattle.uca_check.specs.WellFormed.{IsWellFormed};
 ghost use Rattle.uca_tailorings.specs.Tailorings.{IsAccepted};
 ghost use Rattle.uca_tailorings.specs.Meaning.{IsFaithful};
 ghost use Rattle.uca_certificates.specs.Certificates.{CertificateContent};
-ghost use Rattle.uca_audit.specs.Inputs.{tailoring_of};
+ghost use Rattle.uca_tailorings.specs.Inputs.{tailoring_of};
 ghost use Rattle.uca_plans.specs.Tailors.{IsPlanOf, TailorRefuses};
 
 use crate::plan::plan;

@@ -127,3 +127,11 @@ one_new tailoring r level old new was now at also =
     append_cancel_left at.before (reweighted level new at.last ∷ expansion) (reweighted level now at.last ∷ expansion) same_front in
     let changed : reweighted level new at.last ≡ reweighted level now at.last = cc in
     sym (weight_of_new level new at.last) ∙ ap (weight level) changed ∙ weight_of_new level now at.last
+
+-- a relation puts its new weight in the place of one old one
+pub one_old : (tailoring : Tailoring) (r : Relation) (level : Level) (old new was now : ℕ) → IsPlacedAt tailoring r level old new →
+    IsPlacedAt tailoring r level was now → old ≡ was
+one_old tailoring r level old new was now at also =
+    let parts = one_anchor level at.before also.before at.last also.last at.trailing also.trailing (sym at.anchor.whole ∙ also.anchor.whole)
+    at.anchor.silent also.anchor.silent at.anchor.sounds also.anchor.sounds in
+    sym at.old_weight ∙ ap (weight level) parts.1 ∙ also.old_weight

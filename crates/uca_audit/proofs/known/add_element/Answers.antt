@@ -2,7 +2,7 @@
 use Rattle.std.proofs.Common.{ap}
 use Rattle.uca_weights.specs.declared.Level.TheVariants.{One, Two, Three}
 use Rattle.uca_certificates.specs.Certificates.{CertificateContent}
-use Rattle.uca_audit.specs.Inputs.{maps_of}
+use Rattle.uca_tailorings.specs.Inputs.{maps_of}
 use Rattle.uca_audit.proofs.KnownImages.{images_more, adds_by_map}
 use Rattle.uca_audit.proofs.known.add_element.Goals as goal
 

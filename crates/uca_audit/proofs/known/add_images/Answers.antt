@@ -4,7 +4,7 @@ use Rattle.std.proofs.lemmas.List.{append-nil, take_all}
 use Rattle.uca_values.specs.Content.{Entry}
 use Rattle.uca_check.specs.WellFormed.{elements_of}
 use Rattle.uca_check.proofs.Elements.{behind_more}
-use Rattle.uca_audit.specs.Inputs.{maps_of}
+use Rattle.uca_tailorings.specs.Inputs.{maps_of}
 use Rattle.uca_audit.specs.KnownWeights.{HoldsImages}
 use Rattle.uca_audit.proofs.KnownImages.{row_more}
 use Rattle.uca_audit.proofs.known.add_images.Goals as goal

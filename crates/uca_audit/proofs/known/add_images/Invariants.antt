@@ -1,7 +1,7 @@
 -- The set has the images of the elements so far.
 use Rattle.std.proofs.Common.{take, ◌++◌}
 use Rattle.uca_check.specs.WellFormed.{elements_of}
-use Rattle.uca_audit.specs.Inputs.{maps_of}
+use Rattle.uca_tailorings.specs.Inputs.{maps_of}
 use Rattle.uca_audit.specs.KnownWeights.{HoldsImages}
 use Rattle.uca_audit.proofs.known.add_images.Given as goal
 

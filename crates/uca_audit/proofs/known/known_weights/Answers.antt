@@ -2,7 +2,7 @@
 use Rattle.std.proofs.Common.{ap, subst, ◌∙◌}
 use Rattle.uca_values.specs.Content.{TableContent}
 use Rattle.uca_check.specs.WellFormed.{elements_of}
-use Rattle.uca_audit.specs.Inputs.{maps_of}
+use Rattle.uca_tailorings.specs.Inputs.{maps_of}
 use Rattle.uca_audit.specs.KnownWeights.{HoldsImages}
 use Rattle.uca_audit.specs.Views.{tailoring_in}
 use Rattle.uca_audit.proofs.KnownImages.{pairs_alone, known_of_images}

@@ -3,7 +3,7 @@ use Rattle.std.proofs.lemmas.Bool.{false≢true}
 use Rattle.std.proofs.lemmas.Iterator.{cases_from_all, YieldsList-from_slice, YieldsList-from_zip}
 use Rattle.uca_weights.specs.declared.Element.{Element}
 use Rattle.uca_tailorings.specs.Images.{IsImage}
-use Rattle.uca_audit.specs.Inputs.{maps_of}
+use Rattle.uca_tailorings.specs.Inputs.{maps_of}
 use Rattle.uca_audit.proofs.ImageLists.{images_length, images_tested}
 use Rattle.uca_audit.proofs.rows.are_images.Goals as goal
 

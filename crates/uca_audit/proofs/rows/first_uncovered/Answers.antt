@@ -5,7 +5,7 @@ use Rattle.uca_values.specs.Content.{TableContent, Entry}
 use Rattle.uca_check.proofs.Firsts.{first_found}
 use Rattle.uca_check.specs.Searches.{FindsFirstWithout}
 use Rattle.uca_tailorings.specs.Tailorings.{IsCovered}
-use Rattle.uca_audit.specs.Inputs.{maps_of}
+use Rattle.uca_tailorings.specs.Inputs.{maps_of}
 use Rattle.uca_audit.proofs.rows.first_uncovered.Goals as goal
 
 pub returns : goal.returns

@@ -2,7 +2,7 @@
 use Rattle.std.proofs.Common.{◌∙◌}
 use Rattle.std.proofs.lemmas.Result.{err_from_is_err_and}
 use Rattle.uca_values.specs.Content.{properties_of}
-use Rattle.uca_audit.specs.Inputs.{tailoring_of}
+use Rattle.uca_tailorings.specs.Inputs.{tailoring_of}
 use Rattle.uca_cli.proofs.Refusals.{accepted_by_none, of_condition, refusal_cut}
 use Rattle.uca_cli.proofs.audit.write_verdict.Goals as goal
 
