@@ -7,90 +7,36 @@ It loads the command `rt` of the kit, has each of its tasks count the user and s
 it starts, and changes nothing else: what `rt ci` prints comes first, and its status is the status. docs/GATE.md has
 the table that this prints last, and says what a yardstick is.
 """
-import importlib.machinery
-import importlib.util
 import os
-import shutil
-import subprocess
 import sys
-import threading
 import time
-from concurrent.futures import ThreadPoolExecutor
 
-TASK = threading.local()
-LOCK = threading.Lock()
-SECONDS, CLOCK = {}, {}
+import kit
+
 PARTS = ("proof", "tests", "edits")
-
-
-def load(path):
-    """The command `rt`, as a module."""
-    sys.path.insert(0, os.path.dirname(path))
-    loader = importlib.machinery.SourceFileLoader("rt", path)
-    module = importlib.util.module_from_spec(importlib.util.spec_from_loader("rt", loader))
-    loader.exec_module(module)
-    return module
-
-
-def counting_wait(self, flags):
-    """`Popen._try_wait` by wait4, which also says what the process and those that it waited for have used."""
-    try:
-        pid, status, used = os.wait4(self.pid, flags)
-    except ChildProcessError:
-        return self.pid, 0
-    if pid == self.pid:
-        key = getattr(TASK, "key", ("", "runs"))
-        with LOCK:
-            SECONDS[key] = SECONDS.get(key, 0.0) + used.ru_utime + used.ru_stime
-    return pid, status
-
-
-class Pool(ThreadPoolExecutor):
-    """A pool whose threads count for the task of the thread that hands them work."""
-
-    def submit(self, call, *given, **named):
-        key = getattr(TASK, "key", ("", "runs"))
-
-        def run(*given, **named):
-            TASK.key = key
-            return call(*given, **named)
-
-        return super().submit(run, *given, **named)
-
-
-def counted(key, call):
-    """The call of a task, whose thread counts for this crate and part while it runs."""
-
-    def run(given, jobs):
-        TASK.key, begun = key, time.time()
-        try:
-            return call(given, jobs)
-        finally:
-            CLOCK[key] = time.time() - begun
-            TASK.key = ("", "runs")
-
-    return run
+IDLE = ("", "runs")
+TIMES = kit.Times()
 
 
 def table():
-    sums = {part: sum(v for key, v in SECONDS.items() if key[1] == part) for part in (*PARTS, "runs")}
-    whole = {name: sum(SECONDS.get((name, part), 0.0) for part in PARTS) for name, _ in SECONDS if name}
+    seconds = TIMES.processor
+    sums = {part: sum(v for key, v in seconds.items() if key[1] == part) for part in (*PARTS, "runs")}
+    whole = {name: sum(seconds.get((name, part), 0.0) for part in PARTS) for name, _ in seconds if name}
     print("| Crate | library | tests | edits | together |\n|---|--:|--:|--:|--:|")
     for name in sorted(whole, key=lambda it: -whole[it]):
-        cells = " | ".join(f"{SECONDS.get((name, part), 0.0):.0f}" for part in PARTS)
+        cells = " | ".join(f"{seconds.get((name, part), 0.0):.0f}" for part in PARTS)
         print(f"| `{name}` | {cells} | {whole[name]:.0f} |")
     print("| all | " + " | ".join(f"{sums[part]:.0f}" for part in PARTS) + f" | {sum(sums.values()):.0f} |")
     print(f"processor seconds, user and system; running programs and tests took {sums['runs']:.0f} of them")
-    longest = sorted(CLOCK.items(), key=lambda it: -it[1])[:8]
-    print("longest on the clock: " + ", ".join(f"{name} {part} {seconds:.0f} s" for (name, part), seconds in longest))
+    longest = sorted(TIMES.clock.items(), key=lambda it: -it[1])[:8]
+    print("longest on the clock: " + ", ".join(f"{name} {part} {spent:.0f} s" for (name, part), spent in longest))
 
 
 def main():
-    rt = load(os.path.realpath(shutil.which("rt")))
-    subprocess.Popen._try_wait = counting_wait
-    rt.rtlib.ThreadPoolExecutor = Pool
+    rt = kit.load_rt()
+    TIMES.count(rt, IDLE)
     in_lanes = rt.in_lanes
-    rt.in_lanes = lambda tasks: in_lanes({key: (*task[:3], counted(key, task[3])) for key, task in tasks.items()})
+    rt.in_lanes = lambda tasks: in_lanes({key: (*task[:3], TIMES.task(key, IDLE, task[3])) for key, task in tasks.items()})
     begun = time.time()
     status = rt.ci()
     table()

@@ -6,31 +6,19 @@
 They have the form of the must-fail edits of `rt ci`, which tries those under crates/*/must-fail/ alone. Of each it
 says that the prover refuses it, as it must, or that it no longer applies, or NOT REFUSED: then the status is 1.
 """
-import importlib.machinery
-import importlib.util
 import os
-import shutil
 import sys
 
-TOP = os.path.dirname(os.path.dirname(os.path.realpath(__file__)))
-
-
-def load(path):
-    """The command `rt`, as a module."""
-    sys.path.insert(0, os.path.dirname(path))
-    loader = importlib.machinery.SourceFileLoader("rt", path)
-    module = importlib.util.module_from_spec(importlib.util.spec_from_loader("rt", loader))
-    loader.exec_module(module)
-    return module
+import kit
 
 
 def main(names):
-    rt = load(os.path.realpath(shutil.which("rt")))
-    os.chdir(TOP)
+    rt = kit.load_rt()
+    os.chdir(kit.TOP)
     rt.rtlib.guarded()
     status = 0
-    for crate in rt.rtlib.crates_below(TOP):
-        folder = f"{TOP}/tools/edits/{crate.name}"
+    for crate in rt.rtlib.crates_below(kit.TOP):
+        folder = f"{kit.TOP}/tools/edits/{crate.name}"
         if not os.path.isdir(folder) or names and crate.name not in names:
             continue
         edits = sorted(f"{folder}/{it}" for it in os.listdir(folder) if it.endswith(".edit"))

@@ -3,6 +3,7 @@
 
 use std::alloc::{AllocError, Global};
 use std::fs::File;
+use std::io::Write;
 use std::os::fd::AsRawFd;
 use std::process::ExitCode;
 use std::{env, fs, io};
@@ -31,28 +32,36 @@ impl Opens for Files<'_> {
 }
 
 fn main(rt: HostRuntime) -> ExitCode {
-    let Ok(_held) = hold_standard_streams(&rt) else {
-        return ExitCode::from(STREAM_FAILED);
-    };
+    match hold_standard_streams(&rt) {
+        Ok(_held) => ExitCode::from(run(&rt)),
+        Err(_) => ExitCode::from(STREAM_FAILED),
+    }
+}
+
+// Reads the words and runs the command over the standard streams.
+fn run(rt: &HostRuntime) -> u8 {
     let mut out = Sink::new(rt.stdout());
     let mut err = Sink::new(rt.stderr());
-    let Ok(given) = given_words(&rt) else {
-        return ExitCode::from(report(rt.alloc(), &RunFault::Memory, &mut out, &mut err));
-    };
-    let Ok(words) = words_of(rt.alloc(), &given) else {
-        return ExitCode::from(report(rt.alloc(), &RunFault::Memory, &mut out, &mut err));
-    };
-    let mut files = Files { rt: &rt };
-    let mut input = Source::new(rt.stdin());
-    let status = run_command(
-        rt.alloc(),
-        &mut files,
-        &words,
-        &mut input,
-        &mut out,
-        &mut err,
-    );
-    ExitCode::from(status)
+    match given_words(rt) {
+        Ok(given) => run_given(rt, &given, &mut out, &mut err),
+        Err(_) => report(rt.alloc(), &RunFault::Memory, &mut out, &mut err),
+    }
+}
+
+// Runs the command that these words ask for.
+fn run_given<O: Write, E: Write>(
+    rt: &HostRuntime,
+    given: &[String],
+    out: &mut Sink<O>,
+    err: &mut Sink<E>,
+) -> u8 {
+    match words_of(rt.alloc(), given) {
+        Ok(words) => {
+            let mut input = Source::new(rt.stdin());
+            run_command(rt.alloc(), &mut Files { rt }, &words, &mut input, out, err)
+        }
+        Err(_) => report(rt.alloc(), &RunFault::Memory, out, err),
+    }
 }
 
 // Opens a folder in place of each standard stream that is closed, and keeps it open: so no file that is

@@ -1,0 +1,127 @@
+#!/usr/bin/env python3
+"""Proves and builds the program `uca`: the short way to a first key.
+
+    tools/build.py [CRATE..]          for other crates than `uca`: proves them and the libraries below them
+
+The libraries are proved side by side, the longest chain first, each over the statements of those below it and not over
+their proofs, as `rt ci` proves them. So this takes half of the time of `rt run`, which goes from crate to crate. What an
+earlier run proved, and what has not changed since, is kept in crates/*/out. `rt ci` alone is the gate.
+
+The program is crates/uca/out/uca. The last line says how long it took; before it stands a line for each crate.
+"""
+import copy
+import hashlib
+import os
+import sys
+import tempfile
+import time
+
+import kit
+
+IDLE = ""
+
+
+def digest(folder):
+    """A sum of all files of a folder."""
+    found = hashlib.sha256()
+    for at, folders, files in os.walk(folder):
+        folders.sort()
+        for name in sorted(files):
+            with open(f"{at}/{name}", "rb") as it:
+                found.update(f"{at[len(folder):]}/{name}".encode() + hashlib.sha256(it.read()).digest())
+    return found.hexdigest()
+
+
+class Builder:
+    """Proves crates over the statements of the libraries below them."""
+
+    def __init__(self, rt):
+        self.rt, self.rtlib = rt, rt.rtlib
+        self.times, self.digests, self.begun = kit.Times(), {}, time.time()
+        self.times.count(rt, IDLE)
+
+    def stamp(self, crate):
+        """A sum of all that a crate is proved from: its sources, the kit, and the built libraries below it."""
+        sums = hashlib.sha256(repr(crate.said).encode())
+        for file in [f"{self.rtlib.KIT}/WHAT", *self.rtlib.files_of(crate.folder)]:
+            with open(file, "rb") as it:
+                sums.update(repr((file.replace(crate.folder, ""), it.read())).encode())
+        for below in sorted(crate.below(), key=lambda it: it.name):
+            if below.name not in self.digests:
+                self.digests[below.name] = digest(below.rlib)
+            sums.update(self.digests[below.name].encode())
+        return sums.hexdigest()
+
+    def made(self, crate):
+        """What a crate is built into, and the file beside it that says from what."""
+        path = crate.rlib if crate.makes_rlib() else f"{crate.folder}/out/{crate.name}"
+        return path, f"{os.path.dirname(path)}/{crate.name}.statements"
+
+    def prove(self, crate, jobs):
+        """Proves a crate from nothing, and returns whether it is proved."""
+        crate = copy.copy(crate)
+        path, kept = self.made(crate)
+        os.makedirs(f"{crate.folder}/out", exist_ok=True)
+        with tempfile.TemporaryFile("a+", errors="replace") as crate.out:
+            status = self.program(crate, jobs) if crate.is_program else crate.ci(["--jobs", str(jobs)], False)
+            crate.out.seek(0)
+            said = crate.out.read()
+        if status:
+            print(said, end="")
+            return False
+        with open(kept, "w", encoding="utf-8") as it:
+            it.write(self.stamp(crate))
+        return True
+
+    def program(self, crate, jobs):
+        """Proves a program and compiles it by LLVM."""
+        words = crate.words(["--jobs", str(jobs)], keeps=False)
+        with tempfile.TemporaryDirectory(prefix="build-") as room:
+            status = crate.prove(["check", *words, "-o", f"{room}/checked"])
+            for flag in ("--logic-built", "--jobs"):
+                at = words.index(flag)
+                words = [*words[:at], *words[at + 2 :]]
+            words += ["--crate-checked", f"{room}/checked", "--toolchain", f"{self.rtlib.KIT}/toolchain"]
+            return status or crate.compile_by("llvm", words, f"out/{crate.name}")
+
+    def work(self, crate, given, jobs):
+        if not all(given[it.name, "proof"] for it in crate.below()):
+            return False
+        path, kept = self.made(crate)
+        if os.path.exists(path) and self.rtlib.text_of(kept) == self.stamp(crate):
+            return True
+        is_proved = self.prove(crate, jobs)
+        seconds = self.times.processor.get(crate.name, 0.0)
+        print(f"{crate.name}: {'proved' if is_proved else 'NOT PROVED'}, {seconds:.0f} s of processor time, at {time.time() - self.begun:.0f} s", flush=True)
+        return is_proved
+
+
+def main(names):
+    rt = kit.load_rt()
+    os.chdir(kit.TOP)
+    rt.rtlib.guarded()
+    rt.Crate.cuts_libraries, rt.Crate.allowed, rt.rtlib.Crate = True, rt.handles_of(kit.TOP), rt.Crate
+    every = rt.rtlib.crates_below(kit.TOP)
+    unknown = {*names} - {it.name for it in every}
+    if unknown:
+        sys.exit(f"crates.txt names no crate {', '.join(sorted(unknown))}")
+    asked = [it for it in every if it.name in (names or ["uca"])]
+    crates = [it for it in every if it in asked or any(it in other.below() for other in asked)]
+    builder = Builder(rt)
+    held = rt.rtlib.lock(crates)
+
+    def task(crate):
+        work = lambda given, jobs: builder.work(crate, given, jobs)
+        return [(it.name, "proof") for it in crate.below()], crate.count(rb"\n"), rt.need(crate), builder.times.task(crate.name, IDLE, work)
+
+    proved = rt.in_lanes({(it.name, "proof"): task(it) for it in sorted(crates, key=lambda it: len(it.below()))})
+    seconds = time.time() - builder.begun
+    print(f"{sum(proved.values())} passed, {len(proved) - sum(proved.values())} failed, in {seconds:.0f} s, {sum(builder.times.processor.values()):.0f} s of processor time")
+    del held
+    return 0 if all(proved.values()) else 1
+
+
+if __name__ == "__main__":
+    if any(it.startswith("-") for it in sys.argv[1:]):
+        sys.exit(__doc__)
+    sys.exit(main(sys.argv[1:]))
