@@ -1,0 +1,20 @@
+//! Unicode collation (UTS #10) in one place: what a program needs to read a table, to make and compare sort keys, and to
+//! tailor a table. `docs/LIBRARY.md` shows its use by five short programs.
+#![tactic(auto)]
+
+mod collate;
+mod settings;
+
+pub use collate::Collate;
+pub use settings::Settings;
+pub use uca_audit::{AuditFault, Place, audit};
+pub use uca_certificates::{Certificate, CertificateFault, read_certificate, write_certificate};
+pub use uca_key::{Compared, KeyBuffer, compare, compare_keys, key, level_count};
+pub use uca_match::{Collator, Elements, Lookup, RowList, Trie, row_of};
+pub use uca_rules::{Relation, RuleFault, Rules, read_rules};
+pub use uca_table::{
+    Data, Header, Row, Table, TableFault, check, read_data, read_table, write_table,
+};
+pub use uca_tailor::{TailorFault, tailor};
+pub use uca_text::{Normal, TextFault, normal};
+pub use uca_weights::{Depth, Element, Level, Sink, Source, Strength, Weighting, WriteFault};
