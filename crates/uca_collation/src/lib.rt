@@ -1,0 +1,26 @@
+//! Unicode collation (UTS #10) in one place: what a program needs to read a table, to make and compare sort keys, and to
+//! tailor a table. `docs/LIBRARY.md` shows its use by five short programs.
+#![tactic(auto)]
+
+mod collate;
+mod settings;
+
+pub use collate::Collate;
+pub use settings::Settings;
+pub use uca_audit::{AuditFault, Condition, Place, audit};
+pub use uca_certificates::{
+    Certificate, CertificateFault, CertificateFaultKind, read_certificate, write_certificate,
+};
+pub use uca_key::{Compared, KeyBuffer, compare, compare_keys, key, key_of, level_count};
+pub use uca_match::{Collator, Elements, Lookup, RowList, Trie, row_of};
+pub use uca_rules::{Relation, RuleFault, RuleFaultKind, Rules, read_rules, read_rules_in};
+pub use uca_table::{
+    Data, FaultKind, Header, IllFormed, ImplicitRange, Row, Table, TableFault, check, read_data,
+    read_table, write_table,
+};
+pub use uca_tailor::{TailorFault, TailorKind, tailor};
+pub use uca_text::{Normal, TextFault, normal};
+pub use uca_weights::{
+    Depth, Element, Level, MapFault, MapFaultKind, ReadFault, Run, Sink, Source, Strength,
+    WeightMap, Weighting, WriteFault,
+};

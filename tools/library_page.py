@@ -1,0 +1,68 @@
+#!/usr/bin/env python3
+"""Checks that docs/LIBRARY.md shows the code that is proved.
+
+    tools/library_page.py        at any place of the repository
+
+Each code block of the page stands, line for line, in a file of crates/uca_examples: `rust` in src/, `antt` in specs/ or
+proofs/, and `text` in the file stdout, which holds what the program must print. Blocks of `sh` are commands and are not
+looked at; a block with another word fails. Of each of the five programs something is shown. The last line is `N passed, M failed`; the status is 1 where one failed.
+"""
+import os
+import re
+import sys
+
+TOP = os.path.dirname(os.path.dirname(os.path.realpath(__file__)))
+CRATE = f"{TOP}/crates/uca_examples"
+PAGE = f"{TOP}/docs/LIBRARY.md"
+PLACES = {"rust": ["src"], "antt": ["specs", "proofs"], "text": ["stdout"]}
+PROGRAMS = ["key_of_text", "sorted_list", "stored_keys", "tailored_table", "own_lookup"]
+
+
+def text_of(path):
+    with open(path, encoding="utf-8") as file:
+        return file.read()
+
+
+def files_below(path):
+    """A file, or each file of a folder."""
+    if os.path.isfile(path):
+        return [path]
+    return [f"{folder}/{name}" for folder, _, names in os.walk(path) for name in sorted(names)]
+
+
+def blocks_of(page):
+    """Each code block: its word, its text, and its line."""
+    for found in re.finditer(r"^```(\w*)\n(.*?)^```$", page, re.MULTILINE | re.DOTALL):
+        yield found[1], found[2], page.count("\n", 0, found.start()) + 1
+
+
+def holds_lines(text, block):
+    """Whether the lines of a block stand one after the other in a text."""
+    return block.strip() != "" and f"\n{block}" in f"\n{text}"
+
+
+def main():
+    sources = {
+        word: [(path, text_of(path)) for place in places for path in files_below(f"{CRATE}/{place}")]
+        for word, places in PLACES.items()
+    }
+    passed, failed, shown = 0, 0, set()
+    for word, block, line in blocks_of(text_of(PAGE)):
+        if word == "sh":
+            continue
+        found = [path for path, text in sources.get(word, []) if holds_lines(text, block)]
+        shown.update(found)
+        passed, failed = (passed + 1, failed) if found else (passed, failed + 1)
+        if not found:
+            print(f"docs/LIBRARY.md:{line}: no file of uca_examples has this block of `{word}`")
+    for name in PROGRAMS:
+        is_shown = f"{CRATE}/src/{name}.rt" in shown
+        passed, failed = (passed + 1, failed) if is_shown else (passed, failed + 1)
+        if not is_shown:
+            print(f"docs/LIBRARY.md: nothing of src/{name}.rt is shown")
+    print(f"{passed} passed, {failed} failed")
+    sys.exit(1 if failed else 0)
+
+
+if __name__ == "__main__":
+    main()
