@@ -45,8 +45,11 @@ impl<A: Allocator + Copy> KeyBuffer<A> {
 }
 
 impl<A: Allocator> KeyBuffer<A> {
-    /// Writes the key of a text, in place of the key that was there. An error says that no memory was
-    /// left; the bytes then are no key, until the next key is written.
+    /// Writes the key of a text, in place of the key that was there.
+    ///
+    /// # Errors
+    ///
+    /// An allocation failed. The bytes are then unspecified until the next successful write.
     pub fn write_text<L: Lookup, B: Allocator>(
         &mut self,
         collator: &Collator<L, B>,

@@ -17,7 +17,11 @@ use uca_weights::{Depth, Element, Weighting};
 
 /// The sort key of a text (UTS #10, section 7.3) in memory of `alloc`: that of its collation elements, by
 /// [`key_of`]. At the depth `Identical` two bytes 0 follow, and each code point of the text in Normalization
-/// Form D as three bytes, the high byte first. The error says that no memory was left.
+/// Form D as three bytes, the high byte first.
+///
+/// # Errors
+///
+/// An allocation failed.
 pub fn key<K: Allocator + Copy, L: Lookup, A: Allocator>(
     alloc: K,
     collator: &Collator<L, A>,
@@ -37,7 +41,11 @@ pub fn key<K: Allocator + Copy, L: Lookup, A: Allocator>(
 
 /// The sort key of the elements (UTS #10, section 7.3): the weights of each level in order that are not 0, two
 /// bytes each with the high byte first, and two bytes 0 between two levels. There are three levels, and
-/// four under `Shifted`. The error says that no memory was left.
+/// four under `Shifted`.
+///
+/// # Errors
+///
+/// An allocation failed.
 pub fn key_of<I: Iterator<Item = Element> + Drop, A: Allocator + Copy>(
     alloc: A,
     weighting: Weighting,

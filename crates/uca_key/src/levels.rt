@@ -58,8 +58,11 @@ impl<A: Allocator + Copy> LevelBuffers<A> {
 }
 
 impl<A: Allocator> LevelBuffers<A> {
-    /// Writes the key of the elements, in place of the key that was there. An error says that no memory
-    /// was left; the bytes then are no key.
+    /// Writes the key of the elements, in place of the key that was there.
+    ///
+    /// # Errors
+    ///
+    /// An allocation failed. The bytes are then unspecified until the next successful write.
     pub(crate) fn write<I: Iterator<Item = Element> + Drop>(
         &mut self,
         weighting: Weighting,

@@ -33,7 +33,6 @@ pub fn level_count(weighting: Weighting, depth: Depth) -> u8
 /// depth, with as many levels as they have ([`level_count`]), these are the order and
 /// the level of multilevel comparison (UTS #10, section 1.1), as
 /// [`keys_compare_as_texts`](crate::laws::keys_compare_as_texts) says.
-#[tactic(auto, using(crate::proofs::StoredOrder::equal_level, crate::proofs::StoredOrder::differing_level))]
 pub fn compare_keys(left: &[u8], right: &[u8], levels: u8) -> (Ordering, u8)
     ensures order { result.0 ≡ dictionary left.now right.now }
     ensures level { result.1 ≡ stored_level levels left.now right.now }

@@ -63,8 +63,8 @@ fn look_at(left: u16, right: u16, left_ended: bool, right_ended: bool) -> Look
     }
 }
 
-// The levels `first` to `last` of two texts, of which those up to `through` have equal lists so far. Behind them one that
-// has other lists decides, where there is one: it has this order.
+// Compares the levels `first` to `last` of two texts. The levels up to `through` are equal so far. If `through < last`,
+// the level `through + 1` decides: it has this `order`.
 #[derive(Drop)]
 struct LevelsSoFar {
     first: u8,

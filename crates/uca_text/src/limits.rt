@@ -166,7 +166,6 @@ fn write_points(points: &mut Vec<char>, text: &str) -> Result<(), AllocError>
 }
 
 /// Writes the class of each code point, unless more than 64 non-starters stand in a row.
-#[tactic(auto, using(crate::proofs::Runs::nothing_counted, crate::proofs::Runs::all_classes))]
 fn classify<A: Allocator>(
     classes: &mut Vec<u8>,
     points: &[char],

@@ -37,31 +37,61 @@ fn identical_option<'a>(alloc: Global) -> Arg<'a>
         .help("Compare texts that weigh the same by their code points too")
 }
 
-// `TABLE DATA` come next.
-fn take_files<'a>(alloc: Global, command: Command<'a>) -> Result<Command<'a>, AllocError>
-    ensures { (app : App) → StandsFor app command.entry → IfOk result (StandsFor (with_files app)) }
+// One more word. Each step takes what the step before returned, and returns its error.
+fn take_word<'a>(
+    alloc: Global,
+    command: Result<Command<'a>, AllocError>,
+    id: &'a str,
+    name: &'a str,
+    help: &'a str,
+) -> Result<Command<'a>, AllocError>
+    ensures { (app : App) → IfOk command.entry (StandsFor app) → IfOk result (StandsFor (with_rule app (word_rule id.entry.now))) }
 {
-    command
-        .arg(word(
-            alloc,
-            "table",
-            "TABLE",
-            "A weight table in the form of allkeys.txt",
-        ))?
-        .arg(word(
-            alloc,
-            "data",
-            "DATA",
-            "A data file: combining classes and Han ranges",
-        ))
+    command?.arg(word(alloc, id, name, help))
+}
+
+// `TABLE DATA` come next.
+fn take_files<'a>(
+    alloc: Global,
+    command: Result<Command<'a>, AllocError>,
+) -> Result<Command<'a>, AllocError>
+    ensures { (app : App) → IfOk command.entry (StandsFor app) → IfOk result (StandsFor (with_files app)) }
+{
+    let table = "A weight table in the form of allkeys.txt";
+    let command = take_word(alloc, command, "table", "TABLE", table);
+    let data = "A data file: combining classes and Han ranges";
+    take_word(alloc, command, "data", "DATA", data)
+}
+
+// `[--weighting W]` comes next.
+fn take_weighting<'a>(
+    alloc: Global,
+    command: Result<Command<'a>, AllocError>,
+) -> Result<Command<'a>, AllocError>
+    ensures { (app : App) → IfOk command.entry (StandsFor app) → IfOk result (StandsFor (with_rule app weighting_rule)) }
+{
+    command?.arg(weighting_option(alloc))
+}
+
+// `[--identical]` comes next.
+fn take_identical<'a>(
+    alloc: Global,
+    command: Result<Command<'a>, AllocError>,
+) -> Result<Command<'a>, AllocError>
+    ensures { (app : App) → IfOk command.entry (StandsFor app) → IfOk result (StandsFor (with_rule app identical_rule)) }
+{
+    command?.arg(identical_option(alloc))
 }
 
 // `[--weighting W] [--identical] TABLE DATA` come next.
-fn take_options<'a>(alloc: Global, command: Command<'a>) -> Result<Command<'a>, AllocError>
-    ensures { (app : App) → StandsFor app command.entry → IfOk result (StandsFor (with_options app)) }
+fn take_options<'a>(
+    alloc: Global,
+    command: Result<Command<'a>, AllocError>,
+) -> Result<Command<'a>, AllocError>
+    ensures { (app : App) → IfOk command.entry (StandsFor app) → IfOk result (StandsFor (with_options app)) }
 {
-    let command = command.arg(weighting_option(alloc))?;
-    take_files(alloc, command.arg(identical_option(alloc))?)
+    let command = take_weighting(alloc, command);
+    take_files(alloc, take_identical(alloc, command))
 }
 
 // A subcommand before its words: its name, what it does in one line and in full, and an example.
@@ -91,7 +121,7 @@ fn check_command<'a>(alloc: Global) -> Result<Command<'a>, AllocError>
          condition that is broken and the row that breaks it, as `WF5 row 8`, with status 1.",
         "Example: uca check allkeys.txt data.txt",
     );
-    take_files(alloc, check)
+    take_files(alloc, Ok(check))
 }
 
 fn keys_command<'a>(alloc: Global) -> Result<Command<'a>, AllocError>
@@ -106,7 +136,7 @@ fn keys_command<'a>(alloc: Global) -> Result<Command<'a>, AllocError>
          of Normalization Form D follow as one more level, six digits each.",
         "Example: uca keys allkeys.txt data.txt < lines.txt",
     );
-    take_options(alloc, keys)
+    take_options(alloc, Ok(keys))
 }
 
 fn sort_command<'a>(alloc: Global) -> Result<Command<'a>, AllocError>
@@ -121,7 +151,7 @@ fn sort_command<'a>(alloc: Global) -> Result<Command<'a>, AllocError>
          that are canonically equivalent still stand as in the input: so a sorted file is the same each time.",
         "Example: uca sort --weighting non-ignorable allkeys.txt data.txt < lines.txt",
     );
-    take_options(alloc, sort)
+    take_options(alloc, Ok(sort))
 }
 
 fn compare_command<'a>(alloc: Global) -> Result<Command<'a>, AllocError>
@@ -136,22 +166,9 @@ fn compare_command<'a>(alloc: Global) -> Result<Command<'a>, AllocError>
          are compared at one more level, by the code points of Normalization Form D.",
         "Example: uca compare --weighting shifted allkeys.txt data.txt cote côté",
     );
-    take_options(alloc, compare)?
-        .arg(word(alloc, "left", "LEFT", "The text on the left"))?
-        .arg(word(alloc, "right", "RIGHT", "The text on the right"))
-}
-
-// One more word.
-fn take_word<'a>(
-    alloc: Global,
-    command: Command<'a>,
-    id: &'a str,
-    name: &'a str,
-    help: &'a str,
-) -> Result<Command<'a>, AllocError>
-    ensures { (app : App) → StandsFor app command.entry → IfOk result (StandsFor (with_rule app (word_rule id.entry.now))) }
-{
-    command.arg(word(alloc, id, name, help))
+    let compare = take_options(alloc, Ok(compare));
+    let compare = take_word(alloc, compare, "left", "LEFT", "The text on the left");
+    take_word(alloc, compare, "right", "RIGHT", "The text on the right")
 }
 
 fn tailor_command<'a>(alloc: Global) -> Result<Command<'a>, AllocError>
@@ -166,8 +183,8 @@ fn tailor_command<'a>(alloc: Global) -> Result<Command<'a>, AllocError>
          both. The certificate's file is made once there is a plan; a file of that name is replaced.",
         "Example: uca tailor table.txt data.txt rules.txt certificate.txt > tailored.txt",
     );
-    let tailor = take_files(alloc, tailor)?;
-    let tailor = take_word(alloc, tailor, "rules", "RULES", "The tailoring rules")?;
+    let tailor = take_files(alloc, Ok(tailor));
+    let tailor = take_word(alloc, tailor, "rules", "RULES", "The tailoring rules");
     let certificate = "The file that the certificate is written to";
     take_word(alloc, tailor, "certificate", "CERTIFICATE", certificate)
 }
@@ -186,22 +203,25 @@ fn audit_command<'a>(alloc: Global) -> Result<Command<'a>, AllocError>
         "Example: uca audit table.txt data.txt rules.txt tailored.txt certificate.txt",
     );
     let base = "The weight table before the tailoring";
-    let audit = take_word(alloc, audit, "base", "BASE", base)?;
+    let audit = take_word(alloc, Ok(audit), "base", "BASE", base);
     let data = "A data file: combining classes and Han ranges";
-    let audit = take_word(alloc, audit, "data", "DATA", data)?;
-    let audit = take_word(alloc, audit, "rules", "RULES", "The tailoring rules")?;
+    let audit = take_word(alloc, audit, "data", "DATA", data);
+    let audit = take_word(alloc, audit, "rules", "RULES", "The tailoring rules");
     let tailored = "The weight table after the tailoring";
-    let audit = take_word(alloc, audit, "tailored", "TAILORED", tailored)?;
+    let audit = take_word(alloc, audit, "tailored", "TAILORED", tailored);
     let certificate = "The certificate of the tailoring";
     take_word(alloc, audit, "certificate", "CERTIFICATE", certificate)
 }
 
 // One more subcommand.
-fn take_subcommand<'a>(command: Command<'a>, below: Command<'a>) -> Result<Command<'a>, AllocError>
-    ensures { (app sub : App) → StandsFor app command.entry → StandsFor sub below.entry →
+fn take_subcommand<'a>(
+    command: Result<Command<'a>, AllocError>,
+    below: Result<Command<'a>, AllocError>,
+) -> Result<Command<'a>, AllocError>
+    ensures { (app sub : App) → IfOk command.entry (StandsFor app) → IfOk below.entry (StandsFor sub) →
         IfOk result (StandsFor (with_subcommand app sub.top)) }
 {
-    command.subcommand(below)
+    command?.subcommand(below?)
 }
 
 // The command before its subcommands.
@@ -221,10 +241,10 @@ fn bare_command<'a>(alloc: Global) -> Command<'a>
 pub(crate) fn uca_command<'a>(alloc: Global) -> Result<Command<'a>, AllocError>
     ensures { IfOk result (StandsFor uca_app) }
 {
-    let command = take_subcommand(bare_command(alloc), check_command(alloc)?)?;
-    let command = take_subcommand(command, keys_command(alloc)?)?;
-    let command = take_subcommand(command, sort_command(alloc)?)?;
-    let command = take_subcommand(command, compare_command(alloc)?)?;
-    let command = take_subcommand(command, tailor_command(alloc)?)?;
-    take_subcommand(command, audit_command(alloc)?)
+    let command = take_subcommand(Ok(bare_command(alloc)), check_command(alloc));
+    let command = take_subcommand(command, keys_command(alloc));
+    let command = take_subcommand(command, sort_command(alloc));
+    let command = take_subcommand(command, compare_command(alloc));
+    let command = take_subcommand(command, tailor_command(alloc));
+    take_subcommand(command, audit_command(alloc))
 }

@@ -305,8 +305,7 @@ pub fn read_words<'a>(alloc: Global, words: &'a [&'a str]) -> Result<Words<'a>, 
     ensures ok { IfOk result (AreRead (texts words.entry.now)) }
     ensures err { IfErr result (IsFaultOf (texts words.entry.now)) }
 {
-    let mut command = uca_command(alloc)?;
-    let matches = command.try_get_matches_from_mut(words)?;
+    let matches = uca_command(alloc)?.try_get_matches_from(words)?;
     let (name, found) = matches.subcommand().unwrap();
     subcommand_words(name, found)
 }

@@ -2,7 +2,7 @@ use Rattle.std.proofs.Common.{◌≡◌, ◌<◌, map, get_or, rules, arith}
 use Rattle.std.proofs.lemmas.List.{length-map}
 use Rattle.std.specs.Char.{IsScalar}
 use Rattle.uca_values.specs.Ranges.{class_in}
-use Rattle.uca_text.proofs.Runs.{after_starter, after_non_starter, first_long_run, no_long_run, class_at, classes_more, all_classes, scalars_more}
+use Rattle.uca_text.proofs.Runs.{nothing_counted, after_starter, after_non_starter, first_long_run, no_long_run, class_at, classes_more, all_classes, scalars_more}
 use Rattle.uca_text.proofs.Runs.{all_scalars}
 use Rattle.uca_text.proofs.limits.classify.Goals as goal
 use Rattle.uca_text.proofs.limits.classify.Goals.{then-class-eq0, else-class-eq0+then-run-lt-LONGEST_RUN}
@@ -41,6 +41,18 @@ loop-place-preserved g c =
       ];
       scalars = scalars_more points here c.index-points-place.result c.loop-place.invariant.scalars c.loop-place-test.true c.index-points-place.is scalar;
     }
+
+pub loop-place-init : goal.loop-place-init
+loop-place-init g c = record {
+  items = search rules;
+  counted = nothing_counted _;
+  scalars = search rules;
+}
+
+pub returns-clause-found : goal.returns-clause-found
+returns-clause-found g c =
+    all_classes (class_in c.args.properties.now.classes) c.args.points.now c.loop-place.classes.items c.loop-place.place
+    c.loop-place.invariant.items c.loop-place-test.false
 
 pub returns-clause-short_runs : goal.returns-clause-short_runs
 returns-clause-short_runs g c =

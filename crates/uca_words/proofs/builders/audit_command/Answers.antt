@@ -4,8 +4,8 @@ use Rattle.uca_words.proofs.builders.audit_command.Goals as goal
 
 pub returns : goal.returns
 returns c =
-    let one = c.in_ok-audit.ensures (new_app (codes "audit")) c.named-audit.ensures in
-    let two = c.in_ok-audit-2.ensures _ one in
-    let three = c.in_ok-audit-3.ensures _ two in
-    let four = c.in_ok-audit-4.ensures _ three in
-    c.take_word-5.ensures _ four
+    let one = c.take_word-audit.ensures (new_app (codes "audit")) c.named-audit.ensures in
+    let two = c.take_word-audit-2.ensures _ one in
+    let three = c.take_word-audit-3.ensures _ two in
+    let four = c.take_word-audit-4.ensures _ three in
+    c.take_word.ensures _ four

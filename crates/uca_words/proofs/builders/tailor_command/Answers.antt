@@ -4,6 +4,6 @@ use Rattle.uca_words.proofs.builders.tailor_command.Goals as goal
 
 pub returns : goal.returns
 returns c =
-    let files = c.in_ok-tailor.ensures (new_app (codes "tailor")) c.named-tailor.ensures in
-    let rules = c.in_ok-tailor-2.ensures _ files in
-    c.take_word-2.ensures _ rules
+    let files = c.take_files-tailor.ensures (new_app (codes "tailor")) c.named-tailor.ensures in
+    let rules = c.take_word-tailor.ensures _ files in
+    c.take_word.ensures _ rules
