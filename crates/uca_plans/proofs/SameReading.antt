@@ -11,7 +11,7 @@ use Rattle.uca_match.specs.Rows.{same_key}
 use Rattle.uca_match.proofs.Parts.{parts_same, key_is_part}
 use Rattle.uca_match.proofs.RowsByKey.{same_key-true, same_key-itself}
 use Rattle.uca_plans.specs.Drafts.{has_key, part_drafts}
-use Rattle.uca_plans.specs.Keys.{keys_in, is_among, with_key, with_targets, IsTextOf, KeysReadAsRows}
+use Rattle.uca_plans.specs.Keys.{keys_in, is_among, with_key, with_targets, IsTextOf, RelationsReadOverAllKeys}
 use Rattle.uca_plans.proofs.KeyPlaces.{among_with_key, among_left, has_key_is}
 use Rattle.uca_plans.proofs.DraftReading.{points_of, letters_some, occurs_in_text}
 
@@ -96,7 +96,7 @@ no_keys (r ∷ relations) text key untouched occurs =
     (λ same. untouched.0 (subst (λ k. OccursInOrder k text) (sym same) occurs), no_keys relations text key untouched.1 occurs)
 
 -- over all keys the texts of relations read as over the rows so far
-pub same_reading : KeysReadAsRows
+pub same_reading : RelationsReadOverAllKeys
 same_reading ranges properties keys before after later rest r rows all text rules whole own listed is_text =
     ap (flat_map (part_drafts ranges properties rows))
     (⊎_elim

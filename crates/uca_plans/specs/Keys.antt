@@ -44,8 +44,8 @@ IsTextOf r text = (text ≡ r.anchor) ⊎ (r.expansion ≡ Some text)
 
 -- All keys may be listed before any relation is read, those of later targets too: each relation's texts are read over them
 -- as over the rows so far. This is so where the later targets are listed to the end, and where only some are.
-abbrev pub KeysReadAsRows : Type 0
-KeysReadAsRows = (ranges : List ImplicitRange) (properties : Properties) (keys : List (List ℕ)) (before after later rest : List Relation)
+abbrev pub RelationsReadOverAllKeys : Type 0
+RelationsReadOverAllKeys = (ranges : List ImplicitRange) (properties : Properties) (keys : List (List ℕ)) (before after later rest : List Relation)
     (r : Relation) (rows : List DraftRow) (all : Keys) (text : Spelled) →
     AreRules (before ++ r ∷ after) → r ∷ after ≡ later ++ rest → keys_in rows ≡ with_targets before keys →
     ((key : List ℕ) → all key ≡ is_among (with_targets (before ++ later) keys) key) → IsTextOf r text →
