@@ -5,8 +5,7 @@ use Rattle.uca_rules.specs.declared.relations.Relation.{Relation}
 use Rattle.uca_rules.specs.Relations.{IsTarget, IsRuleText, HasRuleTexts, AreDistinct, AreRules}
 use Rattle.uca_tailorings.proofs.UntouchedTexts.{no_target}
 use Rattle.uca_plans.specs.declared.drafts.DraftElement.{DraftElement}
-use Rattle.uca_plans.specs.Drafts.{DraftRow, draft_elements}
-use Rattle.uca_plans.specs.Readings.{draft_at}
+use Rattle.uca_plans.specs.Drafts.{DraftRow, draft_at, draft_elements}
 use Rattle.uca_plans.specs.Keys.{IsTextOf}
 use Rattle.uca_plans.specs.Plans.{Basis, Drafting, begun}
 use Rattle.uca_plans.proofs.PlanSteps.{target_row, IsStep, AreSteps}

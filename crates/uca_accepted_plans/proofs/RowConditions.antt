@@ -15,7 +15,7 @@ use Rattle.uca_tailorings.specs.Tailorings.{IsCovered, IsCoveredRow, IsUnchanged
 use Rattle.uca_tailorings.specs.declared.conditions.Condition.TheVariants.{BaseIllFormed, Header, Uncovered, RowChanged, RowMissing, RowExtra}
 use Rattle.uca_tailorings.proofs.Parts.{each_of_both}
 use Rattle.uca_plans.specs.Drafts.{as_draft, row_as_draft}
-use Rattle.uca_plans.specs.Readings.{draft_at}
+use Rattle.uca_plans.specs.Drafts.{draft_at}
 use Rattle.uca_plans.specs.Keys.{is_among, with_targets}
 use Rattle.uca_plans.specs.Plans.{Plan, LevelPlans, numbered, begun}
 use Rattle.uca_plans.specs.Tailors.{basis_of}

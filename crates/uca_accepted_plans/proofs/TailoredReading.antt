@@ -11,9 +11,9 @@ use Rattle.uca_match.specs.Rows.{rows_of}
 use Rattle.uca_rules.specs.declared.relations.Relation.{Relation}
 use Rattle.uca_tailorings.specs.Tailorings.{tailored_reading}
 use Rattle.uca_plans.specs.declared.drafts.DraftElement.{DraftElement}
-use Rattle.uca_plans.specs.Drafts.{as_draft, draft_elements}
+use Rattle.uca_plans.specs.Drafts.{as_draft, draft_at, draft_elements}
 use Rattle.uca_plans.specs.Plans.{Plan, numbered}
-use Rattle.uca_plans.specs.Readings.{valued_rows, draft_at}
+use Rattle.uca_plans.specs.Readings.{valued_rows}
 use Rattle.uca_plans.proofs.DraftReading.{read_as_rows, valued_row}
 use Rattle.uca_accepted_plans.specs.Accepted.{tailoring_by}
 use Rattle.uca_accepted_plans.proofs.PlanCase.{IsCase, plans_in}

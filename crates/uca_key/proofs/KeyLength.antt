@@ -16,16 +16,17 @@ use Rattle.uca_text.specs.Limits.{IsAccepted}
 use Rattle.std.specs.Iterator.{Yields, YieldsFirst}
 use Rattle.std.specs.Iterator.Runs.{Run, WholeRun}
 use Rattle.std.proofs.iter.runs.Made.{took}
-use Rattle.uca_match.specs.Rows.{Rows, rows_of, same_key}
+use Rattle.uca_match.specs.Rows.{Rows, is_key, rows_of, same_key}
+use Rattle.uca_match.specs.Parts.{part_elements}
 use Rattle.uca_match.specs.Reading.{others, non_starters_at_front, after_non_starters, removed, longest_key, Portion, portion_at}
-use Rattle.uca_match.specs.Reading.{portion, read_within, collation_elements}
+use Rattle.uca_match.specs.Reading.{portion, parts_within, collation_elements}
 use Rattle.uca_match.specs.Collations.{Collation, elements_of}
 use Rattle.uca_key.specs.Levels.{Weights as WeightsType, weight_at, level_list, level_lists_from, weighted, level_bytes, levels_bytes}
 use Rattle.uca_key.specs.Levels.{weighted_following, key_bytes}
 use Rattle.uca_key.specs.Depths.{read_text, points_bytes, key_at}
 use Rattle.uca_key.specs.Lengths.{HasShortRows}
 use Rattle.uca_key.specs.Laws.{KeysAreShort, RowsAreShort}
-use Rattle.std.specs.List.{AllByRecursion}
+use Rattle.std.specs.List.{AllByRecursion, flat_map}
 
 -- ---- Of elements
 
@@ -131,19 +132,19 @@ few_implicit ranges properties point = by_lead (lead_of ranges point)
     by_lead (Some lead) = omega arith
     by_lead None = block (properties.is_core point) (properties.is_other point) _ _ _ (omega arith) (omega arith) (omega arith)
 
--- a portion of at most 32 elements, after which at most n letters are left
-pub record IsShortPortion (p : Portion) (n : ℕ) : Type 0 where
-  pub few : length p.elements ≤ 32
+-- a part of at most 32 elements, after which at most n letters are left
+pub record IsShortPortion (implicit : ℕ → List Element) (rows : Rows) (p : Portion) (n : ℕ) : Type 0 where
+  pub few : length (part_elements implicit rows p.part) ≤ 32
   pub rest : length p.rest ≤ n
 
 -- each portion is such a one
-pub short_portion : (implicit : ℕ → List Element) (rows : Rows) (c : Letter) (t : Text) (n : ℕ)
-    → ((point : ℕ) → length (implicit point) ≤ 32) → HasShortRows rows → IsShortPortion (portion_at implicit rows c t n) (length t)
+pub short_portion : (implicit : ℕ → List Element) (rows : Rows) (c : Letter) (t : Text) (n : ℕ) → ((point : ℕ) → length (implicit point) ≤ 32)
+    → HasShortRows rows → IsShortPortion implicit rows (portion_at (is_key rows) c t n) (length t)
 short_portion implicit rows c t zero few short = record { few = few c.code; rest = omega arith }
 short_portion implicit rows c t (suc n) few short =
     let rest = drop n t in
     let non_starters = non_starters_at_front rest in
-    let set = removed rows (take (suc n) (c ∷ t)) [] non_starters in
+    let set = removed (is_key rows) (take (suc n) (c ∷ t)) [] non_starters in
     record {
       few = few_in_row rows _ _ short refl;
       rest = omega (
@@ -156,15 +157,17 @@ short_portion implicit rows c t (suc n) few short =
     }
 
 -- so a text has at most 32 elements for each letter
-pub length-read_within : (implicit : ℕ → List Element) (rows : Rows) (n : ℕ) (t : Text)
-    → ((point : ℕ) → length (implicit point) ≤ 32) → HasShortRows rows → length (read_within implicit rows n t) ≤ 32 * length t
+pub length-read_within : (implicit : ℕ → List Element) (rows : Rows) (n : ℕ) (t : Text) → ((point : ℕ) → length (implicit point) ≤ 32)
+    → HasShortRows rows → length (flat_map (part_elements implicit rows) (parts_within (is_key rows) n t)) ≤ 32 * length t
 length-read_within implicit rows zero t few short = omega arith
 length-read_within implicit rows (suc n) [] few short = omega arith
 length-read_within implicit rows (suc n) (c ∷ t) few short =
-    let first = portion implicit rows c t in
-    let p : IsShortPortion first (length t) = short_portion implicit rows c t (longest_key rows (c ∷ t) (length (c ∷ t))) few short in
-    let later = read_within implicit rows n first.rest in
-    omega (arith, p.few, p.rest, length-append first.elements later, length-read_within implicit rows n first.rest few short)
+    let first = portion (is_key rows) c t in
+    let p : IsShortPortion implicit rows first (length t) =
+    short_portion implicit rows c t (longest_key (is_key rows) (c ∷ t) (length (c ∷ t))) few short in
+    let elements = part_elements implicit rows first.part in
+    let later = flat_map (part_elements implicit rows) (parts_within (is_key rows) n first.rest) in
+    omega (arith, p.few, p.rest, length-append elements later, length-read_within implicit rows n first.rest few short)
 
 -- of the texts that a collation reads
 pub length-elements : (c : Collation) (t : Text) → HasShortRows c.rows → length (collation_elements c.rows c.ranges c.properties t) ≤ 32 * length t

@@ -25,40 +25,40 @@ use Rattle.uca_match.specs.declared.matches.Extension.{Extension}
 
 -- ---- One non-starter
 
-pub key_taken : (rows : Rows) (key skipped : Text) (c : Letter) (t : Text) → is_starter c ≡ false → is_taken rows key skipped c ≡ true →
+pub key_taken : (rows : Rows) (key skipped : Text) (c : Letter) (t : Text) → is_starter c ≡ false → is_taken (is_key rows) key skipped c ≡ true →
     extended_key rows key skipped (c ∷ t) ≡ extended_key rows (key ++ c ∷ []) skipped t
 key_taken rows key skipped c t mark taken =
-    ap (λ marks. key ++ members (removed rows key skipped marks) marks) (marks_more c t mark)
-    ∙ members_taken rows key skipped c (non_starters_at_front t) taken
+    ap (λ marks. key ++ members (removed (is_key rows) key skipped marks) marks) (marks_more c t mark)
+    ∙ members_taken (is_key rows) key skipped c (non_starters_at_front t) taken
 
-pub rest_taken : (rows : Rows) (key skipped : Text) (c : Letter) (t : Text) → is_starter c ≡ false → is_taken rows key skipped c ≡ true →
+pub rest_taken : (rows : Rows) (key skipped : Text) (c : Letter) (t : Text) → is_starter c ≡ false → is_taken (is_key rows) key skipped c ≡ true →
     extended_rest rows key skipped (c ∷ t) ≡ extended_rest rows (key ++ c ∷ []) skipped t
 rest_taken rows key skipped c t mark taken =
-    ap (λ marks. (skipped ++ others (removed rows key skipped marks) marks) ++ after_non_starters (c ∷ t)) (marks_more c t mark)
-    ∙ ap₂ (λ front rest. front ++ rest) (others_taken rows key skipped c (non_starters_at_front t) taken) (after_more c t mark)
+    ap (λ marks. (skipped ++ others (removed (is_key rows) key skipped marks) marks) ++ after_non_starters (c ∷ t)) (marks_more c t mark)
+    ∙ ap₂ (λ front rest. front ++ rest) (others_taken (is_key rows) key skipped c (non_starters_at_front t) taken) (after_more c t mark)
 
-pub key_skipped : (rows : Rows) (key skipped : Text) (c : Letter) (t : Text) → is_starter c ≡ false → is_taken rows key skipped c ≡ false →
+pub key_skipped : (rows : Rows) (key skipped : Text) (c : Letter) (t : Text) → is_starter c ≡ false → is_taken (is_key rows) key skipped c ≡ false →
     extended_key rows key skipped (c ∷ t) ≡ extended_key rows key (skipped ++ c ∷ []) t
 key_skipped rows key skipped c t mark left =
-    ap (λ marks. key ++ members (removed rows key skipped marks) marks) (marks_more c t mark)
-    ∙ members_skipped rows key skipped c (non_starters_at_front t) left
+    ap (λ marks. key ++ members (removed (is_key rows) key skipped marks) marks) (marks_more c t mark)
+    ∙ members_skipped (is_key rows) key skipped c (non_starters_at_front t) left
 
-pub rest_skipped : (rows : Rows) (key skipped : Text) (c : Letter) (t : Text) → is_starter c ≡ false → is_taken rows key skipped c ≡ false →
+pub rest_skipped : (rows : Rows) (key skipped : Text) (c : Letter) (t : Text) → is_starter c ≡ false → is_taken (is_key rows) key skipped c ≡ false →
     extended_rest rows key skipped (c ∷ t) ≡ extended_rest rows key (skipped ++ c ∷ []) t
 rest_skipped rows key skipped c t mark left =
-    ap (λ marks. (skipped ++ others (removed rows key skipped marks) marks) ++ after_non_starters (c ∷ t)) (marks_more c t mark)
-    ∙ ap₂ (λ front rest. front ++ rest) (others_skipped rows key skipped c (non_starters_at_front t) left) (after_more c t mark)
+    ap (λ marks. (skipped ++ others (removed (is_key rows) key skipped marks) marks) ++ after_non_starters (c ∷ t)) (marks_more c t mark)
+    ∙ ap₂ (λ front rest. front ++ rest) (others_skipped (is_key rows) key skipped c (non_starters_at_front t) left) (after_more c t mark)
 
 -- ---- The end of the non-starters
 
 pub key_at_end : (rows : Rows) (key skipped t : Text) → non_starters_at_front t ≡ [] → extended_key rows key skipped t ≡ key
 key_at_end rows key skipped t none =
-    ap (λ marks. key ++ members (removed rows key skipped marks) marks) none ∙ append-nil key
+    ap (λ marks. key ++ members (removed (is_key rows) key skipped marks) marks) none ∙ append-nil key
 
 pub rest_at_end : (rows : Rows) (key skipped t : Text) → non_starters_at_front t ≡ [] → after_non_starters t ≡ t →
     extended_rest rows key skipped t ≡ skipped ++ t
 rest_at_end rows key skipped t none all =
-    ap₂ (λ marks rest. (skipped ++ others (removed rows key skipped marks) marks) ++ rest) none all
+    ap₂ (λ marks rest. (skipped ++ others (removed (is_key rows) key skipped marks) marks) ++ rest) none all
     ∙ ap (λ front. front ++ t) (append-nil skipped)
 
 -- ---- The letters that are left between two places
@@ -156,7 +156,7 @@ module _ {N : Type 0} (stands_for : N → List ℕ → Type 0) (rows : Rows) (s 
       let non_starter = starter_not s i mark in
       let on : left_at s next i ≡ c ∷ left_at s next (i + 1) = left_kept s next i same within kept ∙ ap (λ n. c ∷ left_at s next n) (sym (add-one i)) in
       let positive : 0 < c.class = omega arith in
-      let not_taken : is_taken rows key skipped c ≡ false = ap (λ b. b && is_key rows (code_points (key ++ c ∷ []))) (going.highest c.class positive)
+      let not_taken : is_taken (is_key rows) key skipped c ≡ false = ap (λ b. b && is_key rows (code_points (key ++ c ∷ []))) (going.highest c.class positive)
       ∙ left key going.node in
       record {
         key = key;
@@ -186,7 +186,7 @@ module _ {N : Type 0} (stands_for : N → List ℕ → Type 0) (rows : Rows) (s 
       let positive : 0 < c.class = omega arith in
       let is_found : IsFound stands_for rows (code_points (key ++ c ∷ [])) found =
       subst (λ k. IsFound stands_for rows k found) (sym (code_points-push key c)) (matched (code_points key) going.node) in
-      let taken : is_taken rows key skipped c ≡ true =
+      let taken : is_taken (is_key rows) key skipped c ≡ true =
       and_from (list_all (λ d. nat_lt d.class c.class) skipped) (is_key rows (code_points (key ++ c ∷ [])))
       (going.highest c.class positive ∙ free) (ap is_some is_found.row) in
       let beyond : left_at s next (suc i) ≡ left_at s new (i + 1) = left_beyond s next new (suc i) (λ k above. sym (elsewhere k (omega arith)))

@@ -7,8 +7,8 @@ pub mod ExtensionSteps
 pub mod ExtensionEnd
 pub mod Portions
 pub mod OccurringLetters
+pub mod Parts
 pub mod RelatedReading
-pub mod ReadingParts
 pub mod RowsByKey
 pub mod TrieEdges
 pub mod TrieSteps

@@ -4,10 +4,10 @@ use Rattle.std.proofs.Common.{◌∙◌, append-nil, ⊎_elim, arith, ◌+◌, d
 use Rattle.std.proofs.lemmas.Bool.{cond_both, cond-true, cond-false, cases_Bool, cases_eq, both_ways}
 use Rattle.std.specs.List.{AllByRecursion}
 use Rattle.uca_text.specs.Texts.{Letter, Text, code_points, is_starter, Spelled}
-use Rattle.uca_match.specs.Rows.{Rows, is_key, IsKey}
+use Rattle.uca_match.specs.Rows.{Rows, Keys, is_key}
 use Rattle.uca_match.specs.Reading.{is_taken, removed, members, others, longest_key, non_starters_at_front, after_non_starters, IsAtStarter}
 use Rattle.uca_match.specs.Reading.{AreNonStartersBefore}
-use Rattle.uca_match.proofs.RemovedLemmas.{members_taken, members_skipped, taken_iff, code_points-append, code_points-push}
+use Rattle.uca_match.proofs.RemovedLemmas.{IsKeyOf, members_taken, members_skipped, taken_iff, code_points-append, code_points-push}
 use Rattle.std.proofs.lemmas.List.{take-take}
 use Rattle.std.proofs.Math.Seq.{take-suc, drop-cons}
 use Rattle.std.specs.Borrow.{Bor}
@@ -23,40 +23,40 @@ use Rattle.uca_match.proofs.PlaceLemmas.{not_true, letter_at, left_gone, left_ke
 
 -- ---- The longest key
 
-pub longest_within : (rows : Rows) (t : Text) (n : ℕ) → longest_key rows t n ≤ n
-longest_within rows t zero = omega arith
-longest_within rows t (suc n) =
-    let shorter : longest_key rows t n ≤ n = longest_within rows t n in
-    cond_both (is_key rows (code_points (take (suc n) t))) (suc n) (longest_key rows t n) (λ k. k ≤ suc n) (λ e. omega arith) (λ e. omega arith)
+pub longest_within : (keys : Keys) (t : Text) (n : ℕ) → longest_key keys t n ≤ n
+longest_within keys t zero = omega arith
+longest_within keys t (suc n) =
+    let shorter : longest_key keys t n ≤ n = longest_within keys t n in
+    cond_both (keys (code_points (take (suc n) t))) (suc n) (longest_key keys t n) (λ k. k ≤ suc n) (λ e. omega arith) (λ e. omega arith)
 
-pub longest_is_key : (rows : Rows) (t : Text) (n k : ℕ) → longest_key rows t n ≡ suc k → IsKey rows (code_points (take (suc k) t))
-longest_is_key rows t zero k h = absurd (omega arith)
-longest_is_key rows t (suc n) k h =
-    cond_both (is_key rows (code_points (take (suc n) t))) (suc n) (longest_key rows t n) (λ m. m ≡ suc k → IsKey rows (code_points (take (suc k) t)))
-    (λ e same. subst (λ m. IsKey rows (code_points (take m t))) same e)
-    (λ e same. longest_is_key rows t n k same)
+pub longest_is_key : (keys : Keys) (t : Text) (n k : ℕ) → longest_key keys t n ≡ suc k → IsKeyOf keys (code_points (take (suc k) t))
+longest_is_key keys t zero k h = absurd (omega arith)
+longest_is_key keys t (suc n) k h =
+    cond_both (keys (code_points (take (suc n) t))) (suc n) (longest_key keys t n) (λ m. m ≡ suc k → IsKeyOf keys (code_points (take (suc k) t)))
+    (λ e same. subst (λ m. IsKeyOf keys (code_points (take m t))) same e)
+    (λ e same. longest_is_key keys t n k same)
     h
 
 -- no key that begins the text is longer
-pub longest_is_last : (rows : Rows) (t : Text) (n m : ℕ) → m ≤ n → IsKey rows (code_points (take m t)) → longest_key rows t n < m → ⊥
-longest_is_last rows t zero m within key longer = omega arith
-longest_is_last rows t (suc n) m within key longer =
-    cond_both (is_key rows (code_points (take (suc n) t))) (suc n) (longest_key rows t n) (λ k. k < m → ⊥)
+pub longest_is_last : (keys : Keys) (t : Text) (n m : ℕ) → m ≤ n → IsKeyOf keys (code_points (take m t)) → longest_key keys t n < m → ⊥
+longest_is_last keys t zero m within key longer = omega arith
+longest_is_last keys t (suc n) m within key longer =
+    cond_both (keys (code_points (take (suc n) t))) (suc n) (longest_key keys t n) (λ k. k < m → ⊥)
     (λ e less. omega arith)
-    (λ e less. ⊎_elim (λ same. both_ways (is_key rows (code_points (take (suc n) t))) e (subst (λ k. IsKey rows (code_points (take k t))) same key))
-    (λ other. longest_is_last rows t n m (omega arith) key less) (cases_eq m (suc n)))
+    (λ e less. ⊎_elim (λ same. both_ways (keys (code_points (take (suc n) t))) e (subst (λ k. IsKeyOf keys (code_points (take k t))) same key))
+    (λ other. longest_is_last keys t n m (omega arith) key less) (cases_eq m (suc n)))
     longer
 
 -- where no key ends past p, it is enough to look up to p
-pub no_longer : (rows : Rows) (t : Text) (p q : ℕ) → p ≤ q → ((m : ℕ) → p < m → m ≤ q → is_key rows (code_points (take m t)) ≡ false) →
-    longest_key rows t q ≡ longest_key rows t p
-no_longer rows t p zero within none = ap (longest_key rows t) (let same : zero ≡ p = omega arith in same)
-no_longer rows t p (suc q) within none =
+pub no_longer : (keys : Keys) (t : Text) (p q : ℕ) → p ≤ q → ((m : ℕ) → p < m → m ≤ q → keys (code_points (take m t)) ≡ false) →
+    longest_key keys t q ≡ longest_key keys t p
+no_longer keys t p zero within none = ap (longest_key keys t) (let same : zero ≡ p = omega arith in same)
+no_longer keys t p (suc q) within none =
     ⊎_elim
-    (λ same. ap (longest_key rows t) (sym same))
+    (λ same. ap (longest_key keys t) (sym same))
     (λ other.
-    cond-false (is_key rows (code_points (take (suc q) t))) (suc q) (longest_key rows t q) (none (suc q) (omega arith) (omega arith))
-    ∙ no_longer rows t p q (omega arith) (λ m above below. none m above (omega arith)))
+    cond-false (keys (code_points (take (suc q) t))) (suc q) (longest_key keys t q) (none (suc q) (omega arith) (omega arith))
+    ∙ no_longer keys t p q (omega arith) (λ m above below. none m above (omega arith)))
     (cases_eq p (suc q))
 
 -- ---- The non-starters
@@ -112,16 +112,16 @@ length-others (false ∷ set) (c ∷ t) = let fewer = length-others set t in ome
 
 -- ---- The extended key
 
-pub extended_is_key : (rows : Rows) (start skipped marks : Text) → IsKey rows (code_points start) →
-    IsKey rows (code_points (start ++ members (removed rows start skipped marks) marks))
-extended_is_key rows start skipped [] key = rw append-nil key
-extended_is_key rows start skipped (c ∷ marks) key =
+pub extended_is_key : (keys : Keys) (start skipped marks : Text) → IsKeyOf keys (code_points start) →
+    IsKeyOf keys (code_points (start ++ members (removed keys start skipped marks) marks))
+extended_is_key keys start skipped [] key = rw append-nil key
+extended_is_key keys start skipped (c ∷ marks) key =
     ⊎_elim
-    (λ taken. subst (λ t. IsKey rows (code_points t)) (sym (members_taken rows start skipped c marks taken))
-    (extended_is_key rows (start ++ c ∷ []) skipped marks ((taken_iff rows start skipped c).0 taken).1))
-    (λ left. subst (λ t. IsKey rows (code_points t)) (sym (members_skipped rows start skipped c marks left))
-    (extended_is_key rows start (skipped ++ c ∷ []) marks key))
-    (cases_Bool (is_taken rows start skipped c))
+    (λ taken. subst (λ t. IsKeyOf keys (code_points t)) (sym (members_taken keys start skipped c marks taken))
+    (extended_is_key keys (start ++ c ∷ []) skipped marks ((taken_iff keys start skipped c).0 taken).1))
+    (λ left. subst (λ t. IsKeyOf keys (code_points t)) (sym (members_skipped keys start skipped c marks left))
+    (extended_is_key keys start (skipped ++ c ∷ []) marks key))
+    (cases_Bool (is_taken keys start skipped c))
 
 -- ---- The walk to the longest key at the front of what is left
 
@@ -145,7 +145,7 @@ one_more t rest count c within split =
     (some, (let same : rest ≡ drop (suc count) t = cc in same), take-suc t count c some ∙ ap (λ d. take count t ++ d ∷ []) (sym first))
 
 longest_same : {N : Type 0} (stands_for : N → List ℕ → Type 0) (rows : Rows) (s : Spelled) (place : Place) (first n m : ℕ)
-    (best : Option (Longest N)) → longest_key rows (left_at s place first) n ≡ longest_key rows (left_at s place first) m →
+    (best : Option (Longest N)) → longest_key (is_key rows) (left_at s place first) n ≡ longest_key (is_key rows) (left_at s place first) m →
     IsLongest stands_for rows s place first m best → IsLongest stands_for rows s place first n best
 longest_same stands_for rows s place first n m None same h = same ∙ h
 longest_same stands_for rows s place first n m (Some key) same h =
@@ -195,7 +195,7 @@ module _ {N : Type 0} (stands_for : N → List ℕ → Type 0) (rows : Rows) (s 
         ap code_points (sym (take-append-drop n (take m t)) ∙ ap (λ f. f ++ drop n (take m t)) front)
         ∙ code_points-append (take n t) (drop n (take m t)) in
         none (code_points (drop n (take m t)), subst (λ k. is_key rows k ≡ true) (split ∙ ap (λ f. f ++ code_points (drop n (take m t))) so_far) key)) in
-        longest_same stands_for rows s place first (length t) walked.count best (no_longer rows t walked.count (length t) walked.passed no_key)
+        longest_same stands_for rows s place first (length t) walked.count best (no_longer (is_key rows) t walked.count (length t) walked.passed no_key)
         walked.best_is
 
     pub walked_on : (next : N) (new : Option (Longest N)) →
@@ -217,7 +217,7 @@ module _ {N : Type 0} (stands_for : N → List ℕ → Type 0) (rows : Rows) (s 
         let t : Text = left_at s place first in
         let no_key : is_key rows (code_points (take (suc walked.count) t)) ≡ false = ap (is_key rows) so_far ∙ ap is_some none in
         longest_same stands_for rows s place first (suc walked.count) walked.count best
-        (cond-false (is_key rows (code_points (take (suc walked.count) t))) (suc walked.count) (longest_key rows t walked.count) no_key) walked.best_is
+        (cond-false (is_key rows (code_points (take (suc walked.count) t))) (suc walked.count) (longest_key (is_key rows) t walked.count) no_key) walked.best_is
 
     pub longest_now : (next : N) (row : Bor (List Element)) →
         stands_for next (code_points (take walked.count (left_at s place first)) ++ get_or s.points i 0 ∷ []) →
@@ -228,7 +228,7 @@ module _ {N : Type 0} (stands_for : N → List ℕ → Type 0) (rows : Rows) (s 
         let key : is_key rows (code_points (take (suc walked.count) t)) ≡ true = ap (is_key rows) so_far ∙ ap is_some some in
         record {
           count = walked.count;
-          longest = cond-true (is_key rows (code_points (take (suc walked.count) t))) (suc walked.count) (longest_key rows t walked.count) key;
+          longest = cond-true (is_key rows (code_points (take (suc walked.count) t))) (suc walked.count) (longest_key (is_key rows) t walked.count) key;
           found = record { node = subst (λ k. stands_for next k) (sym so_far) stands; row = ap rows so_far ∙ some };
           left = ap (left_at s place) (add-one i) ∙ here.1;
           onward = omega (arith, walked.begun);
@@ -242,4 +242,4 @@ module _ {N : Type 0} (stands_for : N → List ℕ → Type 0) (rows : Rows) (s 
       let t : Text = left_at s place first in
       let none : drop walked.count t ≡ [] = sym walked.left ∙ left_end s place i same past in
       let all : length t ≡ walked.count = omega (arith, length-drop walked.count t, ap length none, walked.passed) in
-      longest_same stands_for rows s place first (length t) walked.count best (ap (longest_key rows t) all) walked.best_is
+      longest_same stands_for rows s place first (length t) walked.count best (ap (longest_key (is_key rows) t) all) walked.best_is

@@ -3,7 +3,7 @@
 use Rattle.std.specs.Prelude.{◌≡◌, ℕ, ◌-◌, ◌<◌, ◌≤◌, List, [], ◌++◌, false, Some, length, take, drop, nat_lt, slice_index}
 use Rattle.std.specs.List.{list_all}
 use Rattle.uca_text.specs.Texts.{Text, Spelled, code_points, letters_of}
-use Rattle.uca_match.specs.Rows.{Rows}
+use Rattle.uca_match.specs.Rows.{Rows, is_key}
 use Rattle.uca_match.specs.Reading.{removed, members, others, non_starters_at_front, after_non_starters}
 use Rattle.uca_match.specs.Places.{is_gone, left_from, left_at, left_of}
 use Rattle.uca_match.specs.declared.places.Place.{Place}
@@ -11,10 +11,10 @@ use Rattle.uca_match.specs.declared.matches.Extension.{Extension}
 
 -- what a key becomes, and what is left then, where some non-starters have been skipped and the text goes on so
 abbrev pub extended_key : Rows → Text → Text → Text → Text
-extended_key rows key skipped t = key ++ members (removed rows key skipped (non_starters_at_front t)) (non_starters_at_front t)
+extended_key rows key skipped t = key ++ members (removed (is_key rows) key skipped (non_starters_at_front t)) (non_starters_at_front t)
 
 abbrev pub extended_rest : Rows → Text → Text → Text → Text
-extended_rest rows key skipped t = (skipped ++ others (removed rows key skipped (non_starters_at_front t)) (non_starters_at_front t))
+extended_rest rows key skipped t = (skipped ++ others (removed (is_key rows) key skipped (non_starters_at_front t)) (non_starters_at_front t))
     ++ after_non_starters t
 
 -- the letters that are left between two places

@@ -1,13 +1,15 @@
 -- Laws of the definitions, as statements.
-use Rattle.std.specs.Prelude.{◌≡◌, ◌≢◌, ◌↔◌, ℕ, List, [], ◌++◌, Option, Some, None, Contains, ⊤}
+use Rattle.std.specs.Prelude.{◌≡◌, ◌≢◌, ◌↔◌, ℕ, List, [], ◌∷◌, ◌++◌, true, Option, Some, None, Contains, ⊤}
 use Rattle.std.specs.List.{AllByRecursion, flat_map}
 use Rattle.uca_weights.specs.declared.Element.{Element}
 use Rattle.uca_text.specs.Texts.{Text, code_points}
-use Rattle.uca_values.specs.Content.{Entry, keys_of, AreDistinct}
-use Rattle.uca_match.specs.Rows.{Rows, is_key, IsKey, rows_of}
-use Rattle.uca_match.specs.Reading.{IsReading, read}
+use Rattle.uca_values.specs.declared.ImplicitRange.{ImplicitRange}
+use Rattle.uca_values.specs.Content.{Entry, Properties, keys_of, AreDistinct}
+use Rattle.uca_values.specs.Implicit.{implicit}
+use Rattle.uca_match.specs.Rows.{Rows, Keys, is_key, IsKey, rows_of}
+use Rattle.uca_match.specs.Reading.{IsReading, parts, read, collation_elements}
 use Rattle.uca_text.specs.Occurring.{OccursInOrder}
-use Rattle.uca_match.specs.Parts.{Part, part_elements, IsPartOf}
+use Rattle.uca_match.specs.Parts.{Part, Row, part_elements, IsPartOf}
 
 -- `read` is a reading, and the only one
 abbrev pub OneReading : Type 0
@@ -48,10 +50,25 @@ RelatedRowsReadAlike related = (old new : ℕ → List Element) (rows others : R
     ((key : List ℕ) → OccursInOrder key (code_points t) → AreRelatedRows related (rows key) (others key)) →
     AllByRecursion (λ c. related (old c) (new c)) (code_points t) → related (read old rows t) (read new others t)
 
+-- ---- Parts
+
+-- The parts of texts for a set of keys: each is a key that occurs in order in the text, or a code point of it; which other
+-- keys there are changes nothing; and a text that is a key is one part.
+pub record PartsOfTexts : Type 0 where
+  pub each : (keys : Keys) (t : Text) → AllByRecursion (IsPartOf keys t) (parts keys t)
+  pub same : (keys others : Keys) (t : Text) → ((key : List ℕ) → OccursInOrder key (code_points t) → keys key ≡ others key) →
+      parts keys t ≡ parts others t
+  pub key : (keys : Keys) (t : Text) → t ≢ [] → keys (code_points t) ≡ true → parts keys t ≡ Row (code_points t) ∷ []
+
+-- the collation elements of a text are those of its parts
+abbrev pub ElementsOfParts : Type 0
+ElementsOfParts = (rows : Rows) (ranges : List ImplicitRange) (properties : Properties) (t : Text) →
+    collation_elements rows ranges properties t ≡ flat_map (part_elements (implicit ranges properties) rows) (parts (is_key rows) t)
+
 -- two readings have the same parts
 pub record HasSameParts (old new : ℕ → List Element) (rows others : Rows) (t : Text) : Type 0 where
   pub parts : List Part
-  pub are_parts : AllByRecursion (IsPartOf rows t) parts
+  pub are_parts : AllByRecursion (IsPartOf (is_key rows) t) parts
   pub old_reading : read old rows t ≡ flat_map (part_elements old rows) parts
   pub new_reading : read new others t ≡ flat_map (part_elements new others) parts
 

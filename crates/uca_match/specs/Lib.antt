@@ -1,4 +1,5 @@
 pub mod Rows
+pub mod Parts
 pub mod Reading
 pub mod Collations
 pub mod Lookups
@@ -8,7 +9,6 @@ pub mod Places
 pub mod Matches
 pub mod Extensions
 pub mod Rest
-pub mod Parts
 pub mod Laws
 pub mod WorkedTable
 pub mod WorkedReadings

@@ -1,8 +1,8 @@
--- The parts of what a text reads as.
-use Rattle.std.specs.Prelude.{ℕ, List, unwrap_or, Contains, []}
+-- The parts that a text is matched as: keys, and code points that no key covers.
+use Rattle.std.specs.Prelude.{ℕ, List, unwrap_or, Contains, [], IsTrue}
 use Rattle.uca_weights.specs.declared.Element.{Element}
 use Rattle.uca_text.specs.Texts.{Text, code_points}
-use Rattle.uca_match.specs.Rows.{Rows, IsKey}
+use Rattle.uca_match.specs.Rows.{Rows, Keys}
 use Rattle.uca_text.specs.Occurring.{OccursInOrder}
 
 -- the row of a key, or the implicit weights of a code point
@@ -16,6 +16,6 @@ part_elements implicit rows (Row key) = unwrap_or (rows key) []
 part_elements implicit rows (Implicit c) = implicit c
 
 -- the key occurs in order in the text, or the code point is one of it
-abbrev pub IsPartOf : Rows → Text → Part → Type 0
-IsPartOf rows t (Row key) = IsKey rows key × OccursInOrder key (code_points t)
-IsPartOf rows t (Implicit c) = Contains (code_points t) c
+abbrev pub IsPartOf : Keys → Text → Part → Type 0
+IsPartOf keys t (Row key) = IsTrue (keys key) × OccursInOrder key (code_points t)
+IsPartOf keys t (Implicit c) = Contains (code_points t) c

@@ -1,10 +1,11 @@
 -- The collation elements of a text (UTS #10, step S2), first by equations, then by a function that computes them.
 use Rattle.std.specs.Prelude.{◌≡◌, ◌≢◌, ℕ, zero, suc, ◌<◌, List, [], ◌∷◌, ◌++◌, Bool, true, false, ◌&&◌, ◌↔◌, length, take, drop, Some, IsTrue}
-use Rattle.std.specs.Prelude.{IsFalse, nat_lt, ⊤, if◌then◌else◌, unwrap_or}
-use Rattle.std.specs.List.{AllByRecursion, list_all}
+use Rattle.std.specs.Prelude.{IsFalse, nat_lt, ⊤, if◌then◌else◌}
+use Rattle.std.specs.List.{AllByRecursion, list_all, flat_map}
 use Rattle.uca_weights.specs.declared.Element.{Element}
 use Rattle.uca_text.specs.Texts.{Letter, Text, code_points, is_starter}
-use Rattle.uca_match.specs.Rows.{Rows, is_key, IsKey}
+use Rattle.uca_match.specs.Rows.{Rows, Keys, is_key, IsKey}
+use Rattle.uca_match.specs.Parts.{Part, Row, Implicit, part_elements}
 use Rattle.uca_values.specs.declared.ImplicitRange.{ImplicitRange}
 use Rattle.uca_values.specs.Content.{Properties}
 use Rattle.uca_values.specs.Implicit.{implicit}
@@ -70,9 +71,9 @@ pub record IsReading (implicit : ℕ → List Element) (rows : Rows) (E : Text �
 -- ---- By a function
 
 -- the length of the longest key, of at most n letters, that begins the text; 0 if there is none
-abbrev pub longest_key : Rows → Text → ℕ → ℕ
-longest_key rows t zero = 0
-longest_key rows t (suc n) = if is_key rows (code_points (take (suc n) t)) then suc n else longest_key rows t n
+abbrev pub longest_key : Keys → Text → ℕ → ℕ
+longest_key keys t zero = 0
+longest_key keys t (suc n) = if keys (code_points (take (suc n) t)) then suc n else longest_key keys t n
 
 -- the non-starters at the front, and what follows them
 abbrev pub non_starters_at_front : Text → Text
@@ -84,45 +85,50 @@ after_non_starters [] = []
 after_non_starters (c ∷ t) = if is_starter c then c ∷ t else after_non_starters t
 
 -- whether a non-starter is removed after a key and the letters skipped so far: none of them blocks it, and with it the key is a key
-abbrev pub is_taken : Rows → Text → Text → Letter → Bool
-is_taken rows key skipped c = list_all (λ d. nat_lt d.class c.class) skipped && is_key rows (code_points (key ++ c ∷ []))
+abbrev pub is_taken : Keys → Text → Text → Letter → Bool
+is_taken keys key skipped c = list_all (λ d. nat_lt d.class c.class) skipped && keys (code_points (key ++ c ∷ []))
 
 -- which of the non-starters are removed after the key and the letters skipped so far
-abbrev pub removed : Rows → Text → Text → Text → List Bool
-removed rows key skipped [] = []
-removed rows key skipped (c ∷ non_starters) =
-    let taken = is_taken rows key skipped c in
-    taken ∷ removed rows (if taken then key ++ c ∷ [] else key) (if taken then skipped else skipped ++ c ∷ []) non_starters
+abbrev pub removed : Keys → Text → Text → Text → List Bool
+removed keys key skipped [] = []
+removed keys key skipped (c ∷ non_starters) =
+    let taken = is_taken keys key skipped c in
+    taken ∷ removed keys (if taken then key ++ c ∷ [] else key) (if taken then skipped else skipped ++ c ∷ []) non_starters
 
--- the elements that the front of a text gives, and what is read after them
+-- the part that the front of a text is matched as, and what is matched after it
 pub record Portion : Type 0 where
-  pub elements : List Element
+  pub part : Part
   pub rest : Text
 
--- what a key at the front gives, after which the rest follows
-abbrev pub row_portion : Rows → Text → Text → Portion
-row_portion rows front rest =
+-- a key at the front, after which the rest follows: it is extended by the non-starters that are removed
+abbrev pub row_portion : Keys → Text → Text → Portion
+row_portion keys front rest =
     let non_starters = non_starters_at_front rest in
-    let set = removed rows front [] non_starters in
-    record { elements = unwrap_or (rows (code_points (front ++ members set non_starters))) []; rest = others set non_starters ++ after_non_starters rest }
+    let set = removed keys front [] non_starters in
+    record { part = Row (code_points (front ++ members set non_starters)); rest = others set non_starters ++ after_non_starters rest }
 
-abbrev pub portion_at : (ℕ → List Element) → Rows → Letter → Text → ℕ → Portion
-portion_at implicit rows c t zero = record { elements = implicit c.code; rest = t }
-portion_at implicit rows c t (suc n) = row_portion rows (take (suc n) (c ∷ t)) (drop (suc n) (c ∷ t))
+abbrev pub portion_at : Keys → Letter → Text → ℕ → Portion
+portion_at keys c t zero = record { part = Implicit c.code; rest = t }
+portion_at keys c t (suc n) = row_portion keys (take (suc n) (c ∷ t)) (drop (suc n) (c ∷ t))
 
-abbrev pub portion : (ℕ → List Element) → Rows → Letter → Text → Portion
-portion implicit rows c t = portion_at implicit rows c t (longest_key rows (c ∷ t) (length (c ∷ t)))
+abbrev pub portion : Keys → Letter → Text → Portion
+portion keys c t = portion_at keys c t (longest_key keys (c ∷ t) (length (c ∷ t)))
 
--- the elements of a text of at most n letters
-abbrev pub read_within : (ℕ → List Element) → Rows → ℕ → Text → List Element
-read_within implicit rows zero t = []
-read_within implicit rows (suc n) [] = []
-read_within implicit rows (suc n) (c ∷ t) =
-    let first = portion implicit rows c t in
-    first.elements ++ read_within implicit rows n first.rest
+-- the parts of a text of at most n letters
+abbrev pub parts_within : Keys → ℕ → Text → List Part
+parts_within keys zero t = []
+parts_within keys (suc n) [] = []
+parts_within keys (suc n) (c ∷ t) =
+    let first = portion keys c t in
+    first.part ∷ parts_within keys n first.rest
 
+-- what a text is matched as
+abbrev pub parts : Keys → Text → List Part
+parts keys t = parts_within keys (length t) t
+
+-- the elements of its parts
 abbrev pub read : (ℕ → List Element) → Rows → Text → List Element
-read implicit rows t = read_within implicit rows (length t) t
+read implicit rows t = flat_map (part_elements implicit rows) (parts (is_key rows) t)
 
 -- the collation elements of a text (UTS #10, S2) under the rows of a table, its ranges for implicit weights, and a data file
 abbrev pub collation_elements : Rows → List ImplicitRange → Properties → Text → List Element

@@ -7,7 +7,11 @@ use Rattle.uca_values.specs.Content.{Entry}
 abbrev pub Rows : Type 0
 Rows = List ℕ → Option (List Element)
 
-abbrev pub is_key : Rows → List ℕ → Bool
+-- which lists of code points are keys
+abbrev pub Keys : Type 0
+Keys = List ℕ → Bool
+
+abbrev pub is_key : Rows → Keys
 is_key rows key = is_some (rows key)
 
 abbrev pub IsKey : Rows → List ℕ → Type 0

@@ -2,7 +2,7 @@
 
 ghost use Rattle.std.specs.Prelude.{List, []};
 ghost use Rattle.uca_weights.specs.declared.Element.{Element};
-ghost use Rattle.uca_match.specs.Laws.{OneReading, RowsByKey, KeysReadAsRows, IsKeptByAppend, RelatedRowsReadAlike, SameKeysReadByParts};
+ghost use Rattle.uca_match.specs.Laws.{OneReading, RowsByKey, KeysReadAsRows, IsKeptByAppend, RelatedRowsReadAlike, SameKeysReadByParts, PartsOfTexts, ElementsOfParts};
 ghost use Rattle.uca_match.specs.WorkedReadings.{WorkedReadings};
 
 use std::marker::Brand;
@@ -70,6 +70,18 @@ pub fn related_rows_read_alike<R: RelatesElements>()
 /// parts: each is the two rows of one such key, or the two implicit weights of one code point of the text.
 pub fn same_keys_read_by_parts()
     ensures { SameKeysReadByParts }
+{}
+
+/// What a text is matched as, for a set of keys: each part is a key that occurs in order in the text, or a code
+/// point of it. The parts depend on no other keys, and a text that is a key is the one part of itself.
+pub fn parts_of_texts()
+    ensures { PartsOfTexts }
+{}
+
+/// The collation elements of a text are those of its parts, one after the other: the row of each key, and the
+/// implicit weights of each other code point.
+pub fn elements_of_parts()
+    ensures { ElementsOfParts }
 {}
 
 /// The definitions give the elements that were worked out by hand for some texts: letters, accents,

@@ -5,8 +5,8 @@ use Rattle.std.proofs.lemmas.List.Elements.{recursion_from_All, All-contains_its
 use Rattle.uca_values.specs.Implicit.{implicit}
 use Rattle.uca_match.specs.Rows.{same_key}
 use Rattle.uca_plans.specs.declared.drafts.DraftElement.{DraftElement}
-use Rattle.uca_plans.specs.Drafts.{DraftRow, as_draft}
-use Rattle.uca_plans.specs.Readings.{draft_at, IsReadFrom, DraftsComeFromRows}
+use Rattle.uca_plans.specs.Drafts.{DraftRow, as_draft, draft_at}
+use Rattle.uca_plans.specs.Readings.{IsReadFrom, DraftsComeFromRows}
 use Rattle.uca_check.proofs.RowElements.{each_append}
 use Rattle.uca_plans.proofs.DraftPairs.{read_each}
 

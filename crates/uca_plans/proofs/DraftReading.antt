@@ -1,29 +1,24 @@
 -- Draft elements: how they depend on the rows.
-use Rattle.std.proofs.Common.{◌≡◌, ◌≢◌, ℕ, suc, ◌+◌, List, [], ◌∷◌, ◌++◌, length, map, Bool, true, false, cond, Option, Some, None, refl, sym}
+use Rattle.std.proofs.Common.{◌≡◌, ◌≢◌, ℕ, List, [], ◌∷◌, ◌++◌, length, map, Bool, true, false, cond, Option, Some, None, unwrap_or, is_some, refl, sym}
 use Rattle.std.proofs.Common.{option_map, ap, ap₂, ◌∙◌, append-nil, arith, inl}
-use Rattle.std.specs.List.{flat_map}
+use Rattle.std.specs.List.{AllByRecursion, flat_map}
 use Rattle.std.proofs.lemmas.Simd.{map-map}
 use Rattle.std.proofs.lemmas.List.{map-append}
-use Rattle.std.proofs.lemmas.List.Concat.{flat_map-append}
-use Rattle.std.proofs.lemmas.Nat.{div-add-mod'}
 use Rattle.uca_weights.specs.declared.Element.{Element}
 use Rattle.uca_values.specs.declared.ImplicitRange.{ImplicitRange}
 use Rattle.uca_values.specs.Content.{Properties}
 use Rattle.uca_values.specs.Implicit.{implicit}
-use Rattle.uca_values.proofs.ImplicitPairs.{of_pair}
-use Rattle.uca_check.proofs.Elements.{each_any}
 use Rattle.uca_text.specs.Texts.{Spelled, code_points, letters, letters_of}
 use Rattle.uca_text.specs.Occurring.{OccursInOrder}
 use Rattle.uca_text.proofs.Occurring.{occurs_trans}
-use Rattle.uca_match.specs.Rows.{rows_of, same_key}
-use Rattle.uca_match.specs.Laws.{AreRelatedRows}
-use Rattle.uca_match.proofs.RelatedReading.{read_related}
-use Rattle.uca_match.proofs.ReadingLemmas.{key_reads_as_row}
+use Rattle.uca_match.specs.Rows.{rows_of, is_key, same_key}
+use Rattle.uca_match.specs.Parts.{Part, Row, Implicit, part_elements, IsPartOf}
+use Rattle.uca_match.specs.Reading.{parts}
+use Rattle.uca_match.proofs.Parts.{parts_same, each_part, key_is_part}
 use Rattle.uca_plans.specs.declared.drafts.DraftElement.{DraftElement}
-use Rattle.uca_plans.specs.Drafts.{DraftRow, as_draft, elements_at, reference, referred, references_from, resolved, draft_elements}
-use Rattle.uca_plans.specs.Readings.{valued_rows, draft_at, DraftsReadAsRows, DraftsReadByWhatOccurs, KeysReadAsTheirRows}
-use Rattle.uca_plans.specs.Keys.{keys_in, place_at}
-use Rattle.uca_plans.proofs.KeyPlaces.{references_at}
+use Rattle.uca_plans.specs.Drafts.{DraftRow, as_draft, has_key, draft_at, part_drafts, draft_elements}
+use Rattle.uca_plans.specs.Readings.{valued_rows, DraftsReadAsRows, DraftsReadByWhatOccurs, KeysReadAsTheirRows}
+use Rattle.uca_plans.proofs.KeyPlaces.{has_draft}
 
 -- ---- Texts
 
@@ -46,92 +41,44 @@ letters_occur (c ∷ points) (k ∷ classes) = inl (refl, letters_occur points c
 pub occurs_in_text : (key : List ℕ) (text : Spelled) → OccursInOrder key (code_points (letters_of text)) → OccursInOrder key text.points
 occurs_in_text key text h = occurs_trans key (code_points (letters_of text)) text.points h (letters_occur text.points text.classes)
 
--- ---- Implicit elements
+-- a text with code points has letters
+pub letters_some : (text : Spelled) → length text.classes ≡ length text.points → text.points ≢ [] → letters_of text ≢ []
+letters_some text same some none = some (sym (points_of text same) ∙ ap code_points none)
 
--- each element of implicit weights stands for itself
-pub implicit_drafts : (rows : List DraftRow) (ranges : List ImplicitRange) (properties : Properties) (c : ℕ) →
-    flat_map (resolved rows) (implicit ranges properties c) ≡ map (as_draft true) (implicit ranges properties c)
-implicit_drafts rows ranges properties c =
-    of_pair (λ es. flat_map (resolved rows) es ≡ map (as_draft true) es) ranges properties c (λ lead low _. refl)
+-- ---- By what occurs
 
--- ---- Places
-
--- what an element that stands for a place gives
-abbrev pub valued : List DraftRow → Option (List Element) → Option (List DraftElement)
-valued rows None = None
-valued rows (Some es) = Some (flat_map (resolved rows) es)
-
--- the place that is referred to
-pub referred_to : (place : ℕ) → referred (reference place) ≡ place
-referred_to place = div-add-mod' place 0x1_0000
-
-place_valued : (all : List DraftRow) (place : ℕ) (rows : List DraftRow) → ((i j : ℕ) → j ≡ place + i → elements_at j all ≡ elements_at i rows) →
-    (key : List ℕ) → valued all (place_at place (keys_in rows) key) ≡ draft_at rows key
-place_valued all place [] here key = refl
-place_valued all place (row ∷ rows) here key =
-    go (same_key row.key key) (place_valued all (place + 1) rows (λ i j e. here (suc i) j (omega (arith, e))) key)
-  where
-    first : flat_map (resolved all) (reference place ∷ []) ≡ row.elements
-    first = append-nil (elements_at (referred (reference place)) all) ∙ ap (λ i. elements_at i all) (referred_to place) ∙ here 0 place (omega arith)
-
-    go : (b : Bool) → valued all (place_at (place + 1) (keys_in rows) key) ≡ draft_at rows key →
-        valued all (cond b (Some (reference place ∷ [])) (place_at (place + 1) (keys_in rows) key)) ≡ cond b (Some row.elements) (draft_at rows key)
-    go true later = ap (λ es. Some es) first
-    go false later = later
-
--- the place of a key gives the elements of its row
-pub place_gives : (rows : List DraftRow) (key : List ℕ) → valued rows (place_at 0 (keys_in rows) key) ≡ draft_at rows key
-place_gives rows key = place_valued rows 0 rows (λ i j e. ap (λ k. elements_at k rows) (let same : j ≡ i = omega (arith, e) in same)) key
-
-pub row_gives : (rows : List DraftRow) (key : List ℕ) → valued rows (rows_of (references_from 0 rows) key) ≡ draft_at rows key
-row_gives rows key = ap (valued rows) (references_at 0 rows key) ∙ place_gives rows key
-
--- ---- The three laws
-
-module _ (rows others : List DraftRow) where
-  -- both stand for the same
-  abbrev StandForSame : List Element → List Element → Type 0
-  StandForSame es fs = flat_map (resolved rows) es ≡ flat_map (resolved others) fs
-
-  same_append : (es fs gs hs : List Element) → StandForSame es fs → StandForSame gs hs → StandForSame (es ++ gs) (fs ++ hs)
-  same_append es fs gs hs first second =
-      flat_map-append (resolved rows) es gs ∙ ap₂ (λ a b. a ++ b) first second ∙ sym (flat_map-append (resolved others) fs hs)
-
-  same_rows : (row other : Option (List Element)) → valued rows row ≡ valued others other → AreRelatedRows StandForSame row other
-  same_rows None None e = tt
-  same_rows None (Some fs) e = cc
-  same_rows (Some es) None e = cc
-  same_rows (Some es) (Some fs) e = let same : flat_map (resolved rows) es ≡ flat_map (resolved others) fs = cc in same
+-- two functions that agree at each part of a text give the same
+same_at_parts : (f g : Part → List DraftElement) (P : Part → Type 0) → ((p : Part) → P p → f p ≡ g p) → (ps : List Part) → AllByRecursion P ps →
+    flat_map f ps ≡ flat_map g ps
+same_at_parts f g P same [] each = refl
+same_at_parts f g P same (p ∷ ps) each = ap₂ (λ es fs. es ++ fs) (same p each.0) (same_at_parts f g P same ps each.1)
 
 -- drafts that agree at the keys that occur in order in a text read it alike
 pub read_by_what_occurs : DraftsReadByWhatOccurs
 read_by_what_occurs ranges properties rows others text agree =
-    read_related (StandForSame rows others) refl (same_append rows others) (implicit ranges properties) (implicit ranges properties)
-    (rows_of (references_from 0 rows)) (rows_of (references_from 0 others)) (letters_of text)
-    (record {
-      at_keys = λ key occurs. same_rows rows others (rows_of (references_from 0 rows) key) (rows_of (references_from 0 others) key)
-          (row_gives rows key ∙ agree key (occurs_in_text key text occurs) ∙ sym (row_gives others key));
-      at_points = each_any (λ c. StandForSame rows others (implicit ranges properties c) (implicit ranges properties c))
-          (λ c. implicit_drafts rows ranges properties c ∙ sym (implicit_drafts others ranges properties c)) (code_points (letters_of text));
-    })
+    same_at_parts (part_drafts ranges properties rows) (part_drafts ranges properties others) (IsPartOf (has_key rows) (letters_of text)) same
+    (parts (has_key rows) (letters_of text)) (each_part (has_key rows) (letters_of text))
+    ∙ ap (flat_map (part_drafts ranges properties others)) (parts_same (has_key rows) (has_key others) (letters_of text)
+    (λ key occurs. sym (has_draft rows key) ∙ ap is_some (agree key (occurs_in_text key text occurs)) ∙ has_draft others key))
+  where
+    same : (p : Part) → IsPartOf (has_key rows) (letters_of text) p → part_drafts ranges properties rows p ≡ part_drafts ranges properties others p
+    same (Row key) is = ap (λ o. unwrap_or o []) (agree key (occurs_in_text key text is.1))
+    same (Implicit c) is = refl
 
--- a text that is a key reads as its row
+-- ---- A text that is a key
+
+-- it is its one part, and reads as its row
 pub read_of_key : KeysReadAsTheirRows
 read_of_key ranges properties rows text row same some found =
-    go (rows_of (references_from 0 rows) text.points) refl (row_gives rows text.points ∙ found)
-  where
-    letters_some : letters_of text ≢ []
-    letters_some none = some (sym (points_of text same) ∙ ap code_points none)
+    let points : code_points (letters_of text) ≡ text.points = points_of text same in
+    ap (flat_map (part_drafts ranges properties rows))
+    (key_is_part (has_key rows) (letters_of text) (letters_some text same some)
+    (ap (has_key rows) points ∙ sym (has_draft rows text.points) ∙ ap is_some found))
+    ∙ append-nil (unwrap_or (draft_at rows (code_points (letters_of text))) [])
+    ∙ ap (λ key. unwrap_or (draft_at rows key) []) points
+    ∙ ap (λ o. unwrap_or o []) found
 
-    go : (o : Option (List Element)) → rows_of (references_from 0 rows) text.points ≡ o → valued rows o ≡ Some row →
-        draft_elements ranges properties rows text ≡ row
-    go None e gives = cc
-    go (Some es) e gives =
-        let gives_row : flat_map (resolved rows) es ≡ row = cc in
-        ap (flat_map (resolved rows))
-        (key_reads_as_row (implicit ranges properties) (rows_of (references_from 0 rows)) (letters_of text) es letters_some
-        (ap (rows_of (references_from 0 rows)) (points_of text same) ∙ e))
-        ∙ gives_row
+-- ---- Valued rows
 
 -- the elements of a key's row are valued
 pub valued_row : (value : DraftElement → Element) (rows : List DraftRow) (key : List ℕ) →
@@ -144,32 +91,37 @@ valued_row value (row ∷ rows) key = go (same_key row.key key) (valued_row valu
     go true later = refl
     go false later = later
 
-module _ (value : DraftElement → Element) (rows : List DraftRow) where
-  -- elements are what others stand for, each valued
-  abbrev AreValued : List Element → List Element → Type 0
-  AreValued es fs = es ≡ map value (flat_map (resolved rows) fs)
+module _ (value : DraftElement → Element) (rows : List DraftRow) (ranges : List ImplicitRange) (properties : Properties)
+    (keeps : (c : ℕ) → map (λ e. value (as_draft true e)) (implicit ranges properties c) ≡ implicit ranges properties c) where
+  value_of_row : (o : Option (List DraftElement)) → unwrap_or (option_map (map value) o) [] ≡ map value (unwrap_or o [])
+  value_of_row None = refl
+  value_of_row (Some es) = refl
 
-  valued_append : (es fs gs hs : List Element) → AreValued es fs → AreValued gs hs → AreValued (es ++ gs) (fs ++ hs)
-  valued_append es fs gs hs first second =
-      ap₂ (λ a b. a ++ b) first second
-      ∙ sym (map-append value (flat_map (resolved rows) fs) (flat_map (resolved rows) hs))
-      ∙ ap (map value) (sym (flat_map-append (resolved rows) fs hs))
+  -- the elements of a part are its draft elements, each valued
+  part_valued : (p : Part) →
+      part_elements (implicit ranges properties) (rows_of (valued_rows value rows)) p ≡ map value (part_drafts ranges properties rows p)
+  part_valued (Row key) = ap (λ o. unwrap_or o []) (valued_row value rows key) ∙ value_of_row (draft_at rows key)
+  part_valued (Implicit c) = sym (keeps c) ∙ sym (map-map value (as_draft true) (implicit ranges properties c))
 
-  are_valued : (row place : Option (List Element)) → row ≡ option_map (map value) (valued rows place) → AreRelatedRows AreValued row place
-  are_valued None None e = tt
-  are_valued None (Some fs) e = cc
-  are_valued (Some es) None e = cc
-  are_valued (Some es) (Some fs) e = let same : es ≡ map value (flat_map (resolved rows) fs) = cc in same
+  parts_valued : (ps : List Part) →
+      flat_map (part_elements (implicit ranges properties) (rows_of (valued_rows value rows))) ps
+      ≡ map value (flat_map (part_drafts ranges properties rows) ps)
+  parts_valued [] = refl
+  parts_valued (p ∷ ps) =
+      ap₂ (λ es fs. es ++ fs) (part_valued p) (parts_valued ps)
+      ∙ sym (map-append value (part_drafts ranges properties rows p) (flat_map (part_drafts ranges properties rows) ps))
+
+-- the valued rows have the same keys
+valued_key : (value : DraftElement → Element) (rows : List DraftRow) (key : List ℕ) → is_key (rows_of (valued_rows value rows)) key ≡ has_key rows key
+valued_key value rows key = ap is_some (valued_row value rows key) ∙ go (draft_at rows key) ∙ has_draft rows key
+  where
+    go : (o : Option (List DraftElement)) → is_some (option_map (map value) o) ≡ is_some o
+    go None = refl
+    go (Some es) = refl
 
 -- reading the rows where each element is valued gives the draft elements, each valued
 pub read_as_rows : DraftsReadAsRows
 read_as_rows value ranges properties rows text keeps =
-    read_related (AreValued value rows) refl (valued_append value rows) (implicit ranges properties) (implicit ranges properties)
-    (rows_of (valued_rows value rows)) (rows_of (references_from 0 rows)) (letters_of text)
-    (record {
-      at_keys = λ key occurs. are_valued value rows (rows_of (valued_rows value rows) key) (rows_of (references_from 0 rows) key)
-          (valued_row value rows key ∙ ap (option_map (map value)) (sym (row_gives rows key)));
-      at_points = each_any (λ c. AreValued value rows (implicit ranges properties c) (implicit ranges properties c))
-          (λ c. sym (keeps c) ∙ sym (map-map value (as_draft true) (implicit ranges properties c))
-          ∙ ap (map value) (sym (implicit_drafts rows ranges properties c))) (code_points (letters_of text));
-    })
+    parts_valued value rows ranges properties keeps (parts (is_key (rows_of (valued_rows value rows))) (letters_of text))
+    ∙ ap (λ ps. map value (flat_map (part_drafts ranges properties rows) ps))
+    (parts_same (is_key (rows_of (valued_rows value rows))) (has_key rows) (letters_of text) (λ key _. valued_key value rows key))

@@ -1,13 +1,13 @@
 -- The places of keys, and what one more key changes.
-use Rattle.std.proofs.Common.{◌≡◌, ◌≢◌, ◌⊎◌, ℕ, ◌+◌, List, [], ◌∷◌, ◌++◌, Bool, true, false, cond, ◌||◌, Some, None, refl, sym, ap, ◌∙◌, inl, inr, ⊎_elim}
+use Rattle.std.proofs.Common.{◌≡◌, ◌≢◌, ◌⊎◌, ℕ, ◌+◌, List, [], ◌∷◌, ◌++◌, Bool, true, false, cond, ◌||◌, is_some, Some, None, refl, sym, ap, ◌∙◌, inl, inr, ⊎_elim}
 use Rattle.std.specs.List.{AllByRecursion}
 use Rattle.std.proofs.Math.Bool.{or-false}
 use Rattle.std.proofs.lemmas.Bool.{false≢true, false_from_ne_true, cond-true, cond-false, or_left, cases_Bool}
 use Rattle.uca_rules.specs.declared.relations.Relation.{Relation}
-use Rattle.uca_match.specs.Rows.{rows_of, same_key}
+use Rattle.uca_match.specs.Rows.{same_key}
 use Rattle.uca_match.proofs.RowsByKey.{same_key-true, same_key-itself}
-use Rattle.uca_plans.specs.Drafts.{DraftRow, with_row, has_key, reference, references_from}
-use Rattle.uca_plans.specs.Readings.{draft_at, IsOneMore}
+use Rattle.uca_plans.specs.Drafts.{DraftRow, with_row, has_key, draft_at}
+use Rattle.uca_plans.specs.Readings.{IsOneMore}
 use Rattle.uca_plans.specs.Keys.{keys_in, is_among, with_key, with_targets, place_at}
 
 -- other keys are told apart
@@ -24,10 +24,15 @@ same_key-sym a b =
 
 -- ---- Rows by their keys
 
--- the rows that hold their own places have the places of their keys
-pub references_at : (place : ℕ) (rows : List DraftRow) (key : List ℕ) → rows_of (references_from place rows) key ≡ place_at place (keys_in rows) key
-references_at place [] key = refl
-references_at place (row ∷ rows) key = ap (cond (same_key row.key key) (Some (reference place ∷ []))) (references_at (place + 1) rows key)
+-- a key has a row exactly where it has elements
+pub has_draft : (rows : List DraftRow) (key : List ℕ) → is_some (draft_at rows key) ≡ has_key rows key
+has_draft [] key = refl
+has_draft (row ∷ rows) key = go (same_key row.key key) (has_draft rows key)
+  where
+    go : (b : Bool) → is_some (draft_at rows key) ≡ has_key rows key →
+        is_some (cond b (Some row.elements) (draft_at rows key)) ≡ (b || has_key rows key)
+    go true later = refl
+    go false later = later
 
 pub has_key_is : (rows : List DraftRow) (key : List ℕ) → has_key rows key ≡ is_among (keys_in rows) key
 has_key_is [] key = refl
@@ -84,7 +89,7 @@ among_with_key new (k ∷ keys) key = go (same_key k new) refl (same_key k key) 
 pub place_stays : (place : ℕ) (new : List ℕ) (keys : List (List ℕ)) (key : List ℕ) → (same_key new key ≡ true → is_among keys key ≡ true) →
     place_at place (with_key new keys) key ≡ place_at place keys key
 place_stays place new [] key there =
-    cond-false (same_key new key) (Some (reference place ∷ [])) None (false_from_ne_true (same_key new key) (λ same. false≢true (there same)))
+    cond-false (same_key new key) (Some place) None (false_from_ne_true (same_key new key) (λ same. false≢true (there same)))
 place_stays place new (k ∷ keys) key there = go (same_key k new) (same_key k key) refl (place_stays (place + 1) new keys key)
   where
     go : (b c : Bool) → same_key k key ≡ c →
@@ -92,24 +97,21 @@ place_stays place new (k ∷ keys) key there = go (same_key k new) (same_key k k
         place_at place (cond b (k ∷ keys) (k ∷ with_key new keys)) key ≡ place_at place (k ∷ keys) key
     go true c e later = refl
     go false true e later =
-        cond-true (same_key k key) (Some (reference place ∷ [])) (place_at (place + 1) (with_key new keys) key) e
-        ∙ sym (cond-true (same_key k key) (Some (reference place ∷ [])) (place_at (place + 1) keys key) e)
+        cond-true (same_key k key) (Some place) (place_at (place + 1) (with_key new keys) key) e
+        ∙ sym (cond-true (same_key k key) (Some place) (place_at (place + 1) keys key) e)
     go false false e later =
-        ap (cond (same_key k key) (Some (reference place ∷ [])))
+        ap (cond (same_key k key) (Some place))
         (later (λ same. let here : (same_key k key || is_among keys key) ≡ true = there same in ap (λ b. b || is_among keys key) (sym e) ∙ here))
 
--- a key keeps its place where targets come behind the keys, unless it is a new one
-pub place_kept : (place : ℕ) (relations : List Relation) (keys : List (List ℕ)) (key : List ℕ) →
-    (is_among keys key ≡ true) ⊎ AllByRecursion (λ r. r.target.points ≢ key) relations →
-    place_at place (with_targets relations keys) key ≡ place_at place keys key
-place_kept place [] keys key h = refl
-place_kept place (r ∷ relations) keys key h =
-    place_kept place relations (with_key r.target.points keys) key
-    (⊎_elim
-    (λ there. inl (among_with_key r.target.points keys key ∙ or_left (is_among keys key) (same_key r.target.points key) there))
-    (λ others. inr others.1) h)
-    ∙ place_stays place r.target.points keys key
-    (λ same. ⊎_elim (λ there. there) (λ others. absurd (others.0 (same_key-true r.target.points key same))) h)
+-- keys that are none of the targets are as they were where targets come after the keys
+pub among_left : (relations : List Relation) (keys : List (List ℕ)) (key : List ℕ) → AllByRecursion (λ r. r.target.points ≢ key) relations →
+    is_among (with_targets relations keys) key ≡ is_among keys key
+among_left [] keys key others = refl
+among_left (r ∷ relations) keys key others =
+    among_left relations (with_key r.target.points keys) key others.1
+    ∙ among_with_key r.target.points keys key
+    ∙ ap (λ b. is_among keys key || b) (same_key-other r.target.points key others.0)
+    ∙ or-false (is_among keys key)
 
 -- ---- One more row
 
@@ -146,8 +148,6 @@ one_more_row new rows =
       others = row_of_others new rows;
       keys = keys_with_row new rows ∙ with_key_is new.key (keys_in rows)
           ∙ ap (λ b. cond b (keys_in rows) (keys_in rows ++ new.key ∷ [])) (sym (has_key_is rows new.key));
-      places = λ key there. references_at 0 (with_row new rows) key
-          ∙ ap (λ keys. place_at 0 keys key) (keys_with_row new rows)
-          ∙ place_stays 0 new.key (keys_in rows) key (λ _. sym (has_key_is rows key) ∙ there)
-          ∙ sym (references_at 0 rows key);
+      places = λ key there. ap (λ keys. place_at 0 keys key) (keys_with_row new rows)
+          ∙ place_stays 0 new.key (keys_in rows) key (λ _. sym (has_key_is rows key) ∙ there);
     }

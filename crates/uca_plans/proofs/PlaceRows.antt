@@ -1,24 +1,18 @@
--- Rows by their places: where one more row stands, and that the places of keys are rows of a table.
+-- Rows by their places: where one more row stands.
 use Rattle.std.proofs.Common.{◌≡◌, ℕ, suc, ◌+◌, ◌<◌, ◌≤◌, List, [], ◌∷◌, ◌++◌, length, set, Bool, true, false, ◌||◌}
 use Rattle.std.proofs.Common.{Some, None, refl, sym, ap, subst, ◌∙◌, arith}
-use Rattle.std.specs.List.{AllByRecursion}
-use Rattle.std.specs.Char.{IsScalar}
 use Rattle.std.proofs.lemmas.Bool.{false≢true, cond-true, cond-false, or_parts}
-use Rattle.std.proofs.Math.Nat.{div-lt_iff_lt-mul, mod-lt}
-use Rattle.uca_values.specs.Content.{keys_of, IsEntry, AreRows, Fits}
 use Rattle.uca_match.specs.Rows.{same_key}
 use Rattle.uca_match.proofs.RowsByKey.{same_key-itself}
-use Rattle.uca_plans.specs.Drafts.{DraftRow, with_row, has_key, reference, referred}
-use Rattle.uca_plans.specs.Keys.{keys_in, is_among, with_key, places_from, place_at}
-use Rattle.uca_plans.proofs.DraftReading.{referred_to}
-use Rattle.uca_plans.proofs.PlanKeys.{AreApart, distinct_of_apart}
+use Rattle.uca_plans.specs.Drafts.{DraftRow, with_row, has_key}
+use Rattle.uca_plans.specs.Keys.{keys_in, is_among, with_key, place_at}
 
 -- ---- Where one more row stands
 
 -- where its key has a place, the row of that place is replaced
 pub record IsRowAt (place : ℕ) (new : DraftRow) (rows : List DraftRow) (i : ℕ) : Type 0 where
   pub within : i < length rows
-  pub stands : place_at place (keys_in rows) new.key ≡ Some (reference (place + i) ∷ [])
+  pub stands : place_at place (keys_in rows) new.key ≡ Some (place + i)
   pub replaced : with_row new rows ≡ set rows i new
 
 pub row_there : (place : ℕ) (new : DraftRow) (rows : List DraftRow) → has_key rows new.key ≡ true → (i : ℕ) × IsRowAt place new rows i
@@ -31,8 +25,8 @@ row_there place new (row ∷ rows) there = go (same_key row.key new.key) refl (r
       0,
       record {
         within = omega arith;
-        stands = cond-true (same_key row.key new.key) (Some (reference place ∷ [])) (place_at (place + 1) (keys_in rows) new.key) e
-            ∙ ap (λ p. Some (reference p ∷ [])) (let same : place ≡ place + 0 = omega arith in same);
+        stands = cond-true (same_key row.key new.key) (Some place) (place_at (place + 1) (keys_in rows) new.key) e
+            ∙ ap (λ p. Some p) (let same : place ≡ place + 0 = omega arith in same);
         replaced = cond-true (same_key row.key new.key) (new ∷ rows) (row ∷ with_row new rows) e;
       },
     )
@@ -41,21 +35,20 @@ row_there place new (row ∷ rows) there = go (same_key row.key new.key) refl (r
           suc found.0,
           record {
             within = omega (arith, found.1.within);
-            stands = cond-false (same_key row.key new.key) (Some (reference place ∷ [])) (place_at (place + 1) (keys_in rows) new.key) e
+            stands = cond-false (same_key row.key new.key) (Some place) (place_at (place + 1) (keys_in rows) new.key) e
                 ∙ found.1.stands
-                ∙ ap (λ p. Some (reference p ∷ [])) (let same : place + 1 + found.0 ≡ place + suc found.0 = omega arith in same);
+                ∙ ap (λ p. Some p) (let same : place + 1 + found.0 ≡ place + suc found.0 = omega arith in same);
             replaced = cond-false (same_key row.key new.key) (new ∷ rows) (row ∷ with_row new rows) e ∙ ap (λ more. row ∷ more) found.1.replaced;
           },
         )
 
 -- the row of the place that was found
-pub row_at : (new : DraftRow) (rows : List DraftRow) (i : ℕ) → has_key rows new.key ≡ true → place_at 0 (keys_in rows) new.key ≡ Some (reference i ∷ []) →
+pub row_at : (new : DraftRow) (rows : List DraftRow) (i : ℕ) → has_key rows new.key ≡ true → place_at 0 (keys_in rows) new.key ≡ Some i →
     (i < length rows) × (with_row new rows ≡ set rows i new)
 row_at new rows i there found =
     let here = row_there 0 new rows there in
-    let both : Some (reference i ∷ []) ≡ Some (reference (0 + here.0) ∷ []) = sym found ∙ here.1.stands in
-    let one : reference i ≡ reference (0 + here.0) = cc in
-    let same : i ≡ 0 + here.0 = sym (referred_to i) ∙ ap referred one ∙ referred_to (0 + here.0) in
+    let both : Some i ≡ Some (0 + here.0) = sym found ∙ here.1.stands in
+    let same : i ≡ 0 + here.0 = cc in
     let is : here.0 ≡ i = omega (arith, same) in
     (omega (arith, here.1.within), here.1.replaced ∙ ap (λ k. set rows k new) is)
 
@@ -68,61 +61,13 @@ row_behind new (row ∷ rows) other =
 
 -- and its place is their number
 pub place_behind : (place : ℕ) (new : List ℕ) (keys : List (List ℕ)) → is_among keys new ≡ false →
-    place_at place (with_key new keys) new ≡ Some (reference (place + length keys) ∷ [])
+    place_at place (with_key new keys) new ≡ Some (place + length keys)
 place_behind place new [] other =
-    cond-true (same_key new new) (Some (reference place ∷ [])) None (same_key-itself new)
-    ∙ ap (λ p. Some (reference p ∷ [])) (let same : place ≡ place + 0 = omega arith in same)
+    cond-true (same_key new new) (Some place) None (same_key-itself new)
+    ∙ ap (λ p. Some p) (let same : place ≡ place + 0 = omega arith in same)
 place_behind place new (key ∷ keys) other =
     let parts = or_parts (same_key key new) (is_among keys new) other in
     ap (λ ks. place_at place ks new) (cond-false (same_key key new) (key ∷ keys) (key ∷ with_key new keys) parts.0)
-    ∙ cond-false (same_key key new) (Some (reference place ∷ [])) (place_at (place + 1) (with_key new keys) new) parts.0
+    ∙ cond-false (same_key key new) (Some place) (place_at (place + 1) (with_key new keys) new) parts.0
     ∙ place_behind (place + 1) new keys parts.1
-    ∙ ap (λ p. Some (reference p ∷ [])) (let same : place + 1 + length keys ≡ place + suc (length keys) = omega arith in same)
-
--- ---- The places of keys as the rows of a table
-
--- a key of a table: 1 to 16 code points
-pub record IsTableKey (key : List ℕ) : Type 0 where
-  pub points : AllByRecursion IsScalar key
-  pub some : 1 ≤ length key
-  pub few : length key ≤ 16
-
-keys_of_places : (place : ℕ) (keys : List (List ℕ)) → keys_of (places_from place keys) ≡ keys
-keys_of_places place [] = refl
-keys_of_places place (key ∷ keys) = ap (λ more. key ∷ more) (keys_of_places (place + 1) keys)
-
-pub length_places : (place : ℕ) (keys : List (List ℕ)) → length (places_from place keys) ≡ length keys
-length_places place [] = refl
-length_places place (key ∷ keys) = ap suc (length_places (place + 1) keys)
-
--- a place below 2^32 has weights of 16 bits
-pub reference_fits : (place : ℕ) → place < 0x1_0000_0000 → Fits (reference place)
-reference_fits place few =
-    record {
-      primary = (div-lt_iff_lt-mul (omega arith)).1 (omega (arith, few));
-      secondary = mod-lt place (omega arith);
-      tertiary = omega arith;
-    }
-
--- the places of the keys of a table are the rows of a table
-pub places_are_rows : (keys : List (List ℕ)) → AllByRecursion IsTableKey keys → AreApart keys → length keys ≤ 200000 → AreRows (places_from 0 keys)
-places_are_rows keys are apart few =
-    record {
-      entries = go 0 keys are (omega (arith, few));
-      distinct = distinct_of_apart (places_from 0 keys) (subst AreApart (sym (keys_of_places 0 keys)) apart);
-      few = omega (arith, few, length_places 0 keys);
-    }
-  where
-    go : (place : ℕ) (keys : List (List ℕ)) → AllByRecursion IsTableKey keys → place + length keys ≤ 200000 → AllByRecursion IsEntry (places_from place keys)
-    go place [] are few = tt
-    go place (key ∷ keys) are few = (
-      record {
-        points = are.0.points;
-        some_points = are.0.some;
-        few_points = are.0.few;
-        fits = (reference_fits place (omega (arith, few)), tt);
-        some_elements = omega arith;
-        few_elements = omega arith;
-      },
-      go (place + 1) keys are.1 (omega (arith, few)),
-    )
+    ∙ ap (λ p. Some p) (let same : place + 1 + length keys ≡ place + suc (length keys) = omega arith in same)

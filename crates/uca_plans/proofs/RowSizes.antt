@@ -1,11 +1,10 @@
 -- The sizes of a plan's rows.
 use Rattle.std.proofs.Common.{◌≡◌, ◌≢◌, ℕ, zero, suc, ◌+◌, ◌≤◌, List, [], ◌∷◌, ◌++◌, length, take, drop, map, Bool, true, false, cond, ltb, Option, Some}
-use Rattle.std.proofs.Common.{None, unwrap_or, refl, sym, ap, subst, ◌∙◌, arith, length-append}
+use Rattle.std.proofs.Common.{None, unwrap_or, is_some, refl, sym, ap, subst, ◌∙◌, arith, length-append}
 use Rattle.std.specs.List.{AllByRecursion, flat_map}
 use Rattle.std.specs.Char.{IsScalar}
-use Rattle.std.proofs.lemmas.Bool.{or_parts, ltb-false}
+use Rattle.std.proofs.lemmas.Bool.{or_parts, ltb-false, false≢true}
 use Rattle.std.proofs.lemmas.List.{length-map}
-use Rattle.std.proofs.lemmas.List.Concat.{flat_map-append}
 use Rattle.uca_weights.specs.declared.Element.{Element}
 use Rattle.uca_weights.specs.declared.Level.{Level}
 use Rattle.uca_weights.specs.Levels.{level_of}
@@ -16,69 +15,53 @@ use Rattle.uca_check.specs.WellFormed.{elements_of}
 use Rattle.uca_text.specs.Texts.{Text, Letter, Spelled, code_points, letters_of}
 use Rattle.uca_rules.specs.declared.relations.Relation.{Relation}
 use Rattle.uca_rules.specs.Relations.{IsRuleText, HasRuleTexts}
-use Rattle.uca_match.specs.Rows.{Rows, rows_of, same_key}
-use Rattle.uca_match.specs.Reading.{longest_key, removed, members, non_starters_at_front, row_portion, read}
-use Rattle.uca_match.proofs.MatchLemmas.{longest_is_key, extended_is_key}
-use Rattle.uca_match.proofs.ReadingLemmas.{some_row, read_of_none, read_of_longest}
+use Rattle.uca_match.specs.Rows.{same_key}
+use Rattle.uca_match.specs.Parts.{Part, Row, Implicit, IsPartOf}
+use Rattle.uca_match.specs.Reading.{Portion, portion, parts}
+use Rattle.uca_match.proofs.Parts.{each_part}
+use Rattle.uca_match.proofs.ReadingLemmas.{parts_portion}
 use Rattle.uca_plans.specs.declared.drafts.DraftElement.{DraftElement}
 use Rattle.uca_plans.specs.declared.drafts.DraftWeight.{DraftWeight}
 use Rattle.uca_plans.specs.declared.drafts.DraftWeight.TheVariants.{New}
-use Rattle.uca_plans.specs.Drafts.{DraftRow, as_draft, row_as_draft, with_row, references_from, resolved, draft_elements, AnchorPart, anchor_part}
+use Rattle.uca_plans.specs.Drafts.{DraftRow, as_draft, row_as_draft, with_row, has_key, draft_at, part_drafts, draft_elements, AnchorPart, anchor_part}
 use Rattle.uca_plans.specs.Drafts.{accepted_part, reweighted}
 use Rattle.uca_plans.specs.Plans.{Basis, Drafting, Drafted, drafted_at, placed_behind, placed_if_accepted, draft_expansion, begun, LevelPlans, numbered}
 use Rattle.uca_plans.specs.Plans.{numbered_row, Plan}
 use Rattle.uca_plans.specs.Keys.{keys_in}
 use Rattle.uca_plans.specs.Sizes.{IsSizedRow, AreSizedRows, PlansHaveSizedRows}
-use Rattle.uca_plans.proofs.KeyPlaces.{keys_with_row}
+use Rattle.uca_plans.proofs.KeyPlaces.{has_draft, keys_with_row}
 use Rattle.uca_plans.proofs.PlanKeys.{AreApart, apart_of_distinct, distinct_of_apart, apart_with_key, keys_of_drafts, keys_of_numbered}
 use Rattle.uca_plans.proofs.PlanSteps.{IsStep, AreSteps, target_row, planned_is, level_plans}
 use Rattle.uca_values.proofs.ImplicitPairs.{of_pair}
-use Rattle.uca_plans.proofs.DraftReading.{points_of, implicit_drafts, valued, row_gives}
+use Rattle.uca_plans.proofs.DraftReading.{letters_some}
 use Rattle.uca_plans.proofs.DraftOrigins.{each_at}
 
 -- ---- A text that is not empty has elements
 
 module _ (ranges : List ImplicitRange) (properties : Properties) (rows : List DraftRow) (some_in : AllByRecursion (λ row. 1 ≤ length row.elements) rows) where
-  -- what stands in front is enough
-  some_joined : (es fs : List Element) → 1 ≤ length (flat_map (resolved rows) es) → 1 ≤ length (flat_map (resolved rows) (es ++ fs))
-  some_joined es fs some =
-      omega (arith, some, ap length (flat_map-append (resolved rows) es fs), length-append (flat_map (resolved rows) es) (flat_map (resolved rows) fs))
+  -- a part of a text has some: a key has its row, and implicit elements are two
+  some_part : (t : Text) (p : Part) → IsPartOf (has_key rows) t p → 1 ≤ length (part_drafts ranges properties rows p)
+  some_part t (Row key) is = go (draft_at rows key) refl
+    where
+      go : (o : Option (List DraftElement)) → draft_at rows key ≡ o → 1 ≤ length (unwrap_or o [])
+      go None none = absurd (false≢true (sym (ap is_some none) ∙ has_draft rows key ∙ is.0))
+      go (Some es) found = each_at (λ es. 1 ≤ length es) rows some_in key es found
+  some_part t (Implicit c) is = of_pair (λ es. 1 ≤ length (map (as_draft true) es)) ranges properties c (λ lead low _. omega arith)
 
-  -- implicit elements are two
-  some_implicit : (c : ℕ) → 1 ≤ length (flat_map (resolved rows) (implicit ranges properties c))
-  some_implicit c =
-      subst (λ es. 1 ≤ length es) (sym (implicit_drafts rows ranges properties c))
-      (of_pair (λ es. 1 ≤ length (map (as_draft true) es)) ranges properties c (λ lead low _. omega arith))
-
-  some_of_key : (key : List ℕ) (es : List Element) → rows_of (references_from 0 rows) key ≡ Some es → 1 ≤ length (flat_map (resolved rows) es)
-  some_of_key key es found =
-      each_at (λ es. 1 ≤ length es) rows some_in key (flat_map (resolved rows) es) (sym (row_gives rows key) ∙ ap (valued rows) found)
-
-  some_letters : (c : Letter) (t : Text) (k : ℕ) → longest_key (rows_of (references_from 0 rows)) (c ∷ t) (length (c ∷ t)) ≡ k →
-      1 ≤ length (flat_map (resolved rows) (read (implicit ranges properties) (rows_of (references_from 0 rows)) (c ∷ t)))
-  some_letters c t zero none =
-      subst (λ es. 1 ≤ length (flat_map (resolved rows) es)) (sym (read_of_none (implicit ranges properties) (rows_of (references_from 0 rows)) c t none))
-      (some_joined (implicit ranges properties c.code) (read (implicit ranges properties) (rows_of (references_from 0 rows)) t) (some_implicit c.code))
-  some_letters c t (suc k) found =
-      let places : Rows = rows_of (references_from 0 rows) in
-      let front : Text = take (suc k) (c ∷ t) in
-      let marks : Text = non_starters_at_front (drop (suc k) (c ∷ t)) in
-      let key : List ℕ = code_points (front ++ members (removed places front [] marks) marks) in
-      let row = some_row places key (extended_is_key places front [] marks (longest_is_key places (c ∷ t) (length (c ∷ t)) k found)) in
-      subst (λ es. 1 ≤ length (flat_map (resolved rows) es)) (sym (read_of_longest (implicit ranges properties) places (c ∷ t) k found))
-      (some_joined (unwrap_or (places key) [])
-      (read (implicit ranges properties) places (row_portion places front (drop (suc k) (c ∷ t))).rest)
-      (subst (λ es. 1 ≤ length (flat_map (resolved rows) es)) (sym (ap (λ o. unwrap_or o []) row.1)) (some_of_key key row.0 row.1)))
-
-  some_read : (t : Text) → t ≢ [] →
-      1 ≤ length (flat_map (resolved rows) (read (implicit ranges properties) (rows_of (references_from 0 rows)) t))
+  some_read : (t : Text) → t ≢ [] → 1 ≤ length (flat_map (part_drafts ranges properties rows) (parts (has_key rows) t))
   some_read [] some = absurd (some refl)
-  some_read (c ∷ t) some = some_letters c t (longest_key (rows_of (references_from 0 rows)) (c ∷ t) (length (c ∷ t))) refl
+  some_read (c ∷ t) some =
+      let first : Portion = portion (has_key rows) c t in
+      let later : List DraftElement = flat_map (part_drafts ranges properties rows) (parts (has_key rows) first.rest) in
+      let are = subst (AllByRecursion (IsPartOf (has_key rows) (c ∷ t))) (parts_portion (has_key rows) c t) (each_part (has_key rows) (c ∷ t)) in
+      let enough = some_part (c ∷ t) first.part are.0 in
+      subst (λ ps. 1 ≤ length (flat_map (part_drafts ranges properties rows) ps)) (sym (parts_portion (has_key rows) c t))
+      (omega (arith, enough, length-append (part_drafts ranges properties rows first.part) later))
 
   -- where each row has some, a text of rules has some
   pub some_drafts : (text : Spelled) → IsRuleText text → 1 ≤ length (draft_elements ranges properties rows text)
   some_drafts text is_text =
-      some_read (letters_of text) (λ none. is_text.some (sym (points_of text is_text.normal.accepted.same) ∙ ap code_points none))
+      some_read (letters_of text) (letters_some text is_text.normal.accepted.same is_text.some)
 
 -- ---- What a relation gives
 

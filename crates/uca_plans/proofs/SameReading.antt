@@ -1,26 +1,19 @@
--- Texts of relations read alike over the places of all keys and over the rows so far.
+-- Texts of relations read alike over all keys and over the rows so far.
 use Rattle.std.proofs.Common.{◌≡◌, ◌≢◌, ◌⊎◌, ℕ, List, [], ◌∷◌, ◌++◌, length, Bool, true, false, ◌||◌, Option, Some, None, IfSome, IsSomeAnd, refl, sym, ap}
 use Rattle.std.proofs.Common.{subst, ◌∙◌, inl, inr, ⊎_elim, is_some, ap₂, cond, ◌+◌}
 use Rattle.std.specs.List.{AllByRecursion, flat_map}
 use Rattle.std.proofs.lemmas.Bool.{false≢true, or_left, or_right, or_cases, cases_Bool}
-use Rattle.uca_weights.specs.declared.Element.{Element}
-use Rattle.uca_values.specs.declared.ImplicitRange.{ImplicitRange}
-use Rattle.uca_values.specs.Content.{Properties}
-use Rattle.uca_values.specs.Implicit.{implicit}
 use Rattle.uca_text.specs.Texts.{Spelled, code_points, letters_of}
 use Rattle.uca_text.specs.Occurring.{OccursInOrder}
 use Rattle.uca_rules.specs.declared.relations.Relation.{Relation}
 use Rattle.uca_rules.specs.Relations.{IsTarget, IsUntouched, IsUsedBy, IsRuleText, HasRuleTexts}
-use Rattle.uca_match.specs.Rows.{Rows, rows_of, same_key}
-use Rattle.uca_match.specs.Laws.{AreRelatedRows}
-use Rattle.uca_match.proofs.RelatedReading.{read_related}
-use Rattle.uca_match.proofs.ReadingLemmas.{key_reads_as_row, some_row}
+use Rattle.uca_match.specs.Rows.{same_key}
+use Rattle.uca_match.proofs.Parts.{parts_same, key_is_part}
 use Rattle.uca_match.proofs.RowsByKey.{same_key-true, same_key-itself}
-use Rattle.uca_plans.specs.Drafts.{DraftRow, reference, resolved, references_from, draft_elements}
-use Rattle.uca_plans.specs.Keys.{keys_in, is_among, with_key, with_targets, place_at, read_over, IsTextOf, PlacesReadAsRows}
-use Rattle.uca_plans.proofs.KeyPlaces.{among_with_key, place_kept, references_at}
-use Rattle.uca_check.proofs.Elements.{each_any}
-use Rattle.uca_plans.proofs.DraftReading.{points_of, occurs_in_text}
+use Rattle.uca_plans.specs.Drafts.{has_key, part_drafts}
+use Rattle.uca_plans.specs.Keys.{keys_in, is_among, with_key, with_targets, IsTextOf, RelationsReadOverAllKeys}
+use Rattle.uca_plans.proofs.KeyPlaces.{among_with_key, among_left, has_key_is}
+use Rattle.uca_plans.proofs.DraftReading.{points_of, letters_some, occurs_in_text}
 
 -- ---- Targets and keys
 
@@ -73,47 +66,6 @@ pub targets_append : (before later : List Relation) (keys : List (List ℕ)) →
 targets_append [] later keys = refl
 targets_append (r ∷ before) later keys = targets_append before later (with_key r.target.points keys)
 
--- a key has a place
-key_is_row : (place : ℕ) (keys : List (List ℕ)) (key : List ℕ) → is_among keys key ≡ true → is_some (place_at place keys key) ≡ true
-key_is_row place [] key there = absurd (false≢true there)
-key_is_row place (k ∷ keys) key there = go (same_key k key) there (key_is_row (place + 1) keys key)
-  where
-    go : (b : Bool) → (b || is_among keys key) ≡ true → (is_among keys key ≡ true → is_some (place_at (place + 1) keys key) ≡ true) →
-        is_some (cond b (Some (reference place ∷ [])) (place_at (place + 1) keys key)) ≡ true
-    go true there later = refl
-    go false there later = later there
-
--- ---- Readings over the same places
-
-module _ (ranges : List ImplicitRange) (properties : Properties) (rows : List DraftRow) (places : Rows) (text : Spelled) where
-  same_row : (row : Option (List Element)) → AreRelatedRows (λ es fs. es ≡ fs) row row
-  same_row None = tt
-  same_row (Some es) = refl
-
-  -- where each key that occurs in order in a text has the same place, it reads alike
-  pub read_over_same : ((key : List ℕ) → OccursInOrder key text.points → places key ≡ rows_of (references_from 0 rows) key) →
-      read_over ranges properties places rows text ≡ draft_elements ranges properties rows text
-  read_over_same same =
-      ap (flat_map (resolved rows))
-      (read_related (λ es fs. es ≡ fs) refl (λ es fs gs hs first second. ap₂ (λ a b. a ++ b) first second) (implicit ranges properties)
-      (implicit ranges properties) places (rows_of (references_from 0 rows)) (letters_of text)
-      (record {
-        at_keys = λ key occurs. subst (AreRelatedRows (λ es fs. es ≡ fs) (places key)) (same key (occurs_in_text key text occurs)) (same_row (places key));
-        at_points = each_any (λ c. implicit ranges properties c ≡ implicit ranges properties c) (λ c. refl) (code_points (letters_of text));
-      }))
-
-  -- and a text that is a key, and has the same place, reads alike
-  pub read_over_key : length text.classes ≡ length text.points → text.points ≢ [] → (es : List Element) → places text.points ≡ Some es →
-      rows_of (references_from 0 rows) text.points ≡ Some es → read_over ranges properties places rows text ≡ draft_elements ranges properties rows text
-  read_over_key same some es place own =
-      ap (flat_map (resolved rows))
-      (key_reads_as_row (implicit ranges properties) places (letters_of text) es letters_some (ap places (points_of text same) ∙ place)
-      ∙ sym (key_reads_as_row (implicit ranges properties) (rows_of (references_from 0 rows)) (letters_of text) es letters_some
-      (ap (rows_of (references_from 0 rows)) (points_of text same) ∙ own)))
-    where
-      letters_some : letters_of text ≢ []
-      letters_some none = some (sym (points_of text same) ∙ ap code_points none)
-
 -- ---- Texts of relations
 
 -- what holds of all members of a list holds of one between others
@@ -143,32 +95,37 @@ no_keys [] text key untouched occurs = tt
 no_keys (r ∷ relations) text key untouched occurs =
     (λ same. untouched.0 (subst (λ k. OccursInOrder k text) (sym same) occurs), no_keys relations text key untouched.1 occurs)
 
--- over the places of all keys the texts of relations read as over the rows so far
-pub same_reading : PlacesReadAsRows
-same_reading ranges properties keys before after later rest r rows places text rules whole own listed is_text =
-    ⊎_elim
+-- over all keys the texts of relations read as over the rows so far
+pub same_reading : RelationsReadOverAllKeys
+same_reading ranges properties keys before after later rest r rows all text rules whole own listed is_text =
+    ap (flat_map (part_drafts ranges properties rows))
+    (⊎_elim
     (λ target.
     let there : is_among (keys_in rows) text.points ≡ true = ap (λ ks. is_among ks text.points) own ∙ target_among before keys text.points target in
-    let found = some_row (rows_of (references_from 0 rows)) text.points
-    (ap is_some (references_at 0 rows text.points) ∙ key_is_row 0 (keys_in rows) text.points there) in
-    read_over_key ranges properties rows places text in_rules.normal.accepted.same in_rules.some found.0
-    (placed text.points (inl there) ∙ found.1) found.1)
+    let there_too : all text.points ≡ true = listed text.points ∙ ap (λ ks. is_among ks text.points) all_keys
+    ∙ among_kept later (keys_in rows) text.points there in
+    let points : code_points (letters_of text) ≡ text.points = points_of text spelled in
+    key_is_part all (letters_of text) (letters_some text spelled in_rules.some) (ap all points ∙ there_too)
+    ∙ sym (key_is_part (has_key rows) (letters_of text) (letters_some text spelled in_rules.some)
+    (ap (has_key rows) points ∙ has_key_is rows text.points ∙ there)))
     (λ free.
     let untouched : IsUntouched (later ++ rest) text.points =
     subst (λ rs. IsUntouched rs text.points) whole (rules.none_late before after r text.points refl (text_used r text is_text) free) in
-    read_over_same ranges properties rows places text
-    (λ key occurs. placed key
-    (inr (no_keys later text.points key
-    (at_front (λ s. OccursInOrder s.target.points text.points → ⊥) later rest untouched) occurs))))
-    (target_or_not before text.points)
+    parts_same all (has_key rows) (letters_of text)
+    (λ key occurs.
+    listed key
+    ∙ ap (λ ks. is_among ks key) all_keys
+    ∙ among_left later (keys_in rows) key
+    (no_keys later text.points key (at_front (λ s. OccursInOrder s.target.points text.points → ⊥) later rest untouched)
+    (occurs_in_text key text occurs))
+    ∙ sym (has_key_is rows key)))
+    (target_or_not before text.points))
   where
     in_rules : IsRuleText text
     in_rules = text_of_rules r text (at_split HasRuleTexts before r after rules.texts) is_text
 
-    placed : (key : List ℕ) → (is_among (keys_in rows) key ≡ true) ⊎ AllByRecursion (λ s. s.target.points ≢ key) later →
-        places key ≡ rows_of (references_from 0 rows) key
-    placed key stays =
-        listed key
-        ∙ ap (λ ks. place_at 0 ks key) (targets_append before later keys ∙ ap (with_targets later) (sym own))
-        ∙ place_kept 0 later (keys_in rows) key stays
-        ∙ sym (references_at 0 rows key)
+    spelled : length text.classes ≡ length text.points
+    spelled = in_rules.normal.accepted.same
+
+    all_keys : with_targets (before ++ later) keys ≡ with_targets later (keys_in rows)
+    all_keys = targets_append before later keys ∙ ap (with_targets later) (sym own)

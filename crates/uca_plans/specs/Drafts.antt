@@ -1,14 +1,16 @@
 -- Drafts: the rows of a tailored table before its weights are numbered.
-use Rattle.std.specs.Prelude.{ℕ, zero, suc, ◌+◌, ◌*◌, ◌/◌, ◌%◌, Bool, true, false, ◌&&◌, ◌||◌, not, List, [], ◌∷◌, map, nat_eq, nat_le, if◌then◌else◌, Option, Some, None}
+use Rattle.std.specs.Prelude.{ℕ, Bool, true, false, ◌&&◌, ◌||◌, not, List, [], ◌∷◌, map, nat_eq, nat_le, if◌then◌else◌, Option, Some, None, unwrap_or}
 use Rattle.std.specs.List.{flat_map}
 use Rattle.uca_weights.specs.declared.Element.{Element}
 use Rattle.uca_weights.specs.declared.Level.{Level}
 use Rattle.uca_weights.specs.declared.Level.TheVariants.{One, Two, Three}
 use Rattle.uca_values.specs.declared.ImplicitRange.{ImplicitRange}
 use Rattle.uca_values.specs.Content.{Entry, Properties}
-use Rattle.uca_text.specs.Texts.{Spelled}
-use Rattle.uca_match.specs.Rows.{rows_of, same_key}
-use Rattle.uca_match.specs.Collations.{elements_of}
+use Rattle.uca_values.specs.Implicit.{implicit}
+use Rattle.uca_text.specs.Texts.{Spelled, letters_of}
+use Rattle.uca_match.specs.Rows.{same_key}
+use Rattle.uca_match.specs.Parts.{Part, Row, Implicit}
+use Rattle.uca_match.specs.Reading.{parts}
 use Rattle.uca_plans.specs.declared.drafts.DraftWeight.{DraftWeight}
 use Rattle.uca_plans.specs.declared.drafts.DraftWeight.TheVariants.{Base, New}
 use Rattle.uca_plans.specs.declared.drafts.DraftElement.{DraftElement}
@@ -37,32 +39,19 @@ has_key (row ∷ rows) key = same_key row.key key || has_key rows key
 
 -- ---- Reading over drafts
 
--- The place of a row, as an element. Variable elements stand for places: implicit elements are never variable.
-abbrev pub reference : ℕ → Element
-reference place = record { primary = place / 0x1_0000; secondary = place % 0x1_0000; tertiary = 0; mark = true }
+-- the elements of the first row with the key
+abbrev pub draft_at : List DraftRow → List ℕ → Option (List DraftElement)
+draft_at [] key = None
+draft_at (row ∷ rows) key = if same_key row.key key then Some row.elements else draft_at rows key
 
-abbrev pub referred : Element → ℕ
-referred e = e.primary * 0x1_0000 + e.secondary
+-- the draft elements of a part: those of the row with the key, or the implicit ones of the code point
+abbrev pub part_drafts : List ImplicitRange → Properties → List DraftRow → Part → List DraftElement
+part_drafts ranges properties rows (Row key) = unwrap_or (draft_at rows key) []
+part_drafts ranges properties rows (Implicit c) = map (as_draft true) (implicit ranges properties c)
 
--- rows that hold their own places
-abbrev pub references_from : ℕ → List DraftRow → List Entry
-references_from place [] = []
-references_from place (row ∷ rows) = record { key = row.key; elements = reference place ∷ [] } ∷ references_from (place + 1) rows
-
--- the elements of the row at a place
-abbrev pub elements_at : ℕ → List DraftRow → List DraftElement
-elements_at place [] = []
-elements_at zero (row ∷ rows) = row.elements
-elements_at (suc place) (row ∷ rows) = elements_at place rows
-
--- what an element that was read stands for: the row at its place, or an implicit element
-abbrev pub resolved : List DraftRow → Element → List DraftElement
-resolved rows e = if e.mark then elements_at (referred e) rows else as_draft true e ∷ []
-
--- the draft elements of a text
+-- the draft elements of a text, which is matched against the keys of the rows
 abbrev pub draft_elements : List ImplicitRange → Properties → List DraftRow → Spelled → List DraftElement
-draft_elements ranges properties rows text =
-    flat_map (resolved rows) (elements_of (record { rows = rows_of (references_from 0 rows); ranges = ranges; properties = properties }) text)
+draft_elements ranges properties rows text = flat_map (part_drafts ranges properties rows) (parts (has_key rows) (letters_of text))
 
 -- ---- What a rule means
 

@@ -1,15 +1,15 @@
 -- The keys of drafts: those of the base, and then the new targets, in their order.
-use Rattle.std.specs.Prelude.{◌≡◌, ◌⊎◌, ℕ, ◌+◌, Bool, false, ◌||◌, List, [], ◌∷◌, ◌++◌, map, if◌then◌else◌, Some}
+use Rattle.std.specs.Prelude.{◌≡◌, ◌⊎◌, ℕ, ◌+◌, Bool, false, ◌||◌, List, [], ◌∷◌, ◌++◌, map, if◌then◌else◌, Option, Some, None}
 use Rattle.std.specs.List.{flat_map}
 use Rattle.uca_values.specs.declared.ImplicitRange.{ImplicitRange}
-use Rattle.uca_values.specs.Content.{Entry, Properties}
-use Rattle.uca_text.specs.Texts.{Spelled}
+use Rattle.uca_values.specs.Content.{Properties}
+use Rattle.uca_text.specs.Texts.{Spelled, letters_of}
 use Rattle.uca_rules.specs.declared.relations.Relation.{Relation}
 use Rattle.uca_rules.specs.Relations.{AreRules}
-use Rattle.uca_match.specs.Rows.{Rows, rows_of, same_key}
-use Rattle.uca_match.specs.Collations.{elements_of}
+use Rattle.uca_match.specs.Rows.{Keys, same_key}
+use Rattle.uca_match.specs.Reading.{parts}
 use Rattle.uca_plans.specs.declared.drafts.DraftElement.{DraftElement}
-use Rattle.uca_plans.specs.Drafts.{DraftRow, reference, resolved, draft_elements}
+use Rattle.uca_plans.specs.Drafts.{DraftRow, part_drafts, draft_elements}
 
 abbrev pub keys_in : List DraftRow → List (List ℕ)
 keys_in rows = map (λ row. row.key) rows
@@ -29,28 +29,24 @@ abbrev pub with_targets : List Relation → List (List ℕ) → List (List ℕ)
 with_targets [] keys = keys
 with_targets (r ∷ relations) keys = with_targets relations (with_key r.target.points keys)
 
--- rows with these keys, in their order, that hold their own places
-abbrev pub places_from : ℕ → List (List ℕ) → List Entry
-places_from place [] = []
-places_from place (key ∷ keys) = record { key = key; elements = reference place ∷ [] } ∷ places_from (place + 1) keys
+-- the place of a key among others, of which the first has this place
+abbrev pub place_at : ℕ → List (List ℕ) → List ℕ → Option ℕ
+place_at place [] key = None
+place_at place (k ∷ keys) key = if same_key k key then Some place else place_at (place + 1) keys key
 
--- the place of a key, as an element that stands for it
-abbrev pub place_at : ℕ → List (List ℕ) → Rows
-place_at place keys = rows_of (places_from place keys)
-
--- a text's draft elements, read over places that may be those of more keys than the rows have
-abbrev pub read_over : List ImplicitRange → Properties → Rows → List DraftRow → Spelled → List DraftElement
-read_over ranges properties places rows text = flat_map (resolved rows) (elements_of (record { rows = places; ranges = ranges; properties = properties }) text)
+-- a text's draft elements, where it is matched against keys that may be more than those of the rows
+abbrev pub read_over : List ImplicitRange → Properties → Keys → List DraftRow → Spelled → List DraftElement
+read_over ranges properties keys rows text = flat_map (part_drafts ranges properties rows) (parts keys (letters_of text))
 
 -- the text is the anchor or the expansion of the relation
 abbrev pub IsTextOf : Relation → Spelled → Type 0
 IsTextOf r text = (text ≡ r.anchor) ⊎ (r.expansion ≡ Some text)
 
--- The places of all keys may be listed before any relation is read, those of later targets too: each relation's texts are
--- read over them as over the rows so far. This is so where the later targets are listed to the end, and where only some are.
-abbrev pub PlacesReadAsRows : Type 0
-PlacesReadAsRows = (ranges : List ImplicitRange) (properties : Properties) (keys : List (List ℕ)) (before after later rest : List Relation)
-    (r : Relation) (rows : List DraftRow) (places : Rows) (text : Spelled) →
+-- All keys may be listed before any relation is read, those of later targets too: each relation's texts are read over them
+-- as over the rows so far. This is so where the later targets are listed to the end, and where only some are.
+abbrev pub RelationsReadOverAllKeys : Type 0
+RelationsReadOverAllKeys = (ranges : List ImplicitRange) (properties : Properties) (keys : List (List ℕ)) (before after later rest : List Relation)
+    (r : Relation) (rows : List DraftRow) (all : Keys) (text : Spelled) →
     AreRules (before ++ r ∷ after) → r ∷ after ≡ later ++ rest → keys_in rows ≡ with_targets before keys →
-    ((key : List ℕ) → places key ≡ place_at 0 (with_targets (before ++ later) keys) key) → IsTextOf r text →
-    read_over ranges properties places rows text ≡ draft_elements ranges properties rows text
+    ((key : List ℕ) → all key ≡ is_among (with_targets (before ++ later) keys) key) → IsTextOf r text →
+    read_over ranges properties all rows text ≡ draft_elements ranges properties rows text

@@ -3,8 +3,8 @@ pub mod OnePass
 pub mod Lists
 pub mod ListLaws
 pub mod Drafts
-pub mod Readings
 pub mod Keys
+pub mod Readings
 pub mod Plans
 pub mod Runs
 pub mod Sizes

@@ -1,16 +1,17 @@
 -- How the elements of a text depend on the rows: only on those whose keys occur in it, in order.
-use Rattle.std.specs.Prelude.{◌≡◌, ◌≢◌, ◌⊎◌, ℕ, List, [], ◌∷◌, ◌++◌, length, map, true, Option, Some, None, if◌then◌else◌, Contains}
+use Rattle.std.specs.Prelude.{◌≡◌, ◌≢◌, ◌⊎◌, ℕ, List, [], ◌∷◌, ◌++◌, length, map, true, Some, if◌then◌else◌, Contains}
 use Rattle.std.specs.List.{AllByRecursion}
 use Rattle.uca_weights.specs.declared.Element.{Element}
 use Rattle.uca_values.specs.declared.ImplicitRange.{ImplicitRange}
 use Rattle.uca_values.specs.Content.{Entry, Properties}
 use Rattle.uca_values.specs.Implicit.{implicit}
 use Rattle.uca_text.specs.Texts.{Spelled}
-use Rattle.uca_match.specs.Rows.{rows_of, same_key}
+use Rattle.uca_match.specs.Rows.{rows_of}
 use Rattle.uca_match.specs.Collations.{elements_of}
 use Rattle.uca_text.specs.Occurring.{OccursInOrder}
 use Rattle.uca_plans.specs.declared.drafts.DraftElement.{DraftElement}
-use Rattle.uca_plans.specs.Drafts.{DraftRow, as_draft, draft_elements, with_row, has_key, references_from}
+use Rattle.uca_plans.specs.Drafts.{DraftRow, as_draft, draft_at, draft_elements, with_row, has_key}
+use Rattle.uca_plans.specs.Keys.{keys_in, place_at}
 
 -- the rows where each element is valued
 abbrev pub valued_rows : (DraftElement → Element) → List DraftRow → List Entry
@@ -19,11 +20,6 @@ valued_rows value rows = map (λ row. record { key = row.key; elements = map val
 -- whatever weights the names get, the draft elements of a text are, with these, its collation elements under the rows with these
 abbrev pub DraftsReadAsRows : Type 0
 DraftsReadAsRows = (value : DraftElement → Element) (ranges : List ImplicitRange) (properties : Properties) (rows : List DraftRow) (text : Spelled) → ((c : ℕ) → map (λ e. value (as_draft true e)) (implicit ranges properties c) ≡ implicit ranges properties c) → elements_of (record { rows = rows_of (valued_rows value rows); ranges = ranges; properties = properties }) text ≡ map value (draft_elements ranges properties rows text)
-
--- the elements of the draft row with the key
-abbrev pub draft_at : List DraftRow → List ℕ → Option (List DraftElement)
-draft_at [] key = None
-draft_at (row ∷ rows) key = if same_key row.key key then Some row.elements else draft_at rows key
 
 -- drafts that agree at the keys that occur in order in a text read it alike: rows that come later change nothing for it,
 -- unless their target occurs in it
@@ -48,9 +44,9 @@ DraftsComeFromRows = (ranges : List ImplicitRange) (properties : Properties) (ro
 pub record IsOneMore (new : DraftRow) (rows : List DraftRow) : Type 0 where
   pub its_own : draft_at (with_row new rows) new.key ≡ Some new.elements
   pub others : (key : List ℕ) → key ≢ new.key → draft_at (with_row new rows) key ≡ draft_at rows key
-  pub keys : map (λ row. row.key) (with_row new rows) ≡ (if has_key rows new.key then map (λ row. row.key) rows else map (λ row. row.key) rows ++ new.key ∷ [])
+  pub keys : keys_in (with_row new rows) ≡ (if has_key rows new.key then keys_in rows else keys_in rows ++ new.key ∷ [])
   -- a key that was there keeps its place
-  pub places : (key : List ℕ) → has_key rows key ≡ true → rows_of (references_from 0 (with_row new rows)) key ≡ rows_of (references_from 0 rows) key
+  pub places : (key : List ℕ) → has_key rows key ≡ true → place_at 0 (keys_in (with_row new rows)) key ≡ place_at 0 (keys_in rows) key
 
 abbrev pub OneMoreRow : Type 0
 OneMoreRow = (new : DraftRow) (rows : List DraftRow) → IsOneMore new rows

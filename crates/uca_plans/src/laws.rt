@@ -4,7 +4,7 @@ ghost use Rattle.uca_plans.specs.Numbering.{NumbersAreProper};
 ghost use Rattle.uca_plans.specs.ListLaws.{BaseWeightsOfElements, NewWeightsStandNearest, NewWeightsTakePlaces, NothingStandsBetween, NumbersRiseAlongLists};
 ghost use Rattle.uca_plans.specs.Runs.{RunsSendBaseWeights};
 ghost use Rattle.uca_plans.specs.Readings.{OneMoreRow, KeysReadAsTheirRows, DraftsReadByWhatOccurs, DraftsReadAsRows, DraftsComeFromRows};
-ghost use Rattle.uca_plans.specs.Keys.{PlacesReadAsRows};
+ghost use Rattle.uca_plans.specs.Keys.{RelationsReadOverAllKeys};
 ghost use Rattle.uca_plans.specs.Sizes.{PlansHaveSizedRows};
 ghost use Rattle.uca_plans.specs.PlanLaws.{KeysOfPlans, OneOutcome, RunsAreLongest};
 ghost use Rattle.uca_plans.specs.WorkedPlans.{WorkedPlans};
@@ -84,11 +84,10 @@ pub fn drafts_come_from_rows()
     ensures { DraftsComeFromRows }
 {}
 
-/// The places of all keys may be listed before any relation is read: those of the base, and then those of the targets, of
-/// which the later ones have no row yet. Each relation's anchor and expansion is read over these places as over the rows so
-/// far.
-pub fn places_read_as_rows()
-    ensures { PlacesReadAsRows }
+/// All keys may be listed before any relation is read: those of the base, and then those of the targets, of which the later
+/// ones have no row yet. Each relation's anchor and expansion is read over these keys as over the rows so far.
+pub fn relations_read_over_all_keys()
+    ensures { RelationsReadOverAllKeys }
 {}
 
 /// The rows of a plan have the sizes that the rows of every table have: 1 to 16 code points, 1 to 32 elements, no key

@@ -10,17 +10,17 @@ use Rattle.uca_values.specs.Content.{Entry, keys_of, IsEntry, AreRows}
 use Rattle.uca_rules.specs.declared.relations.Relation.{Relation}
 use Rattle.uca_rules.specs.Relations.{AreDistinct, HasRuleTexts, AreRules}
 use Rattle.uca_match.specs.Rows.{rows_of}
-use Rattle.uca_plans.specs.Drafts.{reference}
-use Rattle.uca_plans.specs.Keys.{is_among, with_key, with_targets, places_from}
+use Rattle.uca_plans.specs.Keys.{is_among, with_key, with_targets}
 use Rattle.uca_plans.proofs.KeyPlaces.{with_key_is, each_with_key}
 use Rattle.uca_plans.proofs.SameReading.{among_kept, target_of_among, targets_append}
 use Rattle.uca_plans.proofs.PlanKeys.{found_among, AreApart, apart_of_distinct, apart_with_key}
-use Rattle.uca_plans.proofs.PlaceRows.{IsTableKey, places_are_rows, length_places}
+use Rattle.uca_tailor.specs.References.{reference, references_from}
+use Rattle.uca_tailor.proofs.References.{IsTableKey, places_are_rows, length_places}
 use Rattle.uca_tailor.specs.Places.{AreListed}
 
 -- rows for some keys, at most as many as a table has
 pub record ArePlacesUpTo (keys : List (List ℕ)) (rows : List Entry) : Type 0 where
-  pub are : rows ≡ places_from 0 keys
+  pub are : rows ≡ references_from 0 keys
   pub few : length rows ≤ 200000
 
 -- ---- Base keys and targets
@@ -82,7 +82,7 @@ apart_targets (r ∷ relations) keys apart = apart_targets relations (with_key r
 
 -- their places are the rows of a table
 pub listed_rows : (rows : List Entry) (relations : List Relation) (keys : List (List ℕ)) → AreRows rows → AreRules relations →
-    AreListed (keys_of rows) relations keys → AreRows (places_from 0 keys)
+    AreListed (keys_of rows) relations keys → AreRows (references_from 0 keys)
 listed_rows rows relations keys base rules all =
     places_are_rows keys
     (subst (AllByRecursion IsTableKey) (sym all.are)
@@ -94,9 +94,9 @@ listed_rows rows relations keys base rules all =
 
 -- one more place behind the others
 pub placed_more : (keys : List (List ℕ)) (items news : List Entry) (key : List ℕ) → length items < 200000 → ArePlacesUpTo keys items →
-    ((ks : List (List ℕ)) → items ≡ places_from 0 ks → news ≡ places_from 0 (ks ++ key ∷ [])) → ArePlacesUpTo (keys ++ key ∷ []) news
+    ((ks : List (List ℕ)) → items ≡ references_from 0 ks → news ≡ references_from 0 (ks ++ key ∷ [])) → ArePlacesUpTo (keys ++ key ∷ []) news
 placed_more keys items news key room up_to pushes =
-    let are : news ≡ places_from 0 (keys ++ key ∷ []) = pushes keys up_to.are in
+    let are : news ≡ references_from 0 (keys ++ key ∷ []) = pushes keys up_to.are in
     record {
       are = are;
       few = omega (arith, ap length are, ap length up_to.are, length_places 0 (keys ++ key ∷ []), length_places 0 keys, length-append keys (key ∷ []));
@@ -120,7 +120,7 @@ base_room rows items i few within up_to =
 -- all rows of a table have places
 pub base_more : (rows items news : List Entry) (i : ℕ) (row : Entry) → length rows ≤ 200000 → i < length rows → row ≡ get_or rows i row →
     ArePlacesUpTo (keys_of (take i rows)) items →
-    ((ks : List (List ℕ)) → items ≡ places_from 0 ks → news ≡ places_from 0 (ks ++ row.key ∷ [])) → ArePlacesUpTo (keys_of (take (i + 1) rows)) news
+    ((ks : List (List ℕ)) → items ≡ references_from 0 ks → news ≡ references_from 0 (ks ++ row.key ∷ [])) → ArePlacesUpTo (keys_of (take (i + 1) rows)) news
 base_more rows items news i row few within is up_to pushes =
     subst (λ keys. ArePlacesUpTo keys news) (sym (keys_more rows i row within is))
     (placed_more (keys_of (take i rows)) items news row.key (base_room rows items i few within up_to) up_to pushes)
@@ -160,7 +160,7 @@ module _ (rows : List Entry) (relations : List Relation) (items : List Entry) (i
 
   -- any other stands behind the keys so far
   pub target_more : (news : List Entry) → AreDistinct relations → is_some (rows_of rows r.target.points) ≡ false → length items < 200000 →
-      ((ks : List (List ℕ)) → items ≡ places_from 0 ks → news ≡ places_from 0 (ks ++ r.target.points ∷ [])) →
+      ((ks : List (List ℕ)) → items ≡ references_from 0 ks → news ≡ references_from 0 (ks ++ r.target.points ∷ [])) →
       ArePlacesUpTo (with_targets (take (i + 1) relations) (keys_of rows)) news
   target_more news distinct other room pushes =
       subst (λ keys. ArePlacesUpTo keys news)
@@ -170,7 +170,7 @@ module _ (rows : List Entry) (relations : List Relation) (items : List Entry) (i
 
   -- and if there is no room for it, no more are listed
   pub listed_some : AreDistinct relations → is_some (rows_of rows r.target.points) ≡ false → 200000 ≤ length items →
-      (keys : List (List ℕ)) × AreListed (keys_of rows) relations keys × (items ≡ places_from 0 keys)
+      (keys : List (List ℕ)) × AreListed (keys_of rows) relations keys × (items ≡ references_from 0 keys)
   listed_some distinct other full = (
     with_targets (take i relations) (keys_of rows),
     record {
@@ -190,7 +190,7 @@ module _ (rows : List Entry) (relations : List Relation) (items : List Entry) (i
 -- all are listed
 pub listed_all : (rows : List Entry) (relations : List Relation) (items : List Entry) (i : ℕ) → length relations ≤ i →
     ArePlacesUpTo (with_targets (take i relations) (keys_of rows)) items →
-    (keys : List (List ℕ)) × AreListed (keys_of rows) relations keys × (items ≡ places_from 0 keys)
+    (keys : List (List ℕ)) × AreListed (keys_of rows) relations keys × (items ≡ references_from 0 keys)
 listed_all rows relations items i over up_to = (
   with_targets (take i relations) (keys_of rows),
   record {
@@ -222,18 +222,18 @@ found_row rows key points same now found row is h = ap (λ k. is_some (rows_of r
 
 -- it stands behind the others
 pub places_behind : (place : ℕ) (keys : List (List ℕ)) (key : List ℕ) →
-    places_from place (keys ++ key ∷ []) ≡ places_from place keys ++ record { key = key; elements = reference (place + length keys) ∷ [] } ∷ []
+    references_from place (keys ++ key ∷ []) ≡ references_from place keys ++ record { key = key; elements = reference (place + length keys) ∷ [] } ∷ []
 places_behind place [] key =
     ap (λ p. record { key = key; elements = reference p ∷ [] } ∷ []) (let same : place ≡ place + 0 = omega arith in same)
 places_behind place (k ∷ keys) key =
     ap (λ rows. record { key = k; elements = reference place ∷ [] } ∷ rows)
     (places_behind (place + 1) keys key
-    ∙ ap (λ p. places_from (place + 1) keys ++ record { key = key; elements = reference p ∷ [] } ∷ [])
+    ∙ ap (λ p. references_from (place + 1) keys ++ record { key = key; elements = reference p ∷ [] } ∷ [])
     (let same : place + 1 + length keys ≡ place + suc (length keys) = omega arith in same))
 
 -- one row more, with the element that stands for its place
-pub one_more_place : (items news : List Entry) (row : Entry) (keys : List (List ℕ)) (key : List ℕ) → items ≡ places_from 0 keys → news ≡ items ++ row ∷ [] →
-    row.key ≡ key → row.elements ≡ reference (length items) ∷ [] → news ≡ places_from 0 (keys ++ key ∷ [])
+pub one_more_place : (items news : List Entry) (row : Entry) (keys : List (List ℕ)) (key : List ℕ) → items ≡ references_from 0 keys → news ≡ items ++ row ∷ [] →
+    row.key ≡ key → row.elements ≡ reference (length items) ∷ [] → news ≡ references_from 0 (keys ++ key ∷ [])
 one_more_place items news row keys key are more its_key its_elements =
     let count : length items ≡ 0 + length keys = omega (arith, ap length are, length_places 0 keys) in
     let same : row ≡ record { key = key; elements = reference (0 + length keys) ∷ [] } =
@@ -242,5 +242,5 @@ one_more_place items news row keys key are more its_key its_elements =
 
 -- the rows of places are those of a table
 pub are_rows : (rows : List Entry) (relations : List Relation) (items : List Entry) → AreRows rows → AreRules relations →
-    ((keys : List (List ℕ)) × AreListed (keys_of rows) relations keys × (items ≡ places_from 0 keys)) → AreRows items
+    ((keys : List (List ℕ)) × AreListed (keys_of rows) relations keys × (items ≡ references_from 0 keys)) → AreRows items
 are_rows rows relations items base rules listed = subst AreRows (sym listed.2) (listed_rows rows relations listed.0 base rules listed.1)

@@ -1,19 +1,21 @@
 -- Each relation can be read over the places of all keys.
-use Rattle.std.proofs.Common.{◌≡◌, ◌⊎◌, ℕ, ◌+◌, ◌<◌, ◌≤◌, List, [], ◌∷◌, ◌++◌, length, take, drop, get_or, Bool, true, false, cond, refl, sym, ap, ap₂, subst, ◌∙◌}
+use Rattle.std.proofs.Common.{◌≡◌, ◌⊎◌, ℕ, ◌+◌, ◌<◌, ◌≤◌, List, [], ◌∷◌, ◌++◌, length, take, drop, get_or, Bool, true, false, cond, is_some, refl, sym, ap, ap₂, subst, ◌∙◌}
 use Rattle.std.proofs.Common.{inl, inr, arith, append-nil, append_assoc, length-append}
 use Rattle.std.proofs.lemmas.Bool.{false≢true}
 use Rattle.std.proofs.lemmas.List.{length-map}
 use Rattle.uca_values.specs.Content.{keys_of}
 use Rattle.uca_rules.specs.declared.relations.Relation.{Relation}
 use Rattle.uca_rules.specs.Relations.{AreRules}
-use Rattle.uca_match.specs.Rows.{Rows}
+use Rattle.uca_match.specs.Rows.{Rows, is_key}
 use Rattle.uca_plans.specs.Drafts.{DraftRow}
 use Rattle.uca_plans.specs.Plans.{Basis, Drafting}
-use Rattle.uca_plans.specs.Keys.{keys_in, is_among, with_key, with_targets, place_at}
+use Rattle.uca_plans.specs.Keys.{keys_in, is_among, with_key, with_targets}
 use Rattle.uca_plans.proofs.KeyPlaces.{with_key_is}
 use Rattle.uca_plans.proofs.SameReading.{same_reading, targets_append, target_among}
+use Rattle.uca_tailor.specs.References.{reference_at}
 use Rattle.uca_tailor.specs.Places.{ArePlaces, IsFull}
 use Rattle.uca_tailor.specs.Ready.{IsReady}
+use Rattle.uca_tailor.proofs.References.{reference_among}
 use Rattle.uca_tailor.proofs.PlaceKeys.{relations_around}
 use Rattle.uca_tailor.proofs.DraftingSteps.{IsDrafted}
 
@@ -116,12 +118,13 @@ module _ (basis : Basis) (places : Rows) (before after : List Relation) (r : Rel
         let keys : all.keys ≡ keys_in so_far.rows ++ more.0 = keys_are ∙ more.1 in
         record {
           more = more.0;
-          each = λ key. all.each key ∙ ap (λ ks. place_at 0 ks key) keys;
+          each = λ key. all.each key ∙ ap (λ ks. reference_at ks key) keys;
           few = subst (λ ks. length ks ≤ 200000) keys all.all.few;
           full = λ other. placed_or_full further.0 further.2 keys_are (ap (λ ks. is_among ks r.target.points) keys ∙ other);
           alike = λ text is_text.
-              same_reading basis.ranges basis.properties (keys_of basis.base) before after further.0 all.all.rest r so_far.rows places text rules further.2 own
-              (λ key. all.each key ∙ ap (λ ks. place_at 0 ks key) (all.all.are ∙ ap (λ rs. with_targets rs (keys_of basis.base)) further.1)) is_text;
+              same_reading basis.ranges basis.properties (keys_of basis.base) before after further.0 all.all.rest r so_far.rows (is_key places) text rules further.2 own
+              (λ key. ap is_some (all.each key) ∙ reference_among all.keys key
+              ∙ ap (λ ks. is_among ks key) (all.all.are ∙ ap (λ rs. with_targets rs (keys_of basis.base)) further.1)) is_text;
         }
 
   -- so the relation can be read

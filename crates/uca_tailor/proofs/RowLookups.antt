@@ -4,7 +4,8 @@ use Rattle.std.specs.List.{flat_map}
 use Rattle.std.proofs.lemmas.Bool.{cond-true, cond-false}
 use Rattle.std.proofs.lemmas.List.Concat.{flat_map-append}
 use Rattle.uca_weights.specs.declared.Element.{Element}
-use Rattle.uca_plans.specs.Drafts.{DraftRow, elements_at, referred, resolved, as_draft}
+use Rattle.uca_plans.specs.Drafts.{DraftRow, as_draft}
+use Rattle.uca_tailor.specs.References.{elements_at, referred, resolved}
 
 -- the elements of the row at a place
 pub elements_there : (rows : List DraftRow) (place : ℕ) (row : DraftRow) → place < length rows → row ≡ get_or rows place row →

@@ -2,6 +2,7 @@ pub mod Marks
 pub mod MemberPlaces
 pub mod NumberTables
 pub mod RowDrafts
+pub mod References
 pub mod Places
 pub mod Ready
 pub mod PlanParts

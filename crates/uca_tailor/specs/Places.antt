@@ -2,13 +2,13 @@
 use Rattle.std.specs.Prelude.{◌≡◌, ℕ, ◌<◌, ◌≤◌, ⊤, List, [], ◌∷◌, ◌++◌, length, false, Some}
 use Rattle.uca_rules.specs.declared.relations.Relation.{Relation}
 use Rattle.uca_match.specs.Rows.{Rows}
-use Rattle.uca_plans.specs.Drafts.{reference}
 use Rattle.uca_plans.specs.Keys.{is_among, with_targets, place_at}
+use Rattle.uca_tailor.specs.References.{reference_at}
 
 -- the key stands at this place
 pub record IsPlaceOf (keys : List (List ℕ)) (key : List ℕ) (place : ℕ) : Type 0 where
   pub within : place < length keys
-  pub stands : place_at 0 keys key ≡ Some (reference place ∷ [])
+  pub stands : place_at 0 keys key ≡ Some place
 
 -- all targets are among the keys, or a table has no room for the next one
 abbrev pub IsFull : List (List ℕ) → List Relation → Type 0
@@ -28,4 +28,4 @@ pub record AreListed (base : List (List ℕ)) (relations : List Relation) (keys 
 pub record ArePlaces (base : List (List ℕ)) (relations : List Relation) (places : Rows) : Type 0 where
   pub keys : List (List ℕ)
   pub all : AreListed base relations keys
-  pub each : (key : List ℕ) → places key ≡ place_at 0 keys key
+  pub each : (key : List ℕ) → places key ≡ reference_at keys key

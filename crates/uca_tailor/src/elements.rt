@@ -3,6 +3,7 @@
 ghost use Rattle.std.specs.Prelude.{◌≡◌, ◌<◌, None, Some, MatchOption};
 ghost use Rattle.uca_weights.specs.Levels as levels;
 ghost use Rattle.uca_plans.specs.Drafts as drafts;
+ghost use Rattle.uca_tailor.specs.References as references;
 
 use std::alloc::Allocator;
 use uca_plans::{DraftElement, DraftWeight};
@@ -29,7 +30,7 @@ pub(crate) fn level_of(strength: Strength) -> Option<Level>
 /// The element that stands for the row at a place. It is variable, which an implicit element never is.
 pub(crate) fn reference(place: usize) -> Element
     requires { place < 0x1_0000_0000 }
-    ensures { result ≡ drafts.reference place }
+    ensures { result ≡ references.reference place }
 {
     Element {
         primary: (place / PLACES_PER_PRIMARY) as u16,
@@ -41,7 +42,7 @@ pub(crate) fn reference(place: usize) -> Element
 
 /// The place of the row that an element stands for.
 pub(crate) fn referred(element: Element) -> usize
-    ensures { result ≡ drafts.referred element }
+    ensures { result ≡ references.referred element }
 {
     usize::from(element.primary) * PLACES_PER_PRIMARY + usize::from(element.secondary)
 }

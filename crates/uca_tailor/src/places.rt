@@ -3,7 +3,8 @@
 ghost use Rattle.std.specs.Prelude.{◌≡◌, ◌<◌, ℕ, List, [], ◌∷◌, ◌++◌, length, false, MatchOption, IfOk, OnOk};
 ghost use Rattle.uca_values.specs.Content.{keys_of, AreRows};
 ghost use Rattle.uca_rules.specs.Relations.{AreRules};
-ghost use Rattle.uca_plans.specs.Keys.{is_among, places_from, place_at};
+ghost use Rattle.uca_plans.specs.Keys.{is_among};
+ghost use Rattle.uca_tailor.specs.References.{references_from, reference_at};
 ghost use Rattle.uca_tailor.specs.Places.{IsPlaceOf, AreListed, ArePlaces};
 
 use crate::elements::{reference, referred};
@@ -41,7 +42,7 @@ pub(crate) fn places_of<A: Allocator + Copy, T: Allocator>(
 
 /// The place of a key, if it has one.
 pub(crate) fn place_of<A: Allocator>(places: &Trie<A>, key: &[char]) -> Option<usize>
-    ensures { (keys : List (List ℕ)) → ((k : List ℕ) → ⟦<Trie<A> as Lookup>⟧.content places.now k ≡ place_at 0 keys k) →
+    ensures { (keys : List (List ℕ)) → ((k : List ℕ) → ⟦<Trie<A> as Lookup>⟧.content places.now k ≡ reference_at keys k) →
         MatchOption result (is_among keys key.now ≡ false) (IsPlaceOf keys key.now) }
 {
     let row = row_of(places, key)?;
@@ -57,7 +58,7 @@ fn place_rows<A: Allocator + Copy, T: Allocator>(
 ) -> Result<Vec<Row<A>, A>, AllocError>
     requires { AreRules relations.now }
     ensures places { IfOk result (λ rows.
-        (keys : List (List ℕ)) × AreListed (keys_of base.now.rows) relations.now keys × (rows.items ≡ places_from 0 keys)) }
+        (keys : List (List ℕ)) × AreListed (keys_of base.now.rows) relations.now keys × (rows.items ≡ references_from 0 keys)) }
     ensures rows { IfOk result (λ rows. AreRows rows.items) }
 {
     let base_keys = Trie::new(alloc, base)?;
@@ -85,8 +86,8 @@ fn push_place<A: Allocator + Copy>(
     key: &[char],
 ) -> Result<(), AllocError>
     requires { length rows.old.items < 200000 }
-    ensures { (keys : List (List ℕ)) → rows.old.items ≡ places_from 0 keys →
-        OnOk result (rows.new.items ≡ places_from 0 (keys ++ key.now ∷ [])) }
+    ensures { (keys : List (List ℕ)) → rows.old.items ≡ references_from 0 keys →
+        OnOk result (rows.new.items ≡ references_from 0 (keys ++ key.now ∷ [])) }
 {
     let mut elements = Vec::with_capacity(alloc, 1)?;
     elements.push(reference(rows.len()))?;

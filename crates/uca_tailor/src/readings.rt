@@ -1,11 +1,13 @@
 //! Texts of relations, read over the rows so far.
 
-ghost use Rattle.std.specs.Prelude.{◌≡◌, ◌++◌, OnOk};
+ghost use Rattle.std.specs.Prelude.{◌≡◌, ◌++◌, ℕ, List, OnOk};
 ghost use Rattle.std.specs.List.{flat_map};
 ghost use Rattle.uca_values.specs.Content.{properties_of};
+ghost use Rattle.uca_match.specs.Rows.{is_key};
 ghost use Rattle.uca_match.specs.Collations.{collation_of, elements_of};
-ghost use Rattle.uca_plans.specs.Drafts.{resolved};
+ghost use Rattle.uca_tailor.specs.References.{resolved};
 ghost use Rattle.uca_plans.specs.Keys.{read_over};
+ghost use Rattle.uca_tailor.specs.Ready.{ArePlacesWith};
 
 use crate::elements::{as_draft, referred};
 use crate::row_drafts::RowDraft;
@@ -31,7 +33,8 @@ pub(crate) struct Reader<'r, A: Allocator, T: Allocator> {
 }
 
 impl<'r, A: Allocator, T: Allocator> Reader<'r, A, T> {
-    /// Puts the elements that a text has over some rows behind those of a list.
+    /// Puts the elements that a text has over some rows behind those of a list. The text is matched against all keys that have
+    /// places.
     ///
     /// # Errors
     ///
@@ -42,9 +45,10 @@ impl<'r, A: Allocator, T: Allocator> Reader<'r, A, T> {
         text: &Normal,
         elements: &mut Vec<DraftElement, A>,
     ) -> Result<(), AllocError>
+        requires { (more : List (List ℕ)) × ArePlacesWith (⟦<Trie<A> as Lookup>⟧.content self.now.places.now) rows.now more }
         ensures { OnOk result (elements.new.items ≡ elements.old.items
             ++ read_over self.now.base.now.header.ranges (properties_of self.now.properties.now)
-            (⟦<Trie<A> as Lookup>⟧.content self.now.places.now) rows.now text.now) }
+            (is_key (⟦<Trie<A> as Lookup>⟧.content self.now.places.now)) rows.now text.now) }
     {
         let base = self.base;
         let collator = Collator::new(self.places, &base.header, self.properties);

@@ -1,11 +1,11 @@
 //! What relations give their targets.
 
-ghost use Rattle.std.specs.Prelude.{◌≡◌, ◌++◌, ◌∷◌, [], List, IfOk, OnOk, option_map};
+ghost use Rattle.std.specs.Prelude.{◌≡◌, ◌++◌, ◌∷◌, [], ℕ, List, IfOk, OnOk, option_map};
 ghost use Rattle.uca_plans.specs.declared.drafts.DraftElement.{DraftElement};
 ghost use Rattle.uca_plans.specs.Drafts.{anchor_part, accepted_part};
 ghost use Rattle.uca_plans.specs.Plans as plans;
 ghost use Rattle.uca_plans.specs.Plans.{placed_if_accepted, draft_expansion};
-ghost use Rattle.uca_tailor.specs.Ready.{basis_in, ReadsAlike};
+ghost use Rattle.uca_tailor.specs.Ready.{basis_in, ArePlacesWith, ReadsAlike};
 
 use crate::elements::{draft_weight, is_refused, level_of, reweighted, take_last};
 use crate::insertions::Insertion;
@@ -49,7 +49,8 @@ pub(crate) fn draft_target<A: Allocator, T: Allocator>(
     relation: &Relation,
     index: u32,
 ) -> Result<Option<TargetDraft<A>>, AllocError>
-    requires { ReadsAlike (basis_in reader.now) (⟦<Trie<A> as Lookup>⟧.content reader.now.places.now) rows.now relation.now }
+    requires places { (more : List (List ℕ)) × ArePlacesWith (⟦<Trie<A> as Lookup>⟧.content reader.now.places.now) rows.now more }
+    requires alike { ReadsAlike (basis_in reader.now) (⟦<Trie<A> as Lookup>⟧.content reader.now.places.now) rows.now relation.now }
     ensures { IfOk result (λ found. found
         ≡ plans.drafted (basis_in reader.now) (record { rows = rows.now; insertions = [] }) (DraftWeight.New index) relation.now) }
 {
@@ -107,7 +108,8 @@ fn read_expansion<A: Allocator, T: Allocator>(
     relation: &Relation,
     elements: &mut Vec<DraftElement, A>,
 ) -> Result<(), AllocError>
-    requires { ReadsAlike (basis_in reader.now) (⟦<Trie<A> as Lookup>⟧.content reader.now.places.now) rows.now relation.now }
+    requires places { (more : List (List ℕ)) × ArePlacesWith (⟦<Trie<A> as Lookup>⟧.content reader.now.places.now) rows.now more }
+    requires alike { ReadsAlike (basis_in reader.now) (⟦<Trie<A> as Lookup>⟧.content reader.now.places.now) rows.now relation.now }
     ensures { OnOk result (elements.new.items ≡ elements.old.items
         ++ draft_expansion (basis_in reader.now) (record { rows = rows.now; insertions = [] }) relation.now.expansion) }
 {

@@ -1,5 +1,5 @@
--- To be made of the same parts is a relation that is kept where lists are put one after the other.
-use Rattle.uca_match.proofs.ReadingParts.{same_parts}
+-- The two readings are those of one list of parts.
+use Rattle.uca_match.proofs.RelatedReading.{same_parts}
 use Rattle.uca_match.proofs.laws.same_keys_read_by_parts.Goals as goal
 
 pub returns : goal.returns

@@ -1,4 +1,4 @@
--- Portion after portion, both readings are of the same rows.
+-- Part after part, both readings are of the same rows.
 use Rattle.uca_plans.proofs.DraftReading.{read_by_what_occurs}
 use Rattle.uca_plans.proofs.laws.drafts_read_by_what_occurs.Goals as goal
 

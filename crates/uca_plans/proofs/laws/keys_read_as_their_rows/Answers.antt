@@ -1,4 +1,4 @@
--- The key is read as its place.
+-- The key is its one part.
 use Rattle.uca_plans.proofs.DraftReading.{read_of_key}
 use Rattle.uca_plans.proofs.laws.keys_read_as_their_rows.Goals as goal
 

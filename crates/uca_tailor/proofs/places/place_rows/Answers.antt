@@ -1,7 +1,7 @@
 use Rattle.std.proofs.Common.{◌≡◌, ◌<◌, ◌≤◌, ◌∷◌, ◌++◌, [], List, length, get_or, Bor, ap, sym, ◌∙◌, arith, subst}
 use Rattle.uca_weights.specs.declared.Element.{Element}
 use Rattle.uca_values.specs.Content.{Entry, TableContent, AreRows}
-use Rattle.uca_plans.specs.Keys.{places_from}
+use Rattle.uca_tailor.specs.References.{references_from}
 use Rattle.uca_tailor.proofs.PlaceKeys.{base_more, base_room, target_there, target_more, listed_some, listed_all, found_row, are_rows}
 use Rattle.uca_tailor.proofs.places.place_rows.Goals as goal
 
@@ -20,7 +20,7 @@ loop-row-preserved g c =
     (subst (λ (rs : List Entry). c.loop-row.row-index < length rs) rows c.loop-row-test.true)
     (subst (λ (rs : List Entry). c.row-item.result ≡ get_or rs c.loop-row.row-index c.row-item.result) rows c.row-item.is) c.loop-row.invariant
     (λ ks is. let key : c.deref.result.now ≡ c.row-item.result.key = c.deref.ensures.value ∙ ap (λ (r : Entry). r.key) c.row.view_is in
-    subst (λ k. c.push_place.new.rows.items ≡ places_from 0 (ks ++ k ∷ [])) key (c.in_ok-push_place.ensures ks is))
+    subst (λ k. c.push_place.new.rows.items ≡ references_from 0 (ks ++ k ∷ [])) key (c.in_ok-push_place.ensures ks is))
 
 pub loop-relation-preserved-then-is_some : goal.loop-relation-preserved-then-is_some
 loop-relation-preserved-then-is_some g c =
@@ -45,7 +45,7 @@ loop-relation-preserved g c =
     (found_row c.args.base.now.rows c.chars-target.result.now c.relation-item.result.target.points c.chars-target.ensures.value
     (λ (row : Bor (List Element)). row.now) c.row_of.result _ (c.in_ok-base_keys.ensures c.chars-target.result.now) c.row_of.ensures
     ∙ sym c.is_some.ensures ∙ c.if-is_some.false) (omega arith)
-    (λ ks is. subst (λ k. c.push_place-in-loop-relation.new.rows.items ≡ places_from 0 (ks ++ k ∷ [])) c.chars-target.ensures.value
+    (λ ks is. subst (λ k. c.push_place-in-loop-relation.new.rows.items ≡ references_from 0 (ks ++ k ∷ [])) c.chars-target.ensures.value
     (c.in_ok-push_place-2.ensures ks is))
 
 pub returns-clause-places : goal.returns-clause-places

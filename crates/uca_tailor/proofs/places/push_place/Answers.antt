@@ -1,6 +1,6 @@
 use Rattle.std.proofs.Common.{◌≡◌, List, ◌∷◌, ◌++◌, [], length, ap, ap₂, ◌∙◌, arith}
 use Rattle.uca_weights.specs.declared.Element.{Element}
-use Rattle.uca_plans.specs.Drafts.{reference}
+use Rattle.uca_tailor.specs.References.{reference}
 use Rattle.uca_tailor.proofs.PlaceKeys.{one_more_place}
 use Rattle.uca_tailor.proofs.places.push_place.Goals as goal
 

@@ -1,6 +1,6 @@
 use Rattle.std.proofs.Common.{◌≡◌, ◌++◌}
 use Rattle.std.specs.List.{flat_map}
-use Rattle.uca_plans.specs.Drafts.{resolved}
+use Rattle.uca_tailor.specs.References.{resolved}
 use Rattle.uca_tailor.proofs.readings.append_read.Given as goal
 
 abbrev pub invariant-loop-element : goal.invariant-loop-element

@@ -1,5 +1,5 @@
 use Rattle.std.proofs.Common.{◌≡◌, ◌++◌, [], OnOk, ap, sym, subst, ◌∙◌, append-nil}
-use Rattle.uca_plans.specs.Drafts.{elements_at, resolved}
+use Rattle.uca_tailor.specs.References.{elements_at, resolved}
 use Rattle.uca_tailor.proofs.RowLookups.{elements_there, elements_past, resolved_marked}
 use Rattle.uca_tailor.proofs.readings.append_resolved.Goals as goal
 

@@ -1,5 +1,5 @@
 use Rattle.std.specs.List.{list_any}
-use Rattle.std.proofs.Common.{◌≡◌, ◌≤◌, ◌&&◌, ◌++◌, ◌∷◌, [], List, length, set, Some, false, sym, ap, subst, ◌∙◌, arith}
+use Rattle.std.proofs.Common.{◌≡◌, ◌<◌, ◌≤◌, ◌&&◌, ◌++◌, ◌∷◌, [], List, length, set, None, Some, true, false, refl, sym, ap, subst, ◌∙◌, arith}
 use Rattle.uca_check.specs.WellFormed.{elements_of}
 use Rattle.uca_plans.specs.declared.drafts.DraftWeight.TheVariants.{New}
 use Rattle.uca_plans.specs.Drafts.{DraftRow}
@@ -9,8 +9,47 @@ use Rattle.uca_plans.proofs.PlanSteps.{target_row}
 use Rattle.uca_tailor.specs.Places.{IsPlaceOf}
 use Rattle.uca_tailor.specs.Ready.{basis_in}
 use Rattle.uca_tailor.proofs.VariableLaws.{holds_is}
-use Rattle.uca_tailor.proofs.DraftingSteps.{drafted_by_rows, refused_room, refused_variable, in_limits, row_put}
+use Rattle.uca_tailor.proofs.DraftingSteps.{drafted_by_rows, refused_anchor, refused_prefix, refused_limit, too_many, refused_room, refused_variable, in_limits, row_put}
 use Rattle.uca_tailor.proofs.drafting.Drafting.add.Goals as goal
+
+pub returns-in_default : goal.returns-in_default
+returns-in_default g c =
+    let basis : Basis = basis_in c.args.reader.now in
+    let rows : c.deref.result.now ≡ c.args.self.now.rows = c.deref.ensures.value ∙ ap (λ (d : Drafting). d.rows) c.self.view_is in
+    let gives : drafted basis c.args.self.now (New c.args.index) c.args.relation.now ≡ None =
+    sym (drafted_by_rows basis c.args.self.now (New c.args.index) c.args.relation.now)
+    ∙ ap (λ (rs : List DraftRow). drafted basis (record { rows = rs; insertions = [] }) (New c.args.index) c.args.relation.now) (sym rows)
+    ∙ sym c.in_ok-new.ensures ∙ c.in_default.is in
+    refused_anchor basis c.args.self.now c.args.index c.args.relation.now gives
+
+pub returns-then-needs_prefix : goal.returns-then-needs_prefix
+returns-then-needs_prefix g c =
+    let basis : Basis = basis_in c.args.reader.now in
+    let rows : c.deref.result.now ≡ c.args.self.now.rows = c.deref.ensures.value ∙ ap (λ (d : Drafting). d.rows) c.self.view_is in
+    let gives : drafted basis c.args.self.now (New c.args.index) c.args.relation.now ≡ Some c.in-Some.new =
+    sym (drafted_by_rows basis c.args.self.now (New c.args.index) c.args.relation.now)
+    ∙ ap (λ (rs : List DraftRow). drafted basis (record { rows = rs; insertions = [] }) (New c.args.index) c.args.relation.now) (sym rows)
+    ∙ sym c.in_ok-new.ensures ∙ c.in-Some.is in
+    let rows2 : c.deref-2.result.now ≡ c.args.self.now.rows = c.deref-2.ensures.value ∙ ap (λ (d : Drafting). d.rows) c.self.view_is in
+    let has : needs_prefix basis.properties.class c.args.self.now.rows c.args.relation.now.target.points ≡ true =
+    ap (λ rs. needs_prefix basis.properties.class rs c.args.relation.now.target.points) (sym rows2) ∙ sym c.needs_prefix.ensures ∙ c.if-needs_prefix.true in
+    refused_prefix basis c.args.self.now c.args.index c.args.relation.now c.in-Some.new gives has
+
+pub returns-then-len-gt-MOST_ELEMENTS : goal.returns-then-len-gt-MOST_ELEMENTS
+returns-then-len-gt-MOST_ELEMENTS g c =
+    let basis : Basis = basis_in c.args.reader.now in
+    let rows : c.deref.result.now ≡ c.args.self.now.rows = c.deref.ensures.value ∙ ap (λ (d : Drafting). d.rows) c.self.view_is in
+    let gives : drafted basis c.args.self.now (New c.args.index) c.args.relation.now ≡ Some c.in-Some.new =
+    sym (drafted_by_rows basis c.args.self.now (New c.args.index) c.args.relation.now)
+    ∙ ap (λ (rs : List DraftRow). drafted basis (record { rows = rs; insertions = [] }) (New c.args.index) c.args.relation.now) (sym rows)
+    ∙ sym c.in_ok-new.ensures ∙ c.in-Some.is in
+    let rows2 : c.deref-2.result.now ≡ c.args.self.now.rows = c.deref-2.ensures.value ∙ ap (λ (d : Drafting). d.rows) c.self.view_is in
+    let has : needs_prefix basis.properties.class c.args.self.now.rows c.args.relation.now.target.points ≡ false =
+    ap (λ rs. needs_prefix basis.properties.class rs c.args.relation.now.target.points) (sym rows2) ∙ sym c.needs_prefix.ensures ∙ c.if-needs_prefix.false in
+    let many : 32 < length c.in-Some.new.elements =
+    subst (λ (d : Drafted). 32 < length d.elements) c.new.view_is (omega (arith, c.len.ensures, c.new.inside.elements.ok)) in
+    refused_limit basis c.args.self.now c.args.index c.args.relation.now c.in-Some.new gives has
+    (too_many basis _ c.args.self.now.rows c.args.relation.now c.requires.ready (target_row c.args.relation.now c.in-Some.new) refl many)
 
 pub returns-in_default-place_of : goal.returns-in_default-place_of
 returns-in_default-place_of g c =
