@@ -16,7 +16,7 @@ use Rattle.uca_match.specs.Parts.{Part, Row, Implicit, part_elements, IsPartOf}
 use Rattle.uca_match.specs.Reading.{parts}
 use Rattle.uca_match.proofs.Parts.{parts_same, each_part, key_is_part}
 use Rattle.uca_plans.specs.declared.drafts.DraftElement.{DraftElement}
-use Rattle.uca_plans.specs.Drafts.{DraftRow, as_draft, has_key, draft_at, part_drafts, draft_elements}
+use Rattle.uca_plans.specs.Drafts.{DraftRow, as_draft, has_key, draft_at, part_drafts}
 use Rattle.uca_plans.specs.Readings.{valued_rows, DraftsReadAsRows, DraftsReadByWhatOccurs, KeysReadAsTheirRows}
 use Rattle.uca_plans.proofs.KeyPlaces.{has_draft}
 

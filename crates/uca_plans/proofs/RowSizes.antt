@@ -1,18 +1,16 @@
 -- The sizes of a plan's rows.
-use Rattle.std.proofs.Common.{◌≡◌, ◌≢◌, ℕ, zero, suc, ◌+◌, ◌≤◌, List, [], ◌∷◌, ◌++◌, length, take, drop, map, Bool, true, false, cond, ltb, Option, Some}
+use Rattle.std.proofs.Common.{◌≡◌, ◌≢◌, ℕ, ◌+◌, ◌≤◌, List, [], ◌∷◌, ◌++◌, length, map, Bool, true, false, cond, ltb, Option, Some}
 use Rattle.std.proofs.Common.{None, unwrap_or, is_some, refl, sym, ap, subst, ◌∙◌, arith, length-append}
 use Rattle.std.specs.List.{AllByRecursion, flat_map}
 use Rattle.std.specs.Char.{IsScalar}
 use Rattle.std.proofs.lemmas.Bool.{or_parts, ltb-false, false≢true}
 use Rattle.std.proofs.lemmas.List.{length-map}
-use Rattle.uca_weights.specs.declared.Element.{Element}
 use Rattle.uca_weights.specs.declared.Level.{Level}
 use Rattle.uca_weights.specs.Levels.{level_of}
 use Rattle.uca_values.specs.declared.ImplicitRange.{ImplicitRange}
 use Rattle.uca_values.specs.Content.{Entry, Properties, IsEntry, AreRows, Fits}
-use Rattle.uca_values.specs.Implicit.{implicit}
 use Rattle.uca_check.specs.WellFormed.{elements_of}
-use Rattle.uca_text.specs.Texts.{Text, Letter, Spelled, code_points, letters_of}
+use Rattle.uca_text.specs.Texts.{Text, Spelled, letters_of}
 use Rattle.uca_rules.specs.declared.relations.Relation.{Relation}
 use Rattle.uca_rules.specs.Relations.{IsRuleText, HasRuleTexts}
 use Rattle.uca_match.specs.Rows.{same_key}

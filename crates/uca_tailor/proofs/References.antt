@@ -3,7 +3,6 @@ use Rattle.std.proofs.Common.{◌≡◌, ℕ, zero, suc, ◌+◌, ◌<◌, ◌�
 use Rattle.std.proofs.Common.{is_some, unwrap_or, refl, sym, ap, ap₂, subst, ◌∙◌, arith, append-nil}
 use Rattle.std.specs.List.{AllByRecursion, flat_map}
 use Rattle.std.specs.Char.{IsScalar}
-use Rattle.std.proofs.lemmas.Bool.{cond-true, cond-false}
 use Rattle.std.proofs.lemmas.List.Concat.{flat_map-append}
 use Rattle.std.proofs.lemmas.Nat.{div-add-mod'}
 use Rattle.std.proofs.Math.Nat.{div-lt_iff_lt-mul, mod-lt}
@@ -17,7 +16,6 @@ use Rattle.uca_match.specs.Rows.{Rows, is_key, rows_of, same_key}
 use Rattle.uca_match.specs.Parts.{Part, Row, Implicit, part_elements}
 use Rattle.uca_match.specs.Reading.{parts, collation_elements}
 use Rattle.uca_match.specs.Collations.{Collation, elements_of}
-use Rattle.uca_plans.specs.declared.drafts.DraftElement.{DraftElement}
 use Rattle.uca_plans.specs.Drafts.{DraftRow, as_draft, draft_at, part_drafts}
 use Rattle.uca_plans.specs.Keys.{keys_in, is_among, place_at, read_over}
 use Rattle.uca_plans.proofs.PlanKeys.{AreApart, distinct_of_apart}
