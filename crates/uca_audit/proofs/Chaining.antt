@@ -99,3 +99,9 @@ pub passes_refused : {A : Type 0} (tailoring : Tailoring) (n : ℕ) (condition :
 passes_refused tailoring n condition (Ok x) given handed so_far fails = absurd handed
 passes_refused tailoring n condition (Err fault) given handed so_far fails =
     refused_at tailoring condition fault so_far (subst (λ f. Fails tailoring condition f ⊎ IsMemory f) (sym handed) fails)
+
+-- a fault of a part of the audit is handed on
+pub passes_failed : {A : Type 0} (tailoring : Tailoring) (n : ℕ) (result : Result A AuditFault) (given : AuditFault) → IsErrAnd result (λ fault. fault ≡ given)
+    → IsFirstRefusal tailoring given ⊎ IsMemory given → Passes tailoring n result
+passes_failed tailoring n (Ok x) given handed refused = absurd handed
+passes_failed tailoring n (Err fault) given handed refused = subst (λ f. IsFirstRefusal tailoring f ⊎ IsMemory f) (sym handed) refused

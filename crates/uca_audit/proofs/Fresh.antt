@@ -8,7 +8,7 @@ use Rattle.uca_weights.specs.declared.Level.{Level}
 use Rattle.uca_rules.specs.declared.relations.Relation.{Relation}
 use Rattle.uca_tailorings.specs.Tailorings.{Tailoring, IsFreshWeight, IsFresh}
 use Rattle.uca_tailorings.proofs.Relating.{one_new}
-use Rattle.uca_audit.specs.declared.placements.Placement.{Placement}
+use Rattle.uca_audit.specs.declared.conditions.placements.Placement.{Placement}
 use Rattle.uca_audit.specs.Refusals.{IsFirstRelationWithout}
 use Rattle.uca_audit.specs.Views.{IsPlacement}
 use Rattle.uca_audit.specs.WeightSets.{Flags, HasWeight, AddsWeight}

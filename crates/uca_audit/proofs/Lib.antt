@@ -1,5 +1,6 @@
 pub mod TargetSets
 pub mod FirstRelations
+pub mod FirstRows
 pub mod ImageLists
 pub mod Chaining
 pub mod NotAccepted

@@ -9,7 +9,7 @@ use Rattle.uca_rules.specs.declared.relations.Relation.{Relation}
 use Rattle.uca_tailorings.specs.Tailorings.{Tailoring, IsPlacedAt, IsNewWeight, IsNearest}
 use Rattle.uca_tailorings.proofs.Relating.{one_new}
 use Rattle.uca_tailorings.proofs.Nearest.{new_cases}
-use Rattle.uca_audit.specs.declared.placements.Placement.{Placement}
+use Rattle.uca_audit.specs.declared.conditions.placements.Placement.{Placement}
 use Rattle.uca_audit.specs.Refusals.{IsFirstRelationWithout}
 use Rattle.uca_audit.specs.Views.{IsPlacement}
 use Rattle.uca_audit.specs.WeightSets.{Flags, HasWeight, HasBetween}

@@ -11,7 +11,7 @@ use Rattle.uca_weights.specs.Levels.{weight, level_number, level_of}
 use Rattle.uca_rules.specs.declared.relations.Relation.{Relation}
 use Rattle.uca_tailorings.specs.Tailorings.{Tailoring, IsPlacedAt, IsNewWeight}
 use Rattle.uca_tailorings.proofs.Relating.{one_new}
-use Rattle.uca_audit.specs.declared.placements.Placement.{Placement}
+use Rattle.uca_audit.specs.declared.conditions.placements.Placement.{Placement}
 use Rattle.uca_audit.specs.Views.{IsPlacement, IsPlacementBy}
 use Rattle.uca_audit.specs.NewWeights.{is_level, puts, times_new}
 

@@ -10,7 +10,7 @@ use Rattle.uca_match.specs.Collations.{Collation}
 use Rattle.uca_tailorings.specs.Placing.{placed}
 use Rattle.uca_tailorings.specs.Tailorings.{Tailoring, tailored_reading, anchor_elements, elements_of_expansion, expansion_elements, IsTargetRow, IsPlacedAt, IsPlacedBy, IsPlaced}
 use Rattle.uca_tailorings.specs.Laws.{ReadsAs}
-use Rattle.uca_audit.specs.declared.placements.Placement.{Placement}
+use Rattle.uca_audit.specs.declared.conditions.placements.Placement.{Placement}
 use Rattle.uca_audit.specs.PlacedRows.{IsRowAt, IsFoundPlacement}
 use Rattle.uca_audit.specs.Views.{IsPlacementBy, IsPlacement}
 

@@ -5,7 +5,7 @@ use Rattle.uca_weights.specs.Levels.{level_number}
 use Rattle.uca_rules.specs.declared.relations.Relation.{Relation}
 use Rattle.uca_tailorings.specs.Placing.{IsLow}
 use Rattle.uca_tailorings.specs.Tailorings.{Tailoring, IsKnownWeight, IsNewWeight}
-use Rattle.uca_audit.specs.declared.placements.Placement.{Placement}
+use Rattle.uca_audit.specs.declared.conditions.placements.Placement.{Placement}
 use Rattle.uca_audit.specs.WeightSets.{Flags, HasWeight, HasBetween}
 
 -- ---- Sets of weights

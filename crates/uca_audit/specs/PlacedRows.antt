@@ -6,7 +6,7 @@ use Rattle.uca_weights.specs.Levels.{weight}
 use Rattle.uca_rules.specs.declared.relations.Relation.{Relation}
 use Rattle.uca_tailorings.specs.Placing.{IsAnchor, placed, IsOnSide}
 use Rattle.uca_tailorings.specs.Tailorings.{Tailoring, IsPlaced}
-use Rattle.uca_audit.specs.declared.placements.Placement.{Placement}
+use Rattle.uca_audit.specs.declared.conditions.placements.Placement.{Placement}
 use Rattle.uca_audit.specs.Views.{IsPlacement}
 
 -- the row has the anchor's elements up to its last one, that one with the new weight in place of the old one and on its side, and

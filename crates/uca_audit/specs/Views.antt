@@ -6,7 +6,7 @@ use Rattle.uca_values.specs.Content.{properties_of}
 use Rattle.uca_rules.specs.declared.relations.Relation.{Relation}
 use Rattle.uca_tailorings.specs.Tailorings.{Tailoring, IsPlacedAt}
 use Rattle.uca_audit.specs.declared.inputs.Inputs.{Inputs}
-use Rattle.uca_audit.specs.declared.placements.Placement.{Placement}
+use Rattle.uca_audit.specs.declared.conditions.placements.Placement.{Placement}
 use Rattle.uca_tailorings.specs.Inputs.{tailoring_of}
 use Rattle.uca_audit.specs.Refusals.{IsFirstRelationWithout}
 

@@ -1,15 +1,18 @@
 //! The audit.
 
-ghost use Rattle.std.specs.Prelude.{◌≡◌, ◌⊎◌, IfOk, IfErr, OnOk};
+ghost use Rattle.std.specs.Prelude.{◌≡◌, ◌⊎◌, IfErr, OnOk};
+ghost use Rattle.std.specs.List.{AllZip};
 ghost use Rattle.uca_values.specs.Content.{properties_of, IsHeader, IsTable};
 ghost use Rattle.uca_tailorings.specs.Images.{AreRisingMaps};
 ghost use Rattle.uca_tailorings.specs.Tailorings.{IsTailoring, IsAccepted};
 ghost use Rattle.uca_tailorings.specs.Meaning.{IsFaithful};
 ghost use Rattle.uca_tailorings.specs.Inputs.{maps_of, tailoring_of};
-ghost use Rattle.uca_audit.specs.Views.{tailoring_in};
+ghost use Rattle.uca_audit.specs.Views.{tailoring_in, IsPlacement};
 ghost use Rattle.uca_audit.specs.Refusals.{IsFirstRefusal, IsMemory};
 ghost use Rattle.uca_audit.specs.Chaining.{FindsRowsOf, MeetsBelow, Passes};
 
+use crate::base_images::known_weights;
+use crate::conditions::placements::Placement;
 use crate::conditions::{
     anchors_are_there, base_is_well_formed, headers_are_same, new_weights_are_fresh,
     rows_are_expected, rows_are_present, rows_are_unchanged, tailored_is_well_formed,
@@ -17,7 +20,6 @@ use crate::conditions::{
 };
 use crate::images::Images;
 use crate::inputs::Inputs;
-use crate::known::known_weights;
 use crate::targets::Targets;
 use crate::{AuditFault, Certificate};
 use std::alloc::Allocator;
@@ -51,53 +53,72 @@ pub fn audit<A: Allocator + Copy, T: Allocator>(
         IsFirstRefusal (tailoring_of base.now (properties_of properties.now) rules.now tailored.now certificate.now) fault
         ⊎ IsMemory fault) }
 {
-    audit_inputs(
-        alloc,
-        &Inputs {
-            base,
-            properties,
-            rules,
-            tailored,
-            certificate,
-        },
-    )
+    let inputs = Inputs {
+        base,
+        properties,
+        rules,
+        tailored,
+        certificate,
+    };
+    audit_inputs(alloc, &inputs)?;
+    meaning(&inputs);
+    Ok(())
 }
 
-// The same of what is handed in, as one value. The tailored table's lookup serves all conditions from the fifth on.
+// All conditions. What is made for some of them is lent to the functions below: so it is dropped in one place.
 fn audit_inputs<A: Allocator + Copy, T: Allocator>(
     alloc: A,
     inputs: &Inputs<T>,
 ) -> Result<(), AuditFault>
-    ensures accepted { OnOk result (IsAccepted (tailoring_in inputs.now)) }
-    ensures faithful { OnOk result (IsFaithful (tailoring_in inputs.now)) }
-    ensures refused { IfErr result (λ fault. IsFirstRefusal (tailoring_in inputs.now) fault ⊎ IsMemory fault) }
+    ensures { Passes (tailoring_in inputs.now) 12 result }
 {
-    let images = audit_tables(alloc, inputs)?;
-    let tailored = Trie::new(alloc, inputs.tailored)?;
-    audit_rows(alloc, inputs, &images, &tailored)?;
-    audit_relations(alloc, inputs, &images, &tailored)?;
-    meaning(inputs);
-    Ok(())
+    audit_tables(inputs)?;
+    let images = Images::new(alloc, inputs.certificate)?;
+    audit_images(alloc, inputs, &images)
 }
 
-// Conditions 1 to 4. The fourth and later ones look weights up in the images, which are made once the first three are
-// met.
-fn audit_tables<'a, A: Allocator + Copy, T: Allocator>(
-    alloc: A,
-    inputs: &Inputs<'a, T>,
-) -> Result<Images<'a, A, T>, AuditFault>
-    ensures passes { Passes (tailoring_in inputs.now) 5 result }
-    ensures images { IfOk result (λ images. images ≡ inputs.now.certificate.now) }
+// Conditions 1 to 3.
+fn audit_tables<T: Allocator>(inputs: &Inputs<T>) -> Result<(), AuditFault>
+    ensures { Passes (tailoring_in inputs.now) 4 result }
 {
     base_is_well_formed(inputs)?;
     tailored_is_well_formed(inputs)?;
     headers_are_same(inputs)?;
-    let images = Images::new(alloc, inputs.certificate)?;
-    weights_are_covered(inputs, &images)?;
-    Ok(images)
+    Ok(())
 }
 
-// Conditions 5 to 7, by a lookup of the tailored table.
+// Conditions 4 to 11, which look weights up in the images. A lookup of the tailored table serves those from the fifth on.
+fn audit_images<A: Allocator + Copy, T: Allocator>(
+    alloc: A,
+    inputs: &Inputs<T>,
+    images: &Images<A, T>,
+) -> Result<(), AuditFault>
+    requires images { images.now ≡ inputs.now.certificate.now }
+    requires met { MeetsBelow (tailoring_in inputs.now) 4 }
+    ensures { Passes (tailoring_in inputs.now) 12 result }
+{
+    weights_are_covered(inputs, images)?;
+    let tailored = Trie::new(alloc, inputs.tailored)?;
+    audit_lookup(alloc, inputs, images, &tailored)
+}
+
+// Conditions 5 to 11, by a lookup of the tailored table.
+fn audit_lookup<A: Allocator + Copy, T: Allocator>(
+    alloc: A,
+    inputs: &Inputs<T>,
+    images: &Images<A, T>,
+    tailored: &Trie<A>,
+) -> Result<(), AuditFault>
+    requires images { images.now ≡ inputs.now.certificate.now }
+    requires rows { FindsRowsOf (tailoring_in inputs.now).tailored (⟦<Trie<A> as Lookup>⟧.content tailored.now) }
+    requires met { MeetsBelow (tailoring_in inputs.now) 5 }
+    ensures { Passes (tailoring_in inputs.now) 12 result }
+{
+    audit_rows(alloc, inputs, images, tailored)?;
+    audit_relations(alloc, inputs, images, tailored)
+}
+
+// Conditions 5 to 7.
 fn audit_rows<A: Allocator + Copy, T: Allocator>(
     alloc: A,
     inputs: &Inputs<T>,
@@ -116,7 +137,7 @@ fn audit_rows<A: Allocator + Copy, T: Allocator>(
     Ok(())
 }
 
-// Conditions 8 to 11, by a lookup of the tailored table.
+// Conditions 8 to 11.
 fn audit_relations<A: Allocator + Copy, T: Allocator>(
     alloc: A,
     inputs: &Inputs<T>,
@@ -131,10 +152,26 @@ fn audit_relations<A: Allocator + Copy, T: Allocator>(
     let table = inputs.tailored;
     let collator = Collator::new(tailored, &table.header, inputs.properties);
     anchors_are_there(alloc, inputs, &collator)?;
-    let placements = targets_are_placed(alloc, inputs, &collator)?;
+    let mut placements = Vec::new(alloc);
+    targets_are_placed(alloc, inputs, &collator, &mut placements)?;
+    audit_new_weights(alloc, inputs, images, &placements)
+}
+
+// Conditions 10 and 11, by where the targets were placed.
+fn audit_new_weights<A: Allocator + Copy, T: Allocator>(
+    alloc: A,
+    inputs: &Inputs<T>,
+    images: &Images<A, T>,
+    placements: &[Placement],
+) -> Result<(), AuditFault>
+    requires images { images.now ≡ inputs.now.certificate.now }
+    requires placed { AllZip (IsPlacement (tailoring_in inputs.now)) (tailoring_in inputs.now).relations placements.now }
+    requires met { MeetsBelow (tailoring_in inputs.now) 10 }
+    ensures { Passes (tailoring_in inputs.now) 12 result }
+{
     let known = known_weights(alloc, inputs, images)?;
-    new_weights_are_fresh(alloc, inputs, &placements, &known)?;
-    targets_are_nearest(inputs, &placements, known)?;
+    new_weights_are_fresh(alloc, inputs, placements, &known)?;
+    targets_are_nearest(inputs, placements, known)?;
     Ok(())
 }
 
@@ -147,7 +184,7 @@ fn meaning<T: Allocator>(inputs: &Inputs<T>)
     accepted_tailorings_are_faithful();
 }
 
-// What the values that are handed in keep, so that none of it has to be audited.
+// The arguments' invariants, brought into scope for the proof.
 fn know<T: Allocator>(inputs: &Inputs<T>)
     ensures { IsTailoring (tailoring_in inputs.now) }
 {

@@ -1,31 +1,38 @@
 //! The conditions one by one: each function finds its condition met, or the fault at the first place where it fails.
+//! A condition goes by its name; its number is for the fault alone.
 
-ghost use Rattle.std.specs.Prelude.{◌≡◌, ◌<◌, ◌+◌, suc, length, IfOk};
+ghost use Rattle.std.specs.Prelude.{◌≡◌, ◌<◌, ◌+◌, [], suc, length, OnOk};
 ghost use Rattle.std.specs.List.{AllZip};
 ghost use Rattle.uca_match.specs.Collations.{collation_of};
 ghost use Rattle.uca_tailorings.specs.Laws.{ReadsAs};
 ghost use Rattle.uca_tailorings.specs.Tailorings.{tailored_reading};
+ghost use Rattle.uca_audit.specs.Refusals.{number_of};
 ghost use Rattle.uca_audit.specs.Views.{tailoring_in, IsPlacement};
 ghost use Rattle.uca_audit.specs.Chaining.{AreTargetsOf, FindsRowsOf, Settles};
 ghost use Rattle.uca_audit.specs.NewWeights.{HoldsKnown};
 
-use crate::anchors::first_without_anchor;
+mod anchors;
+pub(crate) mod placements;
+mod rows;
+mod weights;
+
 use crate::images::Images;
 use crate::inputs::Inputs;
-use crate::new_weights::{first_not_fresh, first_not_nearest};
-use crate::placements::{Placement, placements};
-use crate::rows::{
-    are_same_headers, first_changed, first_extra, first_missing_row, first_missing_target,
-    first_uncovered,
-};
 use crate::targets::Targets;
 use crate::weight_sets::WeightSet;
 use crate::{AuditFault, Condition, Place};
+use anchors::first_without_anchor;
+use placements::{Placement, first_not_placed};
+use rows::{
+    are_same_headers, first_changed, first_extra, first_missing_row, first_missing_target,
+    first_uncovered,
+};
 use std::alloc::Allocator;
 use uca_check::check;
 use uca_match::{Collator, Lookup, Trie};
 use uca_rules::Rules;
 use uca_values::Table;
+use weights::{first_not_fresh, first_not_nearest};
 
 /// Condition 1.
 pub(crate) fn base_is_well_formed<T: Allocator>(inputs: &Inputs<T>) -> Result<(), AuditFault>
@@ -33,10 +40,7 @@ pub(crate) fn base_is_well_formed<T: Allocator>(inputs: &Inputs<T>) -> Result<()
 {
     match check(inputs.base, inputs.properties) {
         Ok(()) => Ok(()),
-        Err(fault) => Err(AuditFault {
-            number: 1,
-            place: Place::BaseRow(fault.row),
-        }),
+        Err(fault) => Err(fault_of(Condition::BaseIllFormed, Place::BaseRow(fault.row))),
     }
 }
 
@@ -46,10 +50,7 @@ pub(crate) fn tailored_is_well_formed<T: Allocator>(inputs: &Inputs<T>) -> Resul
 {
     match check(inputs.tailored, inputs.properties) {
         Ok(()) => Ok(()),
-        Err(fault) => Err(AuditFault {
-            number: 2,
-            place: Place::TailoredRow(fault.row),
-        }),
+        Err(fault) => Err(fault_of(Condition::TailoredIllFormed, Place::TailoredRow(fault.row))),
     }
 }
 
@@ -61,10 +62,7 @@ pub(crate) fn headers_are_same<T: Allocator>(inputs: &Inputs<T>) -> Result<(), A
     if are_same_headers(&base.header, &tailored.header) {
         return Ok(());
     }
-    Err(AuditFault {
-        number: 3,
-        place: Place::Nowhere,
-    })
+    Err(fault_of(Condition::Header, Place::Nowhere))
 }
 
 /// Condition 4.
@@ -77,7 +75,7 @@ pub(crate) fn weights_are_covered<A: Allocator + Copy, T: Allocator>(
 {
     match first_uncovered(inputs, images) {
         None => Ok(()),
-        Some(at) => Err(at_base_row(inputs, 4, at)),
+        Some(at) => Err(at_base_row(inputs, Condition::Uncovered, at)),
     }
 }
 
@@ -95,7 +93,7 @@ pub(crate) fn rows_are_unchanged<A: Allocator + Copy, T: Allocator>(
 {
     match first_changed(inputs, tailored, targets, images) {
         None => Ok(()),
-        Some(at) => Err(at_base_row(inputs, 5, at)),
+        Some(at) => Err(at_base_row(inputs, Condition::RowChanged, at)),
     }
 }
 
@@ -108,11 +106,11 @@ pub(crate) fn rows_are_present<A: Allocator + Copy, T: Allocator>(
     ensures { Settles (tailoring_in inputs.now) Condition.RowMissing result }
 {
     if let Some(at) = first_missing_row(inputs, tailored) {
-        return Err(at_base_row(inputs, 6, at));
+        return Err(at_base_row(inputs, Condition::RowMissing, at));
     }
     match first_missing_target(inputs, tailored) {
         None => Ok(()),
-        Some(at) => Err(at_relation(inputs, 6, at)),
+        Some(at) => Err(at_relation(inputs, Condition::RowMissing, at)),
     }
 }
 
@@ -127,10 +125,10 @@ pub(crate) fn rows_are_expected<A: Allocator + Copy, T: Allocator>(
 {
     match first_extra(alloc, inputs, targets)? {
         None => Ok(()),
-        Some(at) => Err(AuditFault {
-            number: 7,
-            place: Place::TailoredRow(row_number(inputs.tailored, at)),
-        }),
+        Some(at) => Err(fault_of(
+            Condition::RowExtra,
+            Place::TailoredRow(row_number(inputs.tailored, at)),
+        )),
     }
 }
 
@@ -145,23 +143,25 @@ pub(crate) fn anchors_are_there<A: Allocator + Copy, T: Allocator>(
 {
     match first_without_anchor(alloc, inputs, collator)? {
         None => Ok(()),
-        Some(at) => Err(at_relation(inputs, 8, at)),
+        Some(at) => Err(at_relation(inputs, Condition::Anchor, at)),
     }
 }
 
-/// Condition 9, and where the targets were placed.
+/// Condition 9. The list is empty, and gets where the targets were placed.
 pub(crate) fn targets_are_placed<A: Allocator + Copy, T: Allocator>(
     alloc: A,
     inputs: &Inputs<T>,
     collator: &Collator<Trie<A>, T>,
-) -> Result<Vec<Placement, A>, AuditFault>
-    requires { ReadsAs (collation_of ⟦<Trie<A> as Lookup>⟧.content collator.now) (tailored_reading (tailoring_in inputs.now)) }
-    ensures placed { IfOk result (λ list. AllZip (IsPlacement (tailoring_in inputs.now)) (tailoring_in inputs.now).relations list.items) }
+    list: &mut Vec<Placement, A>,
+) -> Result<(), AuditFault>
+    requires reads { ReadsAs (collation_of ⟦<Trie<A> as Lookup>⟧.content collator.now) (tailored_reading (tailoring_in inputs.now)) }
+    requires none { list.old.items ≡ [] }
+    ensures placed { OnOk result (AllZip (IsPlacement (tailoring_in inputs.now)) (tailoring_in inputs.now).relations list.new.items) }
     ensures settled { Settles (tailoring_in inputs.now) Condition.NotPlaced result }
 {
-    match placements(alloc, inputs, collator)? {
-        Ok(list) => Ok(list),
-        Err(at) => Err(at_relation(inputs, 9, at)),
+    match first_not_placed(alloc, inputs, collator, list)? {
+        None => Ok(()),
+        Some(at) => Err(at_relation(inputs, Condition::NotPlaced, at)),
     }
 }
 
@@ -178,7 +178,7 @@ pub(crate) fn new_weights_are_fresh<A: Allocator + Copy, T: Allocator>(
 {
     match first_not_fresh(alloc, inputs, placements, known)? {
         None => Ok(()),
-        Some(at) => Err(at_relation(inputs, 10, at)),
+        Some(at) => Err(at_relation(inputs, Condition::NotFresh, at)),
     }
 }
 
@@ -194,29 +194,55 @@ pub(crate) fn targets_are_nearest<A: Allocator + Copy, T: Allocator>(
 {
     match first_not_nearest(inputs, placements, known) {
         None => Ok(()),
-        Some(at) => Err(at_relation(inputs, 11, at)),
+        Some(at) => Err(at_relation(inputs, Condition::NotNearest, at)),
     }
 }
 
 /// The fault of a condition at the row of the base with this index.
-fn at_base_row<T: Allocator>(inputs: &Inputs<T>, number: u8, at: usize) -> AuditFault
+fn at_base_row<T: Allocator>(inputs: &Inputs<T>, condition: Condition, at: usize) -> AuditFault
     requires { at < length (tailoring_in inputs.now).base.rows }
-    ensures { result ≡ record { number = number; place = Place.BaseRow (at + 1) } }
+    ensures { result ≡ record { number = number_of condition; place = Place.BaseRow (at + 1) } }
 {
-    AuditFault {
-        number,
-        place: Place::BaseRow(row_number(inputs.base, at)),
-    }
+    fault_of(condition, Place::BaseRow(row_number(inputs.base, at)))
 }
 
 /// The fault of a condition at the relation with this index.
-fn at_relation<T: Allocator>(inputs: &Inputs<T>, number: u8, at: usize) -> AuditFault
+fn at_relation<T: Allocator>(inputs: &Inputs<T>, condition: Condition, at: usize) -> AuditFault
     requires { at < length (tailoring_in inputs.now).relations }
-    ensures { result ≡ record { number = number; place = Place.Relation (suc at) } }
+    ensures { result ≡ record { number = number_of condition; place = Place.Relation (suc at) } }
+{
+    fault_of(
+        condition,
+        Place::Relation(relation_number(inputs.rules, at)),
+    )
+}
+
+/// The fault of a condition at a place.
+fn fault_of(condition: Condition, place: Place) -> AuditFault
+    ensures { result ≡ record { number = number_of condition; place = place } }
 {
     AuditFault {
-        number,
-        place: Place::Relation(relation_number(inputs.rules, at)),
+        number: number(condition),
+        place,
+    }
+}
+
+/// The number of a condition.
+fn number(condition: Condition) -> u8
+    ensures { result ≡ number_of condition }
+{
+    match condition {
+        Condition::BaseIllFormed => 1,
+        Condition::TailoredIllFormed => 2,
+        Condition::Header => 3,
+        Condition::Uncovered => 4,
+        Condition::RowChanged => 5,
+        Condition::RowMissing => 6,
+        Condition::RowExtra => 7,
+        Condition::Anchor => 8,
+        Condition::NotPlaced => 9,
+        Condition::NotFresh => 10,
+        Condition::NotNearest => 11,
     }
 }
 

@@ -11,8 +11,7 @@ use uca_weights::WeightMap;
 /// How many weights of 16 bits there are.
 const WEIGHT_COUNT: usize = 0x1_0000;
 
-/// A map of the weights of a level, with the image of each weight at hand: a look takes one step, however many runs
-/// there are.
+/// A level's weight map as an array: `get` is O(1).
 #[derive(Drop)]
 pub(crate) struct LevelImages<'a, A: Allocator, T: Allocator> {
     /// The map.

@@ -2,18 +2,14 @@
 //! say, and leaves alone every text in which no target of the rules occurs.
 #![tactic(auto)]
 
-mod anchors;
 mod auditing;
+mod base_images;
 mod conditions;
 mod faults;
 mod images;
 mod inputs;
-mod known;
 mod laws;
-mod new_weights;
-mod placements;
 mod readings;
-mod rows;
 mod targets;
 mod weight_sets;
 

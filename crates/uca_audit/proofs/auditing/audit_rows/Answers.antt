@@ -20,3 +20,10 @@ returns-in_err-rows_are_expected g c =
     let below_6 = meets_more t RowChanged c.requires.met c.in_ok-rows_are_unchanged.ensures in
     let below_7 = meets_more t RowMissing below_6 c.in_ok-rows_are_present.ensures in
     passes_refused t 8 RowExtra _ _ c.from_residual-in_err-rows_are_expected.ensures.1 below_7 c.in_err-rows_are_expected.ensures
+
+pub returns : goal.returns
+returns g c =
+    let t = tailoring_in c.args.inputs.now in
+    let below_6 = meets_more t RowChanged c.requires.met c.in_ok-rows_are_unchanged.ensures in
+    let below_7 = meets_more t RowMissing below_6 c.in_ok-rows_are_present.ensures in
+    meets_more t RowExtra below_7 c.in_ok-rows_are_expected.ensures

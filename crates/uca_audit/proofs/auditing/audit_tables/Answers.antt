@@ -1,30 +1,29 @@
-use Rattle.uca_tailorings.specs.declared.conditions.Condition.TheVariants.{BaseIllFormed, TailoredIllFormed, Header, Uncovered}
+use Rattle.uca_tailorings.specs.declared.conditions.Condition.TheVariants.{BaseIllFormed, TailoredIllFormed, Header}
 use Rattle.uca_audit.specs.Views.{tailoring_in}
 use Rattle.uca_audit.proofs.Chaining.{meets_none, meets_more, passes_refused}
 use Rattle.uca_audit.proofs.auditing.audit_tables.Goals as goal
 
-pub returns-in_err-base_is_well_formed-clause-passes : goal.returns-in_err-base_is_well_formed-clause-passes
-returns-in_err-base_is_well_formed-clause-passes g c =
+pub returns-in_err-base_is_well_formed : goal.returns-in_err-base_is_well_formed
+returns-in_err-base_is_well_formed g c =
     let t = tailoring_in c.args.inputs.now in
-    passes_refused t 5 BaseIllFormed _ _ c.from_residual.ensures.1 (meets_none t) c.in_err-base_is_well_formed.ensures
+    passes_refused t 4 BaseIllFormed _ _ c.from_residual.ensures.1 (meets_none t) c.in_err-base_is_well_formed.ensures
 
-pub returns-in_err-tailored_is_well_formed-clause-passes : goal.returns-in_err-tailored_is_well_formed-clause-passes
-returns-in_err-tailored_is_well_formed-clause-passes g c =
-    let t = tailoring_in c.args.inputs.now in
-    let below_2 = meets_more t BaseIllFormed (meets_none t) c.in_ok-base_is_well_formed.ensures in
-    passes_refused t 5 TailoredIllFormed _ _ c.from_residual-in_err-tailored_is_well_formed.ensures.1 below_2 c.in_err-tailored_is_well_formed.ensures
-
-pub returns-in_err-headers_are_same-clause-passes : goal.returns-in_err-headers_are_same-clause-passes
-returns-in_err-headers_are_same-clause-passes g c =
+pub returns-in_err-tailored_is_well_formed : goal.returns-in_err-tailored_is_well_formed
+returns-in_err-tailored_is_well_formed g c =
     let t = tailoring_in c.args.inputs.now in
     let below_2 = meets_more t BaseIllFormed (meets_none t) c.in_ok-base_is_well_formed.ensures in
-    let below_3 = meets_more t TailoredIllFormed below_2 c.in_ok-tailored_is_well_formed.ensures in
-    passes_refused t 5 Header _ _ c.from_residual-in_err-headers_are_same.ensures.1 below_3 c.in_err-headers_are_same.ensures
+    passes_refused t 4 TailoredIllFormed _ _ c.from_residual-in_err-tailored_is_well_formed.ensures.1 below_2 c.in_err-tailored_is_well_formed.ensures
 
-pub returns-in_err-weights_are_covered-clause-passes : goal.returns-in_err-weights_are_covered-clause-passes
-returns-in_err-weights_are_covered-clause-passes g c =
+pub returns-in_err-headers_are_same : goal.returns-in_err-headers_are_same
+returns-in_err-headers_are_same g c =
     let t = tailoring_in c.args.inputs.now in
     let below_2 = meets_more t BaseIllFormed (meets_none t) c.in_ok-base_is_well_formed.ensures in
     let below_3 = meets_more t TailoredIllFormed below_2 c.in_ok-tailored_is_well_formed.ensures in
-    let below_4 = meets_more t Header below_3 c.in_ok-headers_are_same.ensures in
-    passes_refused t 5 Uncovered _ _ c.from_residual-in_err-weights_are_covered.ensures.1 below_4 c.in_err-weights_are_covered.ensures
+    passes_refused t 4 Header _ _ c.from_residual-in_err-headers_are_same.ensures.1 below_3 c.in_err-headers_are_same.ensures
+
+pub returns : goal.returns
+returns g c =
+    let t = tailoring_in c.args.inputs.now in
+    let below_2 = meets_more t BaseIllFormed (meets_none t) c.in_ok-base_is_well_formed.ensures in
+    let below_3 = meets_more t TailoredIllFormed below_2 c.in_ok-tailored_is_well_formed.ensures in
+    meets_more t Header below_3 c.in_ok-headers_are_same.ensures

@@ -1,7 +1,0 @@
-use Rattle.std.proofs.Common.{drop}
-use Rattle.std.specs.List.{AllByRecursion}
-use Rattle.uca_tailorings.specs.Placing.{IsSilent}
-use Rattle.uca_audit.proofs.anchors.last_sounding.Given as goal
-
-abbrev pub invariant-loop-at : goal.invariant-loop-at
-invariant-loop-at l = AllByRecursion (IsSilent l.level) (drop l.at l.elements)

@@ -1,0 +1,259 @@
+//! Conditions 3 to 7: the headers and the rows of the two tables.
+
+ghost use Rattle.std.specs.Prelude.{◌≡◌, ◌↔◌, IfOk, IsTrue};
+ghost use Rattle.std.specs.List.{AllByRecursion};
+ghost use Rattle.uca_check.specs.Searches.{FindsFirstWithout};
+ghost use Rattle.uca_match.specs.Rows.{IsKey};
+ghost use Rattle.uca_tailorings.specs.Images.{IsImage, AreImages};
+ghost use Rattle.uca_tailorings.specs.Tailorings.{IsCovered, IsCoveredRow, IsUnchangedRow, IsPresentRow, IsPresentTarget, IsExpectedRow};
+ghost use Rattle.uca_tailorings.specs.Inputs.{maps_of};
+ghost use Rattle.uca_audit.specs.Views.{FindsFirstRelation, tailoring_in};
+ghost use Rattle.uca_audit.specs.Chaining.{AreTargetsOf, FindsRowsOf};
+
+use crate::images::Images;
+use crate::inputs::Inputs;
+use crate::targets::Targets;
+use std::alloc::{AllocError, Allocator};
+use uca_match::{Lookup, Trie, row_of};
+use uca_rules::Relation;
+use uca_values::{Header, ImplicitRange, Row};
+use uca_weights::{Element, Weighting};
+
+/// Whether two headers have the same version, variable setting and ranges for implicit weights.
+pub(crate) fn are_same_headers<T: Allocator>(one: &Header<T>, other: &Header<T>) -> bool
+    ensures { IsTrue result ↔ (one.now ≡ other.now) }
+{
+    one.version == other.version
+        && are_same_settings(one.setting, other.setting)
+        && are_same_ranges(&one.ranges, &other.ranges)
+}
+
+/// Whether two variable settings are the same.
+fn are_same_settings(one: Option<Weighting>, other: Option<Weighting>) -> bool
+    ensures { IsTrue result ↔ (one ≡ other) }
+{
+    one == other
+}
+
+/// Whether two lists have the same ranges in the same order.
+fn are_same_ranges(one: &[ImplicitRange], other: &[ImplicitRange]) -> bool
+    ensures { IsTrue result ↔ (one.now ≡ other.now) }
+{
+    one == other
+}
+
+/// The first base row with a weight that has no image, by its index.
+pub(crate) fn first_uncovered<A: Allocator + Copy, T: Allocator>(
+    inputs: &Inputs<T>,
+    images: &Images<A, T>,
+) -> Option<usize>
+    requires { images.now ≡ inputs.now.certificate.now }
+    ensures { FindsFirstWithout (IsCoveredRow (tailoring_in inputs.now)) (tailoring_in inputs.now).base.rows result }
+{
+    let base = inputs.base;
+    base.rows
+        .iter()
+        .position(|row| !is_covered_row(images, row))
+}
+
+/// Whether each weight of the row has an image.
+fn is_covered_row<A: Allocator + Copy, T: Allocator>(images: &Images<A, T>, row: &Row<T>) -> bool
+    ensures { IsTrue result ↔ AllByRecursion (IsCovered (maps_of images.now)) row.now.elements }
+{
+    row.elements
+        .iter()
+        .all(|element| is_covered(images, *element))
+}
+
+/// Whether each weight of the element has an image at its level.
+fn is_covered<A: Allocator + Copy, T: Allocator>(images: &Images<A, T>, element: Element) -> bool
+    ensures { IsTrue result ↔ IsCovered (maps_of images.now) element }
+{
+    images.primary.get(element.primary).is_some()
+        && images.secondary.get(element.secondary).is_some()
+        && images.tertiary.get(element.tertiary).is_some()
+}
+
+/// The first base row whose key is no target and whose tailored row is there, but is not its image, by its index.
+pub(crate) fn first_changed<A: Allocator + Copy, T: Allocator>(
+    inputs: &Inputs<T>,
+    tailored: &Trie<A>,
+    targets: &Targets<A>,
+    images: &Images<A, T>,
+) -> Option<usize>
+    requires rows { FindsRowsOf (tailoring_in inputs.now).tailored (⟦<Trie<A> as Lookup>⟧.content tailored.now) }
+    requires targets { AreTargetsOf (tailoring_in inputs.now).relations targets.now }
+    requires images { images.now ≡ inputs.now.certificate.now }
+    ensures { FindsFirstWithout (IsUnchangedRow (tailoring_in inputs.now)) (tailoring_in inputs.now).base.rows result }
+{
+    let base = inputs.base;
+    for (at, row) in base.rows.iter().enumerate() {
+        if !is_unchanged(inputs, tailored, targets, images, row) {
+            return Some(at);
+        }
+    }
+    None
+}
+
+/// Whether the row's key is a target, or has no tailored row, or its tailored row is the image of the row.
+fn is_unchanged<A: Allocator + Copy, T: Allocator>(
+    inputs: &Inputs<T>,
+    tailored: &Trie<A>,
+    targets: &Targets<A>,
+    images: &Images<A, T>,
+    row: &Row<T>,
+) -> bool
+    requires rows { FindsRowsOf (tailoring_in inputs.now).tailored (⟦<Trie<A> as Lookup>⟧.content tailored.now) }
+    requires targets { AreTargetsOf (tailoring_in inputs.now).relations targets.now }
+    requires images { images.now ≡ inputs.now.certificate.now }
+    ensures { IsTrue result ↔ IsUnchangedRow (tailoring_in inputs.now) row.now }
+{
+    if targets.contains(&row.key) {
+        return true;
+    }
+    match row_of(tailored, &row.key) {
+        None => true,
+        Some(new) => are_images(images, &row.elements, new),
+    }
+}
+
+/// Whether the new elements are the images of the old ones, in order.
+fn are_images<A: Allocator + Copy, T: Allocator>(
+    images: &Images<A, T>,
+    old: &[Element],
+    new: &[Element],
+) -> bool
+    ensures { IsTrue result ↔ AreImages (maps_of images.now) old.now new.now }
+{
+    if old.len() != new.len() {
+        return false;
+    }
+    old.iter()
+        .zip(new)
+        .all(|(old, new)| is_image(images, *old, *new))
+}
+
+/// Whether each weight is put through the map of its level, and the element stays variable or not.
+fn is_image<A: Allocator + Copy, T: Allocator>(
+    images: &Images<A, T>,
+    old: Element,
+    new: Element,
+) -> bool
+    ensures { IsTrue result ↔ IsImage (maps_of images.now) old new }
+{
+    images.primary.get(old.primary) == Some(new.primary)
+        && images.secondary.get(old.secondary) == Some(new.secondary)
+        && images.tertiary.get(old.tertiary) == Some(new.tertiary)
+        && old.mark == new.mark
+}
+
+/// The first base row whose key has no tailored row, by its index.
+pub(crate) fn first_missing_row<A: Allocator + Copy, T: Allocator>(
+    inputs: &Inputs<T>,
+    tailored: &Trie<A>,
+) -> Option<usize>
+    requires { FindsRowsOf (tailoring_in inputs.now).tailored (⟦<Trie<A> as Lookup>⟧.content tailored.now) }
+    ensures { FindsFirstWithout (IsPresentRow (tailoring_in inputs.now)) (tailoring_in inputs.now).base.rows result }
+{
+    let base = inputs.base;
+    for (at, row) in base.rows.iter().enumerate() {
+        if !is_present(inputs, tailored, row) {
+            return Some(at);
+        }
+    }
+    None
+}
+
+/// The first relation whose target has no tailored row, by its index.
+pub(crate) fn first_missing_target<A: Allocator + Copy, T: Allocator>(
+    inputs: &Inputs<T>,
+    tailored: &Trie<A>,
+) -> Option<usize>
+    requires { FindsRowsOf (tailoring_in inputs.now).tailored (⟦<Trie<A> as Lookup>⟧.content tailored.now) }
+    ensures { FindsFirstRelation (AllByRecursion (IsPresentTarget (tailoring_in inputs.now)) (tailoring_in inputs.now).relations)
+        (λ before r after. IsPresentTarget (tailoring_in inputs.now) r) (tailoring_in inputs.now).relations result }
+{
+    for (at, relation) in inputs.rules.relations().iter().enumerate() {
+        if !is_present_target(inputs, tailored, relation) {
+            return Some(at);
+        }
+    }
+    None
+}
+
+/// Whether the row's key has a tailored row.
+fn is_present<A: Allocator + Copy, T: Allocator>(
+    inputs: &Inputs<T>,
+    tailored: &Trie<A>,
+    row: &Row<T>,
+) -> bool
+    requires rows { FindsRowsOf (tailoring_in inputs.now).tailored (⟦<Trie<A> as Lookup>⟧.content tailored.now) }
+    ensures { IsTrue result ↔ IsPresentRow (tailoring_in inputs.now) row.now }
+{
+    is_key(tailored, &row.key)
+}
+
+/// Whether the relation's target has a tailored row.
+fn is_present_target<A: Allocator + Copy, T: Allocator>(
+    inputs: &Inputs<T>,
+    tailored: &Trie<A>,
+    relation: &Relation,
+) -> bool
+    requires rows { FindsRowsOf (tailoring_in inputs.now).tailored (⟦<Trie<A> as Lookup>⟧.content tailored.now) }
+    ensures { IsTrue result ↔ IsPresentTarget (tailoring_in inputs.now) relation.now }
+{
+    is_key(tailored, relation.target.chars())
+}
+
+/// The first tailored row whose key is neither a base key nor a target, by its index. An error says that no memory was left.
+pub(crate) fn first_extra<A: Allocator + Copy, T: Allocator>(
+    alloc: A,
+    inputs: &Inputs<T>,
+    targets: &Targets<A>,
+) -> Result<Option<usize>, AllocError>
+    requires { AreTargetsOf (tailoring_in inputs.now).relations targets.now }
+    ensures { IfOk result (FindsFirstWithout (IsExpectedRow (tailoring_in inputs.now)) (tailoring_in inputs.now).tailored.rows) }
+{
+    let base = Trie::new(alloc, inputs.base)?;
+    Ok(first_unexpected(inputs, &base, targets))
+}
+
+/// The same, by a lookup of the base.
+fn first_unexpected<A: Allocator + Copy, T: Allocator>(
+    inputs: &Inputs<T>,
+    base: &Trie<A>,
+    targets: &Targets<A>,
+) -> Option<usize>
+    requires rows { FindsRowsOf (tailoring_in inputs.now).base (⟦<Trie<A> as Lookup>⟧.content base.now) }
+    requires targets { AreTargetsOf (tailoring_in inputs.now).relations targets.now }
+    ensures { FindsFirstWithout (IsExpectedRow (tailoring_in inputs.now)) (tailoring_in inputs.now).tailored.rows result }
+{
+    let tailored = inputs.tailored;
+    for (at, row) in tailored.rows.iter().enumerate() {
+        if !is_expected(inputs, base, targets, row) {
+            return Some(at);
+        }
+    }
+    None
+}
+
+/// Whether the row's key is a base key or a target.
+fn is_expected<A: Allocator + Copy, T: Allocator>(
+    inputs: &Inputs<T>,
+    base: &Trie<A>,
+    targets: &Targets<A>,
+    row: &Row<T>,
+) -> bool
+    requires rows { FindsRowsOf (tailoring_in inputs.now).base (⟦<Trie<A> as Lookup>⟧.content base.now) }
+    requires targets { AreTargetsOf (tailoring_in inputs.now).relations targets.now }
+    ensures { IsTrue result ↔ IsExpectedRow (tailoring_in inputs.now) row.now }
+{
+    is_key(base, &row.key) || targets.contains(&row.key)
+}
+
+/// Whether the lookup has a row for the code points.
+fn is_key<A: Allocator + Copy>(lookup: &Trie<A>, key: &[char]) -> bool
+    ensures { IsTrue result ↔ IsKey (⟦<Trie<A> as Lookup>⟧.content lookup.now) key.now }
+{
+    row_of(lookup, key).is_some()
+}
