@@ -126,15 +126,15 @@ rules_none = record {
 -- ---- Texts one after the other
 
 -- a part that occurs in none of the texts so far, and not in the next one
-pub none_further : {X : Type 0} (points : X → List ℕ) (part : List ℕ) (xs : List X) (i : ℕ) (x : X) → i < length xs → x ≡ get_or xs i x → ¬ (OccursInOrder part (points x))
-    → ((text : List ℕ) → Contains (map points (take i xs)) text → ¬ (OccursInOrder part text)) → (text : List ℕ) → Contains (map points (take (i + 1) xs)) text → ¬ (OccursInOrder part text)
-none_further {X} points part xs i x has is none before text contained =
-    let more : take (i + 1) xs ≡ take i xs ++ x ∷ [] = subst (λ (z : X). take (i + 1) xs ≡ take i xs ++ z ∷ []) (sym is) (take_more xs i x has) in
-    let texts : map points (take (i + 1) xs) ≡ map points (take i xs) ++ points x ∷ [] = ap (map points) more ∙ map-append points (take i xs) (x ∷ []) in
+pub none_further : (part : List ℕ) (xs : List (List ℕ)) (i : ℕ) (x : List ℕ) → i < length xs → x ≡ get_or xs i x → ¬ (OccursInOrder part x)
+    → ((text : List ℕ) → Contains (take i xs) text → ¬ (OccursInOrder part text))
+    → (text : List ℕ) → Contains (take (i + 1) xs) text → ¬ (OccursInOrder part text)
+none_further part xs i x has is none before text contained =
+    let more : take (i + 1) xs ≡ take i xs ++ x ∷ [] = subst (λ (z : List ℕ). take (i + 1) xs ≡ take i xs ++ z ∷ []) (sym is) (take_more xs i x has) in
     ⊎_elim
     (λ earlier. before text earlier)
     (λ here. subst (λ (t : List ℕ). ¬ (OccursInOrder part t)) here none)
-    (Contains-push_cases (map points (take i xs)) (points x) text (subst (λ (l : List (List ℕ)). Contains l text) texts contained))
+    (Contains-push_cases (take i xs) x text (subst (λ (l : List (List ℕ)). Contains l text) more contained))
 
 -- one more text is held
 pub holds_one : (held : List (List ℕ)) (text : List ℕ) (P : Type 0) → P → (t : List ℕ) → Contains (held ++ text ∷ []) t ↔ (Contains held t ⊎ ((t ≡ text) × P))

@@ -1,7 +1,9 @@
 -- One more statement behind those that have been read, and the faults that it may have.
-use Rattle.std.proofs.Common.{◌≡◌, ◌≢◌, ◌⊎◌, ℕ, ◌+◌, ◌<◌, ◌≤◌, List, [], ◌∷◌, ◌++◌, length, refl, sym, ap, subst, ◌∙◌, inl, inr, arith}
+use Rattle.std.proofs.Common.{◌≡◌, ◌≢◌, ◌⊎◌, ℕ, ◌+◌, ◌<◌, ◌≤◌, List, [], ◌∷◌, ◌++◌, length, ◌==◌, true, Option, refl, sym, ap, subst, ◌∙◌, inl, inr, arith}
 use Rattle.std.specs.List.{AllByRecursion}
-use Rattle.std.proofs.lemmas.List.{append_assoc, length-map, map-append}
+use Rattle.std.proofs.lemmas.Bool.Decides.{nat_tests}
+use Rattle.std.proofs.lemmas.List.{append_assoc, length-map, map-append, nil_from_length}
+use Rattle.uca_weights.specs.declared.Strength.{Strength}
 use Rattle.unicode_normalization.specs.Forms.{nfd}
 use Rattle.uca_values.specs.Content.{Properties, properties_of}
 use Rattle.uca_rules.specs.declared.text_reader.TextReader.{TextReader}
@@ -76,6 +78,16 @@ reads_all properties cs state read ended = record {
   short = read.short;
   give = read.relations;
 }
+
+-- no characters are left
+pub none_left : (cs : List Character) → true ≡ (length cs == 0) → cs ≡ []
+none_left cs e = nil_from_length cs (grind (arith, nat_tests))
+
+-- rules may end where no reset stands last
+pub may_end : (last : Last) → ((asked : Option Strength) → last ≡ lasts.Reset asked → ⊥) → MayEnd last
+may_end lasts.Nothing other = tt
+may_end (lasts.Reset asked) other = other asked refl
+may_end lasts.Relation other = tt
 
 -- ---- Faults
 

@@ -259,6 +259,22 @@ reset_goes_on {A} old texts cs text rest asked before written anchor is growing 
       (sym is) (reset_next (properties_in old.texts) (state_of old) cs text rest asked written anchor due follows begins found);
 }
 
+-- behind `&` a bracket stands, and the anchor is due behind it
+pub bracketed : (cs behind text : List Character) (strength : Strength) → first_code cs ≡ ampersand → behind ≡ behind_gaps (drop 1 cs) →
+    bracket_at behind ≡ Some strength → text ≡ behind_gaps (drop 10 behind) → IsAnchorDue cs (Some strength) text
+bracketed [] behind text strength is gap found due = absurd (let e : 0 ≡ ampersand = is in omega (arith, e))
+bracketed (first ∷ cs) behind text strength is gap found due =
+    record {
+      first = first;
+      behind = cs;
+      are = refl;
+      is = is;
+      perhaps = (
+        subst (λ (l : List Character). bracket_at l ≡ Some strength) gap found,
+        ap (λ (l : List Character). behind_gaps (drop 10 l)) (sym gap) ∙ sym due,
+      );
+    }
+
 -- behind `&` a bracket stands that is none of the three
 pub wrong_bracket : (cs behind : List Character) (c : Character) → first_code cs ≡ ampersand → behind ≡ behind_gaps (drop 1 cs) → Some c ≡ slice_get behind 0 → c.code ≡ bracket → bracket_at behind ≡ None
     → IsWrongBracket cs c.place

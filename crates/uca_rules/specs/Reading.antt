@@ -1,4 +1,5 @@
--- How far the reader of rules has come, and what a statement changes. Only clauses inside this crate cite this file.
+-- How far the reader of rules has come, and what a statement changes: the reader's private state, and no public definition. Only clauses
+-- inside this crate cite this file.
 use Rattle.std.specs.Prelude.{◌≡◌, ◌≢◌, ◌⊎◌, ℕ, ◌+◌, ◌<◌, true, false, List, [], ◌∷◌, ◌++◌, length, Option, Some, None}
 use Rattle.std.specs.List.{AllByRecursion}
 use Rattle.unicode_normalization.specs.Forms.{nfd}

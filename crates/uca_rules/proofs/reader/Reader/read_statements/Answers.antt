@@ -1,9 +1,12 @@
-use Rattle.std.proofs.Common.{List, length, ◌<◌, subst, sym}
+use Rattle.std.proofs.Common.{List, length, ℕ, ◌<◌, refl, subst, sym}
 use Rattle.std.proofs.lemmas.Result.{err_from_is_err_and}
 use Rattle.uca_rules.specs.Characters.{behind_gaps}
 use Rattle.uca_rules.specs.declared.characters.Character.{Character}
-use Rattle.uca_rules.specs.Reading.{properties_in, state_of}
-use Rattle.uca_rules.proofs.Progress.{HasRead, fault_behind, fewer_left, keeps_both, kept_fault, kept_next, reads_more}
+use Rattle.uca_rules.specs.declared.faults.RuleFaultKind.TheVariants as kinds
+use Rattle.uca_rules.specs.declared.signs.Last.{Last}
+use Rattle.uca_rules.specs.Statements.{MayEnd}
+use Rattle.uca_rules.specs.Reading.{IsReadingFault, State, properties_in, state_of}
+use Rattle.uca_rules.proofs.Progress.{HasRead, ends_behind_reset, fault_behind, fewer_left, keeps_both, kept_fault, kept_next, may_end, none_left, reading_starts, reads_all, reads_more}
 use Rattle.uca_rules.proofs.reader.Reader.read_statements.Goals as goal
 
 pub returns-in_err-read_statement-clause-fault : goal.returns-in_err-read_statement-clause-fault
@@ -37,3 +40,34 @@ loop-rest-preserved g c =
       keeps_both old.texts here.texts new.texts c.loop-rest.invariant.1 goes.kept,
       subst (λ (l : List Character). HasRead (properties_in old.texts) c.args.characters.now (state_of new) l) (sym c.behind_gaps-rest-in-loop-rest.ensures) read,
     )
+
+pub loop-rest-init : goal.loop-rest-init
+loop-rest-init g c =
+    let old = c.args.self.now in
+    let cs = c.args.characters.now in (
+      c.requires.ready,
+      record { properties = refl; end = refl },
+      subst (λ (l : List Character). HasRead (properties_in old.texts) cs (state_of old) l) (sym c.behind_gaps-rest.ensures)
+          (subst (λ (s : State). HasRead (properties_in old.texts) cs s (behind_gaps cs)) (sym c.requires.start) (reading_starts (properties_in old.texts) cs)),
+    )
+
+pub returns-in-Reset-clause-fault : goal.returns-in-Reset-clause-fault
+returns-in-Reset-clause-fault g c =
+    let old = c.args.self.now in
+    let here = c.loop-rest.self in
+    let cs = c.args.characters.now in
+    let read = subst (λ (l : List Character). HasRead (properties_in old.texts) cs (state_of here) l) (none_left c.loop-rest.rest.now c.loop-rest-test.ensures) c.loop-rest.invariant.2 in
+    subst (λ (n : ℕ). IsReadingFault (properties_in old.texts) old.texts.end cs (record { byte = n; kind = kinds.Syntax })) (sym c.loop-rest.invariant.1.end)
+    (ends_behind_reset (properties_in old.texts) old.texts.end cs (state_of here) read (λ ended. subst (λ (l : Last). MayEnd l) c.in-Reset.is ended))
+
+pub returns : goal.returns
+returns g c =
+    let old = c.args.self.now in
+    let here = c.loop-rest.self in
+    let cs = c.args.characters.now in
+    let read = subst (λ (l : List Character). HasRead (properties_in old.texts) cs (state_of here) l) (none_left c.loop-rest.rest.now c.loop-rest-test.ensures) c.loop-rest.invariant.2 in
+    record {
+      ready = c.loop-rest.invariant.0;
+      found = reads_all (properties_in old.texts) cs (state_of here) read (may_end here.last c.in_default.not-Reset);
+      fault = tt;
+    }
