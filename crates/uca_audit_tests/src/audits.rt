@@ -3,7 +3,7 @@
 use crate::files::{files_of, verdict};
 use std::alloc::Global;
 use std::test::Fail;
-use uca_fakes::{halves, is_remark, same};
+use uca_fakes::{is_remark, same, thirds};
 
 /// What is different in the base, the rules, the tailored table and the certificate, and the verdict. The first rules are
 /// `&a < x`, and the row of `x` is row 8 of the tailored table, `0078 ; [.1C48.0020.0002]`.
@@ -160,10 +160,8 @@ fn check(alloc: Global, case: &str) -> Result<(), Fail> {
     if is_remark(case) {
         return Ok(());
     }
-    let (base, rest) = halves(case)?;
-    let (rules, rest) = halves(rest)?;
-    let (tailored, rest) = halves(rest)?;
-    let (certificate, wanted) = halves(rest)?;
+    let (base, rules, rest) = thirds(case)?;
+    let (tailored, certificate, wanted) = thirds(rest)?;
     let files = files_of(alloc, [base, rules, tailored, certificate])?;
     same(&verdict(alloc, &files)?, wanted, case)
 }

@@ -35,11 +35,6 @@ pub struct Files {
     pub certificate: Certificate,
 }
 
-/// A text in which `\n` stands for LF.
-fn unescaped(alloc: Global, field: &str) -> Result<String, Fail> {
-    Ok(String::from_utf8(bytes_of(alloc, field)?)?)
-}
-
 /// A text with one change: `+LINE` adds a line, `-LINE` takes one away, `OLD => NEW` puts one text in place of another.
 fn changed(alloc: Global, text: &str, change: &str) -> Result<String, Fail> {
     if let Some(line) = change.strip_prefix("+") {
@@ -52,8 +47,8 @@ fn changed(alloc: Global, text: &str, change: &str) -> Result<String, Fail> {
     }
     let (old, new) = change.split_once(" => ").ok_or("no change")?;
     let (front, rest) = text.split_once(old).ok_or("nothing to change")?;
-    let new = unescaped(alloc, new)?;
-    Ok(joined(alloc, &[front, &new, rest])?)
+    let new = bytes_of(alloc, new)?;
+    Ok(joined(alloc, &[front, str::from_utf8(&new)?, rest])?)
 }
 
 /// A text with changes, which `, ` parts; none where the field is `.`, and another text where it begins as a table does.
@@ -113,10 +108,10 @@ pub fn files_of(alloc: Global, fields: [&str; 4]) -> Result<Files, Fail> {
 }
 
 /// The text of a certificate.
-pub fn certificate_text(alloc: Global, certificate: &Certificate) -> Result<String, Fail> {
+pub fn certificate_text(alloc: Global, certificate: &Certificate) -> Result<Vec<u8>, Fail> {
     let mut text = Sink::new(Vec::new(alloc));
     write_certificate(certificate, &mut text)?;
-    Ok(String::from_utf8(text.into_inner())?)
+    Ok(text.into_inner())
 }
 
 /// Why there is no plan. Where an allocation failed that is the error.

@@ -2,7 +2,7 @@
 
 use std::alloc::Global;
 use std::test::Fail;
-use uca_fakes::{halves, is_remark, same};
+use uca_fakes::{is_remark, same, thirds};
 use uca_weights::{Level, Run, WeightMap};
 
 /// A level and its runs, weights, and their images; or the run with the first fault, and its kind.
@@ -90,8 +90,7 @@ fn check(alloc: Global, case: &str) -> Result<(), Fail> {
     if is_remark(case) {
         return Ok(());
     }
-    let (words, rest) = halves(case)?;
-    let (weights, wanted) = halves(rest)?;
+    let (words, weights, wanted) = thirds(case)?;
     match map(alloc, words)? {
         Ok(map) => same(&images(alloc, &map, weights)?, wanted, case),
         Err(fault) => same(&fault, wanted, case),

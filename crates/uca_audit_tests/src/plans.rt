@@ -4,11 +4,9 @@ use crate::files::{Files, certificate_text, files_of, no_plan, verdict};
 use std::alloc::Global;
 use std::test::Fail;
 use uca_audit::Certificate;
-use uca_fakes::{halves, is_remark, joined, same};
-use uca_table::write_table;
+use uca_fakes::{halves, is_remark, joined, same, same_bytes, table_text, thirds};
 use uca_tailor::tailor;
 use uca_values::Table;
-use uca_weights::Sink;
 
 /// What is different in the base, the rules, and what is different in the tailored table and in the certificate that come of them.
 /// Each is accepted by the audit.
@@ -38,44 +36,45 @@ const PLANNED: &str = r"-- rules that give nothing
 -- a variable anchor
 . | &\u0020 < x | [.1C48 => [*020A | .";
 
-/// What is different in the base, the rules, and why there is no plan.
-const REFUSED: &str = r". | &\u4E00 < x | relation 1: Anchor
-. | &a < y &\u0301 < x | relation 2: Anchor
-. | &a < b\u0301\u0300 | relation 1: NeedsPrefix
-. | &a < dz\u030C << q &b < z\u030C | relation 1: NeedsPrefix
-. | &a < x / bbbbbbbbbbbbbbbb &x = y / bbbbbbbbbbbbbbbb | relation 2: Limit
-. | &[before 3]a <<< x <<< y | NoRoom 3
-. | &[before 2]a << c << d << e << f << g << h << i << j << k << l << m << n << o << p << q << r << s << t << u << v << w << x << y << z << C << D << E << F << G << H << I << J | NoRoom 2
-0301 ; [.0000.0024. => 0301 ; [.0000.0020. | &a < x | BaseIllFormed
+/// What is different in the base, the rules, what would be different in the tailored table and in the certificate, and why
+/// there is no plan.
+const REFUSED: &str = r". | &\u4E00 < x | . | . | relation 1: Anchor
+. | &a < y &\u0301 < x | . | . | relation 2: Anchor
+. | &a < b\u0301\u0300 | . | . | relation 1: NeedsPrefix
+. | &a < dz\u030C << q &b < z\u030C | . | . | relation 1: NeedsPrefix
+. | &a < x / bbbbbbbbbbbbbbbb &x = y / bbbbbbbbbbbbbbbb | . | . | relation 2: Limit
+. | &[before 3]a <<< x <<< y | . | . | NoRoom 3
+. | &[before 2]a << c << d << e << f << g << h << i << j << k << l << m << n << o << p << q << r << s << t << u << v << w << x << y << z << C << D << E << F << G << H << I << J | . | . | NoRoom 2
+0301 ; [.0000.0024. => 0301 ; [.0000.0020. | &a < x | . | . | BaseIllFormed
 -- the first cause within a relation, and relations before room
-. | &\u4E00 < b\u0301\u0300 | relation 1: Anchor
-. | &a < x / bbbbbbbbbbbbbbbb &x = b\u0301\u0300 / bbbbbbbbbbbbbbbb | relation 2: NeedsPrefix
-. | &[before 3]a <<< x <<< y &\u4E00 < z | relation 3: Anchor
+. | &\u4E00 < b\u0301\u0300 | . | . | relation 1: Anchor
+. | &a < x / bbbbbbbbbbbbbbbb &x = b\u0301\u0300 / bbbbbbbbbbbbbbbb | . | . | relation 2: NeedsPrefix
+. | &[before 3]a <<< x <<< y &\u4E00 < z | . | . | relation 3: Anchor
 -- a target with implicit weights whose primary stands among the variable ones, the ends of these included
-@version 1\n0020 ; [*FB00.0020.0002]\n0021 ; [*FFFF.0020.0002]\n | &\u4E00 = x | relation 1: ImplicitVariable
-@version 1\n0020 ; [*FFFF.0020.0002]\n0021 ; [*FB00.0020.0002]\n | &\u4E00 = x | relation 1: ImplicitVariable
-@version 1\n0020 ; [*FB40.0020.0002]\n0021 ; [*FB40.0020.0002]\n | &\u4E00 = x | relation 1: ImplicitVariable
-@version 1\n0020 ; [*FB40.0020.0002]\n0021 ; [*FFFF.0020.0002]\n | &\u4E00 = x | relation 1: ImplicitVariable
-@version 1\n0020 ; [*FB00.0020.0002]\n0021 ; [*FB40.0020.0002]\n | &\u4E00 = x | relation 1: ImplicitVariable
-@version 1\n0020 ; [*FB00.0020.0002]\n0021 ; [*FFFF.0020.0002]\n | &d = x | relation 1: ImplicitVariable
+@version 1\n0020 ; [*FB00.0020.0002]\n0021 ; [*FFFF.0020.0002]\n | &\u4E00 = x | . | . | relation 1: ImplicitVariable
+@version 1\n0020 ; [*FFFF.0020.0002]\n0021 ; [*FB00.0020.0002]\n | &\u4E00 = x | . | . | relation 1: ImplicitVariable
+@version 1\n0020 ; [*FB40.0020.0002]\n0021 ; [*FB40.0020.0002]\n | &\u4E00 = x | . | . | relation 1: ImplicitVariable
+@version 1\n0020 ; [*FB40.0020.0002]\n0021 ; [*FFFF.0020.0002]\n | &\u4E00 = x | . | . | relation 1: ImplicitVariable
+@version 1\n0020 ; [*FB00.0020.0002]\n0021 ; [*FB40.0020.0002]\n | &\u4E00 = x | . | . | relation 1: ImplicitVariable
+@version 1\n0020 ; [*FB00.0020.0002]\n0021 ; [*FFFF.0020.0002]\n | &d = x | . | . | relation 1: ImplicitVariable
 -- the continuation of implicit weights has a primary too
-@version 1\n0020 ; [*CE00.0020.0002]\n | &\u4E00 = x | relation 1: ImplicitVariable
+@version 1\n0020 ; [*CE00.0020.0002]\n | &\u4E00 = x | . | . | relation 1: ImplicitVariable
 -- implicit weights before a new one, in an expansion, and of a later relation
-@version 1\n0020 ; [*FB00.0020.0002]\n0021 ; [*FFFF.0020.0002]\n0301 ; [.0000.0024.0002]\n | &\u4E00\u0301 << x | relation 1: ImplicitVariable
-@version 1\n0020 ; [*FB00.0020.0002]\n0021 ; [*FFFF.0020.0002]\n0301 ; [.0000.0024.0002]\n | &\u4E00\u0301 <<< x | relation 1: ImplicitVariable
-@version 1\n0020 ; [*FB00.0020.0002]\n0021 ; [*FFFF.0020.0002]\n0061 ; [.1C47.0020.0002]\n | &a < x / \u4E00 | relation 1: ImplicitVariable
-@version 1\n0020 ; [*FB00.0020.0002]\n0021 ; [*FFFF.0020.0002]\n0061 ; [.1C47.0020.0002]\n | &a < y &\u4E00 = x | relation 2: ImplicitVariable
-@version 1\n0020 ; [*FB00.0020.0002]\n0021 ; [*FFFF.0020.0002]\n | &\u4E00 = y &y << z | relation 1: ImplicitVariable
+@version 1\n0020 ; [*FB00.0020.0002]\n0021 ; [*FFFF.0020.0002]\n0301 ; [.0000.0024.0002]\n | &\u4E00\u0301 << x | . | . | relation 1: ImplicitVariable
+@version 1\n0020 ; [*FB00.0020.0002]\n0021 ; [*FFFF.0020.0002]\n0301 ; [.0000.0024.0002]\n | &\u4E00\u0301 <<< x | . | . | relation 1: ImplicitVariable
+@version 1\n0020 ; [*FB00.0020.0002]\n0021 ; [*FFFF.0020.0002]\n0061 ; [.1C47.0020.0002]\n | &a < x / \u4E00 | . | . | relation 1: ImplicitVariable
+@version 1\n0020 ; [*FB00.0020.0002]\n0021 ; [*FFFF.0020.0002]\n0061 ; [.1C47.0020.0002]\n | &a < y &\u4E00 = x | . | . | relation 2: ImplicitVariable
+@version 1\n0020 ; [*FB00.0020.0002]\n0021 ; [*FFFF.0020.0002]\n | &\u4E00 = y &y << z | . | . | relation 1: ImplicitVariable
 -- the causes that come before it in a relation: 34 elements, and 32
-@version 1\n0020 ; [*FB00.0020.0002]\n0021 ; [*FFFF.0020.0002]\n | &\u4E00 << x | relation 1: Anchor
-@version 1\n0020 ; [*FB00.0020.0002]\n0021 ; [*FFFF.0020.0002]\n | &\u4E00 = b\u0301\u0300 | relation 1: NeedsPrefix
-@version 1\n0020 ; [*FB00.0020.0002]\n0021 ; [*FFFF.0020.0002]\n | &\u4E00 = x / 一一一一一一一一一一一一一一一一 | relation 1: Limit
-@version 1\n0020 ; [*FB00.0020.0002]\n0021 ; [*FFFF.0020.0002]\n | &\u4E00 = x / 一一一一一一一一一一一一一一一 | relation 1: ImplicitVariable
+@version 1\n0020 ; [*FB00.0020.0002]\n0021 ; [*FFFF.0020.0002]\n | &\u4E00 << x | . | . | relation 1: Anchor
+@version 1\n0020 ; [*FB00.0020.0002]\n0021 ; [*FFFF.0020.0002]\n | &\u4E00 = b\u0301\u0300 | . | . | relation 1: NeedsPrefix
+@version 1\n0020 ; [*FB00.0020.0002]\n0021 ; [*FFFF.0020.0002]\n | &\u4E00 = x / 一一一一一一一一一一一一一一一一 | . | . | relation 1: Limit
+@version 1\n0020 ; [*FB00.0020.0002]\n0021 ; [*FFFF.0020.0002]\n | &\u4E00 = x / 一一一一一一一一一一一一一一一 | . | . | relation 1: ImplicitVariable
 -- the first relation with a cause: looked for after the base, and before room
-@version 1\n0020 ; [*FB00.0020.0002]\n0021 ; [*FFFF.0020.0002]\n0061 ; [.1C47.0020.0002]\n | &a < b\u0301\u0300 &\u4E00 = x | relation 1: NeedsPrefix
-@version 1\n0020 ; [*FB00.0020.0002]\n0021 ; [*FFFF.0020.0002]\n0061 ; [.1C47.0020.0002]\n | &\u4E00 = x &a < b\u0301\u0300 | relation 1: ImplicitVariable
-@version 1\n0020 ; [*FB00.0020.0002]\n0021 ; [*FFFF.0020.0002]\n0061 ; [.1C47.0020.0002]\n | &[before 3]a <<< x <<< y &\u4E00 = z | relation 3: ImplicitVariable
-@version 1\n0020 ; [*FB00.0020.0002]\n0021 ; [*FFFF.0020.0002]\n4E00 ; [.FB40.0020.0002][.CE00.0000.0000]\n | &\u4E00 = x | BaseIllFormed";
+@version 1\n0020 ; [*FB00.0020.0002]\n0021 ; [*FFFF.0020.0002]\n0061 ; [.1C47.0020.0002]\n | &a < b\u0301\u0300 &\u4E00 = x | . | . | relation 1: NeedsPrefix
+@version 1\n0020 ; [*FB00.0020.0002]\n0021 ; [*FFFF.0020.0002]\n0061 ; [.1C47.0020.0002]\n | &\u4E00 = x &a < b\u0301\u0300 | . | . | relation 1: ImplicitVariable
+@version 1\n0020 ; [*FB00.0020.0002]\n0021 ; [*FFFF.0020.0002]\n0061 ; [.1C47.0020.0002]\n | &[before 3]a <<< x <<< y &\u4E00 = z | . | . | relation 3: ImplicitVariable
+@version 1\n0020 ; [*FB00.0020.0002]\n0021 ; [*FFFF.0020.0002]\n4E00 ; [.FB40.0020.0002][.CE00.0000.0000]\n | &\u4E00 = x | . | . | BaseIllFormed";
 
 /// A base of primaries from 8000 up, which no plan moves, the rules, and the rows that come behind those of the base. Each is
 /// accepted by the audit.
@@ -97,21 +96,14 @@ const UNMOVED: &str =
 /// The certificate of these, as what is different.
 const NO_PRIMARIES: &str = "-1 0209, -1 1C47, -1 1C60, -2 0024, -2 002C, -3 0008";
 
-/// The text of a table.
-fn table_text(alloc: Global, table: &Table) -> Result<String, Fail> {
-    let mut text = Sink::new(Vec::new(alloc));
-    write_table(table, &mut text)?;
-    Ok(String::from_utf8(text.into_inner())?)
-}
-
 fn same_tables(alloc: Global, found: &Table, wanted: &Table) -> Result<(), Fail> {
     let found = table_text(alloc, found)?;
-    same(&found, &table_text(alloc, wanted)?, "another table")
+    same_bytes(&found, &table_text(alloc, wanted)?, "another table")
 }
 
 fn same_certificates(alloc: Global, found: &Certificate, wanted: &Certificate) -> Result<(), Fail> {
     let found = certificate_text(alloc, found)?;
-    same(
+    same_bytes(
         &found,
         &certificate_text(alloc, wanted)?,
         "another certificate",
@@ -141,8 +133,7 @@ fn check_planned(alloc: Global, case: &str) -> Result<(), Fail> {
     if is_remark(case) {
         return Ok(());
     }
-    let (base, rest) = halves(case)?;
-    let (rules, rest) = halves(rest)?;
+    let (base, rules, rest) = thirds(case)?;
     let (tailored, certificate) = halves(rest)?;
     check_files(alloc, [base, rules, tailored, certificate], case)
 }
@@ -157,8 +148,7 @@ fn check_unmoved(alloc: Global, case: &str) -> Result<(), Fail> {
     if is_remark(case) {
         return Ok(());
     }
-    let (base, rest) = halves(case)?;
-    let (rules, added) = halves(rest)?;
+    let (base, rules, added) = thirds(case)?;
     let tailored = joined(alloc, &[base, added])?;
     check_files(alloc, [base, rules, &tailored, NO_PRIMARIES], case)
 }
@@ -167,9 +157,9 @@ fn check_refused(alloc: Global, case: &str) -> Result<(), Fail> {
     if is_remark(case) {
         return Ok(());
     }
-    let (base, rest) = halves(case)?;
-    let (rules, wanted) = halves(rest)?;
-    let files = files_of(alloc, [base, rules, ".", "."])?;
+    let (base, rules, rest) = thirds(case)?;
+    let (tailored, certificate, wanted) = thirds(rest)?;
+    let files = files_of(alloc, [base, rules, tailored, certificate])?;
     same(&planned(alloc, &files)?, wanted, case)
 }
 

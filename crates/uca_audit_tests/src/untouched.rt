@@ -4,11 +4,11 @@ use crate::files::{Files, files_of, verdict};
 use std::alloc::Global;
 use std::cmp::Ordering;
 use std::test::Fail;
-use uca_fakes::{halves, holds, is_remark, same};
+use uca_fakes::{halves, holds, is_remark, same, thirds};
 use uca_key::{compare, key};
-use uca_match::{Collator, Trie};
+use uca_match::{Collator, Lookup, Trie};
+use uca_rules::Rules;
 use uca_text::{Normal, normal};
-use uca_values::Table;
 use uca_weights::{Depth, Weighting};
 
 /// The fields of an audit that is accepted, two texts, whether no target occurs in either, how they compare under the base and under
@@ -36,32 +36,17 @@ const WAYS: [(Weighting, Depth); 4] = [
     (Weighting::Shifted, Depth::Identical),
 ];
 
-/// What two texts are read by.
-#[derive(Clone, Copy)]
-struct Reading<'a> {
-    files: &'a Files,
-    table: &'a Table,
-    trie: &'a Trie,
-}
+/// The collators over the base and over the tailored table.
+type Both<'a, L> = (&'a Collator<'a, L>, &'a Collator<'a, L>);
 
-impl Reading<'_> {
-    fn compare(
-        &self,
-        (weighting, depth): (Weighting, Depth),
-        pair: &[Normal; 2],
-    ) -> (Ordering, u8) {
-        let (table, files) = (self.table, self.files);
-        let collator = Collator::new(self.trie, &table.header, &files.data);
-        let [left, right] = pair;
-        let found = compare(&collator, weighting, depth, left, right);
-        (found.order, found.level)
-    }
-
-    fn key(&self, alloc: Global, way: (Weighting, Depth), text: &Normal) -> Result<Vec<u8>, Fail> {
-        let (table, files) = (self.table, self.files);
-        let collator = Collator::new(self.trie, &table.header, &files.data);
-        Ok(key(alloc, &collator, way.0, way.1, text)?)
-    }
+fn compared<L: Lookup>(
+    collator: &Collator<L>,
+    (weighting, depth): (Weighting, Depth),
+    pair: &[Normal; 2],
+) -> (Ordering, u8) {
+    let [left, right] = pair;
+    let found = compare(collator, weighting, depth, left, right);
+    (found.order, found.level)
 }
 
 fn sign(order: Ordering) -> &'static str {
@@ -72,40 +57,61 @@ fn sign(order: Ordering) -> &'static str {
     }
 }
 
-/// Whether both texts have the same keys under both tables.
-fn stay(alloc: Global, [old, new]: [Reading; 2], pair: &[Normal; 2]) -> Result<bool, Fail> {
-    for way in WAYS {
-        for text in pair {
-            if old.key(alloc, way, text)? != new.key(alloc, way, text)? {
-                return Ok(false);
-            }
-        }
-    }
-    Ok(true)
+/// Whether a text has the same key under both tables.
+fn keeps_key<L: Lookup>(
+    alloc: Global,
+    (base, tailored): Both<L>,
+    (weighting, depth): (Weighting, Depth),
+    text: &Normal,
+) -> Result<bool, Fail> {
+    let old = key(alloc, base, weighting, depth, text)?;
+    let new = key(alloc, tailored, weighting, depth, text)?;
+    Ok(old.as_slice() == new.as_slice())
 }
 
-fn said_of(alloc: Global, readings: [Reading; 2], pair: &[Normal; 2]) -> Result<String, Fail> {
-    let [old, new] = readings;
-    let [left, right] = pair;
-    let files = old.files;
-    let rules = &files.rules;
-    let untouched = rules.untouched(left) && rules.untouched(right);
-    if untouched {
-        for way in WAYS {
-            holds(
-                old.compare(way, pair) == new.compare(way, pair),
-                "another comparison",
-            )?;
-        }
+/// Whether it has the same one each way.
+fn keeps_keys<L: Lookup>(alloc: Global, both: Both<L>, text: &Normal) -> Result<bool, Fail> {
+    let mut stay = true;
+    for way in WAYS {
+        stay = stay && keeps_key(alloc, both, way, text)?;
     }
-    let (before, level) = old.compare(WAYS[0], pair);
-    let (after, new_level) = new.compare(WAYS[0], pair);
-    let touched = if untouched { "untouched" } else { "touched" };
-    let keys = if stay(alloc, readings, pair)? {
-        "stay"
-    } else {
-        "differ"
-    };
+    Ok(stay)
+}
+
+/// Whether both texts have the same keys under both tables.
+fn stay<L: Lookup>(alloc: Global, both: Both<L>, pair: &[Normal; 2]) -> Result<&'static str, Fail> {
+    let [left, right] = pair;
+    let stay = keeps_keys(alloc, both, left)? && keeps_keys(alloc, both, right)?;
+    Ok(if stay { "stay" } else { "differ" })
+}
+
+/// Whether no target occurs in either text. Such texts compare each way as they did.
+fn touched<L: Lookup>(
+    rules: &Rules,
+    both: Both<L>,
+    pair: &[Normal; 2],
+) -> Result<&'static str, Fail> {
+    let [left, right] = pair;
+    if !rules.untouched(left) || !rules.untouched(right) {
+        return Ok("touched");
+    }
+    for way in WAYS {
+        let is_same = compared(both.0, way, pair) == compared(both.1, way, pair);
+        holds(is_same, "another comparison")?;
+    }
+    Ok("untouched")
+}
+
+fn said_of<L: Lookup>(
+    alloc: Global,
+    rules: &Rules,
+    both: Both<L>,
+    pair: &[Normal; 2],
+) -> Result<String, Fail> {
+    let touched = touched(rules, both, pair)?;
+    let (before, level) = compared(both.0, WAYS[0], pair);
+    let (after, new_level) = compared(both.1, WAYS[0], pair);
+    let keys = stay(alloc, both, pair)?;
     Ok(format!(in alloc;
         "{touched}, {} {level}, {} {new_level}, {keys}",
         sign(before),
@@ -124,27 +130,17 @@ fn said(alloc: Global, files: &Files, texts: &str) -> Result<String, Fail> {
 fn said_of_pair(alloc: Global, files: &Files, pair: &[Normal; 2]) -> Result<String, Fail> {
     let base = Trie::new(alloc, &files.base)?;
     let tailored = Trie::new(alloc, &files.tailored)?;
-    let old = Reading {
-        files,
-        table: &files.base,
-        trie: &base,
-    };
-    let new = Reading {
-        files,
-        table: &files.tailored,
-        trie: &tailored,
-    };
-    said_of(alloc, [old, new], pair)
+    let old = Collator::new(&base, &files.base.header, &files.data);
+    let new = Collator::new(&tailored, &files.tailored.header, &files.data);
+    said_of(alloc, &files.rules, (&old, &new), pair)
 }
 
 fn check(alloc: Global, case: &str) -> Result<(), Fail> {
     if is_remark(case) {
         return Ok(());
     }
-    let (base, rest) = halves(case)?;
-    let (rules, rest) = halves(rest)?;
-    let (tailored, rest) = halves(rest)?;
-    let (certificate, rest) = halves(rest)?;
+    let (base, rules, rest) = thirds(case)?;
+    let (tailored, certificate, rest) = thirds(rest)?;
     let (texts, wanted) = halves(rest)?;
     let files = files_of(alloc, [base, rules, tailored, certificate])?;
     same(&verdict(alloc, &files)?, "accepted", case)?;

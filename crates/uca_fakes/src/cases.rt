@@ -74,6 +74,13 @@ pub fn halves(case: &str) -> Result<(&str, &str), Fail> {
     Ok(case.split_once(" | ").ok_or("a case without its answer")?)
 }
 
+/// The three parts of a case, around the first two ` | `.
+pub fn thirds(case: &str) -> Result<(&str, &str, &str), Fail> {
+    let (first, rest) = halves(case)?;
+    let (second, third) = halves(rest)?;
+    Ok((first, second, third))
+}
+
 /// Fails with the case unless this holds.
 pub fn holds(is_so: bool, case: &str) -> Result<(), Fail> {
     if is_so { Ok(()) } else { Err(Fail::new(case)) }

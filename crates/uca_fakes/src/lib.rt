@@ -3,11 +3,13 @@
 #![tactic(auto)]
 
 pub mod cases;
+pub mod run_streams;
 pub mod samples;
 pub mod streams;
 
 pub use cases::{
-    bytes_of, code_point, halves, holds, is_remark, joined, repeated, same, same_bytes,
+    bytes_of, code_point, halves, holds, is_remark, joined, repeated, same, same_bytes, thirds,
 };
-pub use samples::{DATA, TABLE, data_of, table_of};
+pub use run_streams::Streams;
+pub use samples::{DATA, TABLE, data_of, table_of, table_text};
 pub use streams::{Calls, Failure, FakeReader, FakeWriter, Pace};

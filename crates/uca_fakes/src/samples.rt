@@ -1,11 +1,11 @@
 //! A table and a data file, and the values of files.
 
-use std::alloc::Allocator;
+use std::alloc::{Allocator, Global};
 use std::io::Read;
 use uca_data::read_data;
-use uca_table::read_table;
+use uca_table::{read_table, write_table};
 use uca_values::{Data, Table, TableFault};
-use uca_weights::Source;
+use uca_weights::{Sink, Source, WriteFault};
 
 /// Letters, accents and a variable space, in canonical text.
 pub const TABLE: &str = "@version 1\n\
@@ -39,4 +39,11 @@ pub fn data_of<A: Allocator + Copy, R: Read>(
     source: &mut Source<R>,
 ) -> Result<Data<A>, TableFault> {
     read_data(alloc, source)
+}
+
+/// The canonical text of a table.
+pub fn table_text(alloc: Global, table: &Table) -> Result<Vec<u8>, WriteFault> {
+    let mut out = Sink::new(Vec::new(alloc));
+    write_table(table, &mut out)?;
+    Ok(out.into_inner())
 }

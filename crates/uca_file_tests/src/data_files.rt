@@ -187,33 +187,13 @@ fn properties_at_the_ends_of_ranges(rt: HostRuntime) -> Result<(), Fail> {
     Ok(())
 }
 
-/// Adds a range of each kind, of one code point.
-fn push_ranges(text: &mut String, point: &str) -> Result<(), AllocError> {
-    for part in [
-        "ccc ",
-        point,
-        "..",
-        point,
-        " 1\ncore 1",
-        point,
-        "..1",
-        point,
-        "\nother 2",
-        point,
-        "..2",
-        point,
-        "\n",
-    ] {
-        text.push_str(part)?;
-    }
-    Ok(())
-}
-
 /// 4096 ranges of each kind.
 fn many_ranges(alloc: Global) -> Result<String, AllocError> {
     let mut text = String::from_str(alloc, "@data 1\n")?;
     for number in 0x1000..0x2000u32 {
-        push_ranges(&mut text, &format!(in alloc; "{:04X}", number)?)?;
+        text.push_str(&format!(in alloc;
+            "ccc {number:04X}..{number:04X} 1\ncore 1{number:04X}..1{number:04X}\nother 2{number:04X}..2{number:04X}\n"
+        )?)?;
     }
     Ok(text)
 }

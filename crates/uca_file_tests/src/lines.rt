@@ -8,26 +8,34 @@ use uca_fakes::{Calls, Failure, FakeReader, Pace, bytes_of, halves, holds, same}
 use uca_lines::{LineFault, LineReader, NextLine};
 use uca_weights::Source;
 
-/// What comes next: `+` where LF ended the line, `-` where none did; `$` at the end; the fault's name.
-fn name_of(next: Result<NextLine, LineFault>) -> &'static str {
+/// What comes next: `+` where LF ended the line, `-` where none did; `$` at the end.
+fn name_of(next: NextLine) -> &'static str {
     match next {
-        Ok(NextLine::Terminated) => "+",
-        Ok(NextLine::Unterminated) => "-",
-        Ok(NextLine::EndOfInput) => "$",
-        Err(LineFault::TooLong) => "TooLong",
-        Err(LineFault::Limit) => "Limit",
-        Err(LineFault::Read) => "Read",
-        Err(LineFault::Memory) => "Memory",
+        NextLine::Terminated => "+",
+        NextLine::Unterminated => "-",
+        NextLine::EndOfInput => "$",
     }
 }
 
-/// The next line and what came of it, in the memory of an allocator.
+fn fault_name(fault: LineFault) -> &'static str {
+    match fault {
+        LineFault::TooLong => "TooLong",
+        LineFault::Limit => "Limit",
+        LineFault::Read => "Read",
+        LineFault::Memory => "Memory",
+    }
+}
+
+/// The next line and what came of it, or the fault's name, in the memory of an allocator.
 fn next_in<A: Allocator, R: Read>(
     reader: &mut LineReader,
     source: &mut Source<R>,
     line: &mut Vec<u8, A>,
 ) -> &'static str {
-    name_of(reader.next_line(source, line))
+    match reader.next_line(source, line) {
+        Ok(next) => name_of(next),
+        Err(fault) => fault_name(fault),
+    }
 }
 
 /// All lines of a source, each with what came of it.

@@ -1,18 +1,11 @@
 //! Table files: each fault, each order of two causes in one line, and what accepted files say.
 
-use std::alloc::{AllocError, Allocator, Global};
+use std::alloc::{AllocError, Global};
 use std::test::Fail;
-use uca_fakes::{TABLE, bytes_of, halves, holds, is_remark, joined, repeated, same, table_of};
-use uca_table::write_table;
-use uca_values::Table;
-use uca_weights::{Sink, Source};
-
-/// The canonical text of a table.
-fn text_of<A: Allocator + Copy>(alloc: Global, table: &Table<A>) -> Result<Vec<u8>, Fail> {
-    let mut out = Sink::new(Vec::new(alloc));
-    write_table(table, &mut out)?;
-    Ok(out.into_inner())
-}
+use uca_fakes::{
+    TABLE, bytes_of, halves, holds, is_remark, joined, repeated, same, table_of, table_text,
+};
+use uca_weights::Source;
 
 /// Why a file is refused, or how many ranges and rows its table has.
 fn said(alloc: Global, file: &[u8]) -> Result<String, AllocError> {
@@ -373,7 +366,7 @@ const WRITTEN: &str = r"@version 1\n | @version 1\n
 /// The canonical text of the table of a file.
 fn rewritten(alloc: Global, file: &[u8]) -> Result<Vec<u8>, Fail> {
     let table = table_of(alloc, &mut Source::new(file))?;
-    text_of(alloc, &table)
+    Ok(table_text(alloc, &table)?)
 }
 
 fn check_written(alloc: Global, case: &str) -> Result<(), Fail> {

@@ -3,7 +3,7 @@
 use linked_list_allocator::LocalHeap;
 use std::alloc::{AllocError, Allocator, Global};
 use std::test::Fail;
-use uca_fakes::{DATA, code_point, data_of, halves, holds, same, table_of};
+use uca_fakes::{DATA, code_point, data_of, halves, holds, same, table_of, thirds};
 use uca_values::{ClassRange, CodePointRange, Data, RangeFault, Table, worked_implicit_weights};
 use uca_weights::{Element, Source};
 
@@ -24,34 +24,33 @@ fn add<A: Allocator>(
     }
 }
 
-/// The ranges in order, and what is said where each is added.
-const RANGES: &str = "class 66 6A | Ok(())
-class 70 70 | Ok(())
-class 62 61 | Err(Empty)
-class 68 67 | Err(Empty)
-class 61 66 | Err(Overlap)
-class 6A 6A | Err(Overlap)
-class 67 68 | Err(Overlap)
-class 61 7A | Err(Overlap)
-class 6B 70 | Err(Overlap)
-class 6B 6F | Ok(())
-class 71 71 | Ok(())
-class 0 65 | Ok(())
-core 4E00 9FFF | Ok(())
-other 20000 20FFF | Ok(())
-core 9FFF 20000 | Err(Overlap)
-other 9FFF 20000 | Err(Overlap)
-core 20FFF 20FFF | Err(Overlap)
-other 4E00 4E00 | Err(Overlap)
-core 62 61 | Err(Empty)
-other 62 61 | Err(Empty)
-class 4E00 E000 | Ok(())";
+/// The kinds of ranges in order, their ends, and what is said where each is added.
+const RANGES: &str = "class | 66 6A | Ok(())
+class | 70 70 | Ok(())
+class | 62 61 | Err(Empty)
+class | 68 67 | Err(Empty)
+class | 61 66 | Err(Overlap)
+class | 6A 6A | Err(Overlap)
+class | 67 68 | Err(Overlap)
+class | 61 7A | Err(Overlap)
+class | 6B 70 | Err(Overlap)
+class | 6B 6F | Ok(())
+class | 71 71 | Ok(())
+class | 0 65 | Ok(())
+core | 4E00 9FFF | Ok(())
+other | 20000 20FFF | Ok(())
+core | 9FFF 20000 | Err(Overlap)
+other | 9FFF 20000 | Err(Overlap)
+core | 20FFF 20FFF | Err(Overlap)
+other | 4E00 4E00 | Err(Overlap)
+core | 62 61 | Err(Empty)
+other | 62 61 | Err(Empty)
+class | 4E00 E000 | Ok(())";
 
-/// The kind of a range, and its two code points.
-fn range_of(text: &str) -> Result<(&str, (char, char)), Fail> {
-    let (kind, ends) = text.split_once(' ').ok_or("no range")?;
-    let (first, last) = ends.split_once(' ').ok_or("no last code point")?;
-    Ok((kind, (code_point(first)?, code_point(last)?)))
+/// The two code points of a range.
+fn ends_of(text: &str) -> Result<(char, char), Fail> {
+    let (first, last) = text.split_once(' ').ok_or("no last code point")?;
+    Ok((code_point(first)?, code_point(last)?))
 }
 
 fn check_added<A: Allocator>(
@@ -59,8 +58,8 @@ fn check_added<A: Allocator>(
     properties: &mut Data<A>,
     case: &str,
 ) -> Result<(), Fail> {
-    let (range, wanted) = halves(case)?;
-    let (kind, ends) = range_of(range)?;
+    let (kind, ends, wanted) = thirds(case)?;
+    let ends = ends_of(ends)?;
     let before = properties.classes().len();
     let added = add(properties, kind, ends);
     let is_more = properties.classes().len() > before;
@@ -77,9 +76,9 @@ fn ranges_are_added(rt: HostRuntime) -> Result<(), Fail> {
     Ok(())
 }
 
-const WITHOUT_MEMORY: &str = "class 61 7A | Err(Memory)
-core 61 7A | Err(Memory)
-other 61 7A | Err(Memory)";
+const WITHOUT_MEMORY: &str = "class | 61 7A | Err(Memory)
+core | 61 7A | Err(Memory)
+other | 61 7A | Err(Memory)";
 
 fn check_without_memory<A: Allocator>(alloc: Global, properties: &mut Data<A>) -> Result<(), Fail> {
     for case in WITHOUT_MEMORY.lines() {

@@ -3,7 +3,7 @@
 use std::alloc::{AllocError, Global};
 use std::test::Fail;
 use uca_check::{IllFormed, check};
-use uca_fakes::{DATA, TABLE, data_of, halves, is_remark, same, table_of};
+use uca_fakes::{DATA, TABLE, data_of, is_remark, same, table_of, thirds};
 use uca_values::{Data, Table};
 use uca_weights::Source;
 
@@ -19,15 +19,21 @@ fn change_at<'a>(changes: &'a str, number: usize) -> Option<&'a str> {
     None
 }
 
+/// Adds a row, if there is one.
+fn push_row(text: &mut String, row: Option<&str>) -> Result<(), AllocError> {
+    let Some(row) = row else {
+        return Ok(());
+    };
+    text.push_str(row)?;
+    text.push('\n')
+}
+
 /// The small table with changed rows, which take the place of its own or follow them.
 fn with_changes(alloc: Global, changes: &str) -> Result<String, AllocError> {
     let mut text = String::from_str(alloc, "@version 1\n")?;
     let mut rows = TABLE.lines().skip(2);
     for number in 1..11 {
-        if let Some(row) = change_at(changes, number).or(rows.next()) {
-            text.push_str(row)?;
-            text.push('\n')?;
-        }
+        push_row(&mut text, change_at(changes, number).or(rows.next()))?;
     }
     Ok(text)
 }
@@ -52,8 +58,7 @@ fn check_changes(alloc: Global, case: &str) -> Result<(), Fail> {
     if is_remark(case) {
         return Ok(());
     }
-    let (_name, rest) = halves(case)?;
-    let (changes, wanted) = halves(rest)?;
+    let (_name, changes, wanted) = thirds(case)?;
     let text = with_changes(alloc, changes)?;
     same(&verdict(alloc, &text)?, wanted, case)
 }
@@ -159,8 +164,7 @@ the greatest accent | [.0000.FFFF.FFFF] | well-formed
 nothing | [.0000.0000.0000] | well-formed";
 
 fn check_alone(alloc: Global, case: &str) -> Result<(), Fail> {
-    let (_name, rest) = halves(case)?;
-    let (elements, wanted) = halves(rest)?;
+    let (_name, elements, wanted) = thirds(case)?;
     let text = format!(in alloc; "@version 1\n0061 ; {elements}\n")?;
     same(&verdict(alloc, &text)?, wanted, case)
 }

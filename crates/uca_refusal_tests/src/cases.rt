@@ -12,7 +12,7 @@
 
 use std::alloc::{AllocError, Global};
 use std::test::Fail;
-use uca_fakes::bytes_of;
+use uca_fakes::{bytes_of, joined};
 
 /// A table of a letter and an accent.
 pub const TABLE: &str = "@version 1\n\
@@ -64,15 +64,15 @@ pub fn field<'a>(block: &'a str, word: &str) -> &'a str {
 
 /// The bytes that the lines with this word stand for.
 pub fn bytes(ample: Global, block: &str, word: &str) -> Result<Vec<u8>, AllocError> {
-    let mut joined = Vec::new(ample);
+    let mut all = Vec::new(ample);
     for line in block.lines() {
         if let Some((first, rest)) = line.split_once(' ') {
             if first == word {
-                joined.extend_from_slice(&bytes_of(ample, rest)?)?;
+                all.extend_from_slice(&bytes_of(ample, rest)?)?;
             }
         }
     }
-    Ok(joined)
+    Ok(all)
 }
 
 // The small file of a role.
@@ -139,6 +139,18 @@ impl<'a> Case<'a> {
     }
 }
 
+// Adds an end of these two parts.
+fn push_end(
+    ample: Global,
+    ends: &mut Vec<String>,
+    end: &str,
+    status: &str,
+) -> Result<(), AllocError> {
+    let end = joined(ample, &[end, status])?;
+    ends.push(end)?;
+    Ok(())
+}
+
 // Adds the ends of one group: its head with each of the numbers, or the group itself.
 fn push_ends(
     ample: Global,
@@ -148,11 +160,11 @@ fn push_ends(
 ) -> Result<(), AllocError> {
     let Some((head, numbers)) = group.split_once(" @ ") else {
         let status = if group == "done" { "" } else { status };
-        ends.push(format!(in ample; "{group}{status}")?)?;
-        return Ok(());
+        return push_end(ample, ends, group, status);
     };
     for number in numbers.split(' ') {
-        ends.push(format!(in ample; "{head} {number}: Memory{status}")?)?;
+        let end = format!(in ample; "{head} {number}: Memory")?;
+        push_end(ample, ends, &end, status)?;
     }
     Ok(())
 }

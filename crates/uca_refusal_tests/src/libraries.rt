@@ -10,14 +10,14 @@ use std::alloc::{AllocError, Allocator, Global};
 use std::fmt::Display;
 use std::test::Fail;
 use uca_audit::audit;
-use uca_certificates::{CertificateFault, read_certificate, write_certificate};
+use uca_certificates::{Certificate, CertificateFault, read_certificate, write_certificate};
 use uca_data::read_data;
 use uca_key::{KeyBuffer, key, key_of};
 use uca_lines::{LineFault, LineReader, NextLine};
-use uca_match::{Collator, RowList, Trie};
+use uca_match::{Collator, Lookup, RowList, Trie};
 use uca_rules::{Relation, RuleFault, Rules, read_rules_in};
 use uca_table::{read_table, write_table};
-use uca_tailor::tailor;
+use uca_tailor::{TailorFault, tailor};
 use uca_text::Normal;
 use uca_values::{ClassRange, CodePointRange, Data, RangeFault, Table, TableFault};
 use uca_weights::Depth::Identical;
@@ -134,13 +134,20 @@ fn text_of_rules<A: Allocator>(ample: Global, rules: &Rules<A>) -> Result<String
     Ok(text)
 }
 
+// Writes the texts of the relations.
+fn show_rules<A: Allocator>(
+    memory: Memory,
+    streams: &mut Streams,
+    rules: &Rules<A>,
+) -> Result<String, Fail> {
+    let text = text_of_rules(memory.ample, rules)?;
+    show(streams, text.as_bytes());
+    Ok(String::from_str(memory.ample, "done")?)
+}
+
 fn reads_rules(memory: Memory, streams: &mut Streams, data: &Data) -> Result<String, Fail> {
     match read_rules_in(memory.tried, memory.ample, RULES.as_bytes(), data) {
-        Ok(rules) => {
-            let text = text_of_rules(memory.ample, &rules)?;
-            show(streams, text.as_bytes());
-            Ok(String::from_str(memory.ample, "done")?)
-        }
+        Ok(rules) => show_rules(memory, streams, &rules),
         Err(fault) => said::<RuleFault>(memory.ample, Err(fault)),
     }
 }
@@ -210,15 +217,25 @@ fn makes_properties(memory: Memory, streams: &mut Streams) -> Result<(), RangeFa
     Ok(())
 }
 
-// A trie that finds each row of a table: the key of a text with all of them is printed.
-fn makes_trie(memory: Memory, streams: &mut Streams, table: &Table) -> Result<String, Fail> {
-    let Ok(rows) = Trie::new(memory.tried, table) else {
-        return Ok(String::from_str(memory.ample, "memory")?);
-    };
+// Writes the key of a text with all rows of a table.
+fn show_key<L: Lookup>(
+    memory: Memory,
+    streams: &mut Streams,
+    table: &Table,
+    rows: &L,
+) -> Result<String, Fail> {
     let data = classes(memory.ample)?;
-    let collator = Collator::new(&rows, &table.header, &data);
+    let collator = Collator::new(rows, &table.header, &data);
     show(streams, &key_of_contractions(memory.ample, &collator)?);
     Ok(String::from_str(memory.ample, "done")?)
+}
+
+// A trie that finds each row of a table.
+fn makes_trie(memory: Memory, streams: &mut Streams, table: &Table) -> Result<String, Fail> {
+    match Trie::new(memory.tried, table) {
+        Ok(rows) => show_key(memory, streams, table, &rows),
+        Err(_) => Ok(String::from_str(memory.ample, "memory")?),
+    }
 }
 
 // A key as it is made at once.
@@ -280,18 +297,25 @@ fn makes_audit(memory: Memory, table: &Table, data: &Data, rules: &Rules) -> Res
     said(memory.ample, verdict)
 }
 
+// Writes a plan.
+fn show_plan<A: Allocator>(
+    memory: Memory,
+    streams: &mut Streams,
+    (table, certificate): &(Table<A>, Certificate<A>),
+) -> Result<String, Fail> {
+    let _ = write_certificate(certificate, &mut streams.file);
+    let _ = write_table(table, &mut streams.out);
+    Ok(String::from_str(memory.ample, "done")?)
+}
+
 fn makes_plan(
     memory: Memory,
     streams: &mut Streams,
     (table, data, rules): (&Table, &Data, &Rules),
 ) -> Result<String, Fail> {
     match tailor(memory.tried, table, data, rules) {
-        Ok((table, certificate)) => {
-            let _ = write_certificate(&certificate, &mut streams.file);
-            let _ = write_table(&table, &mut streams.out);
-            Ok(String::from_str(memory.ample, "done")?)
-        }
-        Err(fault) => Ok(format!(in memory.ample; "{fault}")?),
+        Ok(plan) => show_plan(memory, streams, &plan),
+        Err(fault) => said::<TailorFault>(memory.ample, Err(fault)),
     }
 }
 

@@ -8,7 +8,6 @@ use crate::trials::{Trial, check_each_way, check_whole, whole_of};
 use std::alloc::Global;
 use std::cell::Cell;
 use std::test::Fail;
-use uca_fakes::holds;
 use uca_refusals::Refusing;
 
 // The number of a stream: a role, or the name of an output.
@@ -21,14 +20,8 @@ fn stream_of(roles: &str, name: &str) -> usize {
 }
 
 fn place_of(roles: &str, name: &str) -> usize {
-    let mut place = 0_usize;
-    for role in roles.split(' ') {
-        if role == name {
-            return place;
-        }
-        place = place.saturating_add(1);
-    }
-    NONE
+    let place = roles.split(' ').position(|role| role == name);
+    place.unwrap_or(NONE)
 }
 
 // The stream fails in each way after so many bytes, with the end of the case.
@@ -45,8 +38,10 @@ fn check_failing(trial: Trial, fails: &str) -> Result<(), Fail> {
 fn refused(trial: Trial, number: u32) -> Result<Answer, Fail> {
     trial.memory.tried.refuse(Some(number));
     let found = answered(trial.memory, trial.case, Trouble::none(usize::MAX))?;
-    holds(trial.memory.tried.asked() > number, trial.case.block)?;
-    Ok(found)
+    if trial.memory.tried.asked() > number {
+        return Ok(found);
+    }
+    Err(Fail::new(trial.case.block))
 }
 
 // The number of the first allocation from this one on that is refused with this end.

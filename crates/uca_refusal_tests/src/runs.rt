@@ -2,12 +2,14 @@
 
 use crate::answers::Memory;
 use crate::streams::Streams;
-use std::alloc::Global;
+use std::alloc::{Allocator, Global};
 use std::test::Fail;
+use uca_certificates::Certificate;
 use uca_cli::{
     RunFault, report, run_audit_in, run_check, run_compare_in, run_keys_in, run_sort_in,
     run_tailor_in, write_tailored,
 };
+use uca_values::Table;
 use uca_weights::Depth::{Identical, Weights};
 use uca_weights::Weighting::NonIgnorable;
 use uca_weights::{Depth, Sink};
@@ -52,15 +54,25 @@ fn compare(memory: Memory, streams: &mut Streams) -> Result<(), RunFault> {
     )
 }
 
+fn write_plan<A: Allocator>(
+    streams: &mut Streams,
+    (table, certificate): &(Table<A>, Certificate<A>),
+) -> Result<(), RunFault> {
+    write_tailored(table, certificate, &mut streams.file, &mut streams.out)
+}
+
 fn tailor(memory: Memory, streams: &mut Streams) -> Result<(), RunFault> {
-    let (table, certificate) = run_tailor_in(
+    let run = run_tailor_in(
         memory.tried,
         memory.ample,
         &mut streams.table,
         &mut streams.properties,
         &mut streams.text,
-    )?;
-    write_tailored(&table, &certificate, &mut streams.file, &mut streams.out)
+    );
+    match run {
+        Ok(plan) => write_plan(streams, &plan),
+        Err(fault) => Err(fault),
+    }
 }
 
 fn check(memory: Memory, streams: &mut Streams) -> Result<bool, RunFault> {
@@ -99,8 +111,8 @@ fn told(ample: Global, fault: &RunFault) -> Result<String, Fail> {
     let mut out = Sink::new(Vec::new(ample));
     let mut err = Sink::new(Vec::new(ample));
     let status = report(ample, fault, &mut out, &mut err);
-    let line = String::from_utf8(err.into_inner())?;
-    let line = line.trim_end();
+    let line = err.into_inner();
+    let line = str::from_utf8(&line)?.trim_end();
     match written(fault) {
         Some(count) => Ok(format!(in ample; "{line} after {count}, status {status}")?),
         None => Ok(format!(in ample; "{line}, status {status}")?),

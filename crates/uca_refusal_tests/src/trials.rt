@@ -189,13 +189,18 @@ fn check_allocations(trial: Trial) -> Result<(), Fail> {
     )
 }
 
+// A stream has failed, and this is the answer.
+fn check_broken_answer(trial: Trial, found: &Answer, wanted: Wanted) -> Result<(), Fail> {
+    holds(found.is_broken, wanted.end)?;
+    found.check(wanted, trial.case.name)
+}
+
 // A stream fails, and this is wanted.
 fn check_broken(trial: Trial, trouble: Trouble, wanted: Wanted) -> Result<(), Fail> {
     trial.memory.tried.refuse(None);
     let found = answered(trial.memory, trial.case, trouble)?;
-    holds(found.is_broken, wanted.end)?;
     trial.broken.set(trial.broken.get().saturating_add(1));
-    found.check(wanted, trial.case.name)
+    check_broken_answer(trial, &found, wanted)
 }
 
 /// The same in each way in which a stream fails after so many bytes. The call answers afterwards as if nothing had

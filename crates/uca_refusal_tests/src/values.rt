@@ -63,9 +63,13 @@ pub fn classes(ample: Global) -> Result<Data, Fail> {
     data_of(ample, CLASSES)
 }
 
+fn rules_of(ample: Global, text: &str, properties: &Data) -> Result<Rules, Fail> {
+    Ok(read_rules(ample, text.as_bytes(), properties)?)
+}
+
 /// Rules of one relation.
 pub fn rules(ample: Global, properties: &Data) -> Result<Rules, Fail> {
-    Ok(read_rules(ample, RULES.as_bytes(), properties)?)
+    rules_of(ample, RULES, properties)
 }
 
 /// The certificate of the small tailoring.
@@ -83,9 +87,13 @@ pub fn worked_certificate(ample: Global) -> Result<Certificate, Fail> {
     Ok(certificate)
 }
 
+fn text_of(ample: Global, text: &str, properties: &Data) -> Result<Normal, Fail> {
+    Ok(normal(ample, text, properties)?)
+}
+
 /// A text with a variable element and an accent.
 pub fn accented_text(ample: Global, properties: &Data) -> Result<Normal, Fail> {
-    Ok(normal(ample, "a b\u{301}", properties)?)
+    text_of(ample, "a b\u{301}", properties)
 }
 
 /// The key of the text with all contractions, as a collator has it.

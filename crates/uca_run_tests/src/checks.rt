@@ -1,10 +1,11 @@
 //! Whole runs: whether a table is well-formed.
 
+use crate::files::{A_ACUTE_GRAVE, Files};
+use crate::runs::Run;
 use crate::trials::check;
 use std::alloc::{AllocError, Global};
 use std::test::Fail;
-use uca_fakes::{bytes_of, halves};
-use uca_trials::{A_ACUTE_GRAVE, DATA, Files, Run, TABLE};
+use uca_fakes::{DATA, TABLE, bytes_of, halves, thirds};
 
 // The run prints this verdict on a table, and returns it.
 fn check_verdict(alloc: Global, table: &[&str], data: &str, verdict: &str) -> Result<(), Fail> {
@@ -42,8 +43,7 @@ const OTHER_ROWS: &str = r"2 | 0061 ; [.1C47.0020.0002] | well-formed\n
 1 | 0020 ; [*0000.0030.0002] | WF3 row 1\n";
 
 fn check_row(alloc: Global, case: &str) -> Result<(), Fail> {
-    let (row, rest) = halves(case)?;
-    let (line, verdict) = halves(rest)?;
+    let (row, line, verdict) = thirds(case)?;
     let table = with_row(alloc, row.parse::<usize>()?, line)?;
     let verdict = bytes_of(alloc, verdict)?;
     check_verdict(alloc, &[&table], DATA, str::from_utf8(&verdict)?)

@@ -1,11 +1,11 @@
 //! Whole runs: how two texts compare.
 
+use crate::files::{A_ACUTE, Files, NO_WEIGHTS, SMALL, acutes};
+use crate::runs::Run::Compare;
 use crate::trials::check;
 use std::alloc::Global;
 use std::test::Fail;
-use uca_fakes::{bytes_of, halves};
-use uca_trials::Run::Compare;
-use uca_trials::{A_ACUTE, Files, NO_WEIGHTS, SMALL, TABLE, acutes, joined};
+use uca_fakes::{TABLE, bytes_of, joined, thirds};
 use uca_weights::Depth::{Identical, Weights};
 use uca_weights::Weighting::{NonIgnorable, Shifted};
 use uca_weights::{Depth, Weighting};
@@ -20,8 +20,7 @@ fn check_pair(
     (weighting, depth): How,
     case: &str,
 ) -> Result<(), Fail> {
-    let (left, rest) = halves(case)?;
-    let (right, printed) = halves(rest)?;
+    let (left, right, printed) = thirds(case)?;
     let left = bytes_of(alloc, left)?;
     let right = bytes_of(alloc, right)?;
     let printed = joined(alloc, &[printed, "\n"])?;

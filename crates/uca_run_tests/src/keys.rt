@@ -1,14 +1,14 @@
 //! Whole runs: the keys that they print, and the faults of the files.
 
+use crate::files::{
+    A_ACUTE, A_ACUTE_GRAVE, Files, KEY_OF_A, SHORT, SMALL, X_ACUTE, acutes, push_key,
+};
+use crate::runs::Run;
+use crate::runs::Run::Keys;
 use crate::trials::{check, check_inputs};
 use std::alloc::{AllocError, Global};
 use std::test::Fail;
-use uca_fakes::{bytes_of, halves, repeated};
-use uca_trials::Run::Keys;
-use uca_trials::{
-    A_ACUTE, A_ACUTE_GRAVE, Files, KEY_OF_A, Run, SHORT, SMALL, TABLE, X_ACUTE, acutes, joined,
-    push_key,
-};
+use uca_fakes::{TABLE, bytes_of, joined, repeated, thirds};
 use uca_weights::Depth::{Identical, Weights};
 use uca_weights::Weighting::{NonIgnorable, Shifted};
 
@@ -127,8 +127,7 @@ fn check_primaries(alloc: Global, table: &str, input: &[u8], primaries: &str) ->
 }
 
 fn check_ranges(alloc: Global, case: &str) -> Result<(), Fail> {
-    let (table, rest) = halves(case)?;
-    let (line, primaries) = halves(rest)?;
+    let (table, line, primaries) = thirds(case)?;
     let table = bytes_of(alloc, table)?;
     let line = bytes_of(alloc, line)?;
     check_primaries(alloc, str::from_utf8(&table)?, &line, primaries)

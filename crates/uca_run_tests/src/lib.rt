@@ -1,4 +1,5 @@
-//! Tests of whole runs over files in memory.
+//! Tests of whole runs: over files in memory, where what they print is worked out again over the plain list of a table's
+//! rows, and over readers and writers that take few bytes a call, or fail at a chosen byte.
 #![tactic(auto)]
 
 #[cfg(test)]
@@ -6,11 +7,27 @@ mod checks;
 #[cfg(test)]
 mod comparisons;
 #[cfg(test)]
+mod differences;
+#[cfg(test)]
+mod files;
+#[cfg(test)]
 mod keys;
+#[cfg(test)]
+mod paces;
+#[cfg(test)]
+mod pieces;
 #[cfg(test)]
 mod refusals;
 #[cfg(test)]
+mod rows;
+#[cfg(test)]
+mod rule_files;
+#[cfg(test)]
+mod runs;
+#[cfg(test)]
 mod sorts;
+#[cfg(test)]
+mod streams;
 #[cfg(test)]
 mod trials;
 #[cfg(test)]

@@ -1,10 +1,11 @@
 //! Tables and data files that each run refuses.
 
+use crate::files::{Files, SMALL, acutes};
+use crate::runs::Run;
 use crate::trials::check;
 use std::alloc::Global;
 use std::test::Fail;
-use uca_fakes::{bytes_of, halves};
-use uca_trials::{Files, Run, SMALL, TABLE, acutes};
+use uca_fakes::{TABLE, bytes_of, halves};
 use uca_weights::Depth::{Identical, Weights};
 use uca_weights::Weighting::NonIgnorable;
 

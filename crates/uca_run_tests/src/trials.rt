@@ -1,9 +1,11 @@
 //! What a run over files in memory is to print, and tables of runs written as text.
 
+use crate::differences::difference;
+use crate::files::Files;
+use crate::runs::Run;
 use std::alloc::Global;
 use std::test::Fail;
-use uca_fakes::{bytes_of, halves};
-use uca_trials::{Files, Run, difference};
+use uca_fakes::{bytes_of, thirds};
 
 /// Checks what a run prints, and what is told of its end; and that the library's calls over a list of rows
 /// give the same.
@@ -16,8 +18,7 @@ pub fn check(alloc: Global, files: &Files, run: Run, printed: &str, end: &str) -
 
 // An input, what is printed, and what is told of the end.
 fn check_input(alloc: Global, files: &Files, run: Run, case: &str) -> Result<(), Fail> {
-    let (input, rest) = halves(case)?;
-    let (printed, end) = halves(rest)?;
+    let (input, printed, end) = thirds(case)?;
     let input = bytes_of(alloc, input)?;
     let printed = bytes_of(alloc, printed)?;
     let files = files.with_input(&input);

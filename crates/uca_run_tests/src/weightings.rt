@@ -1,10 +1,11 @@
 //! The weighting by which a run goes.
 
+use crate::files::SMALL;
+use crate::runs::Run;
 use crate::trials::check;
 use std::alloc::Global;
 use std::test::Fail;
-use uca_fakes::halves;
-use uca_trials::{Run, SMALL};
+use uca_fakes::thirds;
 use uca_weights::Depth::Weights;
 use uca_weights::Weighting;
 use uca_weights::Weighting::{NonIgnorable, Shifted};
@@ -79,8 +80,7 @@ const CASES: &str = " |  | shifted
 @variable shifted | shifted | shifted";
 
 fn check_case(alloc: Global, case: &str) -> Result<(), Fail> {
-    let (setting, rest) = halves(case)?;
-    let (asked, wanted) = halves(rest)?;
+    let (setting, asked, wanted) = thirds(case)?;
     let asked = match asked {
         "non-ignorable" => Some(NonIgnorable),
         "shifted" => Some(Shifted),

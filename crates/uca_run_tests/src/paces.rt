@@ -1,10 +1,11 @@
 //! Runs over readers and a writer of chosen paces.
 
+use crate::files::{Files, SHORT, SHORT_TABLE};
+use crate::runs::{Answer, Run, run_over, told};
 use std::alloc::{AllocError, Global};
 use std::test::Fail;
 use uca_cli::{RunFault, report};
-use uca_fakes::{Calls, FakeReader, FakeWriter, Pace, holds};
-use uca_trials::{Answer, Files, Run, SHORT, SHORT_TABLE, Streams, joined, told};
+use uca_fakes::{Calls, FakeReader, FakeWriter, Pace, Streams, holds, joined};
 use uca_weights::Depth::{Identical, Weights};
 use uca_weights::Weighting::NonIgnorable;
 use uca_weights::{Sink, Source};
@@ -178,7 +179,7 @@ struct Ended {
 }
 
 // A run with the text of a table, over streams of these paces and with these calls.
-fn run_over(
+fn end_over(
     alloc: Global,
     case: &Case,
     table: &[u8],
@@ -194,7 +195,7 @@ fn run_over(
         input: Source::new(FakeReader::new(case.files.input, input_pace, input_calls)),
         out: Sink::new(FakeWriter::new(alloc, out_pace, out_calls)),
     };
-    let end = streams.run(alloc, case.run);
+    let end = run_over(alloc, &mut streams, case.run);
     Ended {
         end,
         failed: streams.failed(),
@@ -235,20 +236,26 @@ fn all_calls(calls: &[Calls; 4]) -> [bool; 4] {
     ]
 }
 
-// A run over the text of a table. A stream says that it failed exactly where a call of its reader or writer
+// What came of a run with these calls. A stream says that it failed exactly where a call of its reader or writer
 // failed: so one that fails by itself is seen, and one that returns without a call. None is called again
 // after a call that failed.
-fn run_table(alloc: Global, case: &Case, table: &[u8], paces: [Pace; 4]) -> Result<Outcome, Fail> {
-    let calls = [Calls::new(), Calls::new(), Calls::new(), Calls::new()];
-    let ended = run_over(alloc, case, table, paces, &calls);
-    let is_so = ended.failed == failed_calls(&calls) && late_calls(&calls) == [false; 4];
+fn outcome_of(alloc: Global, ended: Ended, calls: &[Calls; 4]) -> Result<Outcome, Fail> {
+    let is_so = ended.failed == failed_calls(calls) && late_calls(calls) == [false; 4];
     holds(is_so, "failed by itself, or tried again")?;
+    let end = end_of(alloc, &ended.end)?;
     Ok(Outcome {
-        end: end_of(alloc, &ended.end)?,
-        called: all_calls(&calls),
+        end,
+        called: all_calls(calls),
         failed: ended.failed,
         printed: ended.printed,
     })
+}
+
+// A run over the text of a table.
+fn run_table(alloc: Global, case: &Case, table: &[u8], paces: [Pace; 4]) -> Result<Outcome, Fail> {
+    let calls = [Calls::new(), Calls::new(), Calls::new(), Calls::new()];
+    let ended = end_over(alloc, case, table, paces, &calls);
+    outcome_of(alloc, ended, &calls)
 }
 
 /// A run over readers and a writer of these paces.

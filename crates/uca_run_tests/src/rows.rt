@@ -1,15 +1,17 @@
 //! What the runs print, worked out again by the library's calls over the plain list of a table's rows. The
 //! runs themselves look the rows up in a trie.
 
-use crate::files::{Files, joined};
+use crate::files::Files;
 use crate::runs::{Outcome, Run};
 use std::alloc::Global;
 use std::cmp::Ordering;
 use uca_data::read_data;
+use uca_fakes::joined;
 use uca_key::{compare_keys, key, level_count};
 use uca_match::{Collator, RowList};
 use uca_table::read_table;
 use uca_text::normal;
+use uca_values::{Data, Table};
 use uca_weights::{Depth, Source, Weighting};
 
 /// How many bytes an input may have. Each step in a list of rows goes through all of them.
@@ -34,10 +36,20 @@ pub fn printed_by_rows(
     let table = joined(alloc, files.table).ok()?;
     let table = read_table(alloc, &mut Source::new(table.as_bytes())).ok()?;
     let properties = read_data(alloc, &mut Source::new(files.data.as_bytes())).ok()?;
-    let rows = RowList::new(&table);
+    printed_over(alloc, (&table, &properties), (run, files.input), outcome)
+}
+
+// The same of the table and the properties of the files.
+fn printed_over(
+    alloc: Global,
+    (table, properties): (&Table, &Data),
+    (run, input): (Run, &[u8]),
+    outcome: &Outcome,
+) -> Option<Vec<u8>> {
+    let rows = RowList::new(table);
     let library = Library {
         alloc,
-        collator: Collator::new(&rows, &table.header, &properties),
+        collator: Collator::new(&rows, &table.header, properties),
     };
     let count = if outcome.end.as_str() == "done" {
         usize::MAX
@@ -47,7 +59,7 @@ pub fn printed_by_rows(
             .split_inclusive(|byte| *byte == b'\n')
             .count()
     };
-    library.output(run, files.input, count)
+    library.output(run, input, count)
 }
 
 /// The library's calls over a list of rows.

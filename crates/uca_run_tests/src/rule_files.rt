@@ -3,7 +3,7 @@
 use std::alloc::Global;
 use std::io::ErrorKind;
 use std::test::Fail;
-use uca_cli::{report, run_audit};
+use uca_cli::{RunFault, report, run_audit};
 use uca_fakes::{Calls, Failure, FakeReader, Pace, holds};
 use uca_weights::{Sink, Source};
 
@@ -18,6 +18,37 @@ fn slow<'a>(text: &'a [u8], calls: &'a Calls) -> Source<FakeReader<'a>> {
     Source::new(FakeReader::new(text, Pace::steps(7), calls))
 }
 
+// An audit with these rules. The files before them and behind them are called so.
+fn run_over(
+    alloc: Global,
+    rules: &mut Source<FakeReader>,
+    (before, behind): (&Calls, &Calls),
+    out: &mut Sink<Vec<u8>>,
+) -> Result<bool, RunFault> {
+    let mut base = slow(TABLE, before);
+    let mut properties = slow(DATA, before);
+    let mut tailored = slow(TABLE, behind);
+    let mut certificate = slow(b"", behind);
+    run_audit(
+        alloc,
+        &mut base,
+        &mut properties,
+        rules,
+        &mut tailored,
+        &mut certificate,
+        out,
+    )
+}
+
+// The line of a fault; nothing where there is none.
+fn line_of(alloc: Global, run: &Result<bool, RunFault>, out: &mut Sink<Vec<u8>>) -> Vec<u8> {
+    let mut err = Sink::new(Vec::new(alloc));
+    if let Err(fault) = run {
+        report(alloc, fault, out, &mut err);
+    }
+    err.into_inner()
+}
+
 // Where an audit is refused by its rules, which are read at this pace: whether their source has failed, and how many bytes
 // it gave. No file behind them is read then, and nothing is written.
 fn check(
@@ -27,30 +58,16 @@ fn check(
     (failed, bytes): (bool, usize),
 ) -> Result<(), Fail> {
     let (before, calls, behind) = (Calls::new(), Calls::new(), Calls::new());
-    let mut base = slow(TABLE, &before);
-    let mut properties = slow(DATA, &before);
     let mut rules = Source::new(FakeReader::new(text, pace, &calls));
-    let mut tailored = slow(TABLE, &behind);
-    let mut certificate = slow(b"", &behind);
     let mut out = Sink::new(Vec::new(alloc));
-    let run = run_audit(
-        alloc,
-        &mut base,
-        &mut properties,
-        &mut rules,
-        &mut tailored,
-        &mut certificate,
-        &mut out,
-    );
-    let Err(fault) = run else {
-        return Err(Fail::new(format_args!("no fault, and not {line}")));
-    };
-    let mut err = Sink::new(Vec::new(alloc));
-    report(alloc, &fault, &mut out, &mut err);
+    let run = run_over(alloc, &mut rules, (&before, &behind), &mut out);
+    let said = line_of(alloc, &run, &mut out);
     let is_read = rules.failed() == failed && calls.bytes.get() == bytes && calls.late.get() == 0;
     let is_alone = behind.all.get() == 0 && out.into_inner().is_empty();
-    let is_line = err.into_inner().as_slice() == line.as_bytes();
-    holds(is_read && is_alone && is_line, line)
+    holds(
+        is_read && is_alone && said.as_slice() == line.as_bytes(),
+        line,
+    )
 }
 
 #[test]

@@ -1,11 +1,10 @@
 //! The runs of the command over any readers and any writer, and over files in memory.
 
-ghost use Rattle.std.specs.Prelude.{◌≡◌, ◌∷◌, []};
-
-use crate::files::{Files, joined};
+use crate::files::Files;
 use std::alloc::{AllocError, Global};
 use std::io::{Read, Write};
 use uca_cli::{RunFault, run_check, run_compare, run_keys, run_sort};
+use uca_fakes::{Streams, joined};
 use uca_weights::{Depth, Sink, Source, Weighting};
 
 /// A run, the weighting that it is asked for, if any, and its depth.
@@ -43,57 +42,45 @@ pub fn told(alloc: Global, end: &Result<Answer, RunFault>) -> Result<String, All
     }
 }
 
-/// The streams of a run.
-#[derive(Drop)]
-pub struct Streams<T: Read, D: Read, I: Read, W: Write> {
-    /// The table.
-    pub table: Source<T>,
-    /// The data file.
-    pub properties: Source<D>,
-    /// The input.
-    pub input: Source<I>,
-    /// The output.
-    pub out: Sink<W>,
+// What a run without a verdict returns.
+fn done(end: Result<(), RunFault>) -> Result<Answer, RunFault> {
+    match end {
+        Ok(()) => Ok(Answer::Done),
+        Err(fault) => Err(fault),
+    }
 }
 
-impl<T: Read, D: Read, I: Read, W: Write> Streams<T, D, I, W> {
-    /// Which of the four say that they failed.
-    pub fn failed(&self) -> [bool; 4]
-        ensures { result ≡ self.now.table.failed ∷ self.now.properties.failed ∷ self.now.input.failed ∷ self.now.out.failed ∷ [] }
-    {
-        [
-            self.table.failed(),
-            self.properties.failed(),
-            self.input.failed(),
-            self.out.failed(),
-        ]
+// What a run with a verdict returns.
+fn verdict(end: Result<bool, RunFault>) -> Result<Answer, RunFault> {
+    match end {
+        Ok(verdict) => Ok(Answer::Verdict(verdict)),
+        Err(fault) => Err(fault),
     }
+}
 
-    fn parts(&mut self) -> (&mut Source<T>, &mut Source<D>, &mut Source<I>, &mut Sink<W>) {
-        (
-            &mut self.table,
-            &mut self.properties,
-            &mut self.input,
-            &mut self.out,
-        )
-    }
-
-    /// Runs over them.
-    pub fn run(&mut self, alloc: Global, run: Run) -> Result<Answer, RunFault> {
-        let (table, properties, input, out) = self.parts();
-        match run {
-            Run::Keys(asked, depth) => {
-                run_keys(alloc, table, properties, input, out, asked, depth)?;
-            }
-            Run::Sort(asked, depth) => {
-                run_sort(alloc, table, properties, input, out, asked, depth)?;
-            }
-            Run::Check => return Ok(Answer::Verdict(run_check(alloc, table, properties, out)?)),
-            Run::Compare(left, right, asked, depth) => {
-                run_compare(alloc, table, properties, left, right, out, asked, depth)?;
-            }
-        }
-        Ok(Answer::Done)
+/// Runs over streams.
+pub fn run_over<T: Read, D: Read, I: Read, W: Write>(
+    alloc: Global,
+    streams: &mut Streams<T, D, I, W>,
+    run: Run,
+) -> Result<Answer, RunFault> {
+    let Streams {
+        table,
+        properties,
+        input,
+        out,
+    } = streams;
+    match run {
+        Run::Keys(asked, depth) => done(run_keys(
+            alloc, table, properties, input, out, asked, depth,
+        )),
+        Run::Sort(asked, depth) => done(run_sort(
+            alloc, table, properties, input, out, asked, depth,
+        )),
+        Run::Check => verdict(run_check(alloc, table, properties, out)),
+        Run::Compare(left, right, asked, depth) => done(run_compare(
+            alloc, table, properties, left, right, out, asked, depth,
+        )),
     }
 }
 
@@ -117,7 +104,7 @@ pub fn run_files(alloc: Global, files: Files, run: Run) -> Result<Outcome, Alloc
         input: Source::new(files.input),
         out: Sink::new(Vec::new(alloc)),
     };
-    let end = streams.run(alloc, run);
+    let end = run_over(alloc, &mut streams, run);
     Ok(Outcome {
         end: told(alloc, &end)?,
         failed: streams.failed(),

@@ -1,5 +1,6 @@
 //! Runs over readers and writers that fail at a chosen byte.
 
+use crate::files::KEY_OF_A;
 use crate::paces::{
     CHECK, COMPARE, Case, FAILED_CHECK, IDENTICAL_KEYS, KEYS, LINES, SORT, Stream, is_whole,
     run_at, with_input,
@@ -7,8 +8,7 @@ use crate::paces::{
 use std::alloc::{AllocError, Global};
 use std::io::ErrorKind;
 use std::test::Fail;
-use uca_fakes::{Failure, Pace, bytes_of, halves, holds, repeated, same};
-use uca_trials::{KEY_OF_A, joined};
+use uca_fakes::{Failure, Pace, bytes_of, holds, joined, repeated, same, thirds};
 
 /// Each way in which a call fails. A reader that gives nothing has not failed.
 const FAILURES: [Failure; 3] = [
@@ -107,8 +107,7 @@ fn stream_of(end: &str) -> Stream {
 }
 
 fn check_keys_fault(alloc: Global, case: &str) -> Result<(), Fail> {
-    let (good, rest) = halves(case)?;
-    let (printed, end) = halves(rest)?;
+    let (good, printed, end) = thirds(case)?;
     let from = (stream_of(end), good.parse::<usize>()?);
     check_read_fault(alloc, &KEYS, from, end, &bytes_of(alloc, printed)?)
 }

@@ -1,12 +1,13 @@
 //! Runs over readers and a writer that give or take few bytes a call. None of them fails, so no run does.
 
+use crate::files::push_key;
 use crate::paces::{
     CHECK, COMPARE, Case, FAILED_CHECK, IDENTICAL_KEYS, KEYS, SORT, is_whole, run_at, with_input,
 };
+use crate::runs::Run;
 use std::alloc::{AllocError, Global};
 use std::test::Fail;
 use uca_fakes::{Pace, holds, repeated};
-use uca_trials::{Run, push_key};
 
 /// How many bytes a call gives or takes at most. The last gives or takes all.
 const STEPS: [usize; 6] = [1, 2, 3, 7, 4096, usize::MAX];

@@ -1,24 +1,7 @@
 //! The tables and the data files of the tests.
 
 use std::alloc::{AllocError, Global};
-
-/// Letters, accents and a variable space, in canonical text.
-pub const TABLE: &str = "@version 1\n\
-    @implicitweights 17000..18AFF; FB00\n\
-    0020 ; [*0209.0020.0002]\n\
-    0061 ; [.1C47.0020.0002]\n\
-    0041 ; [.1C47.0020.0008]\n\
-    0062 ; [.1C60.0020.0002]\n\
-    0300 ; [.0000.0025.0002]\n\
-    0301 ; [.0000.0024.0002]\n\
-    0323 ; [.0000.002C.0002]\n";
-
-/// Classes of accents, and two ranges of Han.
-pub const DATA: &str = "@data 1\n\
-    ccc 0300..0314 230\n\
-    ccc 0323..0323 220\n\
-    core 4E00..9FFF\n\
-    other 20000..20FFF\n";
+use uca_fakes::{DATA, TABLE, repeated};
 
 /// A table of a letter and an accent.
 pub const SHORT_TABLE: &str = "@version 1\n\
@@ -43,22 +26,9 @@ pub const NO_WEIGHTS: &str = "0001 ; [.0000.0000.0000]\n";
 /// The key of `a`, as a line.
 pub const KEY_OF_A: &str = "1C47 0000 0020 0000 0002\n";
 
-/// The parts, one after the other.
-pub fn joined(alloc: Global, parts: &[&str]) -> Result<String, AllocError> {
-    let mut text = String::new(alloc);
-    for part in parts {
-        text.push_str(part)?;
-    }
-    Ok(text)
-}
-
 /// So many acute accents.
 pub fn acutes(alloc: Global, count: usize) -> Result<String, AllocError> {
-    let mut text = String::new(alloc);
-    for _ in 0..count {
-        text.push('\u{301}')?;
-    }
-    Ok(text)
+    repeated(alloc, "\u{301}", count)
 }
 
 // A weight in each of so many elements, as it is printed with its space.
