@@ -2,22 +2,26 @@
 
 ghost use Rattle.std.specs.Prelude.{◌≡◌, ◌⊎◌, ◌∷◌, [], ⊤, ℕ, List, Bool, Result, MatchResult};
 ghost use Rattle.clap.specs.Walk.{texts};
-ghost use Rattle.uca_cli.specs.AuditRun.{AcceptsAccepted, AuditsOver, RunsAudit};
-ghost use Rattle.uca_cli.specs.CheckRun.{RunsCheck};
-ghost use Rattle.uca_cli.specs.CompareRun.{RunsCompare};
-ghost use Rattle.uca_cli.specs.KeysRun.{RunsKeys};
-ghost use Rattle.uca_cli.specs.SortRun.{RunsSort};
-ghost use Rattle.uca_cli.specs.Runs.{RunsOver};
+ghost use Rattle.uca_cli.specs.AuditRun.{AcceptsAccepted, RunsAudit};
+ghost use Rattle.uca_runs.specs.AuditSources.{AuditsOver};
+ghost use Rattle.uca_runs.specs.CheckRun.{RunsCheck};
+ghost use Rattle.uca_runs.specs.CompareRun.{RunsCompare};
+ghost use Rattle.uca_runs.specs.KeysRun.{RunsKeys};
+ghost use Rattle.uca_runs.specs.SortRun.{RunsSort};
+ghost use Rattle.uca_runs.specs.Runs.{RunsOver};
 ghost use Rattle.uca_cli.specs.declared.command.OpenFault.{OpenFault};
-ghost use Rattle.uca_cli.specs.declared.faults.RunFault.{RunFault};
+ghost use Rattle.uca_runs.specs.declared.faults.RunFault.{RunFault};
 ghost use Rattle.uca_values.specs.Content.{TableContent};
 ghost use Rattle.uca_certificates.specs.Certificates.{CertificateContent};
-ghost use Rattle.uca_cli.specs.TailorRun.{PlansPlanned, RunsTailor, TailorHasFailed, TailorsOver};
+ghost use Rattle.uca_cli.specs.TailorRun.{PlansPlanned, RunsTailor};
+ghost use Rattle.uca_runs.specs.TailorSources.{TailorHasFailed, TailorsOver};
 ghost use Rattle.uca_cli.specs.Command.{table_and_data, tailor_files, audit_files, AreOpened, DoesNotOpen, OpensAndRuns, OverTwo, OverThree, OverFive, OutputStreams, SortStreams, KeysStreams, AuditStreams, done_result, check_result, DoesNotMake, MakesFile, KeepsTailored, DoesWords, DoesCommand};
 
-use crate::faults::{Role, RunFault};
+use uca_runs::faults::{Role, RunFault};
 use crate::reporting::{DONE, REFUSED, report};
-use crate::{run_audit, run_check, run_compare, run_keys, run_sort, run_tailor, write_tailored};
+use crate::audit::run_audit;
+use crate::tailor::{run_tailor, write_tailored};
+use uca_runs::{run_check, run_compare, run_keys, run_sort};
 use std::alloc::Global;
 use std::io::{Read, Write};
 use thiserror::Error;
