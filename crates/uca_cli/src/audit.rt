@@ -9,13 +9,13 @@ ghost use Rattle.uca_cli.specs.AuditRun.{AcceptsAccepted, AcceptsOrStops, RunsAu
 ghost use Rattle.uca_runs.specs.AuditSources.{AuditHasFailed, AuditsOver, audit_sources};
 ghost use Rattle.uca_runs.specs.Runs.{is_before_output, is_file, is_write};
 
-use uca_runs::audit_files::{AuditFiles, read_audit_files};
-use uca_runs::faults::RunFault;
-use uca_runs::output::write_text;
 use crate::reporting::line::{Line, push_number};
 use std::alloc::{Allocator, Global};
 use std::io::{Read, Write};
 use uca_audit::{AuditFault, Place, audit};
+use uca_runs::audit_files::{AuditFiles, read_audit_files};
+use uca_runs::faults::RunFault;
+use uca_runs::output::write_text;
 use uca_weights::{Sink, Source};
 
 /// The number that an audit gives to an allocation that failed.

@@ -17,15 +17,15 @@ ghost use Rattle.uca_cli.specs.TailorRun.{PlansPlanned, RunsTailor};
 ghost use Rattle.uca_runs.specs.TailorSources.{TailorHasFailed, TailorsOver};
 ghost use Rattle.uca_cli.specs.Command.{table_and_data, tailor_files, audit_files, AreOpened, DoesNotOpen, OpensAndRuns, OverTwo, OverThree, OverFive, OutputStreams, SortStreams, KeysStreams, AuditStreams, done_result, check_result, DoesNotMake, MakesFile, KeepsTailored, DoesWords, DoesCommand};
 
-use uca_runs::faults::{Role, RunFault};
-use crate::reporting::{DONE, REFUSED, report};
 use crate::audit::run_audit;
+use crate::reporting::{DONE, REFUSED, report};
 use crate::tailor::{run_tailor, write_tailored};
-use uca_runs::{run_check, run_compare, run_keys, run_sort};
 use std::alloc::Global;
 use std::io::{Read, Write};
 use thiserror::Error;
 use uca_certificates::Certificate;
+use uca_runs::faults::{Role, RunFault};
+use uca_runs::{run_check, run_compare, run_keys, run_sort};
 use uca_values::Table;
 use uca_weights::{Depth, Sink, Source, Weighting};
 use uca_words::{Words, read_words};

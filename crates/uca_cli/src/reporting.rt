@@ -7,7 +7,6 @@ ghost use Rattle.uca_cli.specs.Statuses.{line_status, rule_status, certificate_s
 
 pub(crate) mod line;
 
-use uca_runs::faults::{FileFault, InputKind, RunFault};
 use clap::error::ErrorKind;
 use line::line_of;
 use std::alloc::Global;
@@ -17,6 +16,7 @@ use std::string::ToString;
 use uca_certificates::CertificateFaultKind;
 use uca_plans::TailorKind;
 use uca_rules::RuleFaultKind;
+use uca_runs::faults::{FileFault, InputKind, RunFault};
 use uca_text::TextFault;
 use uca_values::FaultKind;
 use uca_weights::Sink;
