@@ -7,9 +7,10 @@ use Rattle.uca_plans.specs.declared.faults.TailorFault.{TailorFault}
 use Rattle.uca_plans.specs.declared.faults.TailorKind.{TailorKind}
 use Rattle.uca_plans.specs.declared.faults.TailorKind.TheVariants as kinds
 use Rattle.uca_plans.specs.Tailors.{IsPlanOf, IsRefusedBy, CauseOf, TailorRefuses}
-use Rattle.uca_cli.specs.AuditRun.{IsStop}
-use Rattle.uca_cli.specs.Runs.{is_file}
-use Rattle.uca_cli.specs.TailorRun.{RunsTailor, refused_plan}
+use Rattle.uca_runs.specs.AuditSources.{IsStop}
+use Rattle.uca_runs.specs.Runs.{is_file}
+use Rattle.uca_cli.specs.TailorRun.{RunsTailor}
+use Rattle.uca_runs.specs.PlanFaults.{refused_plan}
 
 -- a fault from its parts
 abbrev fault_by : TailorKind → ℕ → TailorFault

@@ -7,9 +7,9 @@ use Rattle.uca_audit.specs.declared.faults.AuditFault.{AuditFault}
 use Rattle.uca_audit.specs.FaultText.{audit_fault_text}
 use Rattle.uca_audit.specs.Refusals.{IsFirstRefusal, IsMemory}
 use Rattle.uca_audit.proofs.NotAccepted.{refused_not_accepted}
-use Rattle.uca_cli.specs.declared.faults.RunFault.{RunFault}
-use Rattle.uca_cli.specs.declared.faults.RunFault.TheVariants.{Write}
-use Rattle.uca_cli.specs.Runs.{FailsToWrite}
+use Rattle.uca_runs.specs.declared.faults.RunFault.{RunFault}
+use Rattle.uca_runs.specs.declared.faults.RunFault.TheVariants.{Write}
+use Rattle.uca_runs.specs.Runs.{FailsToWrite}
 use Rattle.uca_cli.specs.AuditRun.{RunsAudit}
 
 -- a fault on an accepted tailoring is that an allocation failed

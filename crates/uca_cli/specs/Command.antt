@@ -10,17 +10,19 @@ use Rattle.uca_words.specs.declared.Words.TheVariants.{Check, Keys, Sort, Compar
 use Rattle.uca_words.specs.Words.{AreRead, IsFaultOf}
 use Rattle.uca_words.specs.declared.WordFault.{WordFault}
 use Rattle.uca_cli.specs.declared.command.OpenFault.{OpenFault}
-use Rattle.uca_cli.specs.declared.faults.Role.{Role}
-use Rattle.uca_cli.specs.declared.faults.Role.TheVariants as roles
-use Rattle.uca_cli.specs.declared.faults.RunFault.{RunFault}
-use Rattle.uca_cli.specs.declared.faults.RunFault.TheVariants.{CertificateWrite, Open, Words}
-use Rattle.uca_cli.specs.AuditRun.{AuditSources, audit_sources, AuditsOver, AcceptsAccepted, RunsAudit, AuditHasFailed}
-use Rattle.uca_cli.specs.CheckRun.{RunsCheck}
-use Rattle.uca_cli.specs.CompareRun.{RunsCompare}
-use Rattle.uca_cli.specs.KeysRun.{RunsKeys, is_before_input}
-use Rattle.uca_cli.specs.SortRun.{RunsSort}
-use Rattle.uca_cli.specs.TailorRun.{TailorSources, tailor_sources, TailorsOver, RunsTailor, PlansPlanned, TailorHasFailed, WritesTailored, is_certificate_write}
-use Rattle.uca_cli.specs.Runs.{RunsOver, HaveFailed, is_before_output, is_file, is_input_read, is_write}
+use Rattle.uca_runs.specs.declared.faults.Role.{Role}
+use Rattle.uca_runs.specs.declared.faults.Role.TheVariants as roles
+use Rattle.uca_runs.specs.declared.faults.RunFault.{RunFault}
+use Rattle.uca_runs.specs.declared.faults.RunFault.TheVariants.{CertificateWrite, Open, Words}
+use Rattle.uca_runs.specs.AuditSources.{AuditSources, audit_sources, AuditsOver, AuditHasFailed}
+use Rattle.uca_cli.specs.AuditRun.{AcceptsAccepted, RunsAudit}
+use Rattle.uca_runs.specs.CheckRun.{RunsCheck}
+use Rattle.uca_runs.specs.CompareRun.{RunsCompare}
+use Rattle.uca_runs.specs.KeysRun.{RunsKeys, is_before_input}
+use Rattle.uca_runs.specs.SortRun.{RunsSort}
+use Rattle.uca_runs.specs.TailorSources.{TailorSources, tailor_sources, TailorsOver, TailorHasFailed}
+use Rattle.uca_cli.specs.TailorRun.{RunsTailor, PlansPlanned, WritesTailored, is_certificate_write}
+use Rattle.uca_runs.specs.Runs.{RunsOver, HaveFailed, is_before_output, is_file, is_input_read, is_write}
 use Rattle.uca_cli.specs.Reports.{Reports}
 use Rattle.uca_cli.specs.Statuses.{IsStatus}
 

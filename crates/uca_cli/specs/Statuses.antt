@@ -11,12 +11,12 @@ use Rattle.uca_certificates.specs.declared.faults.CertificateFaultKind.{Certific
 use Rattle.uca_certificates.specs.declared.faults.CertificateFaultKind.TheVariants as certificate_kinds
 use Rattle.uca_text.specs.declared.limits.TextFault.{TextFault}
 use Rattle.uca_text.specs.declared.limits.TextFault.TheVariants as text_fault
-use Rattle.uca_cli.specs.declared.faults.InputKind.{InputKind}
-use Rattle.uca_cli.specs.declared.faults.InputKind.TheVariants as input_kind
-use Rattle.uca_cli.specs.declared.faults.FileFault.{FileFault}
-use Rattle.uca_cli.specs.declared.faults.FileFault.TheVariants.{Lines, Rules, RulesRead, RulesMemory, Certificate}
-use Rattle.uca_cli.specs.declared.faults.RunFault.{RunFault}
-use Rattle.uca_cli.specs.declared.faults.RunFault.TheVariants.{File, Input, Write, Memory, Text, Tailor, CertificateWrite, Open, Words}
+use Rattle.uca_runs.specs.declared.faults.InputKind.{InputKind}
+use Rattle.uca_runs.specs.declared.faults.InputKind.TheVariants as input_kind
+use Rattle.uca_runs.specs.declared.faults.FileFault.{FileFault}
+use Rattle.uca_runs.specs.declared.faults.FileFault.TheVariants.{Lines, Rules, RulesRead, RulesMemory, Certificate}
+use Rattle.uca_runs.specs.declared.faults.RunFault.{RunFault}
+use Rattle.uca_runs.specs.declared.faults.RunFault.TheVariants.{File, Input, Write, Memory, Text, Tailor, CertificateWrite, Open, Words}
 use Rattle.uca_plans.specs.declared.faults.TailorKind.{TailorKind}
 use Rattle.uca_plans.specs.declared.faults.TailorKind.TheVariants as planner
 use Rattle.uca_words.specs.declared.WordFault.{WordFault}

@@ -1,65 +1,22 @@
 -- What a run of tailor answers, and what is written of its answer.
-use Rattle.std.specs.Prelude.{◌≡◌, ◌≢◌, ◌<◌, List, ◌||◌, Bool, true, false, IsSomeAnd, MatchResult, Result, Ok, Err, length, ⊤}
+use Rattle.std.specs.Prelude.{◌≡◌, ◌≢◌, ◌<◌, List, Bool, true, false, MatchResult, Result, Ok, Err, length, ⊤}
 use Rattle.std.specs.Io.KnownBytes.{Appends}
-use Rattle.uca_weights.specs.Streams.{SourceState, SinkState}
+use Rattle.uca_weights.specs.Streams.{SinkState}
 use Rattle.uca_weights.specs.Writes.{WentOut}
 use Rattle.uca_values.specs.Content.{TableContent, Properties}
-use Rattle.uca_table.specs.Lines as tables
-use Rattle.uca_data.specs.Said as data_files
 use Rattle.uca_canonical.specs.Canonical.{canonical}
 use Rattle.uca_rules.specs.declared.relations.Relation.{Relation}
-use Rattle.uca_rules.specs.Meaning as rule_files
 use Rattle.uca_certificates.specs.Certificates.{CertificateContent}
 use Rattle.uca_certificates.specs.Texts.{certificate_text}
 use Rattle.uca_tailorings.specs.Tailorings.{IsAccepted}
 use Rattle.uca_tailorings.specs.Meaning.{IsFaithful}
 use Rattle.uca_tailorings.specs.Inputs.{tailoring_of}
-use Rattle.uca_plans.specs.declared.faults.TailorFault.{TailorFault}
-use Rattle.uca_plans.specs.declared.faults.TailorKind.{TailorKind}
 use Rattle.uca_plans.specs.declared.faults.TailorKind.TheVariants as kinds
 use Rattle.uca_plans.specs.Tailors.{IsPlanOf, TailorRefuses}
-use Rattle.uca_cli.specs.declared.faults.RunFault.{RunFault}
-use Rattle.uca_cli.specs.declared.faults.RunFault.TheVariants.{Tailor, CertificateWrite, Memory, Write}
-use Rattle.uca_cli.specs.declared.faults.Role.TheVariants as roles
-use Rattle.uca_cli.specs.AuditRun.{OverRules, IsStop}
-use Rattle.uca_cli.specs.Runs.{OverTable, OverData, is_file_read}
-
--- ---- The files
-
--- the sources of a tailoring, in the order in which they are read
-pub record TailorSources : Type 0 where
-  pub base : SourceState
-  pub properties : SourceState
-  pub rules : SourceState
-
--- the same from its parts
-abbrev pub tailor_sources : SourceState → SourceState → SourceState → TailorSources
-tailor_sources base properties rules = record { base = base; properties = properties; rules = rules }
-
--- each file in turn is refused, or means something; this holds of what all of them mean
-abbrev pub TailorsOver : {A : Type 0} → TailorSources → TailorSources → (TableContent → Properties → List Relation → Type 0) → Result A RunFault → Type 0
-TailorsOver old new P result =
-    OverTable roles.Table old.base new.base (λ base.
-    OverData old.properties new.properties (λ properties.
-    OverRules properties old.rules new.rules (λ relations. P base properties relations) result) result) result
-
--- ---- What the files mean
-
--- what the files of a tailoring mean
-pub record TailorContent : Type 0 where
-  pub base : TableContent
-  pub properties : Properties
-  pub relations : List Relation
-
--- the same from its parts
-abbrev pub tailor_content : TableContent → Properties → List Relation → TailorContent
-tailor_content base properties relations = record { base = base; properties = properties; relations = relations }
-
--- the bytes of all files are known and mean this
-pub record HaveTailorContent (sources : TailorSources) (content : TailorContent) : Type 0 where
-  pub base : IsSomeAnd sources.base.remaining (λ bytes. tables.Means bytes content.base)
-  pub properties : IsSomeAnd sources.properties.remaining (λ bytes. data_files.Means bytes content.properties)
-  pub rules : IsSomeAnd sources.rules.remaining (λ bytes. rule_files.Means content.properties bytes content.relations)
+use Rattle.uca_runs.specs.declared.faults.RunFault.{RunFault}
+use Rattle.uca_runs.specs.declared.faults.RunFault.TheVariants.{Tailor, CertificateWrite, Memory, Write}
+use Rattle.uca_runs.specs.AuditSources.{IsStop}
+use Rattle.uca_runs.specs.TailorSources.{TailorSources, TailorContent, HaveTailorContent}
 
 -- ---- The answer
 
@@ -68,14 +25,6 @@ pub record IsTailored (base : TableContent) (properties : Properties) (relations
   pub plan : IsPlanOf base properties relations table certificate
   pub accepted : IsAccepted (tailoring_of base properties relations table certificate)
   pub faithful : IsFaithful (tailoring_of base properties relations table certificate)
-
--- what becomes of a fault of the planner: an allocation that failed is no fault of the rules
-abbrev pub refused_plan : TailorFault → RunFault
-refused_plan fault = refused_by fault.kind
-  where
-    refused_by : TailorKind → RunFault
-    refused_by kinds.Memory = Memory
-    refused_by _ = Tailor fault
 
 -- what a run of tailor answers of what its files mean: the plan, or why there is none, or an allocation failed
 abbrev pub RunsTailor : Result (TableContent × CertificateContent) RunFault → TableContent → Properties → List Relation → Type 0
@@ -94,12 +43,6 @@ PlanIsAnswered content result table certificate =
 abbrev pub PlansPlanned : TailorSources → Result (TableContent × CertificateContent) RunFault → Type 0
 PlansPlanned sources result = (content : TailorContent) → HaveTailorContent sources content
     → (table : TableContent) (certificate : CertificateContent) → PlanIsAnswered content result table certificate
-
--- the sources have failed where they had before, or where the run ended by just that
-pub record TailorHasFailed {A : Type 0} (old new : TailorSources) (result : Result A RunFault) : Type 0 where
-  pub base_failed : new.base.failed ≡ (old.base.failed || is_file_read roles.Table result)
-  pub data_failed : new.properties.failed ≡ (old.properties.failed || is_file_read roles.Data result)
-  pub rules_failed : new.rules.failed ≡ (old.rules.failed || is_file_read roles.Rules result)
 
 -- ---- What is written
 

@@ -5,16 +5,17 @@ ghost use Rattle.uca_values.specs.Content.{properties_of};
 ghost use Rattle.uca_tailorings.specs.Tailorings.{IsAccepted};
 ghost use Rattle.uca_audit.specs.FaultText.{audit_fault_text};
 ghost use Rattle.uca_tailorings.specs.Inputs.{tailoring_of};
-ghost use Rattle.uca_cli.specs.AuditRun.{AcceptsAccepted, AcceptsOrStops, AuditHasFailed, AuditsOver, RunsAudit, audit_sources};
-ghost use Rattle.uca_cli.specs.Runs.{is_before_output, is_file, is_write};
+ghost use Rattle.uca_cli.specs.AuditRun.{AcceptsAccepted, AcceptsOrStops, RunsAudit};
+ghost use Rattle.uca_runs.specs.AuditSources.{AuditHasFailed, AuditsOver, audit_sources};
+ghost use Rattle.uca_runs.specs.Runs.{is_before_output, is_file, is_write};
 
-use crate::audit_files::{AuditFiles, read_audit_files};
-use crate::faults::RunFault;
-use crate::output::write_text;
 use crate::reporting::line::{Line, push_number};
 use std::alloc::{Allocator, Global};
 use std::io::{Read, Write};
 use uca_audit::{AuditFault, Place, audit};
+use uca_runs::audit_files::{AuditFiles, read_audit_files};
+use uca_runs::faults::RunFault;
+use uca_runs::output::write_text;
 use uca_weights::{Sink, Source};
 
 /// The number that an audit gives to an allocation that failed.

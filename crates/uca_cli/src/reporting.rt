@@ -1,13 +1,12 @@
 //! What a fault writes on standard error, and the status that the program ends with.
 
 ghost use Rattle.std.specs.Prelude.{◌≡◌, ◌++◌, ◌∷◌, []};
-ghost use Rattle.uca_cli.specs.FaultText.{fault_text};
+ghost use Rattle.uca_runs.specs.FaultText.{fault_text};
 ghost use Rattle.uca_cli.specs.Reports.{GoesOut, ReportsRefusal, ReportsWords, Reports};
 ghost use Rattle.uca_cli.specs.Statuses.{line_status, rule_status, certificate_status, file_status, input_status, text_status, tailor_status, is_asked_for, IsWordStatus, IsStatus};
 
 pub(crate) mod line;
 
-use crate::faults::{FileFault, InputKind, RunFault};
 use clap::error::ErrorKind;
 use line::line_of;
 use std::alloc::Global;
@@ -17,6 +16,7 @@ use std::string::ToString;
 use uca_certificates::CertificateFaultKind;
 use uca_plans::TailorKind;
 use uca_rules::RuleFaultKind;
+use uca_runs::faults::{FileFault, InputKind, RunFault};
 use uca_text::TextFault;
 use uca_values::FaultKind;
 use uca_weights::Sink;

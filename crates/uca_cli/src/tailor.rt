@@ -1,15 +1,16 @@
 //! The run that tailors a table, and the writing of what it answers.
 
 ghost use Rattle.std.specs.Prelude.{◌≡◌, ◌||◌};
-ghost use Rattle.uca_cli.specs.Runs.{is_write};
-ghost use Rattle.uca_cli.specs.TailorRun.{PlansPlanned, RunsTailor, TailorHasFailed, TailorsOver, WritesTailored, is_certificate_write, tailor_sources};
+ghost use Rattle.uca_runs.specs.Runs.{is_write};
+ghost use Rattle.uca_cli.specs.TailorRun.{PlansPlanned, RunsTailor, WritesTailored, is_certificate_write};
+ghost use Rattle.uca_runs.specs.TailorSources.{TailorHasFailed, TailorsOver, tailor_sources};
 
-use crate::faults::RunFault;
-use crate::tailor_files::read_tailor_files;
 use std::alloc::{Allocator, Global};
 use std::io::{Read, Write};
 use uca_canonical::write_table;
 use uca_certificates::{Certificate, write_certificate};
+use uca_runs::faults::RunFault;
+use uca_runs::tailor_files::read_tailor_files;
 use uca_tailor::tailor;
 use uca_values::Table;
 use uca_weights::{Sink, Source, WriteFault};

@@ -1,16 +1,16 @@
 //! The line of a fault. It takes no memory.
 
 ghost use Rattle.std.specs.Prelude.{◌≡◌, ◌+◌, ◌≤◌, ◌++◌, length, codes, decimal};
-ghost use Rattle.uca_cli.specs.RoleText.{role_text};
+ghost use Rattle.uca_runs.specs.RoleText.{role_text};
 ghost use Rattle.uca_plans.specs.FaultText.{tailor_kind_text};
 ghost use Rattle.uca_text.specs.FaultText.{text_fault_text};
-ghost use Rattle.uca_cli.specs.FaultText.{input_kind_text, long_run_text, line_text, file_fault_text, side_text, word_fault_text, tailor_text, fault_text};
+ghost use Rattle.uca_runs.specs.FaultText.{input_kind_text, long_run_text, line_text, file_fault_text, side_text, word_fault_text, tailor_text, fault_text};
 
-use crate::faults::{FileFault, InputKind, Role, RunFault};
 use arrayvec::ArrayString;
 use uca_certificates::{CertificateFault, CertificateFaultKind};
 use uca_plans::{TailorFault, TailorKind, level_number};
 use uca_rules::RuleFault;
+use uca_runs::faults::{FileFault, InputKind, Role, RunFault};
 use uca_text::TextFault;
 use uca_words::WordFault;
 

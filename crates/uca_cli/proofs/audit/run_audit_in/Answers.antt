@@ -3,8 +3,9 @@ use Rattle.std.proofs.Common.{Bool, Err, subst, sym}
 use Rattle.std.proofs.lemmas.Result.{err_from_is_err_and}
 use Rattle.uca_values.specs.Content.{properties_of}
 use Rattle.uca_tailorings.specs.Tailorings.{IsAccepted}
-use Rattle.uca_cli.specs.AuditRun.{RunsAudit, audit_sources, audit_content, tailoring_by}
-use Rattle.uca_cli.proofs.Auditing.{ended_by_audit_files, audits_over_all, failed_by_verdict}
+use Rattle.uca_cli.specs.AuditRun.{RunsAudit}
+use Rattle.uca_runs.specs.AuditSources.{audit_sources, audit_content, tailoring_by}
+use Rattle.uca_runs.proofs.Auditing.{ended_by_audit_files, audits_over_all, failed_by_verdict}
 use Rattle.uca_cli.proofs.audit.run_audit_in.Goals as goal
 
 pub returns-in_err-files-clause-runs : goal.returns-in_err-files-clause-runs

@@ -1,6 +1,6 @@
 -- All files are opened, and then run over.
 use Rattle.std.proofs.Common.{inr, [], ◌∷◌}
-use Rattle.uca_cli.specs.AuditRun.{audit_sources}
+use Rattle.uca_runs.specs.AuditSources.{audit_sources}
 use Rattle.uca_cli.proofs.command.audit.Goals as goal
 
 pub returns : goal.returns

@@ -1,7 +1,7 @@
 -- A file does not open; or all are opened and run over, and what is answered is kept.
 use Rattle.std.proofs.Common.{Ok, Err, inl, inr, [], ◌∷◌, refl}
 use Rattle.std.proofs.lemmas.Result.{err_from_is_err_and}
-use Rattle.uca_cli.specs.TailorRun.{tailor_sources}
+use Rattle.uca_runs.specs.TailorSources.{tailor_sources}
 use Rattle.uca_cli.proofs.command.tailor.Goals as goal
 
 pub returns-in-Err : goal.returns-in-Err

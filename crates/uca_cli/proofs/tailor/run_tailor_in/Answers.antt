@@ -4,8 +4,10 @@ use Rattle.std.proofs.lemmas.Result.{err_from_is_err_and}
 use Rattle.uca_values.specs.Content.{TableContent, properties_of}
 use Rattle.uca_certificates.specs.Certificates.{CertificateContent}
 use Rattle.uca_plans.specs.Tailors.{IsPlanOf}
-use Rattle.uca_cli.specs.TailorRun.{RunsTailor, refused_plan, tailor_content, tailor_sources}
-use Rattle.uca_cli.proofs.Tailoring.{tailors_over_all}
+use Rattle.uca_cli.specs.TailorRun.{RunsTailor}
+use Rattle.uca_runs.specs.PlanFaults.{refused_plan}
+use Rattle.uca_runs.specs.TailorSources.{tailor_content, tailor_sources}
+use Rattle.uca_runs.proofs.Tailoring.{tailors_over_all}
 use Rattle.uca_cli.proofs.PlanAnswers.{no_file_of_plan, refusal_answered, plan_stops}
 use Rattle.uca_cli.proofs.tailor.run_tailor_in.Goals as goal
 

@@ -1,0 +1,357 @@
+-- A line that is printed piece by piece.
+use Rattle.std.proofs.Common.{◌≡◌, ℕ, zero, suc, min, ◌+◌, ◌-◌, ◌*◌, ◌^◌, ◌/◌, ◌%◌, ◌<◌, ◌≤◌, List, [], ◌∷◌, ◌++◌, Bool, true, false, Option, Some, None, length, take, drop, get_or, set, take-append-drop, refl, sym, ap, subst, ◌∙◌, append_assoc, arith, length-append}
+use Rattle.std.specs.Prelude.{◌||◌}
+use Rattle.std.specs.Io.KnownBytes.{Appends}
+use Rattle.std.specs.Simd.{first_chunks}
+use Rattle.std.proofs.lemmas.List.{take-append-le, drop-append-le, append-nil, take_more, take_more_set, take_all, take_at, take_rest, length-take-le, drop-drop, get_or-take, get_or-drop}
+use Rattle.std.proofs.lemmas.List.Concat.{flat_map-append}
+use Rattle.std.specs.List.{flat_map, join_with_byte}
+use Rattle.uca_weights.specs.Streams.{SinkState}
+use Rattle.uca_weights.specs.declared.Depth.{Depth}
+use Rattle.uca_weights.specs.declared.Depth.TheVariants.{Weights, Identical}
+use Rattle.uca_weights.specs.Writes.{WentOut}
+use Rattle.uca_lines.specs.OutputBuffer.{BufferState, HandedOver}
+use Rattle.uca_lines.specs.Handing.{HasRoom, HasHanded as IsHanded}
+use Rattle.uca_lines.proofs.HandingLemmas.{part, handed_none as none_handed}
+use Rattle.uca_runs.specs.Print.{byte_digits, groups, printed_groups, spaced_groups, spaced_point, identical_level, printed_behind, print_line_at}
+
+-- ---- The groups
+
+pub groups_none : printed_groups [] ≡ []
+unfolding printed_groups
+groups_none = refl
+
+-- ---- The groups, each behind a space
+
+pub spaced_none : spaced_groups [] ≡ []
+unfolding spaced_groups
+spaced_none = refl
+
+-- behind whole groups others begin
+pub spaced-append : (xs ys : List ℕ) → length xs % 2 ≡ 0 → spaced_groups (xs ++ ys) ≡ spaced_groups xs ++ spaced_groups ys
+unfolding spaced_groups
+spaced-append [] ys even = refl
+spaced-append (a ∷ []) ys even = absurd (omega arith)
+spaced-append (a ∷ b ∷ xs) ys even = ap (λ l. (32 ∷ (byte_digits a ++ byte_digits b)) ++ l) (spaced-append xs ys (omega arith))
+
+pub length-spaced : (xs : List ℕ) → length xs % 2 ≡ 0 → 2 * length (spaced_groups xs) ≡ 5 * length xs
+unfolding spaced_groups
+length-spaced [] even = refl
+length-spaced (a ∷ []) even = absurd (omega arith)
+length-spaced (a ∷ b ∷ xs) even = let more : 2 * length (spaced_groups xs) ≡ 5 * length xs = length-spaced xs (omega arith) in omega (arith, more)
+
+some_spaced : (xs : List ℕ) → 0 < length xs → 0 < length (spaced_groups xs)
+unfolding spaced_groups
+some_spaced [] some = absurd (omega arith)
+some_spaced (a ∷ []) some = omega arith
+some_spaced (a ∷ b ∷ xs) some = omega arith
+
+-- one more group of two bytes
+spaced_pair : (part : List ℕ) (n : ℕ) → 2 * n + 1 < length part
+    → spaced_groups (take (2 * (n + 1)) part) ≡ spaced_groups (take (2 * n) part) ++ 32 ∷ (byte_digits (get_or part (2 * n) 0) ++ byte_digits (get_or part (2 * n + 1) 0))
+unfolding spaced_groups
+spaced_pair part n within =
+    let x = get_or part (2 * n) 0 in
+    let y = get_or part (2 * n + 1) 0 in
+    let front = take (2 * n) part in
+    let long : length front ≡ 2 * n = length-take-le (2 * n) part (omega arith) in
+    let pushed : take (2 * (n + 1)) part ≡ front ++ (x ∷ y ∷ []) =
+    ap (λ (m : ℕ). take m part) (omega arith) ∙ take_more part (2 * n + 1) 0 within ∙ ap (λ l. l ++ y ∷ []) (take_more part (2 * n) 0 (omega arith)) ∙ append_assoc front (x ∷ []) (y ∷ []) in
+    ap spaced_groups pushed ∙ spaced-append front (x ∷ y ∷ []) (omega arith)
+
+-- a last group of one byte
+spaced_last : (part : List ℕ) (n : ℕ) → length part ≡ 2 * n + 1 → spaced_groups part ≡ spaced_groups (take (2 * n) part) ++ 32 ∷ byte_digits (get_or part (2 * n) 0)
+unfolding spaced_groups
+spaced_last part n long =
+    let front = take (2 * n) part in
+    let x = get_or part (2 * n) 0 in
+    let short : length front ≡ 2 * n = length-take-le (2 * n) part (omega arith) in
+    let pushed : part ≡ front ++ (x ∷ []) =
+    sym (take_all (2 * n + 1) part (omega arith)) ∙ take_more part (2 * n) 0 (omega arith) in
+    ap spaced_groups pushed ∙ spaced-append front (x ∷ []) (omega arith)
+
+-- the bytes of a group
+get_or-pairs : (k n : ℕ) (xs d : List ℕ) → n < k → get_or (first_chunks 2 k xs) n d ≡ take 2 (drop (2 * n) xs)
+get_or-pairs zero n xs d below = absurd (omega arith)
+get_or-pairs (suc k) zero xs d below = refl
+get_or-pairs (suc k) (suc n) xs d below =
+    get_or-pairs k n (drop 2 xs) d (omega arith) ∙ ap (take 2) (drop-drop (2 * n) 2 xs) ∙ ap (λ (m : ℕ). take 2 (drop m xs)) (omega arith)
+
+pair_byte : (k n j : ℕ) (xs d : List ℕ) → n < k → j < 2 → get_or (get_or (first_chunks 2 k xs) n d) j 0 ≡ get_or xs (2 * n + j) 0
+pair_byte k n j xs d below first =
+    ap (λ (pair : List ℕ). get_or pair j 0) (get_or-pairs k n xs d below) ∙ get_or-take 2 (drop (2 * n) xs) j 0 first ∙ get_or-drop (2 * n) xs j 0
+
+-- a group written behind others
+written_more : (groups : List (List ℕ)) (n : ℕ) (group text : List ℕ) → n < length groups → flat_map (λ g. g) (take n groups) ≡ text → flat_map (λ g. g) (take (n + 1) (set groups n group)) ≡ text ++ group
+written_more groups n group text within written =
+    ap (flat_map (λ g. g)) (take_more_set groups n group within) ∙ flat_map-append (λ g. g) (take n groups) (group ∷ [])
+    ∙ ap (λ l. l ++ (group ++ [])) written ∙ ap (λ l. text ++ l) (append-nil group)
+
+-- the text of the groups that were written
+written_front : (groups : List (List ℕ)) (n len : ℕ) (text more : List ℕ) → flat_map (λ g. g) (take n groups) ≡ text ++ more → length text ≡ len → take len (flat_map (λ g. g) groups) ≡ text
+written_front groups n len text more written long =
+    let rest = flat_map (λ g. g) (drop n groups) in
+    ap (take len) (ap (flat_map (λ g. g)) (sym (take-append-drop n groups)) ∙ flat_map-append (λ g. g) (take n groups) (drop n groups) ∙ ap (λ l. l ++ rest) written ∙ append_assoc text more rest)
+    ∙ take_at text (more ++ rest) len long
+
+last_byte : (part last : List ℕ) (n b : ℕ) → last ≡ drop (length part / 2 * 2) part → n ≡ length part / 2 → b ≡ get_or last 0 0 → b ≡ get_or part (2 * n) 0
+last_byte part last n b behind half is =
+    is ∙ ap (λ (l : List ℕ). get_or l 0 0) behind ∙ get_or-drop (length part / 2 * 2) part 0 0 ∙ ap (λ (m : ℕ). get_or part m 0) (omega arith)
+
+-- the next group of two bytes was written
+pub pair_written : (groups pairs : List (List ℕ)) (part first second d : List ℕ) (n : ℕ) → pairs ≡ first_chunks 2 (length part / 2) part → n < length part / 2 → n < length groups
+    → flat_map (λ g. g) (take n groups) ≡ spaced_groups (take (2 * n) part)
+    → first ≡ byte_digits (get_or (get_or pairs n d) 0 0)
+    → second ≡ byte_digits (get_or (get_or pairs n d) 1 0)
+    → flat_map (λ g. g) (take (n + 1) (set groups n (32 ∷ get_or first 0 0 ∷ get_or first 1 0 ∷ get_or second 0 0 ∷ get_or second 1 0 ∷ []))) ≡ spaced_groups (take (2 * (n + 1)) part)
+pair_written groups pairs part first second d n are below within written one two =
+    let x = get_or part (2 * n) 0 in
+    let y = get_or part (2 * n + 1) 0 in
+    let high : first ≡ byte_digits x = one ∙ ap byte_digits (ap (λ (l : List (List ℕ)). get_or (get_or l n d) 0 0) are ∙ pair_byte (length part / 2) n 0 part d below (omega arith) ∙ ap (λ (m : ℕ). get_or part m 0) (omega arith)) in
+    let low : second ≡ byte_digits y = two ∙ ap byte_digits (ap (λ (l : List (List ℕ)). get_or (get_or l n d) 1 0) are ∙ pair_byte (length part / 2) n 1 part d below (omega arith)) in
+    let text = spaced_groups (take (2 * n) part) in
+    written_more groups n (32 ∷ get_or first 0 0 ∷ get_or first 1 0 ∷ get_or second 0 0 ∷ get_or second 1 0 ∷ []) text within written
+    ∙ ap (λ (l : List ℕ). text ++ (32 ∷ get_or l 0 0 ∷ get_or l 1 0 ∷ get_or second 0 0 ∷ get_or second 1 0 ∷ [])) high
+    ∙ ap (λ (l : List ℕ). text ++ (32 ∷ (byte_digits x ++ (get_or l 0 0 ∷ get_or l 1 0 ∷ [])))) low
+    ∙ sym (spaced_pair part n (omega arith))
+
+-- all were written, of which the last has two bytes
+pub pairs_written : (groups : List (List ℕ)) (part : List ℕ) (n len : ℕ) → n ≡ length part / 2 → length part % 2 ≡ 0 → flat_map (λ g. g) (take n groups) ≡ spaced_groups (take (2 * n) part) → len ≡ 5 * n
+    → take len (flat_map (λ g. g) groups) ≡ spaced_groups part
+pairs_written groups part n len half even written long =
+    let all : take (2 * n) part ≡ part = take_all (2 * n) part (omega arith) in
+    let count : 2 * length (spaced_groups part) ≡ 5 * length part = length-spaced part even in
+    written_front groups n len (spaced_groups part) [] (written ∙ ap spaced_groups all ∙ sym (append-nil (spaced_groups part))) (omega arith)
+
+-- or one
+pub last_written : (groups : List (List ℕ)) (part last digits : List ℕ) (n b len : ℕ) → n ≡ length part / 2 → length part % 2 ≡ 1 → n < length groups
+    → flat_map (λ g. g) (take n groups) ≡ spaced_groups (take (2 * n) part) → last ≡ drop (length part / 2 * 2) part → b ≡ get_or last 0 0 → digits ≡ byte_digits b → len ≡ 5 * n + 3
+    → take len (flat_map (λ g. g) (set groups n (32 ∷ get_or digits 0 0 ∷ get_or digits 1 0 ∷ 0 ∷ 0 ∷ []))) ≡ spaced_groups part
+last_written groups part last digits n b len half odd within written behind is are long =
+    let front = take (2 * n) part in
+    let text = spaced_groups front in
+    let group = 32 ∷ get_or digits 0 0 ∷ get_or digits 1 0 ∷ 0 ∷ 0 ∷ [] in
+    let all : spaced_groups part ≡ text ++ (32 ∷ byte_digits b) =
+    spaced_last part n (omega arith) ∙ ap (λ (x : ℕ). text ++ (32 ∷ byte_digits x)) (sym (last_byte part last n b behind half is)) in
+    let short : length front ≡ 2 * n = length-take-le (2 * n) part (omega arith) in
+    let count : 2 * length text ≡ 5 * length front = length-spaced front (omega arith) in
+    let sum : length (spaced_groups part) ≡ length text + 3 = ap length all ∙ length-append text (32 ∷ byte_digits b) in
+    written_front (set groups n group) (n + 1) len (spaced_groups part) (0 ∷ 0 ∷ [])
+    (written_more groups n group text within written
+    ∙ ap (λ (l : List ℕ). text ++ (32 ∷ get_or l 0 0 ∷ get_or l 1 0 ∷ 0 ∷ 0 ∷ [])) are
+    ∙ sym (append_assoc text (32 ∷ byte_digits b) (0 ∷ 0 ∷ [])) ∙ ap (λ l. l ++ (0 ∷ 0 ∷ [])) (sym all))
+    (omega arith)
+
+-- ---- What has been handed over
+
+-- a text has been handed over
+pub record HasHanded (text : List ℕ) (out now : SinkState) (buffer held : BufferState) : Type 0 where
+  pub hands : (start : Option (List ℕ)) (before : List ℕ) → HandedOver start out.contents before buffer → HandedOver start now.contents (before ++ text) held
+  pub count : held.written + length held.held ≡ buffer.written + length buffer.held + length text
+  pub failed : now.failed ≡ out.failed
+
+nothing_out : (known : Option (List ℕ)) → Appends known known []
+nothing_out None = tt
+nothing_out (Some xs) = sym (append-nil xs)
+
+none_dropped : (n : ℕ) → n ≡ 0 → ◌≡◌ {A = List ℕ} [] (drop n [])
+none_dropped n h = rw h refl
+
+-- nothing was handed over to an empty buffer
+pub handed_nothing : (known : Option (List ℕ)) (buffer : BufferState) → buffer.held ≡ [] → buffer.written ≡ 0 → HandedOver known known [] buffer
+handed_nothing known buffer held written = record {
+  went_out = (subst (λ n. Appends known known (take n [])) (sym written) (nothing_out known), rw written (omega arith));
+  held = held ∙ none_dropped buffer.written written;
+}
+
+pub handed_none : (out : SinkState) (buffer : BufferState) → HasHanded [] out out buffer buffer
+handed_none out buffer = record {
+  hands = λ start before h. subst (λ (text : List ℕ). HandedOver start out.contents text buffer) (sym (append-nil before)) h;
+  count = omega arith;
+  failed = refl;
+}
+
+-- of a longer text as much went out
+pub WentOut-more : (start now : Option (List ℕ)) (text more : List ℕ) (n : ℕ) → WentOut start now text n → WentOut start now (text ++ more) n
+WentOut-more start now text more n (went, few) =
+    (subst (λ (l : List ℕ). Appends start now l) (sym (take-append-le n text more few)) went, omega (arith, length-append text more))
+
+-- ---- One more part
+
+-- between the groups stand the spaces before them, but for the first
+printed_is : (key : List ℕ) → printed_groups key ≡ drop 1 (spaced_groups key)
+unfolding printed_groups spaced_groups
+printed_is key = join_is (groups key)
+  where
+    join_is : (all : List (List ℕ)) → join_with_byte 32 all ≡ drop 1 (flat_map (λ group. 32 ∷ group) all)
+    join_is [] = refl
+    join_is (x ∷ []) = sym (append-nil x)
+    join_is (x ∷ y ∷ more) = ap (λ l. x ++ 32 ∷ l) (join_is (y ∷ more))
+
+-- behind whole groups the others have each a space
+printed-append : (xs ys : List ℕ) → length xs % 2 ≡ 0 → 0 < length xs → printed_groups (xs ++ ys) ≡ printed_groups xs ++ spaced_groups ys
+printed-append xs ys even some =
+    let count : 2 * length (spaced_groups xs) ≡ 5 * length xs = length-spaced xs even in
+    printed_is (xs ++ ys) ∙ ap (drop 1) (spaced-append xs ys even) ∙ drop-append-le 1 (spaced_groups xs) (spaced_groups ys) (omega arith)
+    ∙ ap (λ l. l ++ spaced_groups ys) (sym (printed_is xs))
+
+-- a key of which so much is left was handed over that far
+pub record HandedUpTo (key rest : List ℕ) (begin : ℕ) (out now : SinkState) (buffer held : BufferState) : Type 0 where
+  pub done : List ℕ
+  pub key_is : key ≡ done ++ rest
+  pub whole : 0 < length rest → length done % 2 ≡ 0
+  pub begins : begin ≡ 1 - length done
+  pub handed : IsHanded (printed_groups done) buffer held out now
+
+pub handed_up_to_start : (key rest : List ℕ) (out : SinkState) (buffer : BufferState) → rest ≡ key → HandedUpTo key rest 1 out out buffer buffer
+handed_up_to_start key rest out buffer is = record {
+  done = [];
+  key_is = sym is;
+  whole = λ _. refl;
+  begins = refl;
+  handed = subst (λ (text : List ℕ). IsHanded text buffer buffer out out) (sym groups_none) (none_handed buffer out);
+}
+
+-- the text of a part begins within it
+pub text_from : (key rest part left text : List ℕ) (begin size : ℕ) (out now : SinkState) (buffer held : BufferState) → HandedUpTo key rest begin out now buffer held
+    → (rest ≡ part ++ left) × (length part ≡ min size (length rest)) × (0 < length rest) → size ≡ 256 → text ≡ spaced_groups part → begin ≤ length text
+text_from key rest part left text begin size out now buffer held upto cut is spaced =
+    let some = some_spaced part (omega (arith, cut.1, cut.2, is)) in
+    omega (arith, upto.begins, some, ap length spaced)
+
+-- the printed groups of a key go on behind each of its parts
+pub record GoesOn (key done part piece : List ℕ) : Type 0 where
+  pub more : List ℕ
+  pub grown : printed_groups (done ++ part) ≡ printed_groups done ++ piece
+  pub line : printed_groups key ≡ (printed_groups done ++ piece) ++ more
+
+-- of the text of a part, what is handed over
+part_grown : (done part piece : List ℕ) (begin : ℕ) → length done % 2 ≡ 0 → begin ≡ 1 - length done → piece ≡ drop begin (spaced_groups part) → printed_groups (done ++ part) ≡ printed_groups done ++ piece
+part_grown [] part piece begin even begins is =
+    printed_is part ∙ ap (λ (n : ℕ). drop n (spaced_groups part)) (sym begins) ∙ sym is ∙ ap (λ l. l ++ piece) (sym groups_none)
+part_grown (a ∷ more) part piece begin even begins is =
+    let none : begin ≡ 0 = omega arith in
+    printed-append (a ∷ more) part even (omega arith) ∙ ap (λ l. printed_groups (a ∷ more) ++ l) (sym (is ∙ ap (λ (n : ℕ). drop n (spaced_groups part)) none))
+
+-- the line goes on with what is left of the key
+line_goes_on : (key done part left piece : List ℕ) → key ≡ done ++ (part ++ left) → (0 < length left → length (done ++ part) % 2 ≡ 0) → 0 < length (done ++ part)
+    → printed_groups (done ++ part) ≡ printed_groups done ++ piece → GoesOn key done part piece
+line_goes_on key done part [] piece is even some grown = record {
+  more = [];
+  grown = grown;
+  line = ap printed_groups (is ∙ ap (λ l. done ++ l) (append-nil part)) ∙ grown ∙ sym (append-nil (printed_groups done ++ piece));
+}
+line_goes_on key done part (a ∷ left) piece is even some grown =
+    let text = spaced_groups (a ∷ left) in
+    record {
+      more = text;
+      grown = grown;
+      line = ap printed_groups (is ∙ sym (append_assoc done part (a ∷ left)))
+          ∙ printed-append (done ++ part) (a ∷ left) (even (omega arith)) some ∙ ap (λ l. l ++ text) grown;
+    }
+
+pub goes_on : (key rest part left text : List ℕ) (begin size : ℕ) (out now : SinkState) (buffer held : BufferState) (upto : HandedUpTo key rest begin out now buffer held) → size ≡ 256
+    → (rest ≡ part ++ left) × (length part ≡ min size (length rest)) × (0 < length rest) → text ≡ spaced_groups part → GoesOn key upto.done part (take (length text - begin) (drop begin text))
+goes_on key rest part left text begin size out now buffer held upto is cut spaced =
+    let done = upto.done in
+    let even : length done % 2 ≡ 0 = upto.whole cut.2 in
+    let both : length rest ≡ length part + length left = ap length cut.0 ∙ length-append part left in
+    let ends : length (done ++ part) ≡ length done + length part = length-append done part in
+    line_goes_on key done part left (take (length text - begin) (drop begin text)) (upto.key_is ∙ ap (λ l. done ++ l) cut.0)
+    (λ some. omega (arith, some, is, cut.1, both, ends, even)) (omega (arith, is, cut.1, cut.2, ends))
+    (part_grown done part _ begin even upto.begins (take_rest text begin ∙ ap (drop begin) spaced))
+
+-- there is room for the piece where there is room for all groups
+pub piece_fits : (key done part piece : List ℕ) (out now : SinkState) (buffer held : BufferState) → IsHanded (printed_groups done) buffer held out now → GoesOn key done part piece
+    → HasRoom buffer (length (printed_groups key)) → HasRoom held (length piece)
+piece_fits key done part piece out now buffer held handed on room =
+    let front = printed_groups done in
+    omega (arith, handed.count, room, ap length on.line, length-append (front ++ piece) on.more, length-append front piece)
+
+-- and behind it the rest is left
+pub handed_up_to_more : (key rest part left : List ℕ) (begin size : ℕ) (out now next : SinkState) (buffer held kept : BufferState) (upto : HandedUpTo key rest begin out now buffer held) → size ≡ 256
+    → (rest ≡ part ++ left) × (length part ≡ min size (length rest)) × (0 < length rest) → IsHanded (printed_groups (upto.done ++ part)) buffer kept out next → HandedUpTo key left 0 out next buffer kept
+handed_up_to_more key rest part left begin size out now next buffer held kept upto is cut handed =
+    let both : length rest ≡ length part + length left = ap length cut.0 ∙ length-append part left in
+    let ends : length (upto.done ++ part) ≡ length upto.done + length part = length-append upto.done part in
+    record {
+      done = upto.done ++ part;
+      key_is = upto.key_is ∙ ap (λ l. upto.done ++ l) cut.0 ∙ sym (append_assoc upto.done part left);
+      whole = λ some. let even = upto.whole cut.2 in omega (arith, some, is, cut.1, both, ends, even);
+      begins = omega (arith, is, cut.1, cut.2, ends);
+      handed = handed;
+    }
+
+pub handed_more : (front piece text : List ℕ) (out now next : SinkState) (buffer held kept : BufferState) → HasHanded front out now buffer held → text ≡ front ++ piece
+    → ((start : Option (List ℕ)) (before : List ℕ) → HandedOver start now.contents before held → HandedOver start next.contents (before ++ piece) kept)
+    → kept.written + length kept.held ≡ held.written + length held.held + length piece
+    → next.failed ≡ now.failed
+    → HasHanded text out next buffer kept
+handed_more front piece text out now next buffer held kept handed is hands count failed = record {
+  hands = λ start before h. subst (λ (t : List ℕ). HandedOver start next.contents t kept) (append_assoc before front piece ∙ ap (λ l. before ++ l) (sym is)) (hands start (before ++ front) (handed.hands start before h));
+  count = omega (arith, count, handed.count, ap length is, length-append front piece);
+  failed = failed ∙ handed.failed;
+}
+
+-- a fault in a piece of a text is one in the text
+pub fault_within : (front piece text more : List ℕ) (out now next : SinkState) (buffer held : BufferState) (n : ℕ) → HasHanded front out now buffer held → text ≡ (front ++ piece) ++ more
+    → ((start : Option (List ℕ)) (before : List ℕ) → HandedOver start now.contents before held → WentOut start next.contents (before ++ piece) n)
+    → (start : Option (List ℕ)) (before : List ℕ) → HandedOver start out.contents before buffer → WentOut start next.contents (before ++ text) n
+fault_within front piece text more out now next buffer held n handed is went start before h =
+    let there = WentOut-more start next.contents ((before ++ front) ++ piece) more n (went start (before ++ front) (handed.hands start before h)) in
+    subst (λ (t : List ℕ). WentOut start next.contents t n)
+    (append_assoc (before ++ front) piece more ∙ append_assoc before front (piece ++ more) ∙ ap (λ l. before ++ l) (sym (append_assoc front piece more) ∙ sym is))
+    there
+
+pub fault_before_end : (front piece text more : List ℕ) (out now : SinkState) (buffer held : BufferState) (n : ℕ) → HasHanded front out now buffer held → text ≡ (front ++ piece) ++ more
+    → n < held.written + length held.held + length piece → n < buffer.written + length buffer.held + length text
+fault_before_end front piece text more out now buffer held n handed is below =
+    omega (arith, below, handed.count, ap length is, length-append (front ++ piece) more, length-append front piece)
+
+pub not_failed : (before now : Bool) → now ≡ before || false → now ≡ before
+not_failed true now e = e
+not_failed false now e = e
+
+-- a line is not much longer than its key
+pub length-groups : (key : List ℕ) → length (printed_groups key) ≤ 3 * length key
+unfolding printed_groups
+length-groups [] = omega arith
+length-groups (a ∷ []) = omega arith
+length-groups (a ∷ b ∷ []) = omega arith
+length-groups (a ∷ b ∷ c ∷ []) = omega arith
+length-groups (a ∷ b ∷ c ∷ d ∷ more) = omega (arith, length-groups (c ∷ d ∷ more))
+
+-- seven bytes for each code point
+length-points : (points : List ℕ) → length (flat_map spaced_point points) ≡ 7 * length points
+length-points [] = refl
+length-points (p ∷ points) = omega (arith, length-points points)
+
+length-level : (depth : Depth) (points : List ℕ) → length (printed_behind depth points) ≤ 7 * length points + 5
+length-level Weights points = omega arith
+length-level Identical points = omega (arith, length-points points)
+
+pub line_is_short : (depth : Depth) (key points : List ℕ) → length key < 2 ^ 40 → length points ≤ 1048576 → length (print_line_at depth key points) < 2 ^ 42
+line_is_short depth key points short few =
+    let level = printed_behind depth points in
+    omega (arith, short, few, length-append (printed_groups key) (level ++ 10 ∷ []), length-append level (10 ∷ []), length-groups key, length-level depth points)
+
+-- all groups of a key of which nothing is left were handed over
+pub all_groups : (key rest : List ℕ) (begin : ℕ) (out now : SinkState) (buffer held : BufferState) → HandedUpTo key rest begin out now buffer held → length rest ≡ 0
+    → IsHanded (printed_groups key) buffer held out now
+all_groups key [] begin out now buffer held upto none =
+    subst (λ (l : List ℕ). IsHanded (printed_groups l) buffer held out now) (sym (upto.key_is ∙ append-nil upto.done)) upto.handed
+all_groups key (a ∷ rest) begin out now buffer held upto none = absurd (omega arith)
+
+-- ---- The parts of a line
+
+abbrev pub line_parts : Depth → List ℕ → List ℕ → List (List ℕ)
+line_parts depth key points = printed_groups key ∷ printed_behind depth points ∷ (10 ∷ []) ∷ []
+
+pub line_is : (depth : Depth) (key points : List ℕ) → print_line_at depth key points ≡ flat_map part (line_parts depth key points)
+line_is depth key points = refl
+
+abbrev pub level_parts : List ℕ → List (List ℕ)
+level_parts points = (32 ∷ 48 ∷ 48 ∷ 48 ∷ 48 ∷ []) ∷ flat_map spaced_point points ∷ []
+
+pub level_is : (points : List ℕ) → identical_level points ≡ flat_map part (level_parts points)
+level_is points = ap (λ l. 32 ∷ 48 ∷ 48 ∷ 48 ∷ 48 ∷ l) (sym (append-nil (flat_map spaced_point points)))

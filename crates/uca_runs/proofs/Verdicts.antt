@@ -1,0 +1,122 @@
+-- What the runs of check and compare answer, from what is found and what went out of its line.
+use Rattle.std.proofs.Common.{◌≡◌, ℕ, ◌||◌, List, [], ◌∷◌, ◌++◌, append_assoc, Bool, true, false, Option, IfSome, Result, Ok, Err, OnOk, IfErr, chars, refl, ap, subst, sym, ◌∙◌}
+use Rattle.std.specs.Io.KnownBytes.{Appends}
+use Rattle.std.specs.declared.cmp.Ordering.{Ordering}
+use Rattle.uca_weights.specs.Streams.{SourceState, SinkState}
+use Rattle.uca_weights.specs.Writes.{WentOut}
+use Rattle.uca_weights.specs.declared.Depth.{Depth}
+use Rattle.uca_weights.specs.declared.Weighting.{Weighting}
+use Rattle.uca_values.specs.Content.{TableContent, Properties}
+use Rattle.uca_text.specs.Texts.{Spelled, spelled}
+use Rattle.uca_text.specs.Limits.{IsAccepted}
+use Rattle.uca_key.specs.Levels.{Comparison}
+use Rattle.uca_table.specs.Lines as tables
+use Rattle.uca_data.specs.Said as data_files
+use Rattle.uca_runs.specs.declared.faults.RunFault.{RunFault}
+use Rattle.uca_runs.specs.declared.faults.RunFault.TheVariants.{File, Input, Write, Memory, Text, Tailor, CertificateWrite, Open, Words}
+use Rattle.uca_runs.specs.declared.faults.Role.TheVariants as roles
+use Rattle.uca_runs.specs.Keys.{Keying, keying}
+use Rattle.uca_runs.specs.Laws.{texts_compared, lines_compared}
+use Rattle.uca_runs.specs.Runs.{RunsOver, FailsToWrite, HaveFailed, is_file, is_write}
+use Rattle.uca_runs.specs.CheckRun.{IsVerdict, RunsCheck}
+use Rattle.uca_runs.specs.CompareRun.{comparison_line, IsWithinLimits, WritesComparison, RefusesWord, RunsCompare}
+use Rattle.uca_runs.proofs.Running.{runs_over_both, no_file_read}
+
+-- ---- Check
+
+-- the parts of a line, whichever two stand together
+pub line_parts : (a b c d : List ℕ) → ((a ++ b) ++ (c ++ d)) ++ 10 ∷ [] ≡ (((a ++ b) ++ c) ++ d) ++ 10 ∷ []
+line_parts a b c d = ap (λ text. text ++ 10 ∷ []) (sym (append_assoc (a ++ b) c d))
+
+pub line_from_front : (a b c d : List ℕ) → (a ++ b) ++ ((c ++ d) ++ 10 ∷ []) ≡ (((a ++ b) ++ c) ++ d) ++ 10 ∷ []
+line_from_front a b c d = sym (append_assoc (a ++ b) (c ++ d) (10 ∷ [])) ∙ line_parts a b c d
+
+-- the verdict did not go out whole
+pub verdict_not_written : (table table_new properties properties_new : SourceState) (out out_new : SinkState) (content : TableContent) (points : Properties) (well_formed : Bool) (line : List ℕ) (fault : RunFault)
+    → IfSome table.remaining (λ bytes. tables.Means bytes content) → IfSome properties.remaining (λ bytes. data_files.Means bytes points)
+    → IsVerdict points.class content.rows well_formed line → FailsToWrite Write out.contents out_new.contents line fault
+    → RunsOver {A = Bool} table table_new properties properties_new (RunsCheck out out_new (Err fault)) (Err fault)
+verdict_not_written table table_new properties properties_new out out_new content points well_formed line fault means_table means_data verdict fails =
+    subst (λ f. RunsOver {A = Bool} table table_new properties properties_new (RunsCheck out out_new (Err f)) (Err f)) (sym fails.1)
+    (runs_over_both {A = Bool} table table_new properties properties_new (RunsCheck out out_new (Err (Write fails.0))) (Err (Write fails.0)) content points refl means_table means_data (well_formed, line, verdict, fails.2))
+
+-- or it did
+pub verdict_written : (table table_new properties properties_new : SourceState) (out out_new : SinkState) (content : TableContent) (points : Properties) (well_formed : Bool) (line : List ℕ)
+    → IfSome table.remaining (λ bytes. tables.Means bytes content) → IfSome properties.remaining (λ bytes. data_files.Means bytes points)
+    → IsVerdict points.class content.rows well_formed line → Appends out.contents out_new.contents line
+    → RunsOver {A = Bool} table table_new properties properties_new (RunsCheck out out_new (Ok well_formed)) (Ok well_formed)
+verdict_written table table_new properties properties_new out out_new content points well_formed line means_table means_data verdict written =
+    runs_over_both {A = Bool} table table_new properties properties_new (RunsCheck out out_new (Ok well_formed)) (Ok well_formed) content points refl means_table means_data (line, verdict, written)
+
+-- ---- Compare
+
+-- the left word is refused
+pub left_refused : (c : Keying) (left right : List ℕ) (begun : Option (List ℕ)) (fault : RunFault) → RefusesWord c.collation.properties false left fault
+    → WritesComparison {A = Unit {0}} c left right begun begun (Err fault)
+left_refused c left right begun fault refuses = subst (λ f. WritesComparison {A = Unit {0}} c left right begun begun (Err f)) (sym refuses.1) refuses.2
+
+-- or the right one
+pub right_refused : (c : Keying) (left right : List ℕ) (begun : Option (List ℕ)) (fault : RunFault) → IsWithinLimits c.collation.properties left
+    → RefusesWord c.collation.properties true right fault → WritesComparison {A = Unit {0}} c left right begun begun (Err fault)
+right_refused c left right begun fault within refuses = subst (λ f. WritesComparison {A = Unit {0}} c left right begun begun (Err f)) (sym refuses.1) (within, refuses.2)
+
+-- the line was written or not
+was_written : (c : Keying) (left right : List ℕ) (begun now : Option (List ℕ)) (line : List ℕ) (result : Result (Unit {0}) RunFault) → IsWithinLimits c.collation.properties left → IsWithinLimits c.collation.properties right → line ≡ comparison_line (lines_compared c left right)
+    → OnOk result (Appends begun now line) → IfErr result (FailsToWrite Write begun now line) → WritesComparison c left right begun now result
+was_written c left right begun now line (Ok x) within_left within_right is out fails = (within_left, within_right, subst (λ l. Appends begun now l) is out)
+was_written c left right begun now line (Err fault) within_left within_right is out fails =
+    subst (λ f. WritesComparison {A = Unit {0}} c left right begun now (Err f)) (sym fails.1) (within_left, within_right, subst (λ l. WentOut begun now l fails.0) is fails.2)
+
+abbrev pub comparison_of : Ordering → ℕ → Comparison
+comparison_of order level = record { order = order; level = level }
+
+comparison_is : (c : Keying) (left right : List ℕ) (left_text right_text : Spelled) (order : Ordering) (level : ℕ) → left_text ≡ spelled c.collation.properties (chars left) → right_text ≡ spelled c.collation.properties (chars right)
+    → order ≡ (texts_compared c left_text right_text).order → level ≡ (texts_compared c left_text right_text).level → comparison_of order level ≡ lines_compared c left right
+comparison_is c left right left_text right_text order level left_is right_is same_order same_level =
+    ap (λ o. comparison_of o level) same_order ∙ ap (λ n. comparison_of (texts_compared c left_text right_text).order n) same_level
+    ∙ ap (λ t. texts_compared c t right_text) left_is ∙ ap (λ t. texts_compared c (spelled c.collation.properties (chars left)) t) right_is
+
+-- The texts were compared, and the line was written or not.
+pub comparison_written : (c : Keying) (left right : List ℕ) (begun now : Option (List ℕ)) (left_text right_text : Spelled) (order : Ordering) (level : ℕ) (line : List ℕ) (result : Result (Unit {0}) RunFault)
+    → left_text ≡ spelled c.collation.properties (chars left) → right_text ≡ spelled c.collation.properties (chars right) → IsAccepted left_text → IsAccepted right_text
+    → order ≡ (texts_compared c left_text right_text).order → level ≡ (texts_compared c left_text right_text).level → line ≡ comparison_line (comparison_of order level)
+    → OnOk result (Appends begun now line) → IfErr result (FailsToWrite Write begun now line) → WritesComparison c left right begun now result
+comparison_written c left right begun now left_text right_text order level line result left_is right_is left_accepted right_accepted same_order same_level line_is out_ok fails =
+    was_written c left right begun now line result (subst IsAccepted left_is left_accepted) (subst IsAccepted right_is right_accepted)
+    (line_is ∙ ap comparison_line (comparison_is c left right left_text right_text order level left_is right_is same_order same_level)) out_ok fails
+
+-- a refused word is of no file, and nothing was written
+pub of_word : (points : Properties) (right : Bool) (text : List ℕ) (fault : RunFault) → RefusesWord points right text fault
+    → (is_file {A = Unit {0}} (Err fault) ≡ false) × (is_write {A = Unit {0}} (Err fault) ≡ false)
+of_word points right text fault refuses = rw refuses.1 (refl, refl)
+
+-- what is written of two texts is what a run answers of them
+pub run_compares : (asked : Option Weighting) (depth : Depth) (left right : List ℕ) (out out_new : SinkState) (content : TableContent) (points : Properties) (result : Result (Unit {0}) RunFault)
+    → WritesComparison (keying asked depth content points) left right out.contents out_new.contents result → RunsCompare asked depth left right out out_new result content points
+run_compares asked depth left right out out_new content points (Ok x) writes = writes
+run_compares asked depth left right out out_new content points (Err fault) writes = by_fault fault writes
+  where
+    by_fault : (fault : RunFault) → WritesComparison {A = Unit {0}} (keying asked depth content points) left right out.contents out_new.contents (Err fault)
+        → RunsCompare {A = Unit {0}} asked depth left right out out_new (Err fault) content points
+    by_fault (File role cause) writes = writes
+    by_fault (Input line kind) writes = writes
+    by_fault (Write written) writes = writes
+    by_fault Memory writes = absurd writes
+    by_fault (Text false cause) writes = writes
+    by_fault (Text true cause) writes = writes
+    by_fault (Tailor cause) writes = writes
+    by_fault (CertificateWrite written) writes = writes
+    by_fault (Open role) writes = writes
+    by_fault (Words cause) writes = writes
+
+-- ---- What has failed
+
+-- by a run that ended after its files, as the output says
+pub failed_by_output : {A : Type 0} (table table_new properties properties_new : SourceState) (out out_new : SinkState) (result : Result A RunFault)
+    → table_new.failed ≡ (table.failed || false) → properties_new.failed ≡ (properties.failed || false) → is_file result ≡ false → out_new.failed ≡ (out.failed || is_write result)
+    → HaveFailed table table_new properties properties_new out out_new result
+failed_by_output table table_new properties properties_new out out_new result same_table same_data no_file same_out = record {
+  table_failed = same_table ∙ ap (λ b. table.failed || b) (sym (no_file_read roles.Table result no_file));
+  data_failed = same_data ∙ ap (λ b. properties.failed || b) (sym (no_file_read roles.Data result no_file));
+  out_failed = same_out;
+}

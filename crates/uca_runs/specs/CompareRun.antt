@@ -1,0 +1,52 @@
+-- What a run of compare answers and writes.
+use Rattle.std.specs.Prelude.{◌≡◌, ℕ, ◌+◌, List, [], ◌∷◌, Bool, true, false, Option, Result, Ok, Err, chars}
+use Rattle.std.specs.declared.cmp.Ordering.{Ordering}
+use Rattle.std.specs.declared.cmp.Ordering.TheVariants.{Less, Equal, Greater}
+use Rattle.std.specs.Io.KnownBytes.{Appends}
+use Rattle.uca_weights.specs.declared.Depth.{Depth}
+use Rattle.uca_weights.specs.declared.Weighting.{Weighting}
+use Rattle.uca_weights.specs.Streams.{SinkState}
+use Rattle.uca_weights.specs.Writes.{WentOut}
+use Rattle.uca_values.specs.Content.{TableContent, Properties}
+use Rattle.uca_text.specs.Texts.{spelled}
+use Rattle.uca_text.specs.Limits.{IsAccepted}
+use Rattle.uca_text.specs.Faults.{IsCause}
+use Rattle.uca_text.specs.declared.limits.TextFault.{TextFault}
+use Rattle.uca_key.specs.Levels.{Comparison}
+use Rattle.uca_runs.specs.declared.faults.RunFault.{RunFault}
+use Rattle.uca_runs.specs.declared.faults.RunFault.TheVariants.{Write, Memory, Text}
+use Rattle.uca_runs.specs.Keys.{Keying, keying}
+use Rattle.uca_runs.specs.Laws.{lines_compared}
+
+-- `<`, `=` or `>`
+abbrev pub sign_of : Ordering → ℕ
+sign_of Less = 60
+sign_of Equal = 61
+sign_of Greater = 62
+
+-- the sign, one space, and the difference level as a digit
+abbrev pub comparison_line : Comparison → List ℕ
+comparison_line comparison = sign_of comparison.order ∷ 32 ∷ (48 + comparison.level) ∷ 10 ∷ []
+
+-- the text, which is UTF-8, is within the limits
+abbrev pub IsWithinLimits : Properties → List ℕ → Type 0
+IsWithinLimits properties text = IsAccepted (spelled properties (chars text))
+
+-- the fault of a text, which is the right one of the two or the left one
+abbrev pub RefusesWord : Properties → Bool → List ℕ → RunFault → Type 0
+RefusesWord properties right text fault = (cause : TextFault) × (fault ≡ Text right cause) × IsCause (spelled properties (chars text)) cause
+
+-- What is written of two texts, by a writer that held `begun` and holds `now`: how they compare level by level, or as
+-- much of it as a fault of the writer leaves; or the right text is refused, or before it the left one.
+abbrev pub WritesComparison : {A : Type 0} → Keying → List ℕ → List ℕ → Option (List ℕ) → Option (List ℕ) → Result A RunFault → Type 0
+WritesComparison c left right begun now (Ok x) = IsWithinLimits c.collation.properties left × IsWithinLimits c.collation.properties right × Appends begun now (comparison_line (lines_compared c left right))
+WritesComparison c left right begun now (Err (Text false fault)) = IsCause (spelled c.collation.properties (chars left)) fault
+WritesComparison c left right begun now (Err (Text true fault)) = IsWithinLimits c.collation.properties left × IsCause (spelled c.collation.properties (chars right)) fault
+WritesComparison c left right begun now (Err (Write written)) = IsWithinLimits c.collation.properties left × IsWithinLimits c.collation.properties right × WentOut begun now (comparison_line (lines_compared c left right)) written
+WritesComparison c left right begun now (Err _) = ⊥
+
+-- What a run of compare answers under a table and properties. An allocation that failed for looking up rows says nothing of
+-- the texts, and nothing was written.
+abbrev pub RunsCompare : {A : Type 0} → Option Weighting → Depth → List ℕ → List ℕ → SinkState → SinkState → Result A RunFault → TableContent → Properties → Type 0
+RunsCompare asked depth left right out out_new (Err Memory) table properties = out_new ≡ out
+RunsCompare asked depth left right out out_new result table properties = WritesComparison (keying asked depth table properties) left right out.contents out_new.contents result

@@ -1,0 +1,71 @@
+-- The words of a fault: its line on standard error, without the LF.
+use Rattle.std.specs.Prelude.{ℕ, List, [], ◌++◌, Bool, codes, decimal, nat_eq, if◌then◌else◌}
+use Rattle.uca_values.specs.FaultText.{kind_text}
+use Rattle.uca_rules.specs.FaultText as rule_files
+use Rattle.uca_certificates.specs.FaultText as certificates
+use Rattle.uca_text.specs.FaultText.{text_fault_text}
+use Rattle.uca_plans.specs.declared.faults.TailorFault.{TailorFault}
+use Rattle.uca_plans.specs.declared.faults.TailorKind.{TailorKind}
+use Rattle.uca_plans.specs.declared.faults.TailorKind.TheVariants as planner
+use Rattle.uca_plans.specs.FaultText.{tailor_fault_text}
+use Rattle.uca_words.specs.declared.WordFault.{WordFault}
+use Rattle.uca_words.specs.declared.WordFault.TheVariants as words
+use Rattle.uca_runs.specs.declared.faults.InputKind.{InputKind}
+use Rattle.uca_runs.specs.declared.faults.InputKind.TheVariants as input_kind
+use Rattle.uca_runs.specs.declared.faults.FileFault.{FileFault}
+use Rattle.uca_runs.specs.declared.faults.FileFault.TheVariants.{Lines, Rules, RulesRead, RulesMemory, Certificate}
+use Rattle.uca_runs.specs.declared.faults.RunFault.{RunFault}
+use Rattle.uca_runs.specs.declared.faults.RunFault.TheVariants.{File, Input, Write, Memory, Text, Tailor, CertificateWrite, Open, Words}
+use Rattle.uca_runs.specs.RoleText.{role_text}
+
+abbrev pub long_run_text : ℕ → List ℕ
+long_run_text place = codes "LongRun at " ++ decimal place
+
+abbrev pub input_kind_text : InputKind → List ℕ
+input_kind_text input_kind.Utf8 = codes "Utf8"
+input_kind_text input_kind.TooLong = codes "TooLong"
+input_kind_text (input_kind.LongRun place) = long_run_text place
+input_kind_text input_kind.Read = codes "Read"
+input_kind_text input_kind.Limit = codes "Limit"
+input_kind_text input_kind.Memory = codes "Memory"
+
+-- a place in lines and what is wrong there, as `input line 7: Utf8`
+abbrev pub line_text : List ℕ → ℕ → List ℕ → List ℕ
+line_text name line kind = name ++ codes " line " ++ decimal line ++ codes ": " ++ kind
+
+-- where a file of this name is refused, and why
+abbrev pub file_fault_text : List ℕ → FileFault → List ℕ
+file_fault_text name (Lines fault) = line_text name fault.line (kind_text fault.kind)
+file_fault_text name (Rules fault) = name ++ codes " byte " ++ decimal fault.byte ++ codes ": " ++ rule_files.kind_text fault.kind
+file_fault_text name RulesRead = name ++ codes ": Read"
+file_fault_text name RulesMemory = name ++ codes ": Memory"
+file_fault_text name (Certificate fault) = line_text name fault.line (certificates.kind_text fault.kind)
+
+abbrev pub side_text : Bool → List ℕ
+side_text right = if right then codes "right" else codes "left"
+
+-- of the text of `clap` nothing is known
+abbrev pub word_fault_text : WordFault → List ℕ
+word_fault_text words.Weighting = codes "weighting: unknown"
+word_fault_text words.Memory = codes "memory"
+word_fault_text (words.Refused error) = []
+
+-- why there is no plan, with the relation that is to blame, if one is
+abbrev pub tailor_text : TailorFault → List ℕ
+tailor_text fault = line_by fault.kind
+  where
+    line_by : TailorKind → List ℕ
+    line_by planner.Memory = codes "memory"
+    line_by _ = (if nat_eq fault.relation 0 then codes "tailor: " else codes "tailor ") ++ tailor_fault_text fault
+
+-- the line of a fault
+abbrev pub fault_text : RunFault → List ℕ
+fault_text (File role fault) = file_fault_text (role_text role) fault
+fault_text (Input line kind) = line_text (codes "input") line (input_kind_text kind)
+fault_text (Write written) = codes "output: Write"
+fault_text Memory = codes "memory"
+fault_text (Text right fault) = side_text right ++ codes ": " ++ text_fault_text fault
+fault_text (Tailor fault) = tailor_text fault
+fault_text (CertificateWrite written) = codes "certificate: Write"
+fault_text (Open role) = role_text role ++ codes ": Open"
+fault_text (Words fault) = word_fault_text fault

@@ -1,0 +1,90 @@
+//! The five files that an audit goes by.
+
+ghost use Rattle.std.specs.Prelude.{◌≡◌, ◌||◌, is_err, IfOk, IfErr, IfSome, OnErr, MatchResult};
+ghost use Rattle.uca_values.specs.Content.{properties_of};
+ghost use Rattle.uca_certificates.specs.Texts as certificates;
+ghost use Rattle.uca_runs.specs.AuditFiles.{MayMean, ReadsThat};
+ghost use Rattle.uca_runs.specs.AuditSources.{AuditContent, AuditsOver, HaveContent, IsStop, RefusesCertificate, SourcesHaveFailed, audit_content, audit_sources};
+ghost use Rattle.uca_runs.specs.Runs.{is_file, is_file_read, IsRefused};
+
+use crate::faults::{FileFault, Role, RunFault};
+use crate::files::{read_data_file, read_table_file};
+use crate::rule_file::read_rule_file;
+use std::alloc::{Allocator, Global};
+use std::io::Read;
+use uca_certificates::{Certificate, read_certificate};
+use uca_rules::Rules;
+use uca_values::{Data, Table};
+use uca_weights::Source;
+
+/// What the files of an audit mean.
+#[derive(Drop)]
+pub struct AuditFiles<A: Allocator = Global> {
+    /// The weight table before the tailoring.
+    pub base: Table<A>,
+    /// The properties of code points.
+    pub properties: Data<A>,
+    /// The rules.
+    pub rules: Rules<A>,
+    /// The weight table after the tailoring.
+    pub tailored: Table<A>,
+    /// What becomes of the base's weights.
+    pub certificate: Certificate<A>,
+}
+
+/// Reads the files of an audit, one after the other, each to its end or its first fault.
+///
+/// # Errors
+///
+/// `File` for the first that is refused.
+pub fn read_audit_files<A: Allocator + Copy, B: Read, D: Read, U: Read, T: Read, C: Read>(
+    alloc: A,
+    global: Global,
+    base: &mut Source<B>,
+    properties: &mut Source<D>,
+    rules: &mut Source<U>,
+    tailored: &mut Source<T>,
+    certificate: &mut Source<C>,
+) -> Result<AuditFiles<A>, RunFault>
+    ensures means { IfOk result (λ files. MayMean (audit_sources base.old properties.old rules.old tailored.old certificate.old)
+        (audit_content files.base (properties_of files.properties) files.rules files.tailored files.certificate)) }
+    ensures only { (content : AuditContent) → HaveContent (audit_sources base.old properties.old rules.old tailored.old certificate.old) content →
+        MatchResult result (λ files. audit_content files.base (properties_of files.properties) files.rules files.tailored files.certificate ≡ content) IsStop }
+    ensures refused { OnErr result (AuditsOver (audit_sources base.old properties.old rules.old tailored.old certificate.old)
+        (audit_sources base.new properties.new rules.new tailored.new certificate.new) (λ _. ⊥) result) }
+    ensures of_files { is_file result ≡ is_err result }
+    ensures failed { SourcesHaveFailed (audit_sources base.old properties.old rules.old tailored.old certificate.old)
+        (audit_sources base.new properties.new rules.new tailored.new certificate.new) result }
+{
+    let base = read_table_file(alloc, Role::Base, base)?;
+    let properties = read_data_file(alloc, properties)?;
+    let rules = read_rule_file(alloc, global, rules, &properties)?;
+    let tailored = read_table_file(alloc, Role::Tailored, tailored)?;
+    let certificate = read_certificate_file(alloc, certificate)?;
+    Ok(AuditFiles {
+        base,
+        properties,
+        rules,
+        tailored,
+        certificate,
+    })
+}
+
+// Reads the certificate, to its end or its first fault.
+fn read_certificate_file<A: Allocator + Copy, C: Read>(
+    alloc: A,
+    source: &mut Source<C>,
+) -> Result<Certificate<A>, RunFault>
+    ensures means { IfOk result (λ read. IfSome source.old.remaining (λ bytes. certificates.Means bytes read)) }
+    ensures only { ReadsThat source.old.remaining certificates.Means result }
+    ensures refused { IfErr result (IsRefused Role.Certificate source.old source.new RefusesCertificate) }
+    ensures failed { source.new.failed ≡ (source.old.failed || is_file_read Role.Certificate result) }
+{
+    match read_certificate(alloc, source) {
+        Ok(certificate) => Ok(certificate),
+        Err(fault) => Err(RunFault::File {
+            role: Role::Certificate,
+            fault: FileFault::Certificate(fault),
+        }),
+    }
+}

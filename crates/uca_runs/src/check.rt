@@ -1,0 +1,100 @@
+//! The run that checks whether a table is well-formed.
+
+ghost use Rattle.std.specs.Prelude.{◌≡◌, ◌≤◌, ◌+◌, ◌++◌, ◌∷◌, [], ◌||◌, ℕ, List, Option, true, false, is_err, length, decimal, IfErr, OnOk, MatchResult};
+ghost use Rattle.std.specs.Io.KnownBytes.{Appends};
+ghost use Rattle.uca_weights.specs.Writes.{WentOut, Writes};
+ghost use Rattle.uca_lines.specs.OutputBuffer.{HandedOver};
+ghost use Rattle.uca_check.specs.FaultText.{ill_formed_text};
+ghost use Rattle.uca_runs.specs.Runs.{is_before_output, is_file, is_write, FailsToWrite, HaveFailed, RunsOver};
+ghost use Rattle.uca_runs.specs.CheckRun.{RunsCheck};
+
+use crate::faults::RunFault;
+use crate::files::read_files;
+use crate::output::write_text;
+use std::alloc::Allocator;
+use std::io::{Read, Write};
+use uca_check::{IllFormed, check};
+use uca_lines::OutputBuffer;
+use uca_weights::{Sink, Source, WriteFault};
+
+/// Checks whether the table is well-formed (UTS #10, section 9.2) with the properties of the data file,
+/// writes the verdict as a line, and answers whether it is: `well-formed`, or the first condition that
+/// fails and the first row that fails it, as `WF5 row 8`.
+///
+/// # Errors
+///
+/// `File` where the table, or else the data file, is refused: nothing was written. `Write` where the
+/// writer failed: the first `written` bytes of the verdict went out.
+pub fn run_check<A: Allocator + Copy, T: Read, D: Read, W: Write>(
+    alloc: A,
+    table: &mut Source<T>,
+    properties: &mut Source<D>,
+    out: &mut Sink<W>,
+) -> Result<bool, RunFault>
+    // Where the bytes of its files are known.
+    ensures runs { RunsOver table.old table.new properties.old properties.new
+        (RunsCheck out.old out.new result) result }
+
+    // Whatever the readers and the writer are.
+    ensures nothing_written { is_before_output result ≡ true → out.new ≡ out.old }
+    ensures failed { HaveFailed table.old table.new properties.old properties.new out.old out.new result }
+{
+    let files = read_files(alloc, table, properties)?;
+    match check(&files.table, &files.properties) {
+        Ok(()) => {
+            write_text(b"well-formed\n", out)?;
+            Ok(true)
+        }
+        Err(fault) => {
+            write_ill_formed(fault, out)?;
+            Ok(false)
+        }
+    }
+}
+
+// Writes the verdict on a table that is not well-formed, as a line.
+fn write_ill_formed<W: Write>(fault: IllFormed, out: &mut Sink<W>) -> Result<(), RunFault>
+    ensures written { OnOk result (Appends out.old.contents out.new.contents (ill_formed_text fault ++ 10 ∷ [])) }
+    ensures failed_in { IfErr result (FailsToWrite RunFault.Write out.old.contents out.new.contents (ill_formed_text fault ++ 10 ∷ [])) }
+    ensures of_output { is_before_output result ≡ false }
+    ensures no_file { is_file result ≡ false }
+    ensures failed { out.new.failed ≡ (out.old.failed || is_write result) }
+{
+    Ok(hand_ill_formed(fault, out)?)
+}
+
+fn hand_ill_formed<W: Write>(fault: IllFormed, out: &mut Sink<W>) -> Result<(), WriteFault>
+    ensures text { Writes out.old.contents out.new.contents (ill_formed_text fault ++ 10 ∷ []) result }
+    ensures failed { out.new.failed ≡ (out.old.failed || is_err result) }
+{
+    let mut output = OutputBuffer::new();
+    hand_number(&mut output, out, b"WF", fault.wf.into())?;
+    hand_number(&mut output, out, b" row ", fault.row)?;
+    output.write(out, b"\n")?;
+    output.flush(out)
+}
+
+// Hands over a word and a number in decimal behind it.
+fn hand_number<W: Write>(
+    output: &mut OutputBuffer,
+    out: &mut Sink<W>,
+    word: &[u8],
+    number: u32,
+) -> Result<(), WriteFault>
+    requires word { length word.now ≤ 40 }
+    requires room { output.old.written + length output.old.held ≤ 80 }
+
+    // Whatever the writer held at the start, and whatever was handed over since.
+    ensures text { (start : Option (List ℕ)) (before : List ℕ) →
+        HandedOver start out.old.contents before output.old →
+        MatchResult result
+        (λ _. HandedOver start out.new.contents (before ++ (word.now ++ decimal number)) output.new)
+        (λ fault. WentOut start out.new.contents (before ++ (word.now ++ decimal number)) fault.written) }
+    ensures count { OnOk result (output.new.written + length output.new.held
+        ≤ output.old.written + length output.old.held + length word.now + 40) }
+    ensures failed { out.new.failed ≡ (out.old.failed || is_err result) }
+{
+    let mut digits = itoa::Buffer::new();
+    output.write(out, word)?;
+    output.write(out, digits.format(number).as_bytes())
+}

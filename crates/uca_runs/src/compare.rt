@@ -1,0 +1,141 @@
+//! The run that compares two texts.
+
+ghost use Rattle.std.specs.Prelude.{◌≡◌, ◌≤◌, ◌||◌, true, false, chars, IfOk, IfErr};
+ghost use Rattle.uca_values.specs.Content.{properties_of};
+ghost use Rattle.uca_text.specs.Texts.{spelled};
+ghost use Rattle.uca_text.specs.Limits.{IsAccepted};
+ghost use Rattle.uca_runs.specs.Keys.{keying_of};
+ghost use Rattle.uca_runs.specs.Runs.{is_before_output, is_file, is_write, HaveFailed, RunsOver};
+ghost use Rattle.uca_runs.specs.CompareRun.{comparison_line, RefusesWord, WritesComparison, RunsCompare};
+
+use crate::faults::RunFault;
+use crate::files::{chosen_weighting, read_files, rows_of_table};
+use crate::output::write_text;
+use std::alloc::{Allocator, Global};
+use std::cmp::Ordering;
+use std::io::{Read, Write};
+use uca_key::{Compared, compare};
+use uca_match::{Collator, Lookup};
+use uca_text::{Normal, normal};
+use uca_values::Data;
+use uca_weights::{Depth, Sink, Source, Weighting};
+
+/// Compares two texts, and writes a line: `<`, `=` or `>`, one space, and the level at which they differ, 0 where none
+/// does. The texts are in `global` while they are compared; no key is made.
+///
+/// # Errors
+///
+/// `Text` where the left text, or else the right one, is refused: nothing was written. `Write` where the writer failed:
+/// the first `written` bytes of the line went out.
+pub fn compare_words<L: Lookup, A: Allocator, W: Write>(
+    global: Global,
+    collator: &Collator<L, A>,
+    weighting: Weighting,
+    depth: Depth,
+    left: &str,
+    right: &str,
+    out: &mut Sink<W>,
+) -> Result<(), RunFault>
+    ensures writes { WritesComparison (keying_of L.content collator.now weighting depth) left.now right.now out.old.contents out.new.contents result }
+    ensures of_texts { is_file result ≡ false }
+    ensures nothing_written { is_before_output result ≡ true → out.new ≡ out.old }
+    ensures out_failed { out.new.failed ≡ (out.old.failed || is_write result) }
+{
+    let left = text_of(global, left, false, collator.data)?;
+    let right = text_of(global, right, true, collator.data)?;
+    let collator = *collator;
+    let compared = compare(&collator, weighting, depth, &left, &right);
+    write_text(&line_of(compared), out)
+}
+
+/// Compares two texts under the table and the data file that are read first, by the weighting that is
+/// asked for, or else that of the table's `@variable`, or else shifted (UTS #10, section 4), and writes a
+/// line: `<`, `=` or `>`, one space, and the level at which they differ, 0 where none does.
+///
+/// # Errors
+///
+/// `File` where the table, or else the data file, is refused; `Memory` where an allocation failed for
+/// looking up rows, before the texts are judged; `Text` where the left text, or else the right one, is
+/// refused. Nothing was written then. No key is made, so the comparison itself takes no memory. `Write` where the
+/// writer failed: the first `written` bytes of the line went out.
+pub fn run_compare<T: Read, D: Read, W: Write>(
+    alloc: Global,
+    table: &mut Source<T>,
+    properties: &mut Source<D>,
+    left: &str,
+    right: &str,
+    out: &mut Sink<W>,
+    weighting: Option<Weighting>,
+    depth: Depth,
+) -> Result<(), RunFault>
+    // Where the bytes of its files are known.
+    ensures runs { RunsOver table.old table.new properties.old properties.new
+        (RunsCompare weighting depth left.now right.now out.old out.new result) result }
+
+    // Whatever the readers and the writer are.
+    ensures nothing_written { is_before_output result ≡ true → out.new ≡ out.old }
+    ensures failed { HaveFailed table.old table.new properties.old properties.new out.old out.new result }
+{
+    run_compare_in(
+        alloc, alloc, table, properties, left, right, out, weighting, depth,
+    )
+}
+
+/// The same with the allocations of the two files and the trie in memory of any allocator; those of Normalization Form D
+/// are in `global`.
+pub fn run_compare_in<A: Allocator + Copy, T: Read, D: Read, W: Write>(
+    alloc: A,
+    global: Global,
+    table: &mut Source<T>,
+    properties: &mut Source<D>,
+    left: &str,
+    right: &str,
+    out: &mut Sink<W>,
+    weighting: Option<Weighting>,
+    depth: Depth,
+) -> Result<(), RunFault>
+    // Where the bytes of its files are known.
+    ensures runs { RunsOver table.old table.new properties.old properties.new
+        (RunsCompare weighting depth left.now right.now out.old out.new result) result }
+
+    // Whatever the readers and the writer are.
+    ensures nothing_written { is_before_output result ≡ true → out.new ≡ out.old }
+    ensures failed { HaveFailed table.old table.new properties.old properties.new out.old out.new result }
+{
+    let files = read_files(alloc, table, properties)?;
+    let rows = rows_of_table(alloc, &files.table)?;
+    let header = &files.table.header;
+    let collator = Collator::new(&rows, header, &files.properties);
+    let weighting = chosen_weighting(weighting, header);
+    compare_words(global, &collator, weighting, depth, left, right, out)
+}
+
+// The text of a word, which is the right one of the two or the left one.
+fn text_of<D: Allocator>(
+    global: Global,
+    word: &str,
+    right: bool,
+    properties: &Data<D>,
+) -> Result<Normal, RunFault>
+    ensures found { IfOk result (λ text. text ≡ spelled (properties_of properties.now) (chars word.now)) }
+    ensures accepted { IfOk result IsAccepted }
+    ensures refused { IfErr result (RefusesWord (properties_of properties.now) right word.now) }
+{
+    match normal(global, word, properties) {
+        Ok(text) => Ok(text),
+        Err(fault) => Err(RunFault::Text { right, fault }),
+    }
+}
+
+// The line that says how two texts compare.
+fn line_of(compared: Compared) -> [u8; 4]
+    requires { compared.level ≤ 5 }
+    ensures { result ≡ comparison_line (record { order = compared.order; level = compared.level }) }
+{
+    let sign = match compared.order {
+        Ordering::Less => b'<',
+        Ordering::Equal => b'=',
+        Ordering::Greater => b'>',
+    };
+    [sign, b' ', b'0' + compared.level, b'\n']
+}

@@ -1,0 +1,130 @@
+//! The table and the data file that a run goes by.
+
+ghost use Rattle.std.specs.Prelude.{◌≡◌, ◌||◌, is_err, IfOk, IfErr, IfSome, OnErr, MatchResult};
+ghost use Rattle.uca_values.specs.Content.{Properties, properties_of};
+ghost use Rattle.uca_table.specs.Lines as tables;
+ghost use Rattle.uca_data.specs.Said as data_files;
+ghost use Rattle.uca_match.specs.Rows.{rows_of};
+ghost use Rattle.uca_key.specs.Lengths.{HasShortRows};
+ghost use Rattle.uca_runs.specs.AuditFiles.{ReadsThat};
+ghost use Rattle.uca_runs.specs.AuditSources.{IsStop};
+ghost use Rattle.uca_runs.specs.Keys.{weighting_by};
+ghost use Rattle.uca_runs.specs.Runs.{is_file, is_file_read, IsRefused, OfLines, RunsOver};
+
+use crate::faults::{FileFault, Role, RunFault};
+use std::alloc::{Allocator, Global};
+use std::io::Read;
+use uca_data::read_data;
+use uca_key::laws::rows_are_short;
+use uca_match::{Lookup, Trie};
+use uca_table::read_table;
+use uca_values::{Data, Header, Table};
+use uca_weights::{Source, Weighting};
+
+/// What the two files mean.
+#[derive(Drop)]
+pub struct Files<A: Allocator = Global> {
+    /// The weight table.
+    pub table: Table<A>,
+    /// The properties of code points.
+    pub properties: Data<A>,
+}
+
+/// Reads the table, and then the data file, each to its end or its first fault.
+///
+/// # Errors
+///
+/// `File` where the table, or else the data file, is refused.
+pub fn read_files<A: Allocator + Copy, T: Read, D: Read>(
+    alloc: A,
+    table: &mut Source<T>,
+    properties: &mut Source<D>,
+) -> Result<Files<A>, RunFault>
+    ensures table { IfOk result (λ files. IfSome table.old.remaining (λ bytes. tables.Means bytes files.table)) }
+    ensures properties { IfOk result (λ files. IfSome properties.old.remaining
+        (λ bytes. data_files.Means bytes (properties_of files.properties))) }
+    ensures refused { OnErr result (RunsOver table.old table.new properties.old properties.new (λ _ _. ⊥) result) }
+    ensures of_files { is_file result ≡ is_err result }
+    ensures table_failed { table.new.failed ≡ (table.old.failed || is_file_read Role.Table result) }
+    ensures data_failed { properties.new.failed ≡ (properties.old.failed || is_file_read Role.Data result) }
+{
+    let table = read_table_file(alloc, Role::Table, table)?;
+    let properties = read_data_file(alloc, properties)?;
+    Ok(Files { table, properties })
+}
+
+/// Reads a table that has this role, to its end or its first fault.
+///
+/// # Errors
+///
+/// `File` with this role, where the table is refused.
+pub fn read_table_file<A: Allocator + Copy, T: Read>(
+    alloc: A,
+    role: Role,
+    source: &mut Source<T>,
+) -> Result<Table<A>, RunFault>
+    ensures means { IfOk result (λ table. IfSome source.old.remaining (λ bytes. tables.Means bytes table)) }
+    ensures only { ReadsThat source.old.remaining tables.Means result }
+    ensures refused { IfErr result (IsRefused role source.old source.new (OfLines tables.Refuses)) }
+    ensures failed { source.new.failed ≡ (source.old.failed || is_file_read role result) }
+{
+    match read_table(alloc, source) {
+        Ok(table) => Ok(table),
+        Err(fault) => Err(RunFault::File {
+            role,
+            fault: FileFault::Lines(fault),
+        }),
+    }
+}
+
+/// Reads the data file, to its end or its first fault.
+///
+/// # Errors
+///
+/// `File` with the role `Data`, where it is refused.
+pub fn read_data_file<A: Allocator + Copy, D: Read>(
+    alloc: A,
+    source: &mut Source<D>,
+) -> Result<Data<A>, RunFault>
+    ensures means { IfOk result (λ read. IfSome source.old.remaining (λ bytes.
+        data_files.Means bytes (properties_of read))) }
+    ensures only { IfSome source.old.remaining (λ bytes. (content : Properties) → data_files.Means bytes content →
+        MatchResult result (λ read. properties_of read ≡ content) IsStop) }
+    ensures refused { IfErr result (IsRefused Role.Data source.old source.new (OfLines data_files.Refuses)) }
+    ensures failed { source.new.failed ≡ (source.old.failed || is_file_read Role.Data result) }
+{
+    match read_data(alloc, source) {
+        Ok(properties) => Ok(properties),
+        Err(fault) => Err(RunFault::File {
+            role: Role::Data,
+            fault: FileFault::Lines(fault),
+        }),
+    }
+}
+
+/// The rows of a table, ready to be looked up.
+///
+/// # Errors
+///
+/// `Memory` where an allocation fails.
+pub fn rows_of_table<A: Allocator + Copy>(alloc: A, table: &Table<A>) -> Result<Trie<A>, RunFault>
+    ensures rows { IfOk result (λ rows. ⟦<Trie<A> as Lookup>⟧.content rows ≡ rows_of table.now.rows) }
+    ensures short { IfOk result (λ rows. HasShortRows (⟦<Trie<A> as Lookup>⟧.content rows)) }
+    ensures refused { IfErr result (λ fault. fault ≡ RunFault.Memory) }
+{
+    // The rows keep the limits of a table, so they are short.
+    let _ = &table.rows;
+    rows_are_short();
+    match Trie::new(alloc, table) {
+        Ok(rows) => Ok(rows),
+        Err(_) => Err(RunFault::Memory),
+    }
+}
+
+/// The weighting that is asked for, or else that of the table's `@variable`, or else shifted
+/// (UTS #10, section 4).
+pub fn chosen_weighting<A: Allocator>(asked: Option<Weighting>, header: &Header<A>) -> Weighting
+    ensures { result ≡ weighting_by asked header.now.setting }
+{
+    asked.or(header.setting).unwrap_or(Weighting::Shifted)
+}

@@ -1,0 +1,140 @@
+//! The printed form of keys.
+
+ghost use Rattle.std.specs.Prelude.{◌≡◌, ◌≤◌, length};
+ghost use Rattle.std.specs.List.{flat_map};
+ghost use Rattle.uca_lines.specs.Handing.{HasRoom, Hands};
+ghost use Rattle.uca_runs.specs.Print;
+ghost use Rattle.uca_runs.specs.Print.{byte_digits, printed_groups, spaced_groups, identical_level, printed_behind, print_line_at};
+
+use std::io::Write;
+use uca_fields::hexadecimal_digit;
+use uca_lines::OutputBuffer;
+use uca_weights::{Depth, Sink, WriteFault};
+
+/// How many bytes of a key are printed at a time. It is even, so that each part begins where a group does.
+const PART: usize = 256;
+
+/// How many groups those are.
+const GROUPS: usize = PART / 2;
+
+/// Hands over a key as a line: groups of two bytes as four upper-case hexadecimal digits, one space
+/// between two groups, and LF. The key is that of the weights alone; at the depth `Identical` the code points of the
+/// text follow, after a group `0000`, as six digits each. It takes no memory. A fault says how many bytes went out of
+/// all that was handed over.
+pub fn print_key<W: Write>(
+    buffer: &mut OutputBuffer,
+    out: &mut Sink<W>,
+    depth: Depth,
+    key: &[u8],
+    points: &[char],
+) -> Result<(), WriteFault>
+    requires { HasRoom buffer.old (length (print_line_at depth key.now points.now)) }
+    ensures { Hands (print_line_at depth key.now points.now) buffer.old buffer.new out.old out.new result }
+{
+    hand_groups(buffer, out, key)?;
+    hand_level(buffer, out, depth, points)?;
+    buffer.write(out, b"\n")
+}
+
+// Hands over what stands behind the weights: nothing, or the identical level.
+fn hand_level<W: Write>(
+    buffer: &mut OutputBuffer,
+    out: &mut Sink<W>,
+    depth: Depth,
+    points: &[char],
+) -> Result<(), WriteFault>
+    requires { HasRoom buffer.old (length (printed_behind depth points.now)) }
+    ensures { Hands (printed_behind depth points.now) buffer.old buffer.new out.old out.new result }
+{
+    match depth {
+        Depth::Weights => Ok(()),
+        Depth::Identical => hand_identical_level(buffer, out, points),
+    }
+}
+
+// Hands over the identical level: `0000`, and the code points.
+fn hand_identical_level<W: Write>(
+    buffer: &mut OutputBuffer,
+    out: &mut Sink<W>,
+    points: &[char],
+) -> Result<(), WriteFault>
+    requires { HasRoom buffer.old (length (identical_level points.now)) }
+    ensures { Hands (identical_level points.now) buffer.old buffer.new out.old out.new result }
+{
+    buffer.write(out, b" 0000")?;
+    hand_points(buffer, out, points)
+}
+
+// Hands over code points, each behind a space.
+fn hand_points<W: Write>(
+    buffer: &mut OutputBuffer,
+    out: &mut Sink<W>,
+    points: &[char],
+) -> Result<(), WriteFault>
+    requires { HasRoom buffer.old (length (flat_map Print.spaced_point points.now)) }
+    ensures { Hands (flat_map Print.spaced_point points.now) buffer.old buffer.new out.old out.new result }
+{
+    for point in points {
+        buffer.write(out, &spaced_point(*point))?;
+    }
+    Ok(())
+}
+
+// A code point as six digits behind a space.
+fn spaced_point(point: char) -> [u8; 7]
+    ensures { result ≡ Print.spaced_point point }
+{
+    let [_, high, middle, low] = u32::from(point).to_be_bytes();
+    let [first, second] = digits_of(high);
+    let [third, fourth] = digits_of(middle);
+    let [fifth, sixth] = digits_of(low);
+    [b' ', first, second, third, fourth, fifth, sixth]
+}
+
+// Hands over the groups of a key.
+fn hand_groups<W: Write>(
+    buffer: &mut OutputBuffer,
+    out: &mut Sink<W>,
+    key: &[u8],
+) -> Result<(), WriteFault>
+    requires { HasRoom buffer.old (length (printed_groups key.now)) }
+    ensures { Hands (printed_groups key.now) buffer.old buffer.new out.old out.new result }
+{
+    let mut groups = [[0; 5]; GROUPS];
+
+    // The first group of the key has no space before it.
+    let mut begin = 1;
+    for part in key.chunks(PART) {
+        let text = spaced_text(&mut groups, part);
+        buffer.write(out, &text[begin..])?;
+        begin = 0;
+    }
+    Ok(())
+}
+
+// Writes a part of a key: its groups, each behind a space. The text lies in the array.
+fn spaced_text<'a>(groups: &'a mut [[u8; 5]; GROUPS], part: &[u8]) -> &'a [u8]
+    requires { length part.now ≤ PART }
+    ensures { result.now ≡ spaced_groups part.now }
+{
+    let (pairs, last) = part.as_chunks::<2>();
+    for (number, pair) in pairs.iter().enumerate() {
+        let [first, second] = digits_of(pair[0]);
+        let [third, fourth] = digits_of(pair[1]);
+        groups[number] = [b' ', first, second, third, fourth];
+    }
+    let mut len = 5 * pairs.len();
+    if let Some(byte) = last.first() {
+        let [first, second] = digits_of(*byte);
+        groups[pairs.len()] = [b' ', first, second, 0, 0];
+        len += 3;
+    }
+    &groups.as_flattened()[..len]
+}
+
+// The two digits of a byte.
+fn digits_of(byte: u8) -> [u8; 2]
+    ensures { result ≡ byte_digits byte }
+{
+    [hexadecimal_digit(byte / 16), hexadecimal_digit(byte % 16)]
+}
