@@ -39,7 +39,7 @@ sys.dont_write_bytecode = True
 import figures
 
 CRATE = "uca_comparisons"
-USES = "uca_weights uca_values uca_data uca_table uca_text uca_match uca_key"
+USES = "uca_weights uca_values uca_table uca_text uca_match uca_key"
 KINDS = ("first", "easy", "near", "accent", "case", "hyphen", "equal")
 WEIGHTINGS = ("non-ignorable", "shifted")
 DEPTHS = ("weights", "identical")

@@ -34,7 +34,7 @@ import compare
 import figures
 
 CRATE = "uca_rule_figures"
-USES = "uca_weights uca_values uca_data uca_rules"
+USES = "uca_weights uca_values uca_table uca_rules"
 COUNT = 5000
 FRONT = "\u4e00" * 15
 

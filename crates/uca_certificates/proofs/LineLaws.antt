@@ -11,9 +11,9 @@ use Rattle.uca_weights.specs.declared.Level.TheVariants.{One, Two, Three}
 use Rattle.uca_weights.specs.declared.maps.Run.{Run}
 use Rattle.uca_weights.specs.Levels.{level_number}
 use Rattle.uca_lines.specs.Lines.{is_lf, Lacks, ended}
-use Rattle.uca_fields.specs.Number.{weight_of, upper_digit, digits}
-use Rattle.uca_fields.proofs.Digits.{weight_takes, weight_of-digits, length-digits}
-use Rattle.uca_fields.proofs.ManyDigits.{four_digits_are, last_digit}
+use Rattle.uca_lines.specs.Numbers.{weight_of, upper_digit, digits}
+use Rattle.uca_lines.proofs.DigitLemmas.{weight_takes, weight_of-digits, length-digits}
+use Rattle.uca_lines.proofs.ManyDigits.{four_digits_are, last_digit}
 use Rattle.uca_certificates.specs.Texts.{RunLine, run_text, IsLine}
 use Rattle.uca_certificates.specs.Steps.{◌>>=◌, level_at, number_at, if_empty, line_of}
 

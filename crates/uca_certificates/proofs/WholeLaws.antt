@@ -8,9 +8,9 @@ use Rattle.uca_weights.specs.declared.Level.TheVariants.{One, Two, Three}
 use Rattle.uca_weights.specs.Runs.{AreProperRuns}
 use Rattle.uca_weights.proofs.RunMaps.{faulty_not_proper}
 use Rattle.uca_lines.specs.Lines.{ended}
-use Rattle.uca_files.specs.Files
-use Rattle.uca_files.specs.Files.{IsFileLine, AreLines, ReadsLines, RefusesLine}
-use Rattle.uca_files.proofs.FileLaws.{one_meaning, no_meaning}
+use Rattle.uca_lines.specs.Files
+use Rattle.uca_lines.specs.Files.{IsFileLine, AreLines, ReadsLines, RefusesLine}
+use Rattle.uca_lines.proofs.FileLemmas.{one_meaning, no_meaning}
 use Rattle.uca_certificates.specs.declared.TheConstants.{CERTIFICATE_FORM}
 use Rattle.uca_certificates.specs.declared.faults.CertificateFault.{CertificateFault}
 use Rattle.uca_certificates.specs.Certificates.{CertificateContent, runs_at, IsCertificate}

@@ -11,7 +11,7 @@ use Rattle.uca_weights.specs.declared.maps.MapFaultKind.TheVariants as map_kinds
 use Rattle.uca_weights.specs.Levels.{level_number}
 use Rattle.uca_weights.specs.Runs.{AreProperRuns, IsMapFault}
 use Rattle.uca_lines.specs.Lines.{ended}
-use Rattle.uca_fields.specs.Number.{weight_of}
+use Rattle.uca_lines.specs.Numbers.{weight_of}
 use Rattle.uca_certificates.specs.declared.faults.CertificateFault.{CertificateFault}
 use Rattle.uca_certificates.specs.declared.faults.CertificateFaultKind.TheVariants as kinds
 use Rattle.uca_certificates.specs.Certificates.{CertificateContent, runs_at}

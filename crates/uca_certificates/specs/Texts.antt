@@ -11,9 +11,9 @@ use Rattle.uca_weights.specs.declared.maps.MapFaultKind.TheVariants as map_kinds
 use Rattle.uca_weights.specs.Levels.{level_number}
 use Rattle.uca_weights.specs.Runs.{AreProperRuns, IsMapFault}
 use Rattle.uca_lines.specs.Lines.{ended}
-use Rattle.uca_fields.specs.Number.{digits}
-use Rattle.uca_files.specs.Files
-use Rattle.uca_files.specs.Files.{ReadsLines, RefusesLine}
+use Rattle.uca_lines.specs.Numbers.{digits}
+use Rattle.uca_lines.specs.Files
+use Rattle.uca_lines.specs.Files.{ReadsLines, RefusesLine}
 use Rattle.uca_certificates.specs.declared.TheConstants.{CERTIFICATE_FORM}
 use Rattle.uca_certificates.specs.declared.faults.CertificateFault.{CertificateFault}
 use Rattle.uca_certificates.specs.declared.faults.CertificateFaultKind.{CertificateFaultKind}

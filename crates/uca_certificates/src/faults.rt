@@ -7,7 +7,7 @@ ghost use Rattle.uca_certificates.specs.FaultText.{kind_text, certificate_fault_
 use std::alloc::{AllocError, AllocFailed};
 use std::fmt;
 use thiserror::Error;
-use uca_files::FileFault;
+use uca_lines::files::FileFault;
 use uca_weights::MapFault;
 
 /// Why a certificate is refused.

@@ -15,7 +15,7 @@ use faults::CertificateFaultKind as Kind;
 pub use faults::{CertificateFault, CertificateFaultKind};
 pub use laws::{bytes_mean_at_most_one_certificate, bytes_with_a_fault_mean_no_certificate};
 pub use read::read_certificate;
-use uca_files::FileForm;
+use uca_lines::files::FileForm;
 pub use write::write_certificate;
 
 /// The form of certificates.

@@ -9,7 +9,7 @@ use crate::spelling::read_line;
 use crate::{CERTIFICATE_FORM, Certificate, CertificateFault, CertificateFaultKind};
 use std::alloc::{Allocator, Global};
 use std::marker::Model;
-use uca_files::{FileForm, TakesLines};
+use uca_lines::files::{FileForm, TakesLines};
 use uca_weights::{Level, MapFault, MapFaultKind, Run, WeightMap};
 
 /// How many runs a level may have.

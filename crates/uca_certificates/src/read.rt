@@ -8,7 +8,7 @@ use crate::lines::Lines;
 use crate::{Certificate, CertificateFault};
 use std::alloc::Allocator;
 use std::io::Read;
-use uca_files::read_lines;
+use uca_lines::files::read_lines;
 use uca_weights::Source;
 
 /// Reads a certificate: a line `LEVEL FROM TO COUNT` for each run, ended by LF, levels never falling. LEVEL is `1`, `2`

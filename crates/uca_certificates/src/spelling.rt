@@ -7,7 +7,7 @@ ghost use Rattle.uca_weights.specs.Levels.{level_number};
 ghost use Rattle.uca_certificates.specs.Texts.{RunLine, run_text};
 ghost use Rattle.uca_certificates.specs.Steps;
 
-use uca_fields::{four_digits, weight};
+use uca_lines::fields::{four_digits, weight};
 use uca_weights::{Level, Run};
 
 /// The level and the run that a line says; None where the line has another form.

@@ -4,7 +4,7 @@ use Rattle.std.specs.Io.KnownBytes.{Appends}
 use Rattle.uca_weights.specs.Streams.{SinkState}
 use Rattle.uca_weights.specs.Writes.{WentOut}
 use Rattle.uca_values.specs.Content.{TableContent, Properties}
-use Rattle.uca_canonical.specs.Canonical.{canonical}
+use Rattle.uca_table.specs.Canonical.{canonical}
 use Rattle.uca_rules.specs.declared.relations.Relation.{Relation}
 use Rattle.uca_certificates.specs.Certificates.{CertificateContent}
 use Rattle.uca_certificates.specs.Texts.{certificate_text}

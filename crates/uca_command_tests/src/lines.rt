@@ -6,7 +6,7 @@ use std::test::Fail;
 use uca_certificates::{CertificateFault, CertificateFaultKind};
 use uca_cli::{FileFault, InputKind, Role, RunFault, report};
 use uca_fakes::{Calls, Failure, FakeWriter, Pace, holds, same};
-use uca_files::{FaultKind, TableFault};
+use uca_lines::files::{FaultKind, TableFault};
 use uca_plans::{TailorFault, TailorKind};
 use uca_rules::{RuleFault, RuleFaultKind};
 use uca_text::TextFault;

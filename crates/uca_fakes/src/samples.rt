@@ -2,8 +2,7 @@
 
 use std::alloc::{Allocator, Global};
 use std::io::Read;
-use uca_data::read_data;
-use uca_table::{read_table, write_table};
+use uca_table::{read_data, read_table, write_table};
 use uca_values::{Data, Table, TableFault};
 use uca_weights::{Sink, Source, WriteFault};
 

@@ -3,8 +3,8 @@
 use std::alloc::{AllocError, Global};
 use std::test::Fail;
 use uca_fakes::{halves, same};
-use uca_files::laws::{ExactLines, no_meaning_with_fault, one_meaning};
-use uca_files::{FaultKind, FileForm, TABLE_FORM, TakesLines, read_lines};
+use uca_lines::files::laws::{ExactLines, no_meaning_with_fault, one_meaning};
+use uca_lines::files::{FaultKind, FileForm, TABLE_FORM, TakesLines, read_lines};
 use uca_weights::Source;
 
 /// Takes any lines, which say nothing.
@@ -13,8 +13,8 @@ struct AnyLines;
 
 impl TakesLines for AnyLines {
     ghost use Rattle.std.specs.Prelude.{⊤, refl, false};
-    ghost use Rattle.uca_files.specs.declared.TheConstants.{TABLE_FORM};
-    ghost use Rattle.uca_files.specs.Faults.{is_read_kind};
+    ghost use Rattle.uca_lines.specs.declared.files.TheConstants.{TABLE_FORM};
+    ghost use Rattle.uca_lines.specs.FileStops.{is_read_kind};
 
     type Kind = FaultKind;
 

@@ -3,7 +3,7 @@
 use std::alloc::{AllocError, Global};
 use std::test::Fail;
 use uca_fakes::{bytes_of, halves, holds, same};
-use uca_fields::{
+use uca_lines::fields::{
     class_number, code_point, code_point_range, cut_at, cut_word, halves as dot_halves,
     hexadecimal_digit, line_text, skip_blanks, trim, weight,
 };

@@ -1,3 +1,13 @@
 pub mod LineLemmas
 pub mod LinesOf
 pub mod HandingLemmas
+pub mod FieldLemmas
+pub mod DigitLemmas
+pub mod LeadLemmas
+pub mod ManyDigits
+pub mod ListLemmas
+pub mod LineCuts
+pub mod FileLemmas
+pub mod ByLine
+pub mod FileStepLemmas
+pub mod FaultKindLemmas

@@ -4,3 +4,12 @@ pub mod NextLine
 pub mod Taking
 pub mod OutputBuffer
 pub mod Handing
+pub mod Fields
+pub mod Numbers
+pub mod CodePointRanges
+pub mod Leads
+pub mod FileStops
+pub mod Files
+pub mod FaultKinds
+pub mod FileMeanings
+pub mod FileSteps

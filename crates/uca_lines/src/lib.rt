@@ -1,6 +1,8 @@
 //! The lines of a source, and a buffer for what goes to a sink.
 #![tactic(auto)]
 
+pub mod fields;
+pub mod files;
 pub mod lines;
 pub mod output;
 

@@ -2,8 +2,8 @@
 use Rattle.std.proofs.Common.{◌≡◌, ℕ, List, Bool, true, false, refl, ◌||◌, ◌&&◌, Option, Some, None, IfSome, IsSomeAnd, Result, Ok, Err, ap, subst, sym, ◌∙◌}
 use Rattle.uca_weights.specs.Streams.{SourceState, SinkState}
 use Rattle.uca_values.specs.Content.{TableContent, Properties}
-use Rattle.uca_table.specs.Lines as tables
-use Rattle.uca_data.specs.Said as data_files
+use Rattle.uca_table.specs.TableLines as tables
+use Rattle.uca_table.specs.DataSoFar as data_files
 use Rattle.uca_rules.specs.declared.relations.Relation.{Relation}
 use Rattle.uca_rules.specs.Meaning as rule_files
 use Rattle.uca_certificates.specs.Certificates.{CertificateContent}

@@ -7,8 +7,8 @@ use Rattle.uca_weights.specs.declared.Weighting.{Weighting}
 use Rattle.uca_values.specs.declared.ImplicitRange.{ImplicitRange}
 use Rattle.uca_values.specs.Content.{TableContent, Properties}
 use Rattle.uca_match.specs.Rows.{Rows, rows_of}
-use Rattle.uca_table.specs.Lines as tables
-use Rattle.uca_data.specs.Said as data_files
+use Rattle.uca_table.specs.TableLines as tables
+use Rattle.uca_table.specs.DataSoFar as data_files
 use Rattle.uca_runs.specs.declared.faults.FileFault.{FileFault}
 use Rattle.uca_runs.specs.declared.faults.RunFault.{RunFault}
 use Rattle.uca_runs.specs.declared.faults.RunFault.TheVariants.{File, Memory}

@@ -10,8 +10,8 @@ use Rattle.uca_values.specs.Content.{TableContent, Properties}
 use Rattle.uca_text.specs.Texts.{Spelled, spelled}
 use Rattle.uca_text.specs.Limits.{IsAccepted}
 use Rattle.uca_key.specs.Levels.{Comparison}
-use Rattle.uca_table.specs.Lines as tables
-use Rattle.uca_data.specs.Said as data_files
+use Rattle.uca_table.specs.TableLines as tables
+use Rattle.uca_table.specs.DataSoFar as data_files
 use Rattle.uca_runs.specs.declared.faults.RunFault.{RunFault}
 use Rattle.uca_runs.specs.declared.faults.RunFault.TheVariants.{File, Input, Write, Memory, Text, Tailor, CertificateWrite, Open, Words}
 use Rattle.uca_runs.specs.declared.faults.Role.TheVariants as roles

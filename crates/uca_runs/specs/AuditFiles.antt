@@ -1,8 +1,8 @@
 -- What is known of the files of an audit where they are read. Only private contracts cite it.
 use Rattle.std.specs.Prelude.{◌≡◌, ℕ, ◌<◌, ◌≤◌, List, Bool, true, false, Option, IfSome, Result, Ok, Err, MatchResult, length}
 use Rattle.std.specs.Io.KnownBytes.{Consumes, IsAtEnd}
-use Rattle.uca_table.specs.Lines as tables
-use Rattle.uca_data.specs.Said as data_files
+use Rattle.uca_table.specs.TableLines as tables
+use Rattle.uca_table.specs.DataSoFar as data_files
 use Rattle.uca_rules.specs.Meaning as rule_files
 use Rattle.uca_certificates.specs.Texts as certificates
 use Rattle.uca_runs.specs.declared.faults.FileFault.{FileFault}

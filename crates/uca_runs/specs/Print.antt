@@ -3,7 +3,7 @@ use Rattle.std.specs.Prelude.{ℕ, ◌/◌, ◌%◌, List, [], ◌∷◌, ◌++�
 use Rattle.std.specs.List.{join_with_byte, flat_map}
 use Rattle.uca_weights.specs.declared.Depth.{Depth}
 use Rattle.uca_weights.specs.declared.Depth.TheVariants.{Weights, Identical}
-use Rattle.uca_fields.specs.Number.{upper_digit}
+use Rattle.uca_lines.specs.Numbers.{upper_digit}
 use Rattle.uca_key.specs.Depths.{point_bytes}
 
 -- a byte as two upper-case hexadecimal digits

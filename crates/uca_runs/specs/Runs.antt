@@ -5,10 +5,10 @@ use Rattle.uca_weights.specs.Streams.{SourceState, SinkState}
 use Rattle.uca_weights.specs.Writes.{WentOut}
 use Rattle.uca_values.specs.Content.{TableContent, Properties}
 use Rattle.uca_lines.specs.Lines.{is_lf, Lacks, ended, lines_of}
-use Rattle.uca_files.specs.Faults.{is_read_kind}
+use Rattle.uca_lines.specs.FileStops.{is_read_kind}
 use Rattle.uca_values.specs.declared.faults.TableFault.{TableFault}
-use Rattle.uca_table.specs.Lines as tables
-use Rattle.uca_data.specs.Said as data_files
+use Rattle.uca_table.specs.TableLines as tables
+use Rattle.uca_table.specs.DataSoFar as data_files
 use Rattle.uca_certificates.specs.Texts as certificates
 use Rattle.uca_runs.specs.declared.faults.InputKind.{InputKind}
 use Rattle.uca_runs.specs.declared.faults.InputKind.TheVariants.{Utf8, TooLong, LongRun, Read, Limit, Memory as InputMemory}

@@ -1,7 +1,7 @@
 -- What is known of the files of a tailoring where they are read. Only private contracts cite it.
 use Rattle.std.specs.Prelude.{IfSome}
-use Rattle.uca_table.specs.Lines as tables
-use Rattle.uca_data.specs.Said as data_files
+use Rattle.uca_table.specs.TableLines as tables
+use Rattle.uca_table.specs.DataSoFar as data_files
 use Rattle.uca_rules.specs.Meaning as rule_files
 use Rattle.uca_runs.specs.TailorSources.{TailorSources, TailorContent}
 

@@ -2,8 +2,8 @@
 
 ghost use Rattle.std.specs.Prelude.{◌≡◌, ◌||◌, is_err, IfOk, IfErr, IfSome, OnErr, MatchResult};
 ghost use Rattle.uca_values.specs.Content.{Properties, properties_of};
-ghost use Rattle.uca_table.specs.Lines as tables;
-ghost use Rattle.uca_data.specs.Said as data_files;
+ghost use Rattle.uca_table.specs.TableLines as tables;
+ghost use Rattle.uca_table.specs.DataSoFar as data_files;
 ghost use Rattle.uca_match.specs.Rows.{rows_of};
 ghost use Rattle.uca_key.specs.Lengths.{HasShortRows};
 ghost use Rattle.uca_runs.specs.AuditFiles.{ReadsThat};
@@ -14,10 +14,9 @@ ghost use Rattle.uca_runs.specs.Runs.{is_file, is_file_read, IsRefused, OfLines,
 use crate::faults::{FileFault, Role, RunFault};
 use std::alloc::{Allocator, Global};
 use std::io::Read;
-use uca_data::read_data;
+use uca_table::{read_data, read_table};
 use uca_key::laws::rows_are_short;
 use uca_match::{Lookup, Trie};
-use uca_table::read_table;
 use uca_values::{Data, Header, Table};
 use uca_weights::{Source, Weighting};
 

@@ -7,7 +7,7 @@ ghost use Rattle.uca_runs.specs.Print;
 ghost use Rattle.uca_runs.specs.Print.{byte_digits, printed_groups, spaced_groups, identical_level, printed_behind, print_line_at};
 
 use std::io::Write;
-use uca_fields::hexadecimal_digit;
+use uca_lines::fields::hexadecimal_digit;
 use uca_lines::OutputBuffer;
 use uca_weights::{Depth, Sink, WriteFault};
 

@@ -2,8 +2,8 @@
 use Rattle.std.proofs.Common.{◌≡◌, ℕ, true, List, [], ◌∷◌, ap, subst, ◌∙◌}
 use Rattle.std.specs.List.{AllZip, AllByRecursion}
 use Rattle.uca_values.specs.Content.{TableContent, IsTable, is_version_name}
-use Rattle.uca_table.specs.Begun.{IsBegun}
-use Rattle.uca_table.specs.Lines.{Item, Nothing, OfVersion, OfSetting, OfRange, OfRow, IsLine, said, in_order, all_of, Means}
+use Rattle.uca_table.specs.TableSoFar.{IsBegun}
+use Rattle.uca_table.specs.TableLines.{Item, Nothing, OfVersion, OfSetting, OfRange, OfRow, IsLine, said, in_order, all_of, Means}
 
 -- ---- What is said is sound
 

@@ -9,21 +9,21 @@ use Rattle.uca_weights.specs.declared.Element.{Element}
 use Rattle.uca_weights.specs.declared.Weighting.{Weighting}
 use Rattle.uca_weights.specs.declared.Weighting.TheVariants as weightings
 use Rattle.uca_lines.specs.Lines.{is_lf, Lacks}
-use Rattle.uca_fields.specs.Text.{is_blank, is_hash, is_semicolon, skip_blanks, no_end_blanks, trim, text_of}
-use Rattle.uca_fields.specs.Number.{is_hex_digit, code_point_of, weight_of, digits}
-use Rattle.uca_fields.specs.Ranges.{range_of, range_between}
-use Rattle.uca_fields.specs.Leads.{Leads, BeginsCodePoint}
-use Rattle.uca_fields.proofs.Digits.{weight_of-digits, length-digits}
-use Rattle.uca_fields.proofs.LeadLaws.{leads_skip, leads_from_skip}
+use Rattle.uca_lines.specs.Fields.{is_blank, is_hash, is_semicolon, skip_blanks, no_end_blanks, trim, text_of}
+use Rattle.uca_lines.specs.Numbers.{is_hex_digit, code_point_of, weight_of, digits}
+use Rattle.uca_lines.specs.CodePointRanges.{range_of, range_between}
+use Rattle.uca_lines.specs.Leads.{Leads, BeginsCodePoint}
+use Rattle.uca_lines.proofs.DigitLemmas.{weight_of-digits, length-digits}
+use Rattle.uca_lines.proofs.LeadLemmas.{leads_skip, leads_from_skip}
 use Rattle.uca_values.specs.declared.ImplicitRange.{ImplicitRange}
 use Rattle.uca_values.specs.Content.{Entry, IsEntry, Fits, IsImplicitRange, is_name_byte, is_version_name}
-use Rattle.uca_canonical.specs.Words.{at_version, at_ranges}
-use Rattle.uca_canonical.specs.Elements.{mark_byte, element_text}
-use Rattle.uca_canonical.specs.Canonical.{point_text, key_point_text, key_text, version_line, setting_line, range_line, row_line}
+use Rattle.uca_table.specs.CanonicalWords.{at_version, at_ranges}
+use Rattle.uca_table.specs.CanonicalElements.{mark_byte, element_text}
+use Rattle.uca_table.specs.Canonical.{point_text, key_point_text, key_text, version_line, setting_line, range_line, row_line}
 use Rattle.uca_table.specs.Elements.{BeginsElement}
 use Rattle.uca_table.specs.Rows.{IsKey, IsRow}
 use Rattle.uca_table.specs.Headers.{IsVersion, IsRangeText, IsRange}
-use Rattle.uca_table.specs.Lines.{OfVersion, OfSetting, OfRange, OfRow, IsLine}
+use Rattle.uca_table.specs.TableLines.{OfVersion, OfSetting, OfRange, OfRow, IsLine}
 use Rattle.uca_table.proofs.CanonicalBytes.{lacks_append, list_lacks, up_to_lacks, from_first_lacks, skip_front, skip_none, keeps_end, text_again, halves_are, lacks_digits, digit_no_blank, digit_no_hash, digit_no_semicolon, digit_no_lf, digit_no_dot, digits_all, point_all, point_some, code_point_again}
 
 -- ---- Keys

@@ -6,15 +6,15 @@ use Rattle.std.proofs.lemmas.List.{take-append-drop}
 use Rattle.std.proofs.Math.Seq.{take-append_seam, drop-append_seam}
 use borrow.Author.Tests.{eqb-true}
 use Rattle.uca_weights.specs.declared.Element.{Element}
-use Rattle.uca_fields.specs.Number.{weight_of, digits}
-use Rattle.uca_fields.proofs.Digits.{weight_takes, weight_of-digits, length-digits}
+use Rattle.uca_lines.specs.Numbers.{weight_of, digits}
+use Rattle.uca_lines.proofs.DigitLemmas.{weight_takes, weight_of-digits, length-digits}
 use Rattle.uca_values.specs.declared.faults.FaultKind.TheVariants as kinds
-use Rattle.uca_fields.specs.Text.{skip_blanks}
-use Rattle.uca_fields.specs.Leads.{Leads}
-use Rattle.uca_fields.proofs.LeadLaws.{IsExact, leads_push}
+use Rattle.uca_lines.specs.Fields.{skip_blanks}
+use Rattle.uca_lines.specs.Leads.{Leads}
+use Rattle.uca_lines.proofs.LeadLemmas.{IsExact, leads_push}
 use Rattle.uca_table.specs.Elements.{BeginsElement, opens, ElementsCause}
-use Rattle.uca_canonical.specs.Elements.{mark_byte, element_text}
-use Rattle.uca_table.specs.Steps.{◌>>=◌, after_byte, mark_at, weight_at, element_at}
+use Rattle.uca_table.specs.CanonicalElements.{mark_byte, element_text}
+use Rattle.uca_table.specs.ElementSteps.{◌>>=◌, after_byte, mark_at, weight_at, element_at}
 
 -- ---- What is read is spelled so
 

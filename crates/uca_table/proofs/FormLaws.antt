@@ -12,17 +12,17 @@ use Rattle.uca_values.specs.declared.ImplicitRange.{ImplicitRange}
 use Rattle.uca_values.specs.Content.{Entry}
 use Rattle.uca_values.specs.declared.faults.FaultKind.{FaultKind}
 use Rattle.uca_values.specs.declared.faults.FaultKind.TheVariants as kinds
-use Rattle.uca_fields.specs.declared.RangeFault.{RangeFault}
-use Rattle.uca_fields.specs.Text.{is_blank, is_semicolon, up_to, from_first, skip_blanks, trim, word_of, after_word}
-use Rattle.uca_fields.specs.Number.{code_point_of, weight_of}
-use Rattle.uca_fields.specs.Leads.{Leads, BeginsCodePoint}
-use Rattle.uca_fields.proofs.LeadLaws.{leads_same, leads_barred, leads_within, IsExact, exact_code_points, skip_blanks-again}
+use Rattle.uca_lines.specs.declared.fields.RangeFault.{RangeFault}
+use Rattle.uca_lines.specs.Fields.{is_blank, is_semicolon, up_to, from_first, skip_blanks, trim, word_of, after_word}
+use Rattle.uca_lines.specs.Numbers.{code_point_of, weight_of}
+use Rattle.uca_lines.specs.Leads.{Leads, BeginsCodePoint}
+use Rattle.uca_lines.proofs.LeadLemmas.{leads_same, leads_barred, leads_within, IsExact, exact_code_points, skip_blanks-again}
 use Rattle.uca_table.specs.Elements.{BeginsElement, AreElements, opens, ElementsCause}
-use Rattle.uca_canonical.specs.Elements.{mark_byte, element_text}
+use Rattle.uca_table.specs.CanonicalElements.{mark_byte, element_text}
 use Rattle.uca_table.specs.Rows.{IsKey, IsRow, KeyCause, RowTextCause}
 use Rattle.uca_table.specs.Headers.{IsRangeText, RangeTextCause}
-use Rattle.uca_canonical.specs.Words.{at_version, at_variable, at_ranges, setting_word}
-use Rattle.uca_table.specs.Lines.{Item, Nothing, OfVersion, OfSetting, OfRange, OfRow, IsItem, begins_at}
+use Rattle.uca_table.specs.CanonicalWords.{at_version, at_variable, at_ranges, setting_word}
+use Rattle.uca_table.specs.TableLines.{Item, Nothing, OfVersion, OfSetting, OfRange, OfRow, IsItem, begins_at}
 use Rattle.uca_table.proofs.ElementLaws.{exact_elements}
 
 -- ---- Parts of a text have one reading

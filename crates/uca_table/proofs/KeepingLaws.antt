@@ -12,8 +12,8 @@ use Rattle.std.specs.Cmp.Lexicographic.{bytes_decides}
 use Rattle.uca_weights.specs.declared.Weighting.{Weighting}
 use Rattle.uca_values.specs.declared.ImplicitRange.{ImplicitRange}
 use Rattle.uca_values.specs.Content.{Entry, IsEntry, AreRows, AreDistinct, keys_of}
-use Rattle.uca_files.proofs.ListLemmas.{each_more}
-use Rattle.uca_table.specs.Begun.{Begun}
+use Rattle.uca_lines.proofs.ListLemmas.{each_more}
+use Rattle.uca_table.specs.TableSoFar.{Begun}
 use Rattle.uca_table.specs.Keeping.{HoldsKeysOf, Keeps}
 
 keys_of-push : (rows : List Entry) (row : Entry) → keys_of (rows ++ row ∷ []) ≡ keys_of rows ++ row.key ∷ []

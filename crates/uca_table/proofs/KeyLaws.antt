@@ -2,11 +2,11 @@
 use Rattle.std.proofs.Common.{◌≡◌, ℕ, ◌<◌, ◌≤◌, Bool, true, false, ◌&&◌, List, [], ◌∷◌, ◌++◌, length, Some, refl, ap, sym, ◌∙◌, arith, length-append}
 use borrow.Author.Tests.{leb-true}
 use Rattle.uca_values.specs.declared.faults.FaultKind.TheVariants as kinds
-use Rattle.uca_fields.specs.Text.{skip_blanks, word_of, after_word}
-use Rattle.uca_fields.specs.Number.{is_code_point, code_point_of}
-use Rattle.uca_fields.specs.Leads.{Leads, BeginsCodePoint}
-use Rattle.uca_fields.proofs.CutLaws.{length-after_word}
-use Rattle.uca_fields.proofs.LeadLaws.{leads_push}
+use Rattle.uca_lines.specs.Fields.{skip_blanks, word_of, after_word}
+use Rattle.uca_lines.specs.Numbers.{is_code_point, code_point_of}
+use Rattle.uca_lines.specs.Leads.{Leads, BeginsCodePoint}
+use Rattle.uca_lines.proofs.FieldLemmas.{length-after_word}
+use Rattle.uca_lines.proofs.LeadLemmas.{leads_push}
 use Rattle.uca_table.specs.Rows.{KeyCause}
 
 pub code_point_begins : (text word : List ℕ) (c : ℕ) (more : List ℕ) → Some c ≡ code_point_of word → word ≡ word_of text → more ≡ after_word text

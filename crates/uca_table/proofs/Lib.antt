@@ -6,8 +6,15 @@ pub mod OrderLaws
 pub mod TakeLaws
 pub mod FormLaws
 pub mod ReadLaws
-pub mod Exact
+pub mod TableMeanings
 pub mod CanonicalBytes
 pub mod CanonicalLines
-pub mod Canonical
+pub mod CanonicalMeaning
 pub mod CanonicalAgain
+pub mod DataWords
+pub mod DataTaken
+pub mod DataViewed
+pub mod DataMeanings
+pub mod CanonicalDigits
+pub mod CanonicalTexts
+pub mod CanonicalSizes

@@ -7,9 +7,9 @@ use Rattle.std.proofs.lemmas.List.Elements.{Contains-append_left, Contains-push}
 use Rattle.uca_weights.specs.declared.Weighting.{Weighting}
 use Rattle.uca_values.specs.declared.ImplicitRange.{ImplicitRange}
 use Rattle.uca_values.specs.Content.{Entry, IsEntry, AreRows, AreDistinct, AreImplicitRanges, Agree, keys_of}
-use Rattle.uca_table.specs.Begun.{Begun, IsBegun}
+use Rattle.uca_table.specs.TableSoFar.{Begun, IsBegun}
 use Rattle.uca_table.specs.Headers.{MayFollow}
-use Rattle.uca_table.specs.Lines.{Item, Nothing, OfVersion, OfSetting, OfRange, OfRow, said, in_order}
+use Rattle.uca_table.specs.TableLines.{Item, Nothing, OfVersion, OfSetting, OfRange, OfRow, said, in_order}
 
 -- ---- Lists by their last element
 

@@ -3,11 +3,11 @@ use Rattle.std.proofs.Common.{ℕ, ◌+◌, List, Option, Some, None, refl, inl,
 use Rattle.std.specs.Prelude.{IfSome}
 use Rattle.uca_values.specs.declared.faults.FaultKind.{FaultKind}
 use Rattle.uca_values.specs.declared.faults.FaultKind.TheVariants as kinds
-use Rattle.uca_files.specs.declared.TheConstants.{TABLE_FORM}
-use Rattle.uca_files.specs.Files.{ReadsLines, RefusesLine, Refuses}
-use Rattle.uca_files.proofs.FileLaws.{refused_at_end}
-use Rattle.uca_table.specs.Begun.{Begun}
-use Rattle.uca_table.specs.Lines.{Says, Cause, IsUnfinished}
+use Rattle.uca_lines.specs.declared.files.TheConstants.{TABLE_FORM}
+use Rattle.uca_lines.specs.Files.{ReadsLines, RefusesLine, Refuses}
+use Rattle.uca_lines.proofs.FileLemmas.{refused_at_end}
+use Rattle.uca_table.specs.TableSoFar.{Begun}
+use Rattle.uca_table.specs.TableLines.{Says, Cause, IsUnfinished}
 
 pub refused_line : (known left : Option (List ℕ)) (number : ℕ) (kind : FaultKind)
     → IfSome known (λ bytes. RefusesLine TABLE_FORM Says Cause bytes left number kind)

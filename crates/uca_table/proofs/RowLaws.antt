@@ -3,8 +3,8 @@ use Rattle.std.proofs.Common.{◌≡◌, ℕ, List, ◌∷◌, ◌∙◌, ◌⊎
 use borrow.Author.Tests.{eqb-true}
 use Rattle.uca_values.specs.declared.faults.FaultKind.{FaultKind}
 use Rattle.uca_values.specs.declared.faults.FaultKind.TheVariants as kinds
-use Rattle.uca_fields.specs.Text.{is_semicolon, up_to, from_first}
-use Rattle.uca_fields.proofs.CutLaws.{from_first_passes}
+use Rattle.uca_lines.specs.Fields.{is_semicolon, up_to, from_first}
+use Rattle.uca_lines.proofs.FieldLemmas.{from_first_passes}
 use Rattle.uca_values.specs.Content.{Entry}
 use Rattle.uca_table.specs.Elements.{AreElements, ElementsCause}
 use Rattle.uca_table.specs.Rows.{IsKey, IsRow, RowTextCause}

@@ -16,16 +16,16 @@ use Rattle.uca_values.specs.declared.ImplicitRange.{ImplicitRange}
 use Rattle.uca_values.specs.Content.{Entry, IsEntry, Fits, AreImplicitRanges, is_name_byte, is_version_name, keys_of}
 use Rattle.uca_values.specs.declared.faults.FaultKind.{FaultKind}
 use Rattle.uca_values.specs.declared.faults.FaultKind.TheVariants as kinds
-use Rattle.uca_fields.specs.Text.{skip_blanks, word_of, after_word}
-use Rattle.uca_fields.specs.Number.{is_hex_digit, is_code_point, code_point_of}
-use Rattle.uca_fields.specs.Leads.{Leads, BeginsCodePoint}
-use Rattle.uca_table.specs.Begun.{Begun, IsBegun}
+use Rattle.uca_lines.specs.Fields.{skip_blanks, word_of, after_word}
+use Rattle.uca_lines.specs.Numbers.{is_hex_digit, is_code_point, code_point_of}
+use Rattle.uca_lines.specs.Leads.{Leads, BeginsCodePoint}
+use Rattle.uca_table.specs.TableSoFar.{Begun, IsBegun}
 use Rattle.uca_table.specs.Elements.{BeginsElement}
 use Rattle.uca_table.specs.Headers.{argument_of, IsRangeText, MayFollow, RangeTextCause}
-use Rattle.uca_canonical.specs.Words.{at_version, at_variable, at_ranges, setting_word}
+use Rattle.uca_table.specs.CanonicalWords.{at_version, at_variable, at_ranges, setting_word}
 use Rattle.uca_table.specs.Rows.{IsRow, RowTextCause, AddCause}
 use Rattle.uca_table.specs.Keeping.{Keeps}
-use Rattle.uca_table.specs.Lines.{Nothing, OfVersion, OfSetting, OfRange, OfRow, in_order, Purpose, ForSetting, ForRange, ForRow, begins_at, Has, IsDue, PurposeCause, TextCause}
+use Rattle.uca_table.specs.TableLines.{Nothing, OfVersion, OfSetting, OfRange, OfRow, in_order, Purpose, ForSetting, ForRange, ForRow, begins_at, Has, IsDue, PurposeCause, TextCause}
 use Rattle.uca_table.specs.Taking.{TakesText}
 use Rattle.uca_table.proofs.KeepingLaws.{some_not_none, rows_push}
 use Rattle.uca_table.proofs.OrderLaws.{in_order-row, in_order-range, ranges_push}

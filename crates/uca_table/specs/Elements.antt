@@ -3,10 +3,10 @@ use Rattle.std.specs.Prelude.{◌≡◌, ◌≢◌, ℕ, ◌<◌, ◌≤◌, ◌
 use Rattle.uca_weights.specs.declared.Element.{Element}
 use Rattle.uca_values.specs.declared.faults.FaultKind.{FaultKind}
 use Rattle.uca_values.specs.declared.faults.FaultKind.TheVariants as kinds
-use Rattle.uca_fields.specs.Text.{skip_blanks}
-use Rattle.uca_fields.specs.Leads.{Leads}
+use Rattle.uca_lines.specs.Fields.{skip_blanks}
+use Rattle.uca_lines.specs.Leads.{Leads}
 use Rattle.uca_values.specs.Content.{Fits}
-use Rattle.uca_canonical.specs.Elements.{element_text}
+use Rattle.uca_table.specs.CanonicalElements.{element_text}
 
 -- the text begins with the one spelling of the element
 pub record BeginsElement (text : List ℕ) (e : Element) (more : List ℕ) : Type 0 where

@@ -4,13 +4,13 @@ use Rattle.std.specs.List.{AllByRecursion}
 use Rattle.uca_weights.specs.declared.Weighting.{Weighting}
 use Rattle.uca_values.specs.declared.faults.FaultKind.{FaultKind}
 use Rattle.uca_values.specs.declared.faults.FaultKind.TheVariants as kinds
-use Rattle.uca_fields.specs.declared.RangeFault.TheVariants as faults
-use Rattle.uca_fields.specs.Text.{is_semicolon, up_to, from_first, skip_blanks, trim, word_of, after_word}
-use Rattle.uca_fields.specs.Number.{weight_of}
-use Rattle.uca_fields.specs.Ranges.{range_of}
+use Rattle.uca_lines.specs.declared.fields.RangeFault.TheVariants as faults
+use Rattle.uca_lines.specs.Fields.{is_semicolon, up_to, from_first, skip_blanks, trim, word_of, after_word}
+use Rattle.uca_lines.specs.Numbers.{weight_of}
+use Rattle.uca_lines.specs.CodePointRanges.{range_of}
 use Rattle.uca_values.specs.declared.ImplicitRange.{ImplicitRange}
 use Rattle.uca_values.specs.Content.{is_version_name, IsImplicitRange, Agree}
-use Rattle.uca_canonical.specs.Words.{at_version, at_variable, at_ranges, setting_word}
+use Rattle.uca_table.specs.CanonicalWords.{at_version, at_variable, at_ranges, setting_word}
 
 -- what follows the first word, blanks between them aside
 abbrev pub argument_of : List ℕ → List ℕ

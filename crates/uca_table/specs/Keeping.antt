@@ -1,7 +1,7 @@
 -- What a table in the making keeps. For private contracts alone.
 use Rattle.std.specs.Prelude.{◌≡◌, ℕ, ◌↔◌, Bool, true, List, Some, Contains}
 use Rattle.uca_values.specs.Content.{Entry, is_version_name, keys_of}
-use Rattle.uca_table.specs.Begun.{Begun, IsBegun}
+use Rattle.uca_table.specs.TableSoFar.{Begun, IsBegun}
 
 -- A set, which has the keys that `has` says, holds the keys of these rows. A key in memory holds the list
 -- that `points` says.

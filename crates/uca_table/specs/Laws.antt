@@ -1,8 +1,8 @@
 -- What the canonical text of a table means.
 use Rattle.std.specs.Prelude.{◌≡◌, ℕ, List}
 use Rattle.uca_values.specs.Content.{TableContent, IsTable}
-use Rattle.uca_canonical.specs.Canonical.{canonical}
-use Rattle.uca_table.specs.Lines.{Means}
+use Rattle.uca_table.specs.Canonical.{canonical}
+use Rattle.uca_table.specs.TableLines.{Means}
 
 -- the bytes mean this table, and no other
 abbrev pub MeansOnly : List ℕ → TableContent → Type 0

@@ -2,9 +2,9 @@
 use Rattle.std.specs.Prelude.{◌≡◌, ◌≢◌, ℕ, ◌<◌, ◌≤◌, ◌⊎◌, List, [], ◌∷◌, length, None, Contains}
 use Rattle.uca_values.specs.declared.faults.FaultKind.{FaultKind}
 use Rattle.uca_values.specs.declared.faults.FaultKind.TheVariants as kinds
-use Rattle.uca_fields.specs.Text.{is_semicolon, up_to, from_first, skip_blanks, word_of}
-use Rattle.uca_fields.specs.Number.{code_point_of}
-use Rattle.uca_fields.specs.Leads.{Leads, BeginsCodePoint}
+use Rattle.uca_lines.specs.Fields.{is_semicolon, up_to, from_first, skip_blanks, word_of}
+use Rattle.uca_lines.specs.Numbers.{code_point_of}
+use Rattle.uca_lines.specs.Leads.{Leads, BeginsCodePoint}
 use Rattle.uca_values.specs.Content.{Entry, keys_of}
 use Rattle.uca_table.specs.Elements.{AreElements, ElementsCause}
 

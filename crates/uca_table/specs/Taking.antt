@@ -1,8 +1,8 @@
 -- What one more line adds, for private contracts alone: no reader of the public ones has to believe it.
 use Rattle.std.specs.Prelude.{◌≡◌, ℕ, List, [], ◌∷◌, ◌++◌}
-use Rattle.uca_fields.specs.Text.{text_of}
-use Rattle.uca_table.specs.Begun.{Begun, IsBegun}
-use Rattle.uca_table.specs.Lines.{Item, IsItem, said, in_order}
+use Rattle.uca_lines.specs.Fields.{text_of}
+use Rattle.uca_table.specs.TableSoFar.{Begun, IsBegun}
+use Rattle.uca_table.specs.TableLines.{Item, IsItem, said, in_order}
 
 -- with one more line, whose text says the item, the new is said in order
 pub record TakesText (old : Begun) (text : List ℕ) (new : Begun) : Type 0 where

@@ -2,7 +2,7 @@
 use Rattle.std.specs.Prelude.{[], ◌∷◌, true, false, codes}
 use Rattle.uca_weights.specs.declared.Weighting.TheVariants as weightings
 use Rattle.uca_values.specs.Content.{Entry}
-use Rattle.uca_table.specs.Lines.{Nothing, OfVersion, OfSetting, OfRange, OfRow, IsLine}
+use Rattle.uca_table.specs.TableLines.{Nothing, OfVersion, OfSetting, OfRange, OfRow, IsLine}
 
 abbrev pub contraction : Entry
 contraction = record {

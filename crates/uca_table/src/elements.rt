@@ -4,10 +4,10 @@ ghost use Rattle.std.specs.Prelude.{◌≡◌, ◌⊎◌, IfOk, IfErr};
 ghost use Rattle.std.specs.Option.{option_map};
 ghost use Rattle.uca_table.specs.Elements.{AreElements, ElementsCause};
 ghost use Rattle.uca_table.specs.Elements as Spelling;
-ghost use Rattle.uca_table.specs.Steps;
+ghost use Rattle.uca_table.specs.ElementSteps;
 
 use std::alloc::Allocator;
-use uca_fields::{skip_blanks, weight};
+use uca_lines::fields::{skip_blanks, weight};
 use uca_values::FaultKind;
 use uca_weights::Element;
 
@@ -56,9 +56,9 @@ fn opens(text: &[u8]) -> bool
 }
 
 // The element at the front of the text, and what follows it.
-#[tactic(auto, unfolding(crate::specs::Steps::element_at))]
+#[tactic(auto, unfolding(crate::specs::ElementSteps::element_at))]
 fn element(text: &[u8]) -> Option<(Element, &[u8])>
-    ensures { option_map (λ found. (found.0, found.1.now)) result ≡ Steps.element_at text.now }
+    ensures { option_map (λ found. (found.0, found.1.now)) result ≡ ElementSteps.element_at text.now }
 {
     let text = after_byte(text, b'[')?;
     let (mark, text) = mark(text)?;
@@ -77,9 +77,9 @@ fn element(text: &[u8]) -> Option<(Element, &[u8])>
     Some((element, text))
 }
 
-#[tactic(auto, unfolding(crate::specs::Steps::after_byte))]
+#[tactic(auto, unfolding(crate::specs::ElementSteps::after_byte))]
 fn after_byte(text: &[u8], byte: u8) -> Option<&[u8]>
-    ensures { option_map (λ rest. rest.now) result ≡ Steps.after_byte byte text.now }
+    ensures { option_map (λ rest. rest.now) result ≡ ElementSteps.after_byte byte text.now }
 {
     match text {
         [first, rest @ ..] if *first == byte => Some(rest),
@@ -87,9 +87,9 @@ fn after_byte(text: &[u8], byte: u8) -> Option<&[u8]>
     }
 }
 
-#[tactic(auto, unfolding(crate::specs::Steps::mark_at))]
+#[tactic(auto, unfolding(crate::specs::ElementSteps::mark_at))]
 fn mark(text: &[u8]) -> Option<(bool, &[u8])>
-    ensures { option_map (λ found. (found.0, found.1.now)) result ≡ Steps.mark_at text.now }
+    ensures { option_map (λ found. (found.0, found.1.now)) result ≡ ElementSteps.mark_at text.now }
 {
     match text {
         [b'.', rest @ ..] => Some((false, rest)),
@@ -98,9 +98,9 @@ fn mark(text: &[u8]) -> Option<(bool, &[u8])>
     }
 }
 
-#[tactic(auto, unfolding(crate::specs::Steps::weight_at))]
+#[tactic(auto, unfolding(crate::specs::ElementSteps::weight_at))]
 fn leading_weight(text: &[u8]) -> Option<(u16, &[u8])>
-    ensures { option_map (λ found. (found.0, found.1.now)) result ≡ Steps.weight_at text.now }
+    ensures { option_map (λ found. (found.0, found.1.now)) result ≡ ElementSteps.weight_at text.now }
 {
     if text.len() < 4 {
         return None;

@@ -4,9 +4,9 @@ ghost use Rattle.std.specs.Prelude.{◌≡◌, ◌⊎◌, ◌+◌, ◌<◌, ◌�
 ghost use Rattle.std.specs.List.{list_all};
 ghost use Rattle.uca_values.specs.Content.{is_version_name, is_name_byte, IsImplicitRange, Agree};
 ghost use Rattle.uca_table.specs.Headers.{IsRangeText, MayFollow, RangeTextCause};
-ghost use Rattle.uca_canonical.specs.Words.{setting_word};
+ghost use Rattle.uca_table.specs.CanonicalWords.{setting_word};
 
-use uca_fields::{RangeFault, code_point_range, cut_at, trim, weight};
+use uca_lines::fields::{RangeFault, code_point_range, cut_at, trim, weight};
 use uca_values::{FaultKind, ImplicitRange};
 use uca_weights::Weighting;
 

@@ -3,6 +3,8 @@
 //! reader of data files are offered here too.
 #![tactic(auto)]
 
+mod canonical;
+mod data_file;
 mod elements;
 mod headers;
 mod laws;
@@ -12,7 +14,7 @@ mod rows;
 
 pub use laws::{canonical_text_means_its_table, canonical_text_means_the_same, worked_lines};
 pub use read::read_table;
-pub use uca_canonical::write_table;
+pub use canonical::write_table;
 pub use uca_check::{IllFormed, check};
-pub use uca_data::read_data;
+pub use data_file::read_data;
 pub use uca_values::{Data, FaultKind, Header, ImplicitRange, Row, Table, TableFault};

@@ -9,8 +9,8 @@ use std::alloc::{Allocator, Global};
 use std::collections::BTreeSet;
 use std::marker::Model;
 use std::str;
-use uca_fields::{cut_word, line_text, skip_blanks};
-use uca_files::{FileForm, TABLE_FORM, TakesLines};
+use uca_lines::fields::{cut_word, line_text, skip_blanks};
+use uca_lines::files::{FileForm, TABLE_FORM, TakesLines};
 use uca_values::{FaultKind, Header, ImplicitRange, Row, Table};
 use uca_weights::Weighting;
 
@@ -37,7 +37,7 @@ impl<A: Allocator + Copy> Model for TableLines<A> {
     ghost use Rattle.std.specs.Ordering.{nat_cmp};
     ghost use Rattle.std.specs.Cmp.Lexicographic.{slice_cmp};
     ghost use Rattle.std.specs.BTreeSet.{contains};
-    ghost use Rattle.uca_table.specs.Begun.{Begun};
+    ghost use Rattle.uca_table.specs.TableSoFar.{Begun};
     ghost use Rattle.uca_table.specs.Keeping.{Keeps};
 
     ghost Value = { Begun };
@@ -61,7 +61,7 @@ impl<A: Allocator + Copy> Model for TableLines<A> {
 
 impl<A: Allocator + Copy> TableLines<A> {
     ghost use Rattle.std.specs.Prelude.{◌≡◌, [], None, Some, MatchOption};
-    ghost use Rattle.uca_table.specs.Lines.{IsUnfinished, Gives};
+    ghost use Rattle.uca_table.specs.TableLines.{IsUnfinished, Gives};
 
     /// Nothing is said yet. It takes no memory.
     pub fn new(alloc: A) -> Self
@@ -101,11 +101,11 @@ impl<A: Allocator + Copy> TableLines<A> {
 
 impl<A: Allocator + Copy> TableLines<A> {
     ghost use Rattle.std.specs.Prelude.{◌≡◌, ◌≢◌, ◌⊎◌, ◌<◌, ◌++◌, [], ◌∷◌, length, Contains, true, false, IsSome, IsTrue, ◌↔◌, OnOk, OnErr, IfErr};
-    ghost use Rattle.uca_fields.specs.Text.{word_of};
+    ghost use Rattle.uca_lines.specs.Fields.{word_of};
     ghost use Rattle.uca_values.specs.Content.{IsEntry, keys_of};
-    ghost use Rattle.uca_canonical.specs.Words.{at_version, at_variable, at_ranges};
+    ghost use Rattle.uca_table.specs.CanonicalWords.{at_version, at_variable, at_ranges};
     ghost use Rattle.uca_table.specs.Rows.{AddCause};
-    ghost use Rattle.uca_table.specs.Lines.{begins_at, IsDue, ForSetting, ForRange, TextCause};
+    ghost use Rattle.uca_table.specs.TableLines.{begins_at, IsDue, ForSetting, ForRange, TextCause};
     ghost use Rattle.uca_table.specs.Taking.{TakesText};
 
     // Takes the text of a line that begins with `@`.
@@ -232,13 +232,13 @@ impl<A: Allocator + Copy> TableLines<A> {
 }
 
 impl<A: Allocator + Copy> TakesLines for TableLines<A> {
-    ghost use Rattle.uca_table.specs.Lines.{Says, Cause};
+    ghost use Rattle.uca_table.specs.TableLines.{Says, Cause};
     ghost use Rattle.uca_table.specs.Taking.{Takes};
-    ghost use Rattle.uca_table.specs.OneMore as one_more;
+    ghost use Rattle.uca_table.specs.AppendTableLine as one_more;
     ghost use Rattle.std.specs.Prelude.{refl};
-    ghost use Rattle.uca_files.specs.declared.TheConstants.{TABLE_FORM};
-    ghost use Rattle.uca_files.specs.Faults.{is_read_kind};
-    ghost use Rattle.uca_files.proofs.KindLemmas.{not_read};
+    ghost use Rattle.uca_lines.specs.declared.files.TheConstants.{TABLE_FORM};
+    ghost use Rattle.uca_lines.specs.FileStops.{is_read_kind};
+    ghost use Rattle.uca_lines.proofs.FaultKindLemmas.{not_read};
 
     type Kind = FaultKind;
 

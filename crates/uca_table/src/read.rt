@@ -2,13 +2,13 @@
 
 ghost use Rattle.std.specs.Prelude.{◌≡◌, ◌||◌, IfOk, IfErr, IfSome, MatchResult};
 ghost use Rattle.uca_values.specs.Content.{TableContent};
-ghost use Rattle.uca_files.specs.Faults.{IsStop, is_read};
-ghost use Rattle.uca_table.specs.Lines.{Means, Refuses};
+ghost use Rattle.uca_lines.specs.FileStops.{IsStop, is_read};
+ghost use Rattle.uca_table.specs.TableLines.{Means, Refuses};
 
 use crate::lines::TableLines;
 use std::alloc::Allocator;
 use std::io::Read;
-use uca_files::read_lines;
+use uca_lines::files::read_lines;
 use uca_values::{FaultKind, Table, TableFault};
 use uca_weights::Source;
 

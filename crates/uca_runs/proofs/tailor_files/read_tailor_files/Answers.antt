@@ -1,8 +1,8 @@
 -- Which of the three files is refused, and what is read of files that mean something.
 use Rattle.std.proofs.lemmas.Result.{err_from_is_err_and}
 use Rattle.uca_values.specs.Content.{properties_of}
-use Rattle.uca_table.specs.Lines as tables
-use Rattle.uca_data.specs.Said as data_files
+use Rattle.uca_table.specs.TableLines as tables
+use Rattle.uca_table.specs.DataSoFar as data_files
 use Rattle.uca_rules.specs.Meaning as rule_files
 use Rattle.uca_runs.proofs.Auditing.{stops, reads, under_properties}
 use Rattle.uca_runs.proofs.Tailoring.{same_tailor_content}

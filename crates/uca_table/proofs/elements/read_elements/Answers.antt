@@ -1,7 +1,7 @@
 -- Each element is one more after those before it, and where none is read the rest begins with none.
 use Rattle.std.proofs.Common.{[], ◌∷◌, length, length-append, arith, sym, ◌∙◌, ap, inr}
-use Rattle.uca_fields.proofs.CutLaws.{length-skip_blanks}
-use Rattle.uca_fields.proofs.LeadLaws.{leads_more}
+use Rattle.uca_lines.proofs.FieldLemmas.{length-skip_blanks}
+use Rattle.uca_lines.proofs.LeadLemmas.{leads_more}
 use Rattle.uca_table.specs.Elements.{BeginsElement}
 use Rattle.uca_table.proofs.ElementLaws.{element_takes, after_element, weight_cause, limit_cause}
 use Rattle.uca_table.proofs.elements.read_elements.Goals as goal

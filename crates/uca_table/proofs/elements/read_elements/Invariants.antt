@@ -1,5 +1,5 @@
 use Rattle.std.proofs.Common.{◌≤◌, length}
-use Rattle.uca_fields.specs.Leads.{Leads}
+use Rattle.uca_lines.specs.Leads.{Leads}
 use Rattle.uca_table.specs.Elements.{BeginsElement}
 use Rattle.uca_table.proofs.elements.read_elements.Given as goal
 

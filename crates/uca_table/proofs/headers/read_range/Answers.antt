@@ -1,8 +1,8 @@
 -- What follows the ends begins with `;`.
 use Rattle.std.proofs.Common.{sym, ap, ◌∙◌}
-use Rattle.uca_fields.specs.Text.{trim}
-use Rattle.uca_fields.specs.Number.{weight_of}
-use Rattle.uca_fields.specs.Ranges.{range_of}
+use Rattle.uca_lines.specs.Fields.{trim}
+use Rattle.uca_lines.specs.Numbers.{weight_of}
+use Rattle.uca_lines.specs.CodePointRanges.{range_of}
 use Rattle.uca_table.proofs.RowLaws.{after_semicolon}
 use Rattle.uca_table.proofs.headers.read_range.Goals as goal
 

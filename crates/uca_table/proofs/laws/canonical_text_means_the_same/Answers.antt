@@ -1,4 +1,4 @@
-use Rattle.uca_table.proofs.Canonical.{canonical_means_only}
+use Rattle.uca_table.proofs.CanonicalMeaning.{canonical_means_only}
 use Rattle.uca_table.proofs.CanonicalAgain.{meant_is_table}
 use Rattle.uca_table.proofs.laws.canonical_text_means_the_same.Goals as goal
 

@@ -1,7 +1,7 @@
 -- Each line, by computation.
 use Rattle.std.proofs.Common.{codes, [], refl, lit<, lit≤}
-use Rattle.uca_fields.specs.Number.{digits}
-use Rattle.uca_canonical.specs.Elements.{element_text}
+use Rattle.uca_lines.specs.Numbers.{digits}
+use Rattle.uca_table.specs.CanonicalElements.{element_text}
 use Rattle.uca_table.proofs.laws.worked_lines.Goals as goal
 
 pub returns : goal.returns

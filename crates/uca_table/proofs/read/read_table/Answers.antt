@@ -1,10 +1,10 @@
 -- Bytes mean one table at most, and none where a fault stands.
-use Rattle.uca_files.proofs.FileLaws.{only_known}
-use Rattle.uca_files.specs.declared.TheConstants.{TABLE_FORM}
+use Rattle.uca_lines.proofs.FileLemmas.{only_known}
+use Rattle.uca_lines.specs.declared.files.TheConstants.{TABLE_FORM}
 use Rattle.uca_values.specs.declared.faults.TableFault.{TableFault}
 use Rattle.uca_values.specs.Content.{TableContent}
-use Rattle.uca_table.specs.Lines.{Says, Cause, IsUnfinished, Gives}
-use Rattle.uca_table.proofs.Exact.{exact, gives_one, gives_finished}
+use Rattle.uca_table.specs.TableLines.{Says, Cause, IsUnfinished, Gives}
+use Rattle.uca_table.proofs.TableMeanings.{exact, gives_one, gives_finished}
 use Rattle.uca_table.proofs.read.read_table.Goals as goal
 
 pub returns-clause-only : goal.returns-clause-only

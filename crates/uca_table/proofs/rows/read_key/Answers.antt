@@ -1,8 +1,8 @@
 -- Each code point is one more after those before it.
 use Rattle.std.proofs.Common.{[], ◌∷◌, length, length-append, arith, ap, inr}
-use Rattle.uca_fields.specs.Leads.{BeginsCodePoint}
-use Rattle.uca_fields.proofs.CutLaws.{length-skip_blanks}
-use Rattle.uca_fields.proofs.LeadLaws.{leads_more}
+use Rattle.uca_lines.specs.Leads.{BeginsCodePoint}
+use Rattle.uca_lines.proofs.FieldLemmas.{length-skip_blanks}
+use Rattle.uca_lines.proofs.LeadLemmas.{leads_more}
 use Rattle.uca_table.proofs.KeyLaws.{code_point_begins, after_code_point, key_limit_cause}
 use Rattle.uca_table.proofs.rows.read_key.Goals as goal
 

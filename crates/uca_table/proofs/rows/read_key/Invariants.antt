@@ -1,5 +1,5 @@
 use Rattle.std.proofs.Common.{◌≤◌, length}
-use Rattle.uca_fields.specs.Leads.{Leads, BeginsCodePoint}
+use Rattle.uca_lines.specs.Leads.{Leads, BeginsCodePoint}
 use Rattle.uca_table.proofs.rows.read_key.Given as goal
 
 abbrev pub invariant-loop-rest : goal.invariant-loop-rest

@@ -2,7 +2,7 @@
 use Rattle.std.proofs.Common.{◌++◌, ◌∷◌, [], sym, ap, subst, ◌∙◌, inr, arith, refl}
 use Rattle.std.specs.Prelude.{IsSome}
 use Rattle.uca_values.specs.Content.{Entry}
-use Rattle.uca_table.specs.Begun.{Begun}
+use Rattle.uca_table.specs.TableSoFar.{Begun}
 use Rattle.uca_table.proofs.KeepingLaws.{with_rows, keeps_row, keeps_same, contained, not_contained, added_at}
 use Rattle.uca_table.proofs.lines.TableLines.add_row.Goals as goal
 

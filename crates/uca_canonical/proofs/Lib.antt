@@ -1,3 +1,0 @@
-pub mod DigitLaws
-pub mod Texts
-pub mod Sizes

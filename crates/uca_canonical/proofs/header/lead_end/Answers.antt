@@ -1,5 +1,0 @@
-use Rattle.uca_canonical.proofs.DigitLaws.{lead_end_is}
-use Rattle.uca_canonical.proofs.header.lead_end.Goals as goal
-
-pub returns : goal.returns
-returns c = lead_end_is c.args.lead _ c.four_digits.ensures

@@ -1,4 +1,0 @@
-pub mod Words
-pub mod Elements
-pub mod Canonical
-pub mod LineTexts

@@ -1,4 +1,0 @@
-pub mod Words
-pub mod Taken
-pub mod Viewed
-pub mod Exact

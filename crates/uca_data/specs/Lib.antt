@@ -1,4 +1,0 @@
-pub mod Lines
-pub mod Said
-pub mod Steps
-pub mod OneMore

@@ -1,8 +1,0 @@
-//! Data files: the combining classes and the Han ranges of code points, line by line.
-#![tactic(auto)]
-
-mod begun;
-mod lines;
-mod read;
-
-pub use read::read_data;

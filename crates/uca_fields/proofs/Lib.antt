@@ -1,4 +1,0 @@
-pub mod CutLaws
-pub mod Digits
-pub mod LeadLaws
-pub mod ManyDigits

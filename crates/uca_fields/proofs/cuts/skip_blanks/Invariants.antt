@@ -1,9 +1,0 @@
-use Rattle.std.proofs.Common.{◌≡◌, length}
-use Rattle.uca_fields.specs.Text.{skip_blanks}
-use Rattle.uca_fields.proofs.cuts.skip_blanks.Given as goal
-
-abbrev pub invariant-loop-text : goal.invariant-loop-text
-invariant-loop-text l = skip_blanks l.text ≡ skip_blanks l.initial.text
-
-abbrev pub decreases-loop-text : goal.decreases-loop-text
-decreases-loop-text l = length l.text

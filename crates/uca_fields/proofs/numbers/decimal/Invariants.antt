@@ -1,9 +1,0 @@
-use Rattle.std.proofs.Common.{◌≡◌, ◌^◌, ◌<◌, take, Some}
-use Rattle.uca_fields.specs.Number.{decimal_of}
-use Rattle.uca_fields.proofs.numbers.decimal.Given as goal
-
-abbrev pub invariant-loop-byte : goal.invariant-loop-byte
-invariant-loop-byte l = record {
-  read : decimal_of (take l.byte-index l.word) ≡ Some l.number;
-  small : l.number < 10 ^ l.byte-index;
-}

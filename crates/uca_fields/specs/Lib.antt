@@ -1,4 +1,0 @@
-pub mod Text
-pub mod Number
-pub mod Ranges
-pub mod Leads

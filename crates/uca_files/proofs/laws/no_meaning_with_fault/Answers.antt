@@ -1,5 +1,0 @@
-use Rattle.uca_files.proofs.FileLaws.{no_meaning}
-use Rattle.uca_files.proofs.laws.no_meaning_with_fault.Goals as goal
-
-pub returns : goal.returns
-returns g c = no_meaning g.T.TakesLines.form g.T.TakesLines.says g.T.TakesLines.cause g.T.ExactLines.is_unfinished g.met.T.ExactLines.exact

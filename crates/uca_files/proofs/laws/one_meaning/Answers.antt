@@ -1,5 +1,0 @@
-use Rattle.uca_files.proofs.FileLaws.{one_meaning}
-use Rattle.uca_files.proofs.laws.one_meaning.Goals as goal
-
-pub returns : goal.returns
-returns g c = one_meaning g.T.TakesLines.form g.T.TakesLines.says (g.met.T.ExactLines.exact).same

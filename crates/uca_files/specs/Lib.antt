@@ -1,5 +1,0 @@
-pub mod Faults
-pub mod Files
-pub mod Kinds
-pub mod Laws
-pub mod Steps

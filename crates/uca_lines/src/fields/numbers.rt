@@ -1,0 +1,131 @@
+//! Numbers in a text.
+
+ghost use Rattle.std.specs.Prelude.{◌≡◌, ◌≤◌, ◌<◌, ◌^◌, ◌%◌, length, IfSome, [], ◌∷◌};
+ghost use Rattle.uca_lines.specs.Numbers.{hex_of, code_point_of, weight_of, decimal_of, class_of, upper_digit, digits};
+
+/// The code point that a word of four to six digits stands for; None where the word is another text, and
+/// for a surrogate or a number above 10FFFF.
+pub fn code_point(word: &[u8]) -> Option<char>
+    ensures { result ≡ code_point_of word.now }
+{
+    if word.len() < 4 || word.len() > 6 {
+        return None;
+    }
+    char::from_u32(hexadecimal(word)?)
+}
+
+/// The weight that a word of four digits stands for; None where the word is another text.
+pub fn weight(word: &[u8]) -> Option<u16>
+    ensures { result ≡ weight_of word.now }
+{
+    if word.len() != 4 {
+        return None;
+    }
+    let number = hexadecimal(word)?;
+    Some(number as u16)
+}
+
+/// The combining class, 1 to 254, that a word of decimal digits stands for; None where the word is
+/// another text, begins with 0, or stands for another number.
+pub fn class_number(word: &[u8]) -> Option<u8>
+    ensures { result ≡ class_of word.now }
+{
+    if word.len() > 3 || word.first() == Some(&b'0') {
+        return None;
+    }
+    let number = decimal(word)?;
+    if number == 0 || number > 254 {
+        return None;
+    }
+    Some(number as u8)
+}
+
+// The number that at most six digits stand for.
+fn hexadecimal(word: &[u8]) -> Option<u32>
+    requires { length word.now ≤ 6 }
+    ensures number { result ≡ hex_of word.now }
+    ensures small { IfSome result (λ n. n < 16 ^ length word.now) }
+{
+    let mut number = 0;
+    for byte in word {
+        number = number * 16 + digit(*byte)?;
+    }
+    Some(number)
+}
+
+fn digit(byte: u8) -> Option<u32>
+    ensures { result ≡ hex_of (byte ∷ []) }
+{
+    match byte {
+        b'0'..=b'9' => Some(u32::from(byte - b'0')),
+        b'A'..=b'F' => Some(u32::from(byte - b'A') + 10),
+        _ => None,
+    }
+}
+
+// The number that at most three decimal digits stand for.
+fn decimal(word: &[u8]) -> Option<u16>
+    requires { length word.now ≤ 3 }
+    ensures number { result ≡ decimal_of word.now }
+    ensures small { IfSome result (λ n. n < 10 ^ length word.now) }
+{
+    let mut number = 0;
+    for byte in word {
+        number = number * 10 + decimal_digit(*byte)?;
+    }
+    Some(number)
+}
+
+fn decimal_digit(byte: u8) -> Option<u16>
+    ensures { result ≡ decimal_of (byte ∷ []) }
+{
+    match byte {
+        b'0'..=b'9' => Some(u16::from(byte - b'0')),
+        _ => None,
+    }
+}
+
+/// The upper-case hexadecimal digit of a value below 16.
+pub fn hexadecimal_digit(value: u8) -> u8
+    requires { value < 16 }
+    ensures { result ≡ upper_digit value }
+{
+    if value < 10 {
+        b'0' + value
+    } else {
+        b'A' + (value - 10)
+    }
+}
+
+/// The last six digits of a number.
+pub fn six_digits(number: u32) -> [u8; 6]
+    ensures { result ≡ digits 6 number }
+{
+    [
+        last_digit(number / 0x10_0000),
+        last_digit(number / 0x1_0000),
+        last_digit(number / 0x1000),
+        last_digit(number / 0x100),
+        last_digit(number / 0x10),
+        last_digit(number),
+    ]
+}
+
+/// The digits of a number of 16 bits.
+pub fn four_digits(number: u16) -> [u8; 4]
+    ensures { result ≡ digits 4 number }
+{
+    let number = u32::from(number);
+    [
+        last_digit(number / 0x1000),
+        last_digit(number / 0x100),
+        last_digit(number / 0x10),
+        last_digit(number),
+    ]
+}
+
+fn last_digit(number: u32) -> u8
+    ensures { result ≡ upper_digit (number % 16) }
+{
+    hexadecimal_digit((number % 16) as u8)
+}

@@ -1,0 +1,108 @@
+//! Files that are read line by line: what each line must be, where a fault stands, and the loop that
+//! reads them.
+
+ghost use Rattle.std.specs.Prelude.{◌≡◌, ◌⊎◌, ℕ, ◌<◌, ◌≤◌, List, [], ◌∷◌, ◌++◌, length, Bool, false, None, OnOk, IfErr};
+ghost use Rattle.uca_lines.specs.FaultKinds.{CallsReadsAlone};
+ghost use Rattle.uca_lines.specs.declared.files.FileForm.{FileForm};
+
+pub mod laws;
+mod reading;
+
+pub use reading::read_lines;
+pub use uca_values::{FaultKind, TableFault};
+
+/// How files of one kind are cut into lines, and what their faults are called.
+#[derive(Clone, Copy, Debug, PartialEq, Eq)]
+pub struct FileForm<K> {
+    /// How many bytes a line may have, its LF not counted.
+    pub longest: usize,
+    /// The fault of a line with more bytes.
+    pub too_long: K,
+    /// The fault of line 1,000,001. None where the lines that a file may have are fewer in any case.
+    pub too_many: Option<K>,
+    /// The fault of a last line that no LF ends.
+    pub no_lf: K,
+    /// Whether a last line that no LF ends is refused before what it says is judged.
+    pub lf_first: bool,
+    /// The fault where the reader failed.
+    pub failed_read: K,
+    /// The fault where an allocation failed.
+    pub no_memory: K,
+    /// The fault of a file that ends too early. None where a file may end after any line.
+    pub early_end: Option<K>,
+}
+
+/// The form of table files and of data files.
+pub const TABLE_FORM: FileForm<FaultKind> = FileForm {
+    longest: 4096,
+    too_long: FaultKind::Limit,
+    too_many: Some(FaultKind::Limit),
+    no_lf: FaultKind::Line,
+    lf_first: false,
+    failed_read: FaultKind::Read,
+    no_memory: FaultKind::Memory,
+    early_end: Some(FaultKind::Order),
+};
+
+/// A file is refused: the line, and why. A file that ends too early has the number of its lines plus one.
+#[derive(Clone, Copy, Debug, PartialEq, Eq)]
+pub struct FileFault<K> {
+    /// The line, counted from 1.
+    pub line: u32,
+    /// Why it is refused.
+    pub kind: K,
+}
+
+impl From<FileFault<FaultKind>> for TableFault {
+    ghost from_gives = { λ fault given. given ≡ record { line = fault.line; kind = fault.kind } };
+
+    fn from(fault: FileFault<FaultKind>) -> TableFault {
+        TableFault {
+            line: fault.line,
+            kind: fault.kind,
+        }
+    }
+}
+
+/// What the lines of a file say, taken one after the other.
+pub trait TakesLines {
+    /// Why a file is refused.
+    type Kind: Copy + Drop;
+
+    // how the file is cut into lines, and what its faults are called
+    ghost form: { FileForm Self.Kind };
+
+    // whether the kind is that of a reader that failed
+    ghost is_read: { Self.Kind → Bool };
+
+    // the lines, from the first on, are acceptable in order and say this
+    ghost says: { List (List ℕ) → Self → Type 0 };
+
+    // with one more line, the second is what they say
+    ghost takes: { Self → List ℕ → Self → Type 0 };
+
+    // a cause of the kind stands in the next line
+    ghost cause: { Self → List ℕ → Self.Kind → Type 0 };
+
+    /// How the file is cut into lines, and what its faults are called.
+    fn form() -> FileForm<Self::Kind>
+        ensures { result ≡ form };
+
+    /// Takes the next line, without its LF.
+    fn take(&mut self, line: &[u8]) -> Result<(), Self::Kind>
+        requires { length line.now ≤ form.longest }
+        ensures ok { OnOk result (takes self.old line.now self.new) }
+        ensures fault { IfErr result (λ kind. (kind ≡ form.no_memory) ⊎ cause self.old line.now kind) };
+
+    // of the kinds of the form, that of a reader that failed alone is so called
+    ghost apart: { CallsReadsAlone form is_read };
+
+    // no line is to blame for a reader that fails
+    ghost no_read: { (said : Self) (line : List ℕ) (kind : Self.Kind) → cause said line kind → is_read kind ≡ false };
+
+    // one more line
+    ghost says_more: { (lines : List (List ℕ)) (old : Self) (line : List ℕ) (new : Self) → says lines old → takes old line new → length line ≤ form.longest → length lines < 1000000 → says (lines ++ line ∷ []) new };
+
+    // with no limit on lines, there are always fewer
+    ghost few: { (lines : List (List ℕ)) (said : Self) → form.too_many ≡ None → says lines said → length lines < 1000000 };
+}

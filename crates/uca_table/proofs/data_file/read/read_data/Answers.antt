@@ -1,0 +1,12 @@
+use Rattle.uca_lines.proofs.FileLemmas.{only_known}
+use Rattle.uca_lines.specs.declared.files.TheConstants.{TABLE_FORM}
+use Rattle.uca_values.specs.declared.faults.TableFault.{TableFault}
+use Rattle.uca_values.specs.Content.{DataContent, properties_of}
+use Rattle.uca_table.specs.DataSoFar.{Says, Cause, IsUnfinished, Gives}
+use Rattle.uca_table.proofs.DataMeanings.{exact, gives_one, gives_finished}
+use Rattle.uca_table.proofs.data_file.read.read_data.Goals as goal
+
+pub returns-clause-only : goal.returns-clause-only
+returns-clause-only g c =
+    only_known {X = DataContent} {F = TableFault} properties_of (λ fault. fault.line) (λ fault. fault.kind) TABLE_FORM Says Cause IsUnfinished Gives
+    exact gives_one gives_finished _ _ c.read_to_end.result c.read_to_end.ensures.found c.read_to_end.ensures.fault

@@ -1,0 +1,10 @@
+use Rattle.std.proofs.lemmas.Result.{err_from_is_err_and}
+use Rattle.uca_lines.specs.declared.files.TheConstants.{TABLE_FORM}
+use Rattle.uca_table.specs.DataSoFar.{Says, Cause, IsUnfinished, summary}
+use Rattle.uca_table.proofs.DataViewed.{refused_view}
+use Rattle.uca_table.proofs.data_file.read.read_to_end.Goals as goal
+
+pub returns-in_err-count-clause-fault : goal.returns-in_err-count-clause-fault
+returns-in_err-count-clause-fault g c =
+    let p = err_from_is_err_and c.from_residual.result c.from_residual.ensures.1 in
+    rw (p.1, p.2) (refused_view TABLE_FORM (λ begun. summary begun.started begun.«data») Says Cause IsUnfinished _ _ _ _ c.in_err-count.ensures.fault)

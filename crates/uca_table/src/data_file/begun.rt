@@ -1,0 +1,97 @@
+//! What the lines of a data file say, taken one after the other.
+
+ghost use Rattle.std.specs.Prelude.{◌≡◌, ◌⊎◌, ◌<◌, ◌≤◌, List, ℕ, length, true, false, refl, OnOk, IfErr, Ok};
+ghost use Rattle.uca_values.specs.declared.faults.FaultKind.{FaultKind};
+ghost use Rattle.uca_lines.specs.declared.files.TheConstants.{TABLE_FORM};
+ghost use Rattle.uca_lines.specs.FileStops.{is_read_kind};
+ghost use Rattle.uca_table.specs.DataSoFar.{Says, Cause, RangeCause, summary};
+ghost use Rattle.uca_table.specs.DataSteps.{Takes, IsAdded, IsNumbered};
+ghost use Rattle.uca_lines.proofs.FaultKindLemmas.{not_read};
+ghost use Rattle.uca_table.specs.AppendDataLine.{no_read, says_more};
+
+use crate::data_file::lines::{RangeLine, range_line};
+use std::alloc::Allocator;
+use uca_lines::fields::line_text;
+use uca_lines::files::{FileForm, TABLE_FORM, TakesLines};
+use uca_values::{Data, FaultKind, RangeFault};
+
+/// The line before all ranges.
+const HEADER: &[u8] = b"@data 1";
+
+/// What the lines so far say: whether the header stands, and the properties that the ranges give.
+#[derive(Drop)]
+pub struct Begun<A: Allocator> {
+    pub started: bool,
+    pub data: Data<A>,
+}
+
+impl<A: Allocator> TakesLines for Begun<A> {
+    type Kind = FaultKind;
+
+    ghost form = { TABLE_FORM };
+
+    ghost is_read = { is_read_kind };
+
+    ghost says = { λ lines begun. Says lines (summary begun.started begun.«data») };
+
+    ghost takes = { λ old line new. Takes (summary old.started old.«data») line (summary new.started new.«data») };
+
+    ghost cause = { λ begun line kind. Cause (summary begun.started begun.«data») line kind };
+
+    fn form() -> FileForm<FaultKind> {
+        TABLE_FORM
+    }
+
+    fn take(&mut self, line: &[u8]) -> Result<(), FaultKind> {
+        let text = line_text(line);
+        if text.is_empty() {
+            return Ok(());
+        }
+        if text == HEADER {
+            return start(&mut self.started);
+        }
+        if !self.started {
+            return Err(FaultKind::Order);
+        }
+        add(&mut self.data, range_line(text)?)
+    }
+
+    ghost apart = { record { failed_read = refl; too_long = refl; too_many = refl; no_lf = refl; no_memory = refl } };
+
+    ghost no_read = { λ begun line. not_read (Cause (summary begun.started begun.«data») line) (no_read (summary begun.started begun.«data») line) };
+
+    ghost says_more = { λ lines old line new before taken _ _. says_more lines (summary old.started old.«data») line (summary new.started new.«data») before taken };
+
+    ghost few = { λ _ _ none _. Prim.cc };
+}
+
+// The header stands from now on, if it does not stand already.
+fn start(started: &mut bool) -> Result<(), FaultKind>
+    ensures ok { OnOk result ((started.old ≡ false) × (started.new ≡ true)) }
+    ensures err { IfErr result (λ kind. (kind ≡ FaultKind.Order) × (started.old ≡ true) × (started.new ≡ started.old)) }
+{
+    if *started {
+        return Err(FaultKind::Order);
+    }
+    *started = true;
+    Ok(())
+}
+
+fn add<A: Allocator>(data: &mut Data<A>, range: RangeLine) -> Result<(), FaultKind>
+    requires { IsNumbered range }
+    ensures ok { OnOk result (IsAdded (summary true «data».old) range (summary true «data».new)) }
+    ensures err { IfErr result (λ kind. («data».new ≡ «data».old)
+        × ((kind ≡ FaultKind.Memory) ⊎ RangeCause (summary true «data».old) (Ok range) kind)) }
+{
+    let added = match range {
+        RangeLine::Class(range) => data.add_class(range),
+        RangeLine::Core(range) => data.add_core(range),
+        RangeLine::Other(range) => data.add_other(range),
+    };
+    match added {
+        Ok(()) => Ok(()),
+        Err(RangeFault::Empty | RangeFault::Overlap) => Err(FaultKind::Range),
+        Err(RangeFault::Limit) => Err(FaultKind::Limit),
+        Err(RangeFault::Memory) => Err(FaultKind::Memory),
+    }
+}

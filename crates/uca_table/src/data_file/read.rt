@@ -1,0 +1,78 @@
+//! Reading of data files.
+
+ghost use Rattle.std.specs.Prelude.{◌≡◌, ◌||◌, IfOk, IfErr, IfSome, MatchResult};
+ghost use Rattle.uca_values.specs.Content.{Properties, properties_of};
+ghost use Rattle.uca_lines.specs.FileStops.{IsStop, is_read};
+ghost use Rattle.uca_table.specs.DataSoFar.{Means, Refuses};
+
+use crate::data_file::begun::Begun;
+use std::alloc::Allocator;
+use std::io::Read;
+use uca_lines::files::read_lines;
+use uca_values::{Data, FaultKind, TableFault};
+use uca_weights::Source;
+
+/// Reads a data file: the combining classes of code points (UAX #44), and which of them are core Han or
+/// other unified ideographs (UTS #10, section 10.1.3).
+///
+/// The first line that is not empty is `@data 1`. Then come, in any order, lines `ccc FIRST..LAST N`,
+/// `core FIRST..LAST` and `other FIRST..LAST`, with one or more blanks between the words. `#` begins a
+/// comment.
+///
+/// # Errors
+///
+/// The first line that is refused, and why: of several causes in a line the first in this order.
+///
+/// - `Limit`: line 1,000,001, or a line of more than 4,096 bytes without its LF.
+/// - `Order`: another line where `@data 1` is due, or `@data 1` a second time. A file that ends without
+///   it is refused with the number of its lines plus one.
+/// - `Line`: another first word, another number of words, or no `..` in the range.
+/// - `CodePoint`: an end of the range is no code point.
+/// - `Weight`: the class is no decimal number from 1 to 254 without leading zeros.
+/// - `Range`: the first code point is greater than the last, two `ccc` ranges overlap, or two ranges of
+///   `core` and `other` lines.
+/// - `Limit`: line 4,097 of a kind.
+/// - `Line`: no LF ends the line.
+///
+/// `Read` where the source failed, and `Memory` where an allocation failed, come with the line that was
+/// being read.
+pub fn read_data<A: Allocator + Copy, R: Read>(
+    alloc: A,
+    source: &mut Source<R>,
+) -> Result<Data<A>, TableFault>
+    // Where the bytes are known.
+    ensures found { IfSome source.old.remaining (λ bytes. IfOk result (λ read.
+        Means bytes (properties_of read))) }
+    ensures only { IfSome source.old.remaining (λ bytes. (properties : Properties) → Means bytes properties →
+        MatchResult result (λ read. properties_of read ≡ properties) (λ fault. IsStop fault.kind)) }
+    ensures fault { IfSome source.old.remaining (λ bytes. IfErr result (Refuses bytes source.new.remaining)) }
+
+    // At any source.
+    ensures failed { source.new.failed ≡ (source.old.failed || is_read result) }
+{
+    read_to_end(alloc, source)
+}
+
+fn read_to_end<A: Allocator + Copy, R: Read>(
+    alloc: A,
+    source: &mut Source<R>,
+) -> Result<Data<A>, TableFault>
+    ensures found { IfSome source.old.remaining (λ bytes. IfOk result (λ read.
+        Means bytes (properties_of read))) }
+    ensures fault { IfSome source.old.remaining (λ bytes. IfErr result (Refuses bytes source.new.remaining)) }
+    ensures failed { source.new.failed ≡ (source.old.failed || is_read result) }
+{
+    let mut begun = Begun {
+        started: false,
+        data: Data::new(alloc),
+    };
+    let count = read_lines(alloc, source, &mut begun)?;
+    let Begun { started, data } = begun;
+    if !started {
+        return Err(TableFault {
+            line: count + 1,
+            kind: FaultKind::Order,
+        });
+    }
+    Ok(data)
+}
