@@ -7,10 +7,10 @@ ghost use Rattle.uca_runs.specs.TailorSources.{TailorHasFailed, TailorsOver, tai
 
 use std::alloc::{Allocator, Global};
 use std::io::{Read, Write};
-use uca_table::write_table;
 use uca_certificates::{Certificate, write_certificate};
 use uca_runs::faults::RunFault;
 use uca_runs::tailor_files::read_tailor_files;
+use uca_table::write_table;
 use uca_tailor::tailor;
 use uca_values::Table;
 use uca_weights::{Sink, Source, WriteFault};

@@ -14,9 +14,9 @@ ghost use Rattle.uca_runs.specs.Runs.{is_file, is_file_read, IsRefused, OfLines,
 use crate::faults::{FileFault, Role, RunFault};
 use std::alloc::{Allocator, Global};
 use std::io::Read;
-use uca_table::{read_data, read_table};
 use uca_key::laws::rows_are_short;
 use uca_match::{Lookup, Trie};
+use uca_table::{read_data, read_table};
 use uca_values::{Data, Header, Table};
 use uca_weights::{Source, Weighting};
 

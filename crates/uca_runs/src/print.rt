@@ -7,8 +7,8 @@ ghost use Rattle.uca_runs.specs.Print;
 ghost use Rattle.uca_runs.specs.Print.{byte_digits, printed_groups, spaced_groups, identical_level, printed_behind, print_line_at};
 
 use std::io::Write;
-use uca_lines::fields::hexadecimal_digit;
 use uca_lines::OutputBuffer;
+use uca_lines::fields::hexadecimal_digit;
 use uca_weights::{Depth, Sink, WriteFault};
 
 /// How many bytes of a key are printed at a time. It is even, so that each part begins where a group does.

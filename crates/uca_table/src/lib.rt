@@ -12,9 +12,9 @@ mod lines;
 mod read;
 mod rows;
 
+pub use canonical::write_table;
+pub use data_file::read_data;
 pub use laws::{canonical_text_means_its_table, canonical_text_means_the_same, worked_lines};
 pub use read::read_table;
-pub use canonical::write_table;
 pub use uca_check::{IllFormed, check};
-pub use data_file::read_data;
 pub use uca_values::{Data, FaultKind, Header, ImplicitRange, Row, Table, TableFault};

@@ -3,8 +3,8 @@
 use crate::cases::text_of;
 use std::alloc::Global;
 use std::test::Fail;
-use uca_table::{read_data, read_table};
 use uca_match::{Collator, Lookup, RowList, Trie};
+use uca_table::{read_data, read_table};
 use uca_text::{Normal, normal};
 use uca_values::{Data, Table};
 use uca_weights::Source;

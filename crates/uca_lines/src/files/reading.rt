@@ -9,9 +9,9 @@ ghost use Rattle.uca_lines.specs.FileSteps.{TakesNext, RefusesNext};
 ghost use Rattle.uca_lines.specs.LineReader.{left_of};
 
 use crate::files::{FileFault, FileForm, TakesLines};
+use crate::{LineFault, LineReader, NextLine};
 use std::alloc::Allocator;
 use std::io::Read;
-use crate::{LineFault, LineReader, NextLine};
 use uca_weights::Source;
 
 /// Reads a file of lines from a source to its end, or to its first fault, and lets `taker` take each

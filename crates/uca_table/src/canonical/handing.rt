@@ -5,8 +5,8 @@ ghost use Rattle.uca_table.specs.Canonical.{point_width, point_text};
 ghost use Rattle.uca_lines.specs.Handing.{HasRoom, Hands};
 
 use std::io::Write;
-use uca_lines::fields::six_digits;
 use uca_lines::OutputBuffer;
+use uca_lines::fields::six_digits;
 use uca_weights::{Sink, WriteFault};
 
 /// Hands over a code point: four digits, or as many as it needs.

@@ -10,8 +10,8 @@ ghost use Rattle.uca_table.specs.CanonicalLineTexts.{setting_text, range_lines, 
 use crate::canonical::handing::hand_point;
 use std::alloc::Allocator;
 use std::io::Write;
-use uca_lines::fields::four_digits;
 use uca_lines::OutputBuffer;
+use uca_lines::fields::four_digits;
 use uca_values::{Header, ImplicitRange};
 use uca_weights::{Sink, Weighting, WriteFault};
 
