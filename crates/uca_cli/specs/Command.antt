@@ -1,5 +1,5 @@
--- What the whole command does: it reads its words, opens the files that they name in their order, runs over them, and ends
--- with a status.
+-- What the whole command does: it reads its words, opens the files that they name in their order, runs over them, and
+-- ends with a status.
 use Rattle.std.specs.Prelude.{◌≡◌, ◌⊎◌, ℕ, List, [], ◌∷◌, ◌||◌, Bool, true, false, Option, Result, Ok, Err}
 use Rattle.uca_weights.specs.declared.Depth.{Depth}
 use Rattle.uca_weights.specs.declared.Weighting.{Weighting}
@@ -29,8 +29,8 @@ use Rattle.uca_cli.specs.Statuses.{IsStatus}
 
 -- ---- What a command works with
 
--- A file system, whose states are of O: what it gives where a file of a name is to be opened, and where one is to be made;
--- what the bytes of an opened file are, and those of a file that was made.
+-- A file system, whose states are of O: what it gives where a file of a name is to be opened, and where one is to be
+-- made; what the bytes of an opened file are, and those of a file that was made.
 pub record FileSystem (O F M : Type 0) : Type 1 where
   pub gives : O → List ℕ → Result F OpenFault → O → Type 0
   pub makes : O → List ℕ → Result M OpenFault → O → Type 0
@@ -100,7 +100,8 @@ five_sources sources =
 -- the file of this name was opened, and this is its source, of which nothing was read
 abbrev pub IsOpened : {O F M : Type 0} → FileSystem O F M → O → O → List ℕ → SourceState → Type 0
 IsOpened {F = F} files old new name source =
-    (file : F) × files.gives old name (Ok file) new × (source ≡ record { remaining = files.remaining file; failed = false })
+    (file : F) × files.gives old name (Ok file) new
+    × (source ≡ record { remaining = files.remaining file; failed = false })
 
 -- the files were opened in this order, and these are their sources
 abbrev pub AreOpened : {O F M : Type 0} → FileSystem O F M → O → O → List NamedFile → List SourceState → Type 0
@@ -117,7 +118,8 @@ DoesNotOpen {O = O} files old new (file ∷ named) role =
     ⊎ ((between : O) × (source : SourceState) × IsOpened files old between file.name source
     × DoesNotOpen files between new named role)
 
--- The files were opened and run over: P of their sources before and after the run, where `listed` are these in their order.
+-- The files were opened and run over: P of their sources before and after the run, where `listed` are these in their
+-- order.
 pub record RunsOpened {O F M S : Type 0} (files : FileSystem O F M) (old new : O) (named : List NamedFile)
     (listed : S → List SourceState) (P : S → S → Type 0) : Type 0 where
   pub before : S
@@ -134,9 +136,9 @@ OpensAndRuns files old new named Stays listed P result =
 
 -- ---- The subcommands over two files
 --
--- Each record says of a run what it answers where the bytes of its files are known, and what holds whatever its files and
--- streams are: where it ended before its output nothing was written, and a source or the output has failed where it had
--- before, or where the run ended by just that.
+-- Each record says of a run what it returns where the bytes of its files are known, and what holds whatever its files
+-- and streams are: where it ended before its output nothing was written, and a source or the output has failed where it
+-- had before, or where the run ended by just that.
 
 -- the status of a run that was done, or its fault
 abbrev pub done_result : {A : Type 0} → Result A RunFault → Result ℕ RunFault
@@ -231,9 +233,9 @@ DoesCompare files old new asked table properties out out_new result =
 
 -- ---- Tailor
 
--- The file of this name was made, and the certificate and the table were written, or as much of them as a writer that fails
--- leaves. What is said of the file is said of the writer that was made; what the file holds when it is closed is up to the
--- file system.
+-- The file of this name was made, and the certificate and the table were written, or as much of them as a writer that
+-- fails leaves. What is said of the file is said of the writer that was made; what the file holds when it is closed is
+-- up to the file system.
 pub record MakesFile {O F M : Type 0} (files : FileSystem O F M) (old new : O) (name : List ℕ) (table : TableContent)
     (certificate : CertificateContent) (out out_new : SinkState) (result : Result ℕ RunFault) : Type 0 where
   pub file : M
@@ -252,8 +254,8 @@ abbrev pub DoesNotMake : {O F M : Type 0} → FileSystem O F M → O → O → L
 DoesNotMake files old new name out out_new result =
     (fault : OpenFault) × files.makes old name (Err fault) new × (result ≡ Err (CertificateWrite 0)) × (out_new ≡ out)
 
--- What becomes of the answer of a run of tailor: its fault is that of the command, and no file is made; or the file of the
--- certificate is made, where it can be, and certificate and table are written.
+-- What becomes of the answer of a run of tailor: its fault is that of the command, and no file is made; or the file of
+-- the certificate is made, where it can be, and certificate and table are written.
 abbrev pub KeepsTailored : {O F M : Type 0} → FileSystem O F M → O → O → List ℕ → SinkState → SinkState
     → Result (TableContent × CertificateContent) RunFault → Result ℕ RunFault → Type 0
 KeepsTailored files old new name out out_new (Err fault) result = (result ≡ Err fault) × (new ≡ old) × (out_new ≡ out)
@@ -320,7 +322,8 @@ DoesWords files old new (Audit base properties rules tailored certificate) start
 -- how the command ends after a run: with its status, or with what its fault reports
 abbrev pub EndsWith : Result ℕ RunFault → ℕ → SinkState → SinkState → SinkState → SinkState → Type 0
 EndsWith (Ok done) status out out_new err err_new = (status ≡ done) × (out_new ≡ out) × (err_new ≡ err)
-EndsWith (Err fault) status out out_new err err_new = IsStatus fault status × Reports fault status out out_new err err_new
+EndsWith (Err fault) status out out_new err err_new =
+    IsStatus fault status × Reports fault status out out_new err err_new
 
 -- The words are refused, and nothing is opened or read; or what they say is done. `err` is standard error.
 abbrev pub DoesCommand : {O F M : Type 0} → FileSystem O F M → O → O → List (List ℕ) → Streams → Streams
