@@ -1,7 +1,8 @@
--- What the whole command does: it reads its words, opens the files that they name in their order, runs over them, and ends
--- with a status. `gives` says what the opener gives where it is to open a file, and `makes` where it is to make one; `remaining`
--- says what the bytes of an opened file are, and `contents` those of a file that was made.
+-- What the whole command does: it reads its words, opens the files that they name in their order, runs over them, and
+-- ends with a status.
 use Rattle.std.specs.Prelude.{◌≡◌, ◌⊎◌, ℕ, List, [], ◌∷◌, ◌||◌, Bool, true, false, Option, Result, Ok, Err}
+use Rattle.uca_weights.specs.declared.Depth.{Depth}
+use Rattle.uca_weights.specs.declared.Weighting.{Weighting}
 use Rattle.uca_weights.specs.Streams.{SourceState, SinkState}
 use Rattle.uca_values.specs.Content.{TableContent}
 use Rattle.uca_certificates.specs.Certificates.{CertificateContent}
@@ -9,24 +10,54 @@ use Rattle.uca_words.specs.declared.Words.{Words as WordsType}
 use Rattle.uca_words.specs.declared.Words.TheVariants.{Check, Keys, Sort, Compare, Tailor, Audit}
 use Rattle.uca_words.specs.Words.{AreRead, IsFaultOf}
 use Rattle.uca_words.specs.declared.WordFault.{WordFault}
-use Rattle.uca_cli.specs.declared.command.OpenFault.{OpenFault}
 use Rattle.uca_runs.specs.declared.faults.Role.{Role}
 use Rattle.uca_runs.specs.declared.faults.Role.TheVariants as roles
 use Rattle.uca_runs.specs.declared.faults.RunFault.{RunFault}
 use Rattle.uca_runs.specs.declared.faults.RunFault.TheVariants.{CertificateWrite, Open, Words}
-use Rattle.uca_runs.specs.AuditSources.{AuditSources, audit_sources, AuditsOver, AuditHasFailed}
-use Rattle.uca_cli.specs.AuditRun.{AcceptsAccepted, RunsAudit}
+use Rattle.uca_runs.specs.AuditSources.{AuditSources, AuditsOver, AuditHasFailed}
 use Rattle.uca_runs.specs.CheckRun.{RunsCheck}
 use Rattle.uca_runs.specs.CompareRun.{RunsCompare}
 use Rattle.uca_runs.specs.KeysRun.{RunsKeys, is_before_input}
 use Rattle.uca_runs.specs.SortRun.{RunsSort}
-use Rattle.uca_runs.specs.TailorSources.{TailorSources, tailor_sources, TailorsOver, TailorHasFailed}
-use Rattle.uca_cli.specs.TailorRun.{RunsTailor, PlansPlanned, WritesTailored, is_certificate_write}
+use Rattle.uca_runs.specs.TailorSources.{TailorSources, TailorsOver, TailorHasFailed}
 use Rattle.uca_runs.specs.Runs.{RunsOver, HaveFailed, is_before_output, is_file, is_input_read, is_write}
+use Rattle.uca_cli.specs.declared.command.OpenFault.{OpenFault}
+use Rattle.uca_cli.specs.AuditRun.{AcceptsAccepted, RunsAudit}
+use Rattle.uca_cli.specs.TailorRun.{RunsTailor, PlansPlanned, WritesTailored, is_certificate_write}
 use Rattle.uca_cli.specs.Reports.{Reports}
 use Rattle.uca_cli.specs.Statuses.{IsStatus}
 
--- ---- Opened files
+-- ---- What a command works with
+
+-- A file system, whose states are of O: what it gives where a file of a name is to be opened, and where one is to be
+-- made; what the bytes of an opened file are, and those of a file that was made.
+pub record FileSystem (O F M : Type 0) : Type 1 where
+  pub gives : O → List ℕ → Result F OpenFault → O → Type 0
+  pub makes : O → List ℕ → Result M OpenFault → O → Type 0
+  pub remaining : F → Option (List ℕ)
+  pub contents : M → Option (List ℕ)
+
+-- the same from its parts
+abbrev pub file_system : {O F M : Type 0} → (O → List ℕ → Result F OpenFault → O → Type 0)
+    → (O → List ℕ → Result M OpenFault → O → Type 0) → (F → Option (List ℕ)) → (M → Option (List ℕ)) → FileSystem O F M
+file_system gives makes remaining contents =
+    record { gives = gives; makes = makes; remaining = remaining; contents = contents }
+
+-- the input and the output
+pub record Streams : Type 0 where
+  pub input : SourceState
+  pub out : SinkState
+
+-- the same from its parts
+abbrev pub streams : SourceState → SinkState → Streams
+streams input out = record { input = input; out = out }
+
+-- the sources of the two files of most subcommands
+pub record TableAndData : Type 0 where
+  pub table : SourceState
+  pub properties : SourceState
+
+-- ---- The files of a subcommand
 
 -- a file that is to be opened: what it is for, and its name
 pub record NamedFile : Type 0 where
@@ -35,153 +66,271 @@ pub record NamedFile : Type 0 where
 
 -- the two files of most subcommands
 abbrev pub table_and_data : List ℕ → List ℕ → List NamedFile
-table_and_data table properties = record { role = roles.Table; name = table } ∷ record { role = roles.Data; name = properties } ∷ []
+table_and_data table properties =
+    record { role = roles.Table; name = table } ∷ record { role = roles.Data; name = properties } ∷ []
+
+-- their sources, in that order
+abbrev pub two_sources : TableAndData → List SourceState
+two_sources sources = sources.table ∷ sources.properties ∷ []
 
 -- the three files that `tailor` reads
 abbrev pub tailor_files : List ℕ → List ℕ → List ℕ → List NamedFile
 tailor_files table properties rules =
-    record { role = roles.Table; name = table } ∷ record { role = roles.Data; name = properties } ∷ record { role = roles.Rules; name = rules } ∷ []
+    record { role = roles.Table; name = table } ∷ record { role = roles.Data; name = properties }
+    ∷ record { role = roles.Rules; name = rules } ∷ []
+
+-- their sources, in that order
+abbrev pub three_sources : TailorSources → List SourceState
+three_sources sources = sources.base ∷ sources.properties ∷ sources.rules ∷ []
 
 -- the five files of `audit`
 abbrev pub audit_files : List ℕ → List ℕ → List ℕ → List ℕ → List ℕ → List NamedFile
 audit_files base properties rules tailored certificate =
-    record { role = roles.Base; name = base } ∷ record { role = roles.Data; name = properties } ∷ record { role = roles.Rules; name = rules }
-    ∷ record { role = roles.Tailored; name = tailored } ∷ record { role = roles.Certificate; name = certificate } ∷ []
+    record { role = roles.Base; name = base } ∷ record { role = roles.Data; name = properties }
+    ∷ record { role = roles.Rules; name = rules } ∷ record { role = roles.Tailored; name = tailored }
+    ∷ record { role = roles.Certificate; name = certificate } ∷ []
+
+-- their sources, in that order
+abbrev pub five_sources : AuditSources → List SourceState
+five_sources sources =
+    sources.base ∷ sources.properties ∷ sources.rules ∷ sources.tailored ∷ sources.certificate ∷ []
+
+-- ---- Opened files
 
 -- the file of this name was opened, and this is its source, of which nothing was read
-abbrev pub IsOpened : {O F : Type 0} → (O → List ℕ → Result F OpenFault → O → Type 0) → (F → Option (List ℕ)) → O → O → List ℕ → SourceState → Type 0
-IsOpened {O = O} {F = F} gives remaining old new name source = (file : F) × gives old name (Ok file) new × (source ≡ record { remaining = remaining file; failed = false })
+abbrev pub IsOpened : {O F M : Type 0} → FileSystem O F M → O → O → List ℕ → SourceState → Type 0
+IsOpened {F = F} files old new name source =
+    (file : F) × files.gives old name (Ok file) new
+    × (source ≡ record { remaining = files.remaining file; failed = false })
 
 -- the files were opened in this order, and these are their sources
-abbrev pub AreOpened : {O F : Type 0} → (O → List ℕ → Result F OpenFault → O → Type 0) → (F → Option (List ℕ)) → O → O → List NamedFile → List SourceState → Type 0
-AreOpened gives remaining old new [] [] = new ≡ old
-AreOpened {O = O} gives remaining old new (file ∷ files) (source ∷ sources) = (between : O) × IsOpened gives remaining old between file.name source × AreOpened gives remaining between new files sources
-AreOpened gives remaining old new _ _ = ⊥
+abbrev pub AreOpened : {O F M : Type 0} → FileSystem O F M → O → O → List NamedFile → List SourceState → Type 0
+AreOpened files old new [] [] = new ≡ old
+AreOpened {O = O} files old new (file ∷ named) (source ∷ sources) =
+    (between : O) × IsOpened files old between file.name source × AreOpened files between new named sources
+AreOpened files old new _ _ = ⊥
 
 -- the file of this role does not open, and those before it did
-abbrev pub DoesNotOpen : {O F : Type 0} → (O → List ℕ → Result F OpenFault → O → Type 0) → (F → Option (List ℕ)) → O → O → List NamedFile → Role → Type 0
-DoesNotOpen gives remaining old new [] role = ⊥
-DoesNotOpen {O = O} gives remaining old new (file ∷ files) role = ((role ≡ file.role) × (fault : OpenFault) × gives old file.name (Err fault) new)
-    ⊎ ((between : O) × (source : SourceState) × IsOpened gives remaining old between file.name source × DoesNotOpen gives remaining between new files role)
+abbrev pub DoesNotOpen : {O F M : Type 0} → FileSystem O F M → O → O → List NamedFile → Role → Type 0
+DoesNotOpen files old new [] role = ⊥
+DoesNotOpen {O = O} files old new (file ∷ named) role =
+    ((role ≡ file.role) × (fault : OpenFault) × files.gives old file.name (Err fault) new)
+    ⊎ ((between : O) × (source : SourceState) × IsOpened files old between file.name source
+    × DoesNotOpen files between new named role)
 
--- the files were opened and run over: P of their sources
-pub record RunsOpened {O F : Type 0} (gives : O → List ℕ → Result F OpenFault → O → Type 0) (remaining : F → Option (List ℕ)) (old new : O) (files : List NamedFile) (P : List SourceState → Type 0) : Type 0 where
-  pub sources : List SourceState
-  pub opened : AreOpened gives remaining old new files sources
-  pub runs : P sources
+-- The files were opened and run over: P of their sources before and after the run, where `listed` are these in their
+-- order.
+pub record RunsOpened {O F M S : Type 0} (files : FileSystem O F M) (old new : O) (named : List NamedFile)
+    (listed : S → List SourceState) (P : S → S → Type 0) : Type 0 where
+  pub before : S
+  pub after : S
+  pub opened : AreOpened files old new named (listed before)
+  pub runs : P before after
 
 -- one of the files does not open, and then this stays as it was; or all are run over
-abbrev pub OpensAndRuns : {O F : Type 0} → (O → List ℕ → Result F OpenFault → O → Type 0) → (F → Option (List ℕ)) → O → O → List NamedFile → Type 0 → (List SourceState → Type 0) → Result ℕ RunFault → Type 0
-OpensAndRuns gives remaining old new files Stays P result = ((role : Role) × (result ≡ Err (Open role)) × DoesNotOpen gives remaining old new files role × Stays)
-    ⊎ RunsOpened gives remaining old new files P
+abbrev pub OpensAndRuns : {O F M S : Type 0} → FileSystem O F M → O → O → List NamedFile → Type 0
+    → (S → List SourceState) → (S → S → Type 0) → Result ℕ RunFault → Type 0
+OpensAndRuns files old new named Stays listed P result =
+    ((role : Role) × (result ≡ Err (Open role)) × DoesNotOpen files old new named role × Stays)
+    ⊎ RunsOpened files old new named listed P
 
--- a table and a data file are run over: P of their sources before and after
-abbrev pub OverTwo : (SourceState → SourceState → SourceState → SourceState → Type 0) → List SourceState → Type 0
-OverTwo P (table ∷ properties ∷ []) = (table_new : SourceState) × (properties_new : SourceState) × P table table_new properties properties_new
-OverTwo P _ = ⊥
-
--- and so are the files of a tailoring
-abbrev pub OverThree : (TailorSources → TailorSources → Type 0) → List SourceState → Type 0
-OverThree P (table ∷ properties ∷ rules ∷ []) = (new : TailorSources) × P (tailor_sources table properties rules) new
-OverThree P _ = ⊥
-
--- and so are the files of an audit
-abbrev pub OverFive : (AuditSources → AuditSources → Type 0) → List SourceState → Type 0
-OverFive P (base ∷ properties ∷ rules ∷ tailored ∷ certificate ∷ []) = (new : AuditSources) × P (audit_sources base properties rules tailored certificate) new
-OverFive P _ = ⊥
-
--- ---- Whatever the files and streams are
-
--- What holds of a run of check or compare, whatever its files and its output are: where it ended before its output nothing was
--- written, and a source or the output has failed where it had before, or where the run ended by just that.
-pub record OutputStreams {A : Type 0} (table table_new properties properties_new : SourceState) (out out_new : SinkState) (result : Result A RunFault) : Type 0 where
-  pub nothing_written : is_before_output result ≡ true → out_new ≡ out
-  pub failed : HaveFailed table table_new properties properties_new out out_new result
-
--- the same of a run of sort, whose input is not looked at where a file is refused
-pub record SortStreams {A : Type 0} (table table_new properties properties_new input input_new : SourceState) (out out_new : SinkState) (result : Result A RunFault) : Type 0 where
-  pub nothing_written : is_before_output result ≡ true → out_new ≡ out
-  pub nothing_read : is_file result ≡ true → input_new ≡ input
-  pub input_failed : input_new.failed ≡ (input.failed || is_input_read result)
-  pub failed : HaveFailed table table_new properties properties_new out out_new result
-
--- the same of a run of keys, which writes while it reads its input
-pub record KeysStreams {A : Type 0} (table table_new properties properties_new input input_new : SourceState) (out out_new : SinkState) (result : Result A RunFault) : Type 0 where
-  pub nothing_written : is_before_input result ≡ true → (out_new ≡ out) × (input_new ≡ input)
-  pub input_failed : is_write result ≡ false → input_new.failed ≡ (input.failed || is_input_read result)
-  pub failed : HaveFailed table table_new properties properties_new out out_new result
-
--- the same of a run of audit
-pub record AuditStreams {A : Type 0} (old new : AuditSources) (out out_new : SinkState) (result : Result A RunFault) : Type 0 where
-  pub nothing_written : is_before_output result ≡ true → out_new ≡ out
-  pub failed : AuditHasFailed old new out out_new result
-
--- ---- What is done
+-- ---- The subcommands over two files
+--
+-- Each record says of a run what it returns where the bytes of its files are known, and what holds whatever its files
+-- and streams are: where it ended before its output nothing was written, and a source or the output has failed where it
+-- had before, or where the run ended by just that.
 
 -- the status of a run that was done, or its fault
 abbrev pub done_result : {A : Type 0} → Result A RunFault → Result ℕ RunFault
 done_result (Ok x) = Ok 0
 done_result (Err fault) = Err fault
 
+-- the status of a verdict, or the fault
 abbrev pub check_result : Result Bool RunFault → Result ℕ RunFault
 check_result (Ok true) = Ok 0
 check_result (Ok false) = Ok 1
 check_result (Err fault) = Err fault
 
--- The file of this name was made, and the certificate and the table were written, or as much of them as a writer that fails
--- leaves. What is said of the file is said of the writer that was made; what the file holds when it is closed is up to the opener.
-pub record MakesFile {O M : Type 0} (makes : O → List ℕ → Result M OpenFault → O → Type 0) (contents : M → Option (List ℕ)) (old new : O) (name : List ℕ) (table : TableContent) (certificate : CertificateContent) (out out_new : SinkState) (result : Result ℕ RunFault) : Type 0 where
+-- a run of check
+pub record Checks (out out_new : SinkState) (result : Result ℕ RunFault) (old new : TableAndData) : Type 0 where
+  pub run : Result Bool RunFault
+  pub status : result ≡ check_result run
+  pub runs : RunsOver old.table new.table old.properties new.properties (RunsCheck out out_new run) run
+  pub nothing_written : is_before_output run ≡ true → out_new ≡ out
+  pub failed : HaveFailed old.table new.table old.properties new.properties out out_new run
+
+-- what `check` does with the names of its files
+abbrev pub DoesCheck : {O F M : Type 0} → FileSystem O F M → O → O → List ℕ → List ℕ → SinkState → SinkState
+    → Result ℕ RunFault → Type 0
+DoesCheck files old new table properties out out_new result =
+    OpensAndRuns files old new (table_and_data table properties) (out_new ≡ out)
+    two_sources (Checks out out_new result) result
+
+-- a run of keys, which writes while it reads its input
+pub record PrintsKeys (weighting : Option Weighting) (depth : Depth) (start end : Streams) (result : Result ℕ RunFault)
+    (old new : TableAndData) : Type 0 where
+  pub run : Result (Unit {0}) RunFault
+  pub status : result ≡ done_result run
+  pub runs : RunsOver old.table new.table old.properties new.properties
+      (RunsKeys weighting depth start.input end.input start.out end.out run) run
+  pub nothing_written : is_before_input run ≡ true → (end.out ≡ start.out) × (end.input ≡ start.input)
+  pub input_failed : is_write run ≡ false → end.input.failed ≡ (start.input.failed || is_input_read run)
+  pub failed : HaveFailed old.table new.table old.properties new.properties start.out end.out run
+
+-- what `keys` does
+abbrev pub DoesKeys : {O F M : Type 0} → FileSystem O F M → O → O → Option Weighting → Depth → List ℕ → List ℕ
+    → Streams → Streams → Result ℕ RunFault → Type 0
+DoesKeys files old new weighting depth table properties start end result =
+    OpensAndRuns files old new (table_and_data table properties) (end ≡ start)
+    two_sources (PrintsKeys weighting depth start end result) result
+
+-- a run of sort, whose input is not looked at where a file is refused
+pub record SortsLines (weighting : Option Weighting) (depth : Depth) (start end : Streams) (result : Result ℕ RunFault)
+    (old new : TableAndData) : Type 0 where
+  pub run : Result (Unit {0}) RunFault
+  pub status : result ≡ done_result run
+  pub runs : RunsOver old.table new.table old.properties new.properties
+      (RunsSort weighting depth start.input end.input start.out end.out run) run
+  pub nothing_written : is_before_output run ≡ true → end.out ≡ start.out
+  pub nothing_read : is_file run ≡ true → end.input ≡ start.input
+  pub input_failed : end.input.failed ≡ (start.input.failed || is_input_read run)
+  pub failed : HaveFailed old.table new.table old.properties new.properties start.out end.out run
+
+-- what `sort` does
+abbrev pub DoesSort : {O F M : Type 0} → FileSystem O F M → O → O → Option Weighting → Depth → List ℕ → List ℕ
+    → Streams → Streams → Result ℕ RunFault → Type 0
+DoesSort files old new weighting depth table properties start end result =
+    OpensAndRuns files old new (table_and_data table properties) (end ≡ start)
+    two_sources (SortsLines weighting depth start end result) result
+
+-- what a run of compare goes by: the weighting that is asked for, the depth and the two texts
+pub record Comparing : Type 0 where
+  pub weighting : Option Weighting
+  pub depth : Depth
+  pub left : List ℕ
+  pub right : List ℕ
+
+-- the same from its parts
+abbrev pub comparing : Option Weighting → Depth → List ℕ → List ℕ → Comparing
+comparing weighting depth left right = record { weighting = weighting; depth = depth; left = left; right = right }
+
+-- a run of compare
+pub record Compares (asked : Comparing) (out out_new : SinkState) (result : Result ℕ RunFault)
+    (old new : TableAndData) : Type 0 where
+  pub run : Result (Unit {0}) RunFault
+  pub status : result ≡ done_result run
+  pub runs : RunsOver old.table new.table old.properties new.properties
+      (RunsCompare asked.weighting asked.depth asked.left asked.right out out_new run) run
+  pub nothing_written : is_before_output run ≡ true → out_new ≡ out
+  pub failed : HaveFailed old.table new.table old.properties new.properties out out_new run
+
+-- what `compare` does
+abbrev pub DoesCompare : {O F M : Type 0} → FileSystem O F M → O → O → Comparing → List ℕ → List ℕ
+    → SinkState → SinkState → Result ℕ RunFault → Type 0
+DoesCompare files old new asked table properties out out_new result =
+    OpensAndRuns files old new (table_and_data table properties) (out_new ≡ out)
+    two_sources (Compares asked out out_new result) result
+
+-- ---- Tailor
+
+-- The file of this name was made, and the certificate and the table were written, or as much of them as a writer that
+-- fails leaves. What is said of the file is said of the writer that was made; what the file holds when it is closed is
+-- up to the file system.
+pub record MakesFile {O F M : Type 0} (files : FileSystem O F M) (old new : O) (name : List ℕ) (table : TableContent)
+    (certificate : CertificateContent) (out out_new : SinkState) (result : Result ℕ RunFault) : Type 0 where
   pub file : M
-  pub made : makes old name (Ok file) new
+  pub made : files.makes old name (Ok file) new
   pub file_new : SinkState
   pub written : Result (Unit {0}) RunFault
-  pub writes : WritesTailored table certificate (record { contents = contents file; failed = false }) file_new out out_new written
+  pub writes : WritesTailored table certificate (record { contents = files.contents file; failed = false }) file_new
+      out out_new written
   pub file_failed : file_new.failed ≡ is_certificate_write written
   pub out_failed : out_new.failed ≡ (out.failed || is_write written)
   pub answers : result ≡ done_result written
 
 -- the file of this name cannot be made, and nothing was written
-abbrev pub DoesNotMake : {O M : Type 0} → (O → List ℕ → Result M OpenFault → O → Type 0) → O → O → List ℕ → SinkState → SinkState → Result ℕ RunFault → Type 0
-DoesNotMake makes old new name out out_new result = (fault : OpenFault) × makes old name (Err fault) new × (result ≡ Err (CertificateWrite 0)) × (out_new ≡ out)
+abbrev pub DoesNotMake : {O F M : Type 0} → FileSystem O F M → O → O → List ℕ → SinkState → SinkState
+    → Result ℕ RunFault → Type 0
+DoesNotMake files old new name out out_new result =
+    (fault : OpenFault) × files.makes old name (Err fault) new × (result ≡ Err (CertificateWrite 0)) × (out_new ≡ out)
 
--- What becomes of the answer of a run of tailor: its fault is that of the command, and no file is made; or the file of the
--- certificate is made, where it can be, and certificate and table are written.
-abbrev pub KeepsTailored : {O M : Type 0} → (O → List ℕ → Result M OpenFault → O → Type 0) → (M → Option (List ℕ)) → O → O → List ℕ → SinkState → SinkState → Result (TableContent × CertificateContent) RunFault → Result ℕ RunFault → Type 0
-KeepsTailored makes contents old new name out out_new (Err fault) result = (result ≡ Err fault) × (new ≡ old) × (out_new ≡ out)
-KeepsTailored makes contents old new name out out_new (Ok answer) result =
-    DoesNotMake makes old new name out out_new result ⊎ MakesFile makes contents old new name answer.0 answer.1 out out_new result
+-- What becomes of the answer of a run of tailor: its fault is that of the command, and no file is made; or the file of
+-- the certificate is made, where it can be, and certificate and table are written.
+abbrev pub KeepsTailored : {O F M : Type 0} → FileSystem O F M → O → O → List ℕ → SinkState → SinkState
+    → Result (TableContent × CertificateContent) RunFault → Result ℕ RunFault → Type 0
+KeepsTailored files old new name out out_new (Err fault) result = (result ≡ Err fault) × (new ≡ old) × (out_new ≡ out)
+KeepsTailored files old new name out out_new (Ok answer) result =
+    DoesNotMake files old new name out out_new result
+    ⊎ MakesFile files old new name answer.0 answer.1 out out_new result
+
+-- a run of tailor, and what becomes of its answer
+pub record Tailors {O F M : Type 0} (files : FileSystem O F M) (between end : O) (certificate : List ℕ)
+    (out out_new : SinkState) (result : Result ℕ RunFault) (old new : TailorSources) : Type 0 where
+  pub run : Result (TableContent × CertificateContent) RunFault
+  pub runs : TailorsOver old new (RunsTailor run) run
+  pub only : PlansPlanned old run
+  pub failed : TailorHasFailed old new run
+  pub keeps : KeepsTailored files between end certificate out out_new run result
+
+-- what `tailor` does
+abbrev pub DoesTailor : {O F M : Type 0} → FileSystem O F M → O → O → List ℕ → List ℕ → List ℕ → List ℕ
+    → SinkState → SinkState → Result ℕ RunFault → Type 0
+DoesTailor {O = O} files old new table properties rules certificate out out_new result = (between : O)
+    × OpensAndRuns files old between (tailor_files table properties rules) ((new ≡ between) × (out_new ≡ out))
+    three_sources (Tailors files between new certificate out out_new result) result
+
+-- ---- Audit
+
+-- a run of audit
+pub record Audits (out out_new : SinkState) (result : Result ℕ RunFault) (old new : AuditSources) : Type 0 where
+  pub run : Result Bool RunFault
+  pub status : result ≡ check_result run
+  pub runs : AuditsOver old new (RunsAudit out out_new run) run
+  pub only : AcceptsAccepted old run
+  pub nothing_written : is_before_output run ≡ true → out_new ≡ out
+  pub failed : AuditHasFailed old new out out_new run
+
+-- what `audit` does
+abbrev pub DoesAudit : {O F M : Type 0} → FileSystem O F M → O → O → List ℕ → List ℕ → List ℕ → List ℕ → List ℕ
+    → SinkState → SinkState → Result ℕ RunFault → Type 0
+DoesAudit files old new base properties rules tailored certificate out out_new result =
+    OpensAndRuns files old new (audit_files base properties rules tailored certificate) (out_new ≡ out)
+    five_sources (Audits out out_new result) result
+
+-- ---- The command
 
 -- what a subcommand does with its words, given what it reads and writes before and after
-abbrev pub DoesWords : {O F M : Type 0} → (O → List ℕ → Result F OpenFault → O → Type 0) → (F → Option (List ℕ)) → (O → List ℕ → Result M OpenFault → O → Type 0) → (M → Option (List ℕ)) → O → O → WordsType → SourceState → SourceState → SinkState → SinkState → Result ℕ RunFault → Type 0
-DoesWords gives remaining makes contents old new (Check table_name data_name) input input_new out out_new result = (input_new ≡ input) × OpensAndRuns gives remaining old new (table_and_data table_name.now data_name.now) (out_new ≡ out)
-    (OverTwo (λ table table_new properties properties_new. (run : Result Bool RunFault) × (result ≡ check_result run) × RunsOver table table_new properties properties_new (RunsCheck out out_new run) run
-    × OutputStreams table table_new properties properties_new out out_new run)) result
-DoesWords gives remaining makes contents old new (Keys weighting depth table_name data_name) input input_new out out_new result = OpensAndRuns gives remaining old new (table_and_data table_name.now data_name.now) ((input_new ≡ input) × (out_new ≡ out))
-    (OverTwo (λ table table_new properties properties_new. (run : Result (Unit {0}) RunFault) × (result ≡ done_result run) × RunsOver table table_new properties properties_new (RunsKeys weighting depth input input_new out out_new run) run
-    × KeysStreams table table_new properties properties_new input input_new out out_new run)) result
-DoesWords gives remaining makes contents old new (Sort weighting depth table_name data_name) input input_new out out_new result = OpensAndRuns gives remaining old new (table_and_data table_name.now data_name.now) ((input_new ≡ input) × (out_new ≡ out))
-    (OverTwo (λ table table_new properties properties_new. (run : Result (Unit {0}) RunFault) × (result ≡ done_result run) × RunsOver table table_new properties properties_new (RunsSort weighting depth input input_new out out_new run) run
-    × SortStreams table table_new properties properties_new input input_new out out_new run)) result
-DoesWords gives remaining makes contents old new (Compare weighting depth table_name data_name left right) input input_new out out_new result = (input_new ≡ input) × OpensAndRuns gives remaining old new (table_and_data table_name.now data_name.now) (out_new ≡ out)
-    (OverTwo (λ table table_new properties properties_new. (run : Result (Unit {0}) RunFault) × (result ≡ done_result run) × RunsOver table table_new properties properties_new (RunsCompare weighting depth left.now right.now out out_new run) run
-    × OutputStreams table table_new properties properties_new out out_new run)) result
-DoesWords {O = O} gives remaining makes contents old new (Tailor table_name data_name rules certificate) input input_new out out_new result = (input_new ≡ input) × (between : O)
-    × OpensAndRuns gives remaining old between (tailor_files table_name.now data_name.now rules.now) ((new ≡ between) × (out_new ≡ out))
-    (OverThree (λ sources sources_new. (run : Result (TableContent × CertificateContent) RunFault) × TailorsOver sources sources_new (RunsTailor run) run
-    × PlansPlanned sources run × TailorHasFailed sources sources_new run × KeepsTailored makes contents between new certificate.now out out_new run result)) result
-DoesWords gives remaining makes contents old new (Audit base data_name rules tailored certificate) input input_new out out_new result = (input_new ≡ input)
-    × OpensAndRuns gives remaining old new (audit_files base.now data_name.now rules.now tailored.now certificate.now) (out_new ≡ out)
-    (OverFive (λ sources sources_new. (run : Result Bool RunFault) × (result ≡ check_result run) × AuditsOver sources sources_new (RunsAudit out out_new run) run
-    × AcceptsAccepted sources run × AuditStreams sources sources_new out out_new run)) result
+abbrev pub DoesWords : {O F M : Type 0} → FileSystem O F M → O → O → WordsType → Streams → Streams
+    → Result ℕ RunFault → Type 0
+DoesWords files old new (Check table properties) start end result =
+    (end.input ≡ start.input) × DoesCheck files old new table.now properties.now start.out end.out result
+DoesWords files old new (Keys weighting depth table properties) start end result =
+    DoesKeys files old new weighting depth table.now properties.now start end result
+DoesWords files old new (Sort weighting depth table properties) start end result =
+    DoesSort files old new weighting depth table.now properties.now start end result
+DoesWords files old new (Compare weighting depth table properties left right) start end result =
+    (end.input ≡ start.input)
+    × DoesCompare files old new (comparing weighting depth left.now right.now) table.now properties.now
+    start.out end.out result
+DoesWords files old new (Tailor table properties rules certificate) start end result =
+    (end.input ≡ start.input)
+    × DoesTailor files old new table.now properties.now rules.now certificate.now start.out end.out result
+DoesWords files old new (Audit base properties rules tailored certificate) start end result =
+    (end.input ≡ start.input)
+    × DoesAudit files old new base.now properties.now rules.now tailored.now certificate.now start.out end.out result
 
 -- how the command ends after a run: with its status, or with what its fault reports
 abbrev pub EndsWith : Result ℕ RunFault → ℕ → SinkState → SinkState → SinkState → SinkState → Type 0
 EndsWith (Ok done) status out out_new err err_new = (status ≡ done) × (out_new ≡ out) × (err_new ≡ err)
-EndsWith (Err fault) status out out_new err err_new = IsStatus fault status × Reports fault status out out_new err err_new
+EndsWith (Err fault) status out out_new err err_new =
+    IsStatus fault status × Reports fault status out out_new err err_new
 
--- the words are refused, and nothing is opened or read; or what they say is done
-abbrev pub DoesCommand : {O F M : Type 0} → (O → List ℕ → Result F OpenFault → O → Type 0) → (F → Option (List ℕ)) → (O → List ℕ → Result M OpenFault → O → Type 0) → (M → Option (List ℕ)) → O → O → List (List ℕ) → SourceState → SourceState → SinkState → SinkState → SinkState → SinkState → ℕ → Type 0
-DoesCommand gives remaining makes contents old new words input input_new out out_new err err_new status =
-    ((fault : WordFault) × IsFaultOf words fault × (new ≡ old) × (input_new ≡ input) × EndsWith (Err (Words fault)) status out out_new err err_new)
-    ⊎ ((said : WordsType) × (run : Result ℕ RunFault) × (out_between : SinkState) × AreRead words said × DoesWords gives remaining makes contents old new said input input_new out out_between run
-    × EndsWith run status out_between out_new err err_new)
+-- The words are refused, and nothing is opened or read; or what they say is done. `err` is standard error.
+abbrev pub DoesCommand : {O F M : Type 0} → FileSystem O F M → O → O → List (List ℕ) → Streams → Streams
+    → SinkState → SinkState → ℕ → Type 0
+DoesCommand files old new words start end err err_new status =
+    ((fault : WordFault) × IsFaultOf words fault × (new ≡ old) × (end.input ≡ start.input)
+    × EndsWith (Err (Words fault)) status start.out end.out err err_new)
+    ⊎ ((said : WordsType) × (run : Result ℕ RunFault) × (out_between : SinkState) × AreRead words said
+    × DoesWords files old new said start (streams end.input out_between) run
+    × EndsWith run status out_between end.out err err_new)

@@ -1,21 +1,9 @@
 //! The command: it reads its words, opens the files that they name, and calls the run.
 
-ghost use Rattle.std.specs.Prelude.{◌≡◌, ◌⊎◌, ◌∷◌, [], ⊤, ℕ, List, Bool, Result, MatchResult};
+ghost use Rattle.std.specs.Prelude.{◌∷◌, [], ⊤, ℕ, List, Result, MatchResult, ◌≡◌, ◌⊎◌};
 ghost use Rattle.clap.specs.Walk.{texts};
-ghost use Rattle.uca_cli.specs.AuditRun.{AcceptsAccepted, RunsAudit};
-ghost use Rattle.uca_runs.specs.AuditSources.{AuditsOver};
-ghost use Rattle.uca_runs.specs.CheckRun.{RunsCheck};
-ghost use Rattle.uca_runs.specs.CompareRun.{RunsCompare};
-ghost use Rattle.uca_runs.specs.KeysRun.{RunsKeys};
-ghost use Rattle.uca_runs.specs.SortRun.{RunsSort};
-ghost use Rattle.uca_runs.specs.Runs.{RunsOver};
+ghost use Rattle.uca_cli.specs.Command.{AreOpened, DoesAudit, DoesCheck, DoesCommand, DoesCompare, DoesKeys, DoesNotMake, DoesNotOpen, DoesSort, DoesTailor, DoesWords, MakesFile, audit_files, check_result, comparing, done_result, file_system, streams, table_and_data, tailor_files};
 ghost use Rattle.uca_cli.specs.declared.command.OpenFault.{OpenFault};
-ghost use Rattle.uca_runs.specs.declared.faults.RunFault.{RunFault};
-ghost use Rattle.uca_values.specs.Content.{TableContent};
-ghost use Rattle.uca_certificates.specs.Certificates.{CertificateContent};
-ghost use Rattle.uca_cli.specs.TailorRun.{PlansPlanned, RunsTailor};
-ghost use Rattle.uca_runs.specs.TailorSources.{TailorHasFailed, TailorsOver};
-ghost use Rattle.uca_cli.specs.Command.{table_and_data, tailor_files, audit_files, AreOpened, DoesNotOpen, OpensAndRuns, OverTwo, OverThree, OverFive, OutputStreams, SortStreams, KeysStreams, AuditStreams, done_result, check_result, DoesNotMake, MakesFile, KeepsTailored, DoesWords, DoesCommand};
 
 use crate::audit::run_audit;
 use crate::reporting::{DONE, REFUSED, report};
@@ -74,8 +62,10 @@ fn open_files<O: Opens>(
     properties: &str,
 ) -> Result<(Source<O::File>, Source<O::File>), Role>
     ensures { MatchResult result
-        (λ files. AreOpened O.open_gives O.File.remaining opener.old opener.new (table_and_data table.now properties.now) (files.0 ∷ files.1 ∷ []))
-        (DoesNotOpen O.open_gives O.File.remaining opener.old opener.new (table_and_data table.now properties.now)) }
+        (λ files. AreOpened (file_system O.open_gives O.create_gives O.File.remaining O.Made.contents)
+        opener.old opener.new (table_and_data table.now properties.now) (files.0 ∷ files.1 ∷ []))
+        (DoesNotOpen (file_system O.open_gives O.create_gives O.File.remaining O.Made.contents)
+        opener.old opener.new (table_and_data table.now properties.now)) }
 {
     let Ok(table) = opener.open(table) else {
         return Err(Role::Table);
@@ -95,9 +85,10 @@ fn open_tailor_files<O: Opens>(
     rules: &str,
 ) -> Result<(Source<O::File>, Source<O::File>, Source<O::File>), Role>
     ensures { MatchResult result
-        (λ files. AreOpened O.open_gives O.File.remaining opener.old opener.new (tailor_files table.now properties.now rules.now)
-        (files.0 ∷ files.1 ∷ files.2 ∷ []))
-        (DoesNotOpen O.open_gives O.File.remaining opener.old opener.new (tailor_files table.now properties.now rules.now)) }
+        (λ files. AreOpened (file_system O.open_gives O.create_gives O.File.remaining O.Made.contents)
+        opener.old opener.new (tailor_files table.now properties.now rules.now) (files.0 ∷ files.1 ∷ files.2 ∷ []))
+        (DoesNotOpen (file_system O.open_gives O.create_gives O.File.remaining O.Made.contents)
+        opener.old opener.new (tailor_files table.now properties.now rules.now)) }
 {
     let (table, properties) = open_files(opener, table, properties)?;
     let Ok(file) = opener.open(rules) else {
@@ -126,9 +117,10 @@ fn open_audit_files<O: Opens>(
     certificate: &str,
 ) -> Result<OpenedFiles<O::File>, Role>
     ensures { MatchResult result
-        (λ files. AreOpened O.open_gives O.File.remaining opener.old opener.new (audit_files base.now data_file.now rules.now tailored.now certificate.now)
-        (files.base ∷ files.properties ∷ files.rules ∷ files.tailored ∷ files.certificate ∷ []))
-        (DoesNotOpen O.open_gives O.File.remaining opener.old opener.new (audit_files base.now data_file.now rules.now tailored.now certificate.now)) }
+        (λ files. AreOpened (file_system O.open_gives O.create_gives O.File.remaining O.Made.contents)
+        opener.old opener.new (audit_files base.now data_file.now rules.now tailored.now certificate.now) (files.base ∷ files.properties ∷ files.rules ∷ files.tailored ∷ files.certificate ∷ []))
+        (DoesNotOpen (file_system O.open_gives O.create_gives O.File.remaining O.Made.contents)
+        opener.old opener.new (audit_files base.now data_file.now rules.now tailored.now certificate.now)) }
 {
     let Ok(base) = opener.open(base) else {
         return Err(Role::Base);
@@ -183,9 +175,8 @@ fn check<O: Opens, W: Write>(
     properties: &str,
     out: &mut Sink<W>,
 ) -> Result<u8, RunFault>
-    ensures { OpensAndRuns O.open_gives O.File.remaining opener.old opener.new (table_and_data table.now properties.now) (out.new ≡ out.old)
-        (OverTwo (λ t t_new d d_new. (run : Result Bool RunFault) × (result ≡ check_result run) × RunsOver t t_new d d_new (RunsCheck out.old out.new run) run
-        × OutputStreams t t_new d d_new out.old out.new run)) result }
+    ensures { DoesCheck (file_system O.open_gives O.create_gives O.File.remaining O.Made.contents)
+        opener.old opener.new table.now properties.now out.old out.new result }
 {
     let (mut table, mut properties) = match open_files(opener, table, properties) {
         Ok(files) => files,
@@ -205,9 +196,9 @@ fn keys<O: Opens, I: Read, W: Write>(
     input: &mut Source<I>,
     out: &mut Sink<W>,
 ) -> Result<u8, RunFault>
-    ensures { OpensAndRuns O.open_gives O.File.remaining opener.old opener.new (table_and_data table.now properties.now) ((input.new ≡ input.old) × (out.new ≡ out.old))
-        (OverTwo (λ t t_new d d_new. (run : Result (Unit {0}) RunFault) × (result ≡ done_result run) × RunsOver t t_new d d_new (RunsKeys weighting depth input.old input.new out.old out.new run) run
-        × KeysStreams t t_new d d_new input.old input.new out.old out.new run)) result }
+    ensures { DoesKeys (file_system O.open_gives O.create_gives O.File.remaining O.Made.contents)
+        opener.old opener.new weighting depth table.now properties.now
+        (streams input.old out.old) (streams input.new out.new) result }
 {
     let (mut table, mut properties) = match open_files(opener, table, properties) {
         Ok(files) => files,
@@ -235,9 +226,9 @@ fn sort<O: Opens, I: Read, W: Write>(
     input: &mut Source<I>,
     out: &mut Sink<W>,
 ) -> Result<u8, RunFault>
-    ensures { OpensAndRuns O.open_gives O.File.remaining opener.old opener.new (table_and_data table.now properties.now) ((input.new ≡ input.old) × (out.new ≡ out.old))
-        (OverTwo (λ t t_new d d_new. (run : Result (Unit {0}) RunFault) × (result ≡ done_result run) × RunsOver t t_new d d_new (RunsSort weighting depth input.old input.new out.old out.new run) run
-        × SortStreams t t_new d d_new input.old input.new out.old out.new run)) result }
+    ensures { DoesSort (file_system O.open_gives O.create_gives O.File.remaining O.Made.contents)
+        opener.old opener.new weighting depth table.now properties.now
+        (streams input.old out.old) (streams input.new out.new) result }
 {
     let (mut table, mut properties) = match open_files(opener, table, properties) {
         Ok(files) => files,
@@ -266,9 +257,9 @@ fn compare<O: Opens, W: Write>(
     right: &str,
     out: &mut Sink<W>,
 ) -> Result<u8, RunFault>
-    ensures { OpensAndRuns O.open_gives O.File.remaining opener.old opener.new (table_and_data table.now properties.now) (out.new ≡ out.old)
-        (OverTwo (λ t t_new d d_new. (run : Result (Unit {0}) RunFault) × (result ≡ done_result run) × RunsOver t t_new d d_new (RunsCompare weighting depth left.now right.now out.old out.new run) run
-        × OutputStreams t t_new d d_new out.old out.new run)) result }
+    ensures { DoesCompare (file_system O.open_gives O.create_gives O.File.remaining O.Made.contents)
+        opener.old opener.new (comparing weighting depth left.now right.now)
+        table.now properties.now out.old out.new result }
 {
     let (mut table, mut properties) = match open_files(opener, table, properties) {
         Ok(files) => files,
@@ -296,10 +287,9 @@ fn tailor<O: Opens, W: Write>(
     certificate: &str,
     out: &mut Sink<W>,
 ) -> Result<u8, RunFault>
-    ensures { (between : O) × OpensAndRuns O.open_gives O.File.remaining opener.old between
-        (tailor_files table.now properties.now rules.now) ((opener.new ≡ between) × (out.new ≡ out.old))
-        (OverThree (λ s s_new. (run : Result (TableContent × CertificateContent) RunFault) × TailorsOver s s_new (RunsTailor run) run
-        × PlansPlanned s run × TailorHasFailed s s_new run × KeepsTailored O.create_gives O.Made.contents between opener.new certificate.now out.old out.new run result)) result }
+    ensures { DoesTailor (file_system O.open_gives O.create_gives O.File.remaining O.Made.contents)
+        opener.old opener.new table.now properties.now rules.now certificate.now
+        out.old out.new result }
 {
     let (mut table, mut properties, mut rules) = match open_tailor_files(
         opener, table, properties, rules,
@@ -319,8 +309,10 @@ fn keep_tailored<O: Opens, W: Write>(
     name: &str,
     out: &mut Sink<W>,
 ) -> Result<u8, RunFault>
-    ensures { DoesNotMake O.create_gives opener.old opener.new name.now out.old out.new result
-        ⊎ MakesFile O.create_gives O.Made.contents opener.old opener.new name.now table.now certificate.now out.old out.new result }
+    ensures { DoesNotMake (file_system O.open_gives O.create_gives O.File.remaining O.Made.contents)
+        opener.old opener.new name.now out.old out.new result
+        ⊎ MakesFile (file_system O.open_gives O.create_gives O.File.remaining O.Made.contents)
+        opener.old opener.new name.now table.now certificate.now out.old out.new result }
 {
     let Ok(file) = opener.create(name) else {
         return Err(RunFault::CertificateWrite { written: 0 });
@@ -339,10 +331,9 @@ fn audit<O: Opens, W: Write>(
     certificate: &str,
     out: &mut Sink<W>,
 ) -> Result<u8, RunFault>
-    ensures { OpensAndRuns O.open_gives O.File.remaining opener.old opener.new
-        (audit_files base.now properties.now rules.now tailored.now certificate.now) (out.new ≡ out.old)
-        (OverFive (λ s s_new. (run : Result Bool RunFault) × (result ≡ check_result run) × AuditsOver s s_new (RunsAudit out.old out.new run) run
-        × AcceptsAccepted s run × AuditStreams s s_new out.old out.new run)) result }
+    ensures { DoesAudit (file_system O.open_gives O.create_gives O.File.remaining O.Made.contents)
+        opener.old opener.new base.now properties.now rules.now tailored.now certificate.now
+        out.old out.new result }
 {
     let mut files = match open_audit_files(opener, base, properties, rules, tailored, certificate) {
         Ok(files) => files,
@@ -367,8 +358,9 @@ fn run_words<O: Opens, I: Read, W: Write>(
     input: &mut Source<I>,
     out: &mut Sink<W>,
 ) -> Result<u8, RunFault>
-    ensures { DoesWords O.open_gives O.File.remaining O.create_gives O.Made.contents opener.old opener.new asked.now
-        input.old input.new out.old out.new result }
+    ensures { DoesWords (file_system O.open_gives O.create_gives O.File.remaining O.Made.contents)
+        opener.old opener.new asked.now
+        (streams input.old out.old) (streams input.new out.new) result }
 {
     match *asked {
         Words::Check { table, properties } => check(alloc, opener, table, properties, out),
@@ -435,8 +427,9 @@ pub fn run_command<'a, O: Opens, I: Read, W: Write, E: Write>(
     out: &mut Sink<W>,
     err: &mut Sink<E>,
 ) -> u8
-    ensures { DoesCommand O.open_gives O.File.remaining O.create_gives O.Made.contents opener.old opener.new (texts words.entry.now)
-        input.old input.new out.old out.new err.old err.new result }
+    ensures { DoesCommand (file_system O.open_gives O.create_gives O.File.remaining O.Made.contents)
+        opener.old opener.new (texts words.entry.now)
+        (streams input.old out.old) (streams input.new out.new) err.old err.new result }
 {
     let asked = match read_words(alloc, words) {
         Ok(asked) => asked,

@@ -15,7 +15,7 @@ pub returns-in-Compare : goal.returns-in-Compare
 returns-in-Compare g c = rw c.in-Compare.is (refl, c.compare.ensures)
 
 pub returns-in-Tailor : goal.returns-in-Tailor
-returns-in-Tailor g c = rw c.in-Tailor.is (refl, c.tailor.ensures.0, c.tailor.ensures.1)
+returns-in-Tailor g c = rw c.in-Tailor.is (refl, c.tailor.ensures)
 
 pub returns-in-Audit : goal.returns-in-Audit
 returns-in-Audit g c = rw c.in-Audit.is (refl, c.audit.ensures)

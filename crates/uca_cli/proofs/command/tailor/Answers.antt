@@ -1,5 +1,5 @@
 -- A file does not open; or all are opened and run over, and what is answered is kept.
-use Rattle.std.proofs.Common.{Ok, Err, inl, inr, [], ◌∷◌, refl}
+use Rattle.std.proofs.Common.{Ok, Err, inl, inr, refl}
 use Rattle.std.proofs.lemmas.Result.{err_from_is_err_and}
 use Rattle.uca_runs.specs.TailorSources.{tailor_sources}
 use Rattle.uca_cli.proofs.command.tailor.Goals as goal
@@ -10,35 +10,39 @@ returns-in-Err g c = (c.open_tailor_files.new.opener, inl (c.in-Err.role, refl, 
 pub returns-in_err-tailored : goal.returns-in_err-tailored
 returns-in_err-tailored g c =
     let files = c.in-Ok.files in
+    let new = c.run_tailor.new in
     let p = err_from_is_err_and c.from_residual.result c.from_residual.ensures.1 in
     rw (p.1, p.2) (
       c.open_tailor_files.new.opener,
       inr (record {
-        sources = files.0 ∷ files.1 ∷ files.2 ∷ [];
+        before = tailor_sources files.0 files.1 files.2;
+        after = tailor_sources new.base new.properties new.rules;
         opened = c.in-Ok.ensures;
-        runs = (
-          tailor_sources c.run_tailor.new.base c.run_tailor.new.properties c.run_tailor.new.rules,
-          (
-            Err c.in_err-tailored.field-0.0,
-            c.in_err-tailored.ensures.runs,
-            c.in_err-tailored.ensures.only,
-            c.in_err-tailored.ensures.failed,
-            (refl, refl {a = c.open_tailor_files.new.opener}, refl {a = c.args.out.now}),
-          ),
-        );
+        runs = record {
+          run = Err c.in_err-tailored.field-0.0;
+          runs = c.in_err-tailored.ensures.runs;
+          only = c.in_err-tailored.ensures.only;
+          failed = c.in_err-tailored.ensures.failed;
+          keeps = (refl, refl {a = c.open_tailor_files.new.opener}, refl {a = c.args.out.now});
+        };
       }),
     )
 
 pub returns : goal.returns
 returns g c =
-    let files = c.in-Ok.files in (
+    let files = c.in-Ok.files in
+    let new = c.run_tailor.new in (
       c.open_tailor_files.new.opener,
       inr (record {
-        sources = files.0 ∷ files.1 ∷ files.2 ∷ [];
+        before = tailor_sources files.0 files.1 files.2;
+        after = tailor_sources new.base new.properties new.rules;
         opened = c.in-Ok.ensures;
-        runs = (
-          tailor_sources c.run_tailor.new.base c.run_tailor.new.properties c.run_tailor.new.rules,
-          (Ok (c.in_ok-tailored.tailored, c.in_ok-tailored.weights), c.in_ok-tailored.ensures.runs, c.in_ok-tailored.ensures.only, c.in_ok-tailored.ensures.failed, c.keep_tailored.ensures),
-        );
+        runs = record {
+          run = Ok (c.in_ok-tailored.tailored, c.in_ok-tailored.weights);
+          runs = c.in_ok-tailored.ensures.runs;
+          only = c.in_ok-tailored.ensures.only;
+          failed = c.in_ok-tailored.ensures.failed;
+          keeps = c.keep_tailored.ensures;
+        };
       }),
     )
