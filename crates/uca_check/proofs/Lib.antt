@@ -1,9 +1,9 @@
 pub mod Elements
 pub mod RowElements
 pub mod Firsts
-pub mod Gapless
-pub mod Raised
-pub mod Spans
-pub mod Keyed
+pub mod GapLemmas
+pub mod GreatestWeightLemmas
+pub mod VariableRangeLemmas
+pub mod ShorterKeyLemmas
 pub mod Faults
 pub mod WellFormedLemmas

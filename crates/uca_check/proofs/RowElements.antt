@@ -1,5 +1,5 @@
 -- What holds of each member of two lists, and of the elements of rows.
-use Rattle.std.proofs.Common.{⊎_elim, ◌<◌, List, [], ◌∷◌, ◌++◌, Contains, sym, subst, arith}
+use Rattle.std.proofs.Common.{⊎_elim, List, [], ◌∷◌, ◌++◌, Contains, sym, subst, arith}
 use Rattle.std.proofs.lemmas.List.Elements.{Contains-push, Contains-push_cases, Contains-append_left, Contains-append_right, Contains-append_cases}
 use Rattle.std.specs.List.{AllByRecursion}
 use Rattle.uca_weights.specs.declared.Element.{Element}

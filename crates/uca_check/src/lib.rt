@@ -6,11 +6,12 @@ ghost use Rattle.uca_values.specs.Content.{properties_of};
 ghost use Rattle.uca_check.specs.WellFormed.{IsWellFormed, IsFirstFailure};
 ghost use Rattle.uca_check.specs.FaultText.{ill_formed_text};
 
-mod ahead;
-mod gaps;
-mod heights;
-mod keys;
-mod variables;
+mod wf1;
+mod wf2;
+mod wf3;
+mod wf4;
+mod wf5;
+mod wf5_batch;
 
 use std::alloc::Allocator;
 use std::fmt;
@@ -71,19 +72,19 @@ fn check_rows<A: Allocator, B: Allocator>(rows: &[Row<A>], data: &Data<B>) -> Re
     ensures ill_formed { IfErr result (λ fault.
         IsFirstFailure (properties_of «data».now).class rows.now fault.wf fault.row) }
 {
-    if let Some(at) = gaps::first_with_gap(rows) {
+    if let Some(at) = wf1::first_failing(rows) {
         return Err(ill_formed(1, at));
     }
-    if let Some(at) = heights::first_too_low(rows) {
+    if let Some(at) = wf2::first_failing(rows) {
         return Err(ill_formed(2, at));
     }
-    if let Some(at) = variables::first_without_primary(rows) {
+    if let Some(at) = wf3::first_failing(rows) {
         return Err(ill_formed(3, at));
     }
-    if let Some(at) = variables::first_between(rows) {
+    if let Some(at) = wf4::first_failing(rows) {
         return Err(ill_formed(4, at));
     }
-    if let Some(at) = keys::first_without_shorter(rows, data) {
+    if let Some(at) = wf5::first_failing(rows, data) {
         return Err(ill_formed(5, at));
     }
     Ok(())

@@ -1,0 +1,10 @@
+use Rattle.std.proofs.Common.{take, ◌++◌}
+use Rattle.uca_check.specs.WellFormed.{elements_of}
+use Rattle.uca_check.specs.Searches.{IsVariableRangeIfAny}
+use Rattle.uca_check.proofs.wf4.variable_range.Given as goal
+
+abbrev pub invariant-loop-element : goal.invariant-loop-element
+invariant-loop-element g l = IsVariableRangeIfAny (elements_of (take l.row-index l.rows) ++ take l.element-index l.element-items) l.range
+
+abbrev pub invariant-loop-row : goal.invariant-loop-row
+invariant-loop-row g l = IsVariableRangeIfAny (elements_of (take l.row-index l.rows)) l.range
