@@ -1,5 +1,5 @@
 //! What table files and data files mean: tables of collation elements, their header, and the
-//! properties of code points. Reading them from bytes is the business of `uca_table` and `uca_data`.
+//! properties of code points. Reading them from bytes is the business of `uca_table`.
 #![tactic(auto)]
 
 pub mod characters;
