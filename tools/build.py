@@ -96,17 +96,17 @@ class Builder:
         return is_proved
 
 
-def main(names):
+def open_repository():
+    """The command `rt` as a module, and the crates of the repository by name, set to load statements alone."""
     rt = kit.load_rt()
     os.chdir(kit.TOP)
     rt.rtlib.guarded()
     rt.Crate.cuts_libraries, rt.Crate.allowed, rt.rtlib.Crate = True, rt.handles_of(kit.TOP), rt.Crate
-    every = rt.rtlib.crates_below(kit.TOP)
-    unknown = {*names} - {it.name for it in every}
-    if unknown:
-        sys.exit(f"crates.txt names no crate {', '.join(sorted(unknown))}")
-    asked = [it for it in every if it.name in (names or ["uca"])]
-    crates = [it for it in every if it in asked or any(it in other.below() for other in asked)]
+    return rt, {it.name: it for it in rt.rtlib.crates_below(kit.TOP)}
+
+
+def build(rt, crates):
+    """Proves these crates, side by side, and returns whether all are proved."""
     builder = Builder(rt)
     held = rt.rtlib.lock(crates)
 
@@ -115,10 +115,21 @@ def main(names):
         return [(it.name, "proof") for it in crate.below()], crate.count(rb"\n"), rt.need(crate), builder.times.task(crate.name, IDLE, work)
 
     proved = rt.in_lanes({(it.name, "proof"): task(it) for it in sorted(crates, key=lambda it: len(it.below()))})
-    seconds = time.time() - builder.begun
-    print(f"{sum(proved.values())} passed, {len(proved) - sum(proved.values())} failed, in {seconds:.0f} s, {sum(builder.times.processor.values()):.0f} s of processor time")
-    del held
-    return 0 if all(proved.values()) else 1
+    seconds, processor = time.time() - builder.begun, sum(builder.times.processor.values())
+    print(f"{sum(proved.values())} passed, {len(proved) - sum(proved.values())} failed, in {seconds:.0f} s, {processor:.0f} s of processor time")
+    for it in held:
+        os.close(it)
+    return all(proved.values())
+
+
+def main(names):
+    rt, every = open_repository()
+    names = names or ["uca"]
+    unknown = {*names} - {*every}
+    if unknown:
+        sys.exit(f"crates.txt names no crate {', '.join(sorted(unknown))}")
+    below = {it.name for name in names for it in every[name].below()}
+    return 0 if build(rt, [it for it in every.values() if it.name in below or it.name in names]) else 1
 
 
 if __name__ == "__main__":
