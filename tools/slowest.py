@@ -1,0 +1,43 @@
+#!/usr/bin/env python3
+"""Lists what the last check of a crate from nothing spent its time on, by function.
+
+    tools/slowest.py CRATE [COUNT]
+
+`tools/check.py CRATE` keeps each module that it has checked as a file in crates/CRATE/out/incremental, in the order in which
+they were checked: so the time between two files is that of the second. Remove that folder, check the crate, and ask then:
+after later checks, or in a copy of the folder, the times are no longer those of one check.
+
+Of each function it names the parts: `Lts` is the borrow checker's account of its code, `Proof` the goals that are searched
+for, `Answers` those that are answered in a file, `Tie` the code against its contract. Lemmas and definitions stand by themselves.
+"""
+import collections
+import os
+import sys
+
+import kit
+
+PARTS = "Lts Tie Proof Answers Code Reads Layout Kinds Named Goals Statement Met TheLink Symbol Given Carried Invariants".split()
+
+
+def main(crate, count):
+    kept = f"{kit.TOP}/crates/{crate}/out/incremental"
+    folders = [f"{kept}/{it}" for it in os.listdir(kept)] if os.path.isdir(kept) else []
+    if not folders:
+        sys.exit(f"{kept} is empty: run tools/check.py {crate} first")
+    folder = max(folders, key=os.path.getmtime)
+    files = sorted((os.stat(f"{folder}/{it}").st_mtime, it) for it in os.listdir(folder) if it.endswith(".oantt"))
+    seconds, parts = collections.Counter(), collections.defaultdict(collections.Counter)
+    for (begun, _), (ended, name) in zip(files, files[1:]):
+        words = name.removesuffix(".oantt").split(".")
+        at = next((i for i, it in enumerate(words) if it.partition("-")[0] in PARTS), len(words))
+        function = ".".join(words[:at]).partition("-proofs.")[2] or ".".join(words[:at])
+        seconds[function] += ended - begun
+        parts[function][words[-1].partition("-")[0]] += ended - begun
+    for function, spent in seconds.most_common(count):
+        print(f"{spent:6.1f}  {function}  " + ", ".join(f"{part} {of:.1f}" for part, of in parts[function].most_common(3)))
+
+
+if __name__ == "__main__":
+    if len(sys.argv) < 2 or sys.argv[1].startswith("-"):
+        sys.exit(__doc__)
+    main(sys.argv[1], int(sys.argv[2]) if len(sys.argv) > 2 else 20)
