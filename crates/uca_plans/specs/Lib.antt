@@ -12,3 +12,5 @@ pub mod WorkedPlans
 pub mod Tailors
 pub mod FaultText
 pub mod PlanLaws
+pub mod Accepted
+pub mod Room

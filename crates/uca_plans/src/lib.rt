@@ -2,10 +2,12 @@
 //! definitions, as functions that compute a plan or the first refusal, and laws of them.
 #![tactic(auto)]
 
+mod accepted;
 mod drafts;
 mod faults;
 mod laws;
 
+pub use accepted::{plans_are_accepted, plans_are_faithful, plans_make_tailorings, room_is_counted};
 pub use drafts::{DraftElement, DraftWeight, Segment};
 pub use faults::{TailorFault, TailorKind, level_number};
 pub use laws::{

@@ -11,7 +11,7 @@ ghost use Rattle.uca_plans.specs.Tailors.{IsPlanOf, TailorRefuses};
 
 use crate::plan::plan;
 use std::alloc::Allocator;
-use uca_accepted_plans::{plans_are_accepted, plans_are_faithful};
+use uca_plans::{plans_are_accepted, plans_are_faithful};
 use uca_certificates::Certificate;
 use uca_check::check;
 use uca_plans::{TailorFault, TailorKind};
