@@ -1,0 +1,419 @@
+//! An opener of files in memory that sees in which order they are opened, read and made.
+
+use std::alloc::{AllocError, Global};
+use std::cell::{Cell, RefCell};
+use std::io;
+use std::io::{ErrorKind, Read, Write};
+use std::iter::once;
+use std::test::Fail;
+use uca_cli::{OpenFault, Opens, run_command};
+use test_kit::{Calls, Failure, FakeReader, FakeWriter, Pace};
+use uca_weights::{Sink, Source};
+
+/// The files of a command: their texts, or nothing where one does not open.
+#[derive(Clone, Copy)]
+pub struct Files<'a> {
+    /// The text of the table file.
+    pub table: Option<&'a str>,
+    /// The text of the data file.
+    pub properties: Option<&'a str>,
+    /// The names and the texts of further files.
+    pub others: &'a [(&'a str, Option<&'a str>)],
+}
+
+impl<'a> Files<'a> {
+    /// How many files there are, those that do not open too.
+    fn count(&self) -> u32 {
+        let mut count: u32 = 2;
+        for _ in self.others {
+            count = count.saturating_add(1);
+        }
+        count
+    }
+
+    /// The text of the file of this name.
+    fn text_of(&self, name: &str) -> Option<&'a str> {
+        match name {
+            "allkeys.txt" => return self.table,
+            "data.txt" => return self.properties,
+            _ => {}
+        }
+        for (other, text) in self.others {
+            if *other == name {
+                return *text;
+            }
+        }
+        None
+    }
+}
+
+/// The file that a command may make, and what it held before.
+#[derive(Drop)]
+pub struct Disk {
+    alloc: Global,
+    // Its name.
+    name: RefCell<String>,
+    // What it holds.
+    bytes: RefCell<Vec<u8>>,
+    // Whether no file can be made.
+    is_closed: bool,
+    // How many bytes a file that is made takes: the write behind them fails.
+    room: usize,
+}
+
+impl Disk {
+    /// A file of this name, which holds this text and can be replaced.
+    pub fn holding(alloc: Global, name: &str, text: &str) -> Result<Disk, AllocError> {
+        let mut bytes = Vec::new(alloc);
+        bytes.extend_from_slice(text.as_bytes())?;
+        Ok(Disk {
+            alloc,
+            name: RefCell::new(String::from_str(alloc, name)?),
+            bytes: RefCell::new(bytes),
+            is_closed: false,
+            room: usize::MAX,
+        })
+    }
+
+    /// The same, and no file can be made.
+    pub fn closed(alloc: Global, name: &str, text: &str) -> Result<Disk, AllocError> {
+        let mut disk = Disk::holding(alloc, name, text)?;
+        disk.is_closed = true;
+        Ok(disk)
+    }
+
+    /// The same, and a file that is made takes so many bytes.
+    pub fn with_room(
+        alloc: Global,
+        name: &str,
+        text: &str,
+        room: usize,
+    ) -> Result<Disk, AllocError> {
+        let mut disk = Disk::holding(alloc, name, text)?;
+        disk.room = room;
+        Ok(disk)
+    }
+
+    /// Whether the file has this name and holds this text.
+    pub fn holds(&self, name: &str, text: &str) -> bool {
+        let (Ok(own), Ok(bytes)) = (self.name.try_borrow(), self.bytes.try_borrow()) else {
+            return false;
+        };
+        own.as_str() == name && bytes.as_slice() == text.as_bytes()
+    }
+
+    /// Whether the file has this name and holds the first so many bytes of this text.
+    pub fn holds_first(&self, name: &str, text: &str, count: usize) -> bool {
+        let (Ok(own), Ok(bytes)) = (self.name.try_borrow(), self.bytes.try_borrow()) else {
+            return false;
+        };
+        own.as_str() == name
+            && bytes.len() == count
+            && text.as_bytes().starts_with(bytes.as_slice())
+    }
+
+    // An empty file of this name in place of the one before.
+    fn replace(&self, name: &str) -> Result<(), OpenFault> {
+        if self.is_closed {
+            return Err(OpenFault);
+        }
+        let name = String::from_str(self.alloc, name).map_err(|_| OpenFault)?;
+        let is_named = self.name.try_replace(name).is_ok();
+        let is_empty = self.bytes.try_replace(Vec::new(self.alloc)).is_ok();
+        if is_named && is_empty {
+            Ok(())
+        } else {
+            Err(OpenFault)
+        }
+    }
+}
+
+// What the opener and its files saw.
+#[derive(Drop)]
+struct Seen {
+    // How many files were opened.
+    opened: Cell<u32>,
+    // How many files the words name.
+    wanted: u32,
+    // How many reads there were before all files were opened.
+    early: Cell<u32>,
+    // How many reads of a file there were after one of a later file.
+    back: Cell<u32>,
+    // The file that was read last.
+    last: Cell<u32>,
+    // How many files were read to their end.
+    ended: Cell<u32>,
+    // How many files were to be made.
+    asked: Cell<u32>,
+}
+
+impl Seen {
+    fn new(wanted: u32) -> Seen {
+        Seen {
+            opened: Cell::new(0),
+            wanted,
+            early: Cell::new(0),
+            back: Cell::new(0),
+            last: Cell::new(0),
+            ended: Cell::new(0),
+            asked: Cell::new(0),
+        }
+    }
+
+    fn see_read(&self, number: u32) {
+        if self.opened.get() < self.wanted {
+            self.early.set(self.early.get().saturating_add(1));
+        }
+        if number < self.last.get() {
+            self.back.set(self.back.get().saturating_add(1));
+        }
+        self.last.set(number);
+    }
+
+    fn see_end(&self) {
+        self.ended.set(self.ended.get().saturating_add(1));
+    }
+
+    // A file that is made before all others are read to their end is early too.
+    fn see_making(&self) {
+        if self.ended.get() < self.wanted {
+            self.early.set(self.early.get().saturating_add(1));
+        }
+        self.asked.set(self.asked.get().saturating_add(1));
+    }
+}
+
+#[derive(Drop)]
+struct FakeOpener<'a> {
+    files: Files<'a>,
+    disk: &'a Disk,
+    seen: &'a Seen,
+}
+
+#[derive(Drop)]
+struct FakeFile<'a> {
+    rest: &'a [u8],
+    number: u32,
+    seen: &'a Seen,
+}
+
+// The file of a disk, of which a write takes five bytes at most.
+#[derive(Drop)]
+struct FakeMade<'a> {
+    disk: &'a Disk,
+}
+
+impl<'a> Opens for FakeOpener<'a> {
+    type File = FakeFile<'a>;
+
+    type Made = FakeMade<'a>;
+
+    fn open(&mut self, name: &str) -> Result<FakeFile<'a>, OpenFault> {
+        let Some(text) = self.files.text_of(name) else {
+            return Err(OpenFault);
+        };
+        let number = self.seen.opened.get().saturating_add(1);
+        self.seen.opened.set(number);
+        Ok(FakeFile {
+            rest: text.as_bytes(),
+            number,
+            seen: self.seen,
+        })
+    }
+
+    fn create(&mut self, name: &str) -> Result<FakeMade<'a>, OpenFault> {
+        self.seen.see_making();
+        self.disk.replace(name)?;
+        Ok(FakeMade { disk: self.disk })
+    }
+}
+
+impl Read for FakeFile<'_> {
+    fn read(&mut self, buf: &mut [u8]) -> io::Result<usize> {
+        self.seen.see_read(self.number);
+        let count = self.rest.len().min(buf.len());
+        if count == 0 {
+            self.seen.see_end();
+        }
+        let (given, rest) = self.rest.split_at(count);
+        buf[..count].copy_from_slice(given);
+        self.rest = rest;
+        Ok(count)
+    }
+}
+
+impl Write for FakeMade<'_> {
+    fn write(&mut self, buf: &[u8]) -> io::Result<usize> {
+        let Ok(mut bytes) = self.disk.bytes.try_borrow_mut() else {
+            return Err(io::Error::from(ErrorKind::Other));
+        };
+        let room = self.disk.room.saturating_sub(bytes.len());
+        let count = buf.len().min(5).min(room);
+        if room == 0 {
+            return Err(io::Error::from(ErrorKind::StorageFull));
+        }
+        bytes.extend_from_slice(&buf[..count])?;
+        Ok(count)
+    }
+
+    fn flush(&mut self) -> io::Result<()> {
+        Ok(())
+    }
+}
+
+/// How a command ends: its status, what it writes on standard output and on standard error, and how many
+/// files it opens.
+#[derive(Clone, Copy)]
+pub struct End<'a> {
+    /// The status.
+    pub status: u8,
+    /// What is written on standard output.
+    pub out: &'a str,
+    /// What is written on standard error.
+    pub err: &'a str,
+    /// How many files are opened.
+    pub opened: u32,
+}
+
+/// A standard stream that does not fail, and moves seven bytes a call at most.
+pub const WHOLE: Pace = Pace {
+    step: 7,
+    good: None,
+    failure: Failure::Nothing,
+};
+
+/// What a command works with beside its files.
+#[derive(Clone, Copy)]
+pub struct Around<'a> {
+    /// The input.
+    pub input: &'a [u8],
+    /// How standard input gives its bytes, and how standard output and standard error take theirs.
+    pub paces: [Pace; 3],
+    /// The file that may be made.
+    pub disk: &'a Disk,
+    /// Whether one is to be made.
+    pub makes: bool,
+}
+
+// What came of a command.
+#[derive(Drop)]
+struct Ended {
+    status: u8,
+    out: Vec<u8>,
+    err: Vec<u8>,
+    // Whether a standard stream was called after it failed.
+    is_late: bool,
+}
+
+// A command over an opener.
+fn run(
+    alloc: Global,
+    opener: &mut FakeOpener,
+    words: &[&str],
+    around: &Around,
+    calls: &Calls,
+) -> Ended {
+    let [given, taken, told] = around.paces;
+    let (written, said) = (Calls::new(), Calls::new());
+    let mut input = Source::new(FakeReader::new(around.input, given, calls));
+    let mut out = Sink::new(FakeWriter::new(alloc, taken, &written));
+    let mut err = Sink::new(FakeWriter::new(alloc, told, &said));
+    let status = run_command(alloc, opener, words, &mut input, &mut out, &mut err);
+    let late = calls
+        .late
+        .get()
+        .max(written.late.get())
+        .max(said.late.get());
+    Ended {
+        status,
+        out: out.into_inner().text,
+        err: err.into_inner().text,
+        is_late: late > 0,
+    }
+}
+
+/// The program's name, and the words of a line, one after each comma.
+fn words_of(alloc: Global, line: &str) -> Result<Vec<&str>, AllocError> {
+    once("uca").chain(line.split(',')).collect(alloc)
+}
+
+/// The command of some words, with commas between them, ends so over these files and this input: all files are
+/// opened before one is read, each is read before the next, and the input is read only where all are opened. No
+/// file is made.
+pub fn check(
+    alloc: Global,
+    files: &Files,
+    words: &str,
+    input: &[u8],
+    end: &End,
+) -> Result<(), Fail> {
+    check_words(alloc, files, &words_of(alloc, words)?, input, end)
+}
+
+/// The same of words that stand apart.
+pub fn check_words(
+    alloc: Global,
+    files: &Files,
+    words: &[&str],
+    input: &[u8],
+    end: &End,
+) -> Result<(), Fail> {
+    let disk = Disk::holding(alloc, "kept.txt", "kept")?;
+    let around = Around {
+        input,
+        paces: [WHOLE, WHOLE, WHOLE],
+        disk: &disk,
+        makes: false,
+    };
+    check_run(alloc, files, words, &around, end)?;
+    if disk.holds("kept.txt", "kept") {
+        Ok(())
+    } else {
+        Err(Fail::new("a file was made"))
+    }
+}
+
+/// The same of words with commas between them, with a disk of its own: a file is to be made on it just where
+/// this is said, and once all files are read to their end.
+pub fn check_around(
+    alloc: Global,
+    files: &Files,
+    words: &str,
+    around: &Around,
+    end: &End,
+) -> Result<(), Fail> {
+    check_run(alloc, files, &words_of(alloc, words)?, around, end)
+}
+
+fn check_run(
+    alloc: Global,
+    files: &Files,
+    words: &[&str],
+    around: &Around,
+    end: &End,
+) -> Result<(), Fail> {
+    let seen = Seen::new(files.count());
+    let calls = Calls::new();
+    let mut opener = FakeOpener {
+        files: *files,
+        disk: around.disk,
+        seen: &seen,
+    };
+    let ended = run(alloc, &mut opener, words, around, &calls);
+    let is_written = ended.out.as_slice() == end.out.as_bytes()
+        && ended.err.as_slice() == end.err.as_bytes()
+        && ended.status == end.status
+        && !ended.is_late;
+    let is_in_order = seen.opened.get() == end.opened
+        && seen.early.get() == 0
+        && seen.back.get() == 0
+        && seen.asked.get() == u32::from(around.makes)
+        && (end.opened == seen.wanted || calls.all.get() == 0);
+    if is_written && is_in_order {
+        return Ok(());
+    }
+    Err(Fail::new(format_args!(
+        "{words:?} ended with {}, and in order: {is_in_order}",
+        ended.status
+    )))
+}

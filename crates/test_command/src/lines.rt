@@ -1,0 +1,277 @@
+//! The line of each fault, its status, and where it goes.
+
+use std::alloc::Global;
+use std::io::{ErrorKind, Write};
+use std::test::Fail;
+use uca_certificates::{CertificateFault, CertificateFaultKind};
+use uca_cli::{FileFault, InputKind, Role, RunFault, report};
+use test_kit::{Calls, Failure, FakeWriter, Pace, holds, same};
+use uca_lines::files::{FaultKind, TableFault};
+use uca_plans::{TailorFault, TailorKind};
+use uca_rules::{RuleFault, RuleFaultKind};
+use uca_text::TextFault;
+use uca_weights::{Level, MapFault, MapFaultKind, Sink};
+use uca_words::WordFault;
+
+// The status of a fault that is reported on standard error, if nothing goes to standard output.
+fn status_of<W: Write>(alloc: Global, fault: &RunFault, err: &mut Sink<W>) -> Option<u8> {
+    let mut out = Sink::new(Vec::new(alloc));
+    let status = report(alloc, fault, &mut out, err);
+    if out.into_inner().is_empty() {
+        Some(status)
+    } else {
+        None
+    }
+}
+
+// The text of the fault is this line, without its LF. The fault is reported by this line and this status; and where the
+// writer fails before one of the bytes, by those before it and this status.
+fn check(alloc: Global, fault: &RunFault, line: &str, status: u8) -> Result<(), Fail> {
+    let mut err = Sink::new(Vec::new(alloc));
+    let found = status_of(alloc, fault, &mut err);
+    let is_line = err.into_inner().as_slice() == line.as_bytes();
+    holds(found == Some(status) && is_line, line)?;
+    same(&format!(in alloc; "{fault}\n")?, line, line)?;
+    let error = Failure::Error(ErrorKind::Interrupted);
+    for good in 0..line.len() {
+        check_cut(alloc, fault, (line, status), Pace::failing(4, good, error))?;
+        check_cut(
+            alloc,
+            fault,
+            (line, status),
+            Pace::failing(4, good, Failure::Nothing),
+        )?;
+    }
+    Ok(())
+}
+
+fn check_cut(
+    alloc: Global,
+    fault: &RunFault,
+    (line, status): (&str, u8),
+    pace: Pace,
+) -> Result<(), Fail> {
+    let calls = Calls::new();
+    let mut err = Sink::new(FakeWriter::new(alloc, pace, &calls));
+    let found = status_of(alloc, fault, &mut err);
+    let is_told = err.failed() && calls.late.get() == 0;
+    let text = err.into_inner().text;
+    let is_begun = Some(text.len()) == pace.good && line.as_bytes().starts_with(text.as_slice());
+    holds(found == Some(status) && is_told && is_begun, line)
+}
+
+// A fault of a line of a file.
+fn check_file(
+    alloc: Global,
+    (role, line, kind): (Role, u32, FaultKind),
+    text: &str,
+    status: u8,
+) -> Result<(), Fail> {
+    let fault = FileFault::Lines(TableFault { line, kind });
+    check(alloc, &RunFault::File { role, fault }, text, status)
+}
+
+#[test]
+fn refused_files(rt: HostRuntime) -> Result<(), Fail> {
+    let alloc = rt.alloc();
+    let fault = (Role::Table, 1, FaultKind::Line);
+    check_file(alloc, fault, "table line 1: Line\n", 1)?;
+    let fault = (Role::Data, 22, FaultKind::Order);
+    check_file(alloc, fault, "data line 22: Order\n", 1)?;
+    let fault = (Role::Base, 3, FaultKind::CodePoint);
+    check_file(alloc, fault, "base line 3: CodePoint\n", 1)?;
+    let fault = (Role::Tailored, 4, FaultKind::Weight);
+    check_file(alloc, fault, "tailored line 4: Weight\n", 1)?;
+    let fault = (Role::Data, 2, FaultKind::Range);
+    check_file(alloc, fault, "data line 2: Range\n", 1)
+}
+
+#[test]
+fn other_faults_of_files(rt: HostRuntime) -> Result<(), Fail> {
+    let alloc = rt.alloc();
+    let fault = (Role::Table, 1_000_001, FaultKind::Limit);
+    check_file(alloc, fault, "table line 1000001: Limit\n", 1)?;
+    let fault = (Role::Data, 7, FaultKind::Read);
+    check_file(alloc, fault, "data line 7: Read\n", 3)?;
+    let fault = (Role::Table, 8, FaultKind::Memory);
+    check_file(alloc, fault, "table line 8: Memory\n", 4)?;
+    // The longest line of a file.
+    let fault = (Role::Certificate, 4_294_967_295, FaultKind::DuplicateKey);
+    check_file(
+        alloc,
+        fault,
+        "certificate line 4294967295: DuplicateKey\n",
+        1,
+    )
+}
+
+// A fault of rules or of a certificate.
+fn check_other(
+    alloc: Global,
+    (role, fault): (Role, FileFault),
+    text: &str,
+    status: u8,
+) -> Result<(), Fail> {
+    check(alloc, &RunFault::File { role, fault }, text, status)
+}
+
+#[test]
+fn refused_rules(rt: HostRuntime) -> Result<(), Fail> {
+    let alloc = rt.alloc();
+    let of = |byte, kind| (Role::Rules, FileFault::Rules(RuleFault { byte, kind }));
+    let syntax = of(0, RuleFaultKind::Syntax);
+    check_other(alloc, syntax, "rules byte 0: Syntax\n", 1)?;
+    let target = of(1_048_576, RuleFaultKind::DuplicateTarget);
+    check_other(alloc, target, "rules byte 1048576: DuplicateTarget\n", 1)?;
+    let memory = of(7, RuleFaultKind::Memory);
+    check_other(alloc, memory, "rules byte 7: Memory\n", 4)?;
+    let read = (Role::Rules, FileFault::RulesRead);
+    check_other(alloc, read, "rules: Read\n", 3)?;
+    let bytes = (Role::Rules, FileFault::RulesMemory);
+    check_other(alloc, bytes, "rules: Memory\n", 4)
+}
+
+// A fault of a line of a certificate.
+fn check_certificate(
+    alloc: Global,
+    (line, kind): (u32, CertificateFaultKind),
+    text: &str,
+    status: u8,
+) -> Result<(), Fail> {
+    let fault = FileFault::Certificate(CertificateFault { line, kind });
+    check_other(alloc, (Role::Certificate, fault), text, status)
+}
+
+#[test]
+fn refused_certificates(rt: HostRuntime) -> Result<(), Fail> {
+    let alloc = rt.alloc();
+    let order = (2, CertificateFaultKind::Order);
+    check_certificate(alloc, order, "certificate line 2: Order\n", 1)?;
+    let limit = (65_536, CertificateFaultKind::Limit);
+    check_certificate(alloc, limit, "certificate line 65536: Limit\n", 1)?;
+    let run = MapFault {
+        run: 3,
+        kind: MapFaultKind::OutOfRange,
+    };
+    let map = (4, CertificateFaultKind::Map(run));
+    check_certificate(alloc, map, "certificate line 4: Map OutOfRange\n", 1)?;
+    let read = (5, CertificateFaultKind::Read);
+    check_certificate(alloc, read, "certificate line 5: Read\n", 3)?;
+    let memory = (6, CertificateFaultKind::Memory);
+    check_certificate(alloc, memory, "certificate line 6: Memory\n", 4)
+}
+
+// A fault of the planner, with the relation that is to blame, or 0.
+fn check_plan(
+    alloc: Global,
+    (relation, kind): (u32, TailorKind),
+    text: &str,
+    status: u8,
+) -> Result<(), Fail> {
+    let fault = RunFault::Tailor(TailorFault { kind, relation });
+    check(alloc, &fault, text, status)
+}
+
+#[test]
+fn refused_plans(rt: HostRuntime) -> Result<(), Fail> {
+    let alloc = rt.alloc();
+    let anchor = (3, TailorKind::Anchor);
+    check_plan(alloc, anchor, "tailor relation 3: Anchor\n", 1)?;
+    let prefix = (5000, TailorKind::NeedsPrefix);
+    check_plan(alloc, prefix, "tailor relation 5000: NeedsPrefix\n", 1)?;
+    let limit = (1, TailorKind::Limit);
+    check_plan(alloc, limit, "tailor relation 1: Limit\n", 1)?;
+    let base = (0, TailorKind::BaseIllFormed);
+    check_plan(alloc, base, "tailor: BaseIllFormed\n", 1)?;
+    let room = (0, TailorKind::NoRoom(Level::Two));
+    check_plan(alloc, room, "tailor: NoRoom 2\n", 1)?;
+    let variable = (2, TailorKind::ImplicitVariable);
+    check_plan(alloc, variable, "tailor relation 2: ImplicitVariable\n", 1)?;
+    check_plan(alloc, (0, TailorKind::Memory), "memory\n", 4)?;
+    // The longest line of a plan.
+    let longest = (4_294_967_295, TailorKind::ImplicitVariable);
+    check_plan(
+        alloc,
+        longest,
+        "tailor relation 4294967295: ImplicitVariable\n",
+        1,
+    )
+}
+
+// A file that does not open.
+fn check_open(alloc: Global, role: Role, text: &str) -> Result<(), Fail> {
+    check(alloc, &RunFault::Open(role), text, 3)
+}
+
+#[test]
+fn files_that_do_not_open(rt: HostRuntime) -> Result<(), Fail> {
+    check_open(rt.alloc(), Role::Table, "table: Open\n")?;
+    check_open(rt.alloc(), Role::Data, "data: Open\n")?;
+    check_open(rt.alloc(), Role::Rules, "rules: Open\n")?;
+    check_open(rt.alloc(), Role::Certificate, "certificate: Open\n")?;
+    check_open(rt.alloc(), Role::Base, "base: Open\n")?;
+    check_open(rt.alloc(), Role::Tailored, "tailored: Open\n")
+}
+
+// A fault of a line of the input.
+fn check_line(
+    alloc: Global,
+    (line, kind): (u32, InputKind),
+    text: &str,
+    status: u8,
+) -> Result<(), Fail> {
+    check(alloc, &RunFault::Input { line, kind }, text, status)
+}
+
+#[test]
+fn faults_of_lines(rt: HostRuntime) -> Result<(), Fail> {
+    let alloc = rt.alloc();
+    check_line(alloc, (1, InputKind::Utf8), "input line 1: Utf8\n", 1)?;
+    check_line(alloc, (2, InputKind::TooLong), "input line 2: TooLong\n", 1)?;
+    let run = (3, InputKind::LongRun(0));
+    check_line(alloc, run, "input line 3: LongRun at 0\n", 1)?;
+    check_line(alloc, (4, InputKind::Read), "input line 4: Read\n", 3)?;
+    let limit = (1_000_001, InputKind::Limit);
+    check_line(alloc, limit, "input line 1000001: Limit\n", 1)?;
+    check_line(alloc, (6, InputKind::Memory), "input line 6: Memory\n", 4)?;
+    // The longest line of all.
+    let longest = (4_294_967_295, InputKind::LongRun(4_294_967_295));
+    let text = "input line 4294967295: LongRun at 4294967295\n";
+    check_line(alloc, longest, text, 1)
+}
+
+// A fault of a text, which is the right one or the left one.
+fn check_text(
+    alloc: Global,
+    (right, fault): (bool, TextFault),
+    text: &str,
+    status: u8,
+) -> Result<(), Fail> {
+    check(alloc, &RunFault::Text { right, fault }, text, status)
+}
+
+#[test]
+fn faults_of_texts(rt: HostRuntime) -> Result<(), Fail> {
+    let alloc = rt.alloc();
+    check_text(alloc, (false, TextFault::TooLong), "left: TooLong\n", 1)?;
+    let run = (false, TextFault::LongRun(1));
+    check_text(alloc, run, "left: LongRun at 1\n", 1)?;
+    check_text(alloc, (false, TextFault::Memory), "left: Memory\n", 4)?;
+    check_text(alloc, (true, TextFault::TooLong), "right: TooLong\n", 1)?;
+    let run = (true, TextFault::LongRun(1_048_511));
+    check_text(alloc, run, "right: LongRun at 1048511\n", 1)?;
+    check_text(alloc, (true, TextFault::Memory), "right: Memory\n", 4)
+}
+
+#[test]
+fn other_faults(rt: HostRuntime) -> Result<(), Fail> {
+    let alloc = rt.alloc();
+    let write = RunFault::Write { written: 7 };
+    check(alloc, &write, "output: Write\n", 3)?;
+    let certificate = RunFault::CertificateWrite { written: 7 };
+    check(alloc, &certificate, "certificate: Write\n", 3)?;
+    check(alloc, &RunFault::Memory, "memory\n", 4)?;
+    check(alloc, &RunFault::Words(WordFault::Memory), "memory\n", 4)?;
+    let weighting = RunFault::Words(WordFault::Weighting);
+    check(alloc, &weighting, "weighting: unknown\n", 2)
+}

@@ -1,0 +1,446 @@
+//! Lines of words: what is read is what a small model reads, and means the same when it is written out; what is refused is
+//! refused with a text.
+
+use crate::counts::Counts;
+use crate::numbers::Numbers;
+use std::alloc::{AllocError, Global};
+use std::test::Fail;
+use test_kit::holds;
+use uca_weights::{Depth, Weighting};
+use uca_words::{WordFault, Words, read_words};
+
+/// Lines that are read.
+const LINES: &str = "check t d
+keys t d
+keys --weighting shifted t d --identical
+sort --weighting=non-ignorable --identical t d
+compare t d a b
+compare --identical t d --weighting non-ignorable -- -a --b
+tailor t d r -- c
+audit b d r t c";
+
+/// Words that are put in.
+const PUT_IN: &str =
+    "check keys sort compare tailor audit help order t - -- --- --weighting --weighting= --weighting=shifted \
+    --weightings shifted non-ignorable Shifted --identical --identical= --identically -i -h --help --version \u{E9} =";
+
+/// The names of the subcommands.
+const NAMES: &[&str] = &["check", "keys", "sort", "compare", "tailor", "audit"];
+
+/// Names of files, and texts.
+const TEXTS: &[&str] = &["t", "d", "", "-", "--identical"];
+
+/// The lines that come of one change, and those of them that are read.
+const CHANGED: Counts = Counts {
+    judged: 2459,
+    accepted: 495,
+    sum: 658_371,
+};
+
+/// The random lines, and those of them that are read.
+const RANDOM: Counts = Counts {
+    judged: 400,
+    accepted: 78,
+    sum: 15_528,
+};
+
+/// How many names and texts a command has at most.
+const MOST: usize = 5;
+
+/// What the words behind a subcommand's name ask for.
+#[derive(Clone, Copy)]
+struct Asked<'a> {
+    /// The names and texts, of those that are too many none.
+    texts: [&'a str; MOST],
+    /// How many names and texts there are.
+    count: usize,
+    /// The last weighting.
+    weighting: Option<&'a str>,
+    /// How many weightings.
+    weightings: usize,
+    /// How often all levels are asked for.
+    identicals: usize,
+    /// Whether a value is due.
+    is_due: bool,
+    /// Whether all that follows is a name or a text.
+    are_texts: bool,
+    /// Whether a word has no meaning where it stands.
+    is_strange: bool,
+}
+
+/// Before any word.
+const NOTHING: Asked = Asked {
+    texts: [""; MOST],
+    count: 0,
+    weighting: None,
+    weightings: 0,
+    identicals: 0,
+    is_due: false,
+    are_texts: false,
+    is_strange: false,
+};
+
+/// Takes a word that is a value, a name or a text.
+fn take_text<'a>(asked: &mut Asked<'a>, word: &'a str) {
+    if asked.is_due {
+        asked.is_due = false;
+        asked.weighting = Some(word);
+        return;
+    }
+    let place = asked.count;
+    if let Some(text) = asked.texts.get_mut(place) {
+        *text = word;
+    }
+    asked.count = place.saturating_add(1);
+}
+
+/// Takes a word that is an option of a subcommand.
+fn take_option<'a>(asked: &mut Asked<'a>, word: &'a str) {
+    if let Some(weighting) = word.strip_prefix("--weighting=") {
+        asked.weighting = Some(weighting);
+        asked.weightings = asked.weightings.saturating_add(1);
+        return;
+    }
+    match word {
+        "--weighting" => {
+            asked.weightings = asked.weightings.saturating_add(1);
+            asked.is_due = true;
+        }
+        "--identical" => asked.identicals = asked.identicals.saturating_add(1),
+        _ => asked.is_strange = true,
+    }
+}
+
+/// Takes one more word, where a name takes options or not.
+fn take_word<'a>(asked: &mut Asked<'a>, word: &'a str, has_options: bool) {
+    if asked.are_texts || !word.starts_with("-") || word.len() == 1 {
+        take_text(asked, word);
+        return;
+    }
+    asked.is_strange = asked.is_strange || asked.is_due;
+    if word == "--" {
+        asked.are_texts = true;
+    } else if has_options {
+        take_option(asked, word);
+    } else {
+        asked.is_strange = true;
+    }
+}
+
+/// How many names and texts stand behind a subcommand's name, and whether it takes options.
+fn form_of(name: &str) -> Option<(usize, bool)> {
+    match name {
+        "check" => Some((2, false)),
+        "keys" | "sort" => Some((2, true)),
+        "compare" => Some((4, true)),
+        "tailor" => Some((4, false)),
+        "audit" => Some((5, false)),
+        _ => None,
+    }
+}
+
+/// What is said of a line.
+#[derive(Clone, Copy, PartialEq, Eq)]
+enum Said {
+    /// What it asks for.
+    Taken,
+    /// That the weighting is neither of the two.
+    Unknown,
+    /// That it is no command.
+    Refused,
+}
+
+/// What the model says of a line.
+#[derive(Clone, Copy)]
+struct Model<'a> {
+    /// What is said of it.
+    said: Said,
+    /// The name of the subcommand.
+    name: &'a str,
+    /// What the words behind the name ask for.
+    asked: Asked<'a>,
+}
+
+/// Whether this is all that a subcommand with so many names and texts asks for.
+fn is_whole(asked: &Asked, texts: usize) -> bool {
+    let is_once = asked.weightings < 2 && asked.identicals < 2;
+    is_once && asked.count == texts && !asked.is_due && !asked.is_strange
+}
+
+/// What is said where this is asked for of a subcommand of this form.
+fn said_of(asked: &Asked, (texts, _): (usize, bool)) -> Said {
+    if !is_whole(asked, texts) {
+        return Said::Refused;
+    }
+    match asked.weighting {
+        None | Some("shifted" | "non-ignorable") => Said::Taken,
+        Some(_) => Said::Unknown,
+    }
+}
+
+/// What the model says of the words of a line, of which the first is the program's name.
+fn model_of<'a>(words: &[&'a str]) -> Model<'a> {
+    let mut asked = NOTHING;
+    let name = words.get(1).copied().unwrap_or("");
+    let Some(form) = form_of(name) else {
+        let said = Said::Refused;
+        return Model { said, name, asked };
+    };
+    let (_, has_options) = form;
+    for word in words.iter().skip(2) {
+        take_word(&mut asked, *word, has_options);
+    }
+    let said = said_of(&asked, form);
+    Model { said, name, asked }
+}
+
+/// The words of a subcommand with these options and names.
+fn with_options<'a>(
+    alloc: Global,
+    name: &'a str,
+    (weighting, depth): (Option<Weighting>, Depth),
+    texts: &[&'a str],
+) -> Result<Vec<&'a str>, AllocError> {
+    let mut line = Vec::new(alloc);
+    line.push("uca")?;
+    line.push(name)?;
+    match weighting {
+        Some(Weighting::NonIgnorable) => line.push("--weighting=non-ignorable")?,
+        Some(Weighting::Shifted) => line.push("--weighting=shifted")?,
+        None => {}
+    }
+    if depth == Depth::Identical {
+        line.push("--identical")?;
+    }
+    line.push("--")?;
+    for text in texts {
+        line.push(*text)?;
+    }
+    Ok(line)
+}
+
+/// One line that says what was read.
+fn spelled<'a>(alloc: Global, words: Words<'a>) -> Result<Vec<&'a str>, AllocError> {
+    let none = (None, Depth::Weights);
+    match words {
+        Words::Check { table, properties } => with_options(
+            alloc,
+            "check",
+            none,
+            &[table, properties],
+        ),
+        Words::Keys {
+            weighting,
+            depth,
+            table,
+            properties,
+        } => with_options(alloc, "keys", (weighting, depth), &[table, properties]),
+        Words::Sort {
+            weighting,
+            depth,
+            table,
+            properties,
+        } => with_options(alloc, "sort", (weighting, depth), &[table, properties]),
+        Words::Compare {
+            weighting,
+            depth,
+            table,
+            properties,
+            left,
+            right,
+        } => with_options(
+            alloc,
+            "compare",
+            (weighting, depth),
+            &[table, properties, left, right],
+        ),
+        Words::Tailor {
+            table,
+            properties,
+            rules,
+            certificate,
+        } => with_options(
+            alloc,
+            "tailor",
+            none,
+            &[table, properties, rules, certificate],
+        ),
+        Words::Audit {
+            base,
+            properties,
+            rules,
+            tailored,
+            certificate,
+        } => with_options(
+            alloc,
+            "audit",
+            none,
+            &[base, properties, rules, tailored, certificate],
+        ),
+    }
+}
+
+/// The line that says what the model read.
+fn meant<'a>(alloc: Global, model: &Model<'a>) -> Result<Vec<&'a str>, AllocError> {
+    let asked = model.asked;
+    let weighting = match asked.weighting {
+        Some("shifted") => Some(Weighting::Shifted),
+        Some(_) => Some(Weighting::NonIgnorable),
+        None => None,
+    };
+    let depth = if asked.identicals > 0 {
+        Depth::Identical
+    } else {
+        Depth::Weights
+    };
+    let texts: &[&str] = &asked.texts;
+    let texts = texts.get(..asked.count).unwrap_or(texts);
+    with_options(alloc, model.name, (weighting, depth), texts)
+}
+
+/// Whether words are what the model says, and mean the same when they are written out.
+fn is_read(alloc: Global, words: Words, model: &Model) -> Result<bool, Fail> {
+    let line = spelled(alloc, words)?;
+    let again = read_words(alloc, &line);
+    let is_kept = matches!(again, Ok(found) if found == words);
+    let wanted = meant(alloc, model)?;
+    Ok(is_kept && line.as_slice() == wanted.as_slice())
+}
+
+/// Whether a text may be what is printed where words are refused.
+fn is_refusal(text: &str) -> bool {
+    text.ends_with("\n") && (text.starts_with("error: ") || text.contains("Usage: uca"))
+}
+
+/// Whether what is said of a line is what the model says.
+fn is_true(alloc: Global, line: &[&str], model: &Model) -> Result<bool, Fail> {
+    match read_words(alloc, line) {
+        Ok(words) => Ok(model.said == Said::Taken && is_read(alloc, words, model)?),
+        Err(WordFault::Refused(error)) => Ok(
+            model.said == Said::Refused && is_refusal(&format!(in alloc; "{error}")?),
+        ),
+        Err(WordFault::Weighting) => Ok(model.said == Said::Unknown),
+        Err(fault) => Err(Fail::from(fault)),
+    }
+}
+
+/// Fails unless what is said of a line is true of it. Returns whether it is read.
+fn judge(alloc: Global, line: &[&str]) -> Result<bool, Fail> {
+    let model = model_of(line);
+    if is_true(alloc, line, &model)? {
+        return Ok(model.said == Said::Taken);
+    }
+    Err(Fail::new(format_args!("at {line:?}")))
+}
+
+/// The line with a word in place of the one at a place; behind it, if it stays.
+fn changed<'a>(
+    alloc: Global,
+    line: &[&'a str],
+    place: usize,
+    (stays, word): (bool, &'a str),
+) -> Result<Vec<&'a str>, AllocError> {
+    let mut made = Vec::new(alloc);
+    for (at, own) in line.iter().enumerate() {
+        if at != place || stays {
+            made.push(*own)?;
+        }
+        if at == place {
+            made.push(word)?;
+        }
+    }
+    Ok(made)
+}
+
+/// One of some words.
+fn one_of<'a>(numbers: &mut Numbers, words: &[&'a str]) -> Result<&'a str, Fail> {
+    let place = numbers.below(words.len());
+    Ok(words.get(place).copied().ok_or("no word")?)
+}
+
+/// The words of a text, behind the program's name.
+fn words_of(alloc: Global, line: &str) -> Result<Vec<&str>, AllocError> {
+    let mut words = Vec::new(alloc);
+    words.push("uca")?;
+    for word in line.split(' ') {
+        words.push(word)?;
+    }
+    Ok(words)
+}
+
+/// Judges a line with each of the other words in place of one, and behind it.
+fn judge_place(
+    alloc: Global,
+    line: &[&str],
+    place: usize,
+    counts: &mut Counts,
+) -> Result<(), Fail> {
+    for word in PUT_IN.split(' ') {
+        for stays in [false, true] {
+            let made = changed(alloc, line, place, (stays, word))?;
+            counts.count(judge(alloc, &made)?);
+        }
+    }
+    Ok(())
+}
+
+/// Judges a line that is read, its beginnings, and all that are made of it by one change behind the program's name.
+fn judge_changes(alloc: Global, line: &str, counts: &mut Counts) -> Result<(), Fail> {
+    let line = words_of(alloc, line)?;
+    let is_accepted = judge(alloc, &line)?;
+    holds(is_accepted, "a line that is not read")?;
+    counts.count(is_accepted);
+    for place in 1..line.len() {
+        let beginning = line.get(..place).ok_or("no beginning")?;
+        counts.count(judge(alloc, beginning)?);
+        judge_place(alloc, &line, place, counts)?;
+    }
+    Ok(())
+}
+
+#[test]
+fn changed_lines(rt: HostRuntime) -> Result<(), Fail> {
+    let mut counts = Counts::new();
+    for line in LINES.lines() {
+        judge_changes(rt.alloc(), line, &mut counts)?;
+    }
+    counts.check(CHANGED)
+}
+
+/// The name of a subcommand, and random words behind it: as many as it needs, or one or two more.
+fn random_line<'a>(
+    alloc: Global,
+    name: &'a str,
+    words: &[&'a str],
+    numbers: &mut Numbers,
+) -> Result<Vec<&'a str>, Fail> {
+    let (texts, _) = form_of(name).ok_or("no name")?;
+    let mut line = words_of(alloc, name)?;
+    for _ in 0..texts.saturating_add(numbers.below(3)) {
+        let some = if numbers.below(4) == 0 { words } else { TEXTS };
+        line.push(one_of(numbers, some)?)?;
+    }
+    Ok(line)
+}
+
+/// Judges a random line, and returns whether it is read.
+fn judge_random<'a>(
+    alloc: Global,
+    (names, words): (&[&'a str], &[&'a str]),
+    numbers: &mut Numbers,
+) -> Result<bool, Fail> {
+    let name = one_of(numbers, names)?;
+    let line = random_line(alloc, name, words, numbers)?;
+    judge(alloc, &line)
+}
+
+#[test]
+fn random_lines(rt: HostRuntime) -> Result<(), Fail> {
+    let mut numbers = Numbers::new(5);
+    let words = words_of(rt.alloc(), PUT_IN)?;
+    let mut counts = Counts::new();
+    for _ in 0..RANDOM.judged {
+        counts.count(judge_random(rt.alloc(), (NAMES, &words), &mut numbers)?);
+    }
+    counts.check(RANDOM)
+}

@@ -1,0 +1,133 @@
+//! What is said of rules, as text.
+
+use std::alloc::{AllocError, Global};
+use std::test::Fail;
+use test_kit::{DATA, code_point, data_of, halves, holds, is_remark, same};
+use uca_rules::{Relation, RuleFault, RuleFaultKind, Rules, read_rules};
+use uca_text::Normal;
+use uca_values::Data;
+use uca_weights::{Source, Strength};
+
+/// Classes of some accents.
+pub fn classes(alloc: Global) -> Result<Data, Fail> {
+    Ok(data_of(alloc, &mut Source::new(DATA.as_bytes()))?)
+}
+
+/// The text of a field of a case: `(E9)` stands for the code point with these hexadecimal digits, and all else for itself.
+pub fn text_of(alloc: Global, field: &str) -> Result<String, Fail> {
+    let mut text = String::new(alloc);
+    for part in field.split('(') {
+        match part.split_once(')') {
+            Some((digits, rest)) => {
+                text.push(code_point(digits)?)?;
+                text.push_str(rest)?;
+            }
+            None => text.push_str(part)?,
+        }
+    }
+    Ok(text)
+}
+
+/// Adds a text: ASCII letters and digits as they stand, other code points as in a field, with the class behind a dot where
+/// it is not 0.
+fn push_text(words: &mut String, text: &Normal) -> Result<(), AllocError> {
+    let alloc = *words.allocator();
+    for (point, class) in text.chars().iter().zip(text.classes()) {
+        let code = u32::from(*point);
+        if *class > 0 {
+            words.push_str(&format!(in alloc; "({:X}.{class})", code)?)?;
+        } else if point.is_ascii_alphanumeric() {
+            words.push(*point)?;
+        } else {
+            words.push_str(&format!(in alloc; "({:X})", code)?)?;
+        }
+    }
+    Ok(())
+}
+
+/// The sign of a strength.
+fn sign(strength: Strength) -> &'static str {
+    match strength {
+        Strength::Primary => " < ",
+        Strength::Secondary => " << ",
+        Strength::Tertiary => " <<< ",
+        Strength::Identical => " = ",
+    }
+}
+
+/// Adds a relation, with its anchor.
+fn push_relation(words: &mut String, relation: &Relation) -> Result<(), AllocError> {
+    if !words.is_empty() {
+        words.push_str("; ")?;
+    }
+    if relation.before {
+        words.push_str("before ")?;
+    }
+    push_text(words, &relation.anchor)?;
+    words.push_str(sign(relation.strength))?;
+    push_text(words, &relation.target)?;
+    if let Some(expansion) = &relation.expansion {
+        words.push_str(" / ")?;
+        push_text(words, expansion)?;
+    }
+    Ok(())
+}
+
+/// The relations of rules.
+fn relations(alloc: Global, rules: &Rules) -> Result<String, AllocError> {
+    let mut words = String::new(alloc);
+    for relation in rules.relations() {
+        push_relation(&mut words, relation)?;
+    }
+    if words.is_empty() {
+        words.push_str("nothing")?;
+    }
+    Ok(words)
+}
+
+/// Why rules are refused. Where an allocation failed that is the error, and its byte is one of the rules or their end.
+fn refusal(alloc: Global, rules: &[u8], fault: RuleFault) -> Result<String, Fail> {
+    let RuleFault { byte, kind } = fault;
+    if kind == RuleFaultKind::Memory {
+        holds(byte <= rules.len(), "Memory behind the end")?;
+        return Err(Fail::from(kind));
+    }
+    Ok(format!(in alloc; "{kind} at {byte}")?)
+}
+
+/// The relations that rules mean, or why they are refused.
+pub fn said(alloc: Global, data: &Data, rules: &[u8]) -> Result<String, Fail> {
+    match read_rules(alloc, rules, data) {
+        Ok(read) => Ok(relations(alloc, &read)?),
+        Err(fault) => refusal(alloc, rules, fault),
+    }
+}
+
+/// How many relations rules mean, or why they are refused.
+pub fn counted(alloc: Global, data: &Data, rules: &[u8]) -> Result<String, Fail> {
+    match read_rules(alloc, rules, data) {
+        Ok(read) => Ok(format!(in alloc; "{} relations", read.relations().len())?),
+        Err(fault) => refusal(alloc, rules, fault),
+    }
+}
+
+/// Rules, and what is said of them.
+fn check(alloc: Global, data: &Data, case: &str) -> Result<(), Fail> {
+    if is_remark(case) {
+        return Ok(());
+    }
+    let (rules, wanted) = halves(case)?;
+    let rules = text_of(alloc, rules)?;
+    same(&said(alloc, data, rules.as_bytes())?, wanted, case)
+}
+
+/// Tables of rules, and what is said of them.
+pub fn check_all(alloc: Global, tables: &[&str]) -> Result<(), Fail> {
+    let data = classes(alloc)?;
+    for table in tables {
+        for case in table.lines() {
+            check(alloc, &data, case)?;
+        }
+    }
+    Ok(())
+}

@@ -1,0 +1,88 @@
+//! The rules of `examples/`: the same texts, and the relations that they mean.
+
+use crate::answers::{classes, said};
+use std::alloc::Global;
+use std::test::Fail;
+use test_kit::same;
+use uca_values::Data;
+
+const SPANISH: &str =
+    "# Spanish, traditional order: the dictionaries of the Real Academia Española before the decision of 1994 of the
+# Association of Academies. ch and ll are letters of their own, behind c and l; ñ is one behind n, then as now.
+#
+# For a table of all letters, as allkeys.txt. It leaves out the spellings cH and lL (a lower-case letter before an
+# upper-case one), which are read as two letters here.
+
+& N < ñ <<< Ñ
+& C < ch <<< Ch <<< CH
+& L < ll <<< Ll <<< LL
+";
+
+const SPANISH_MEANS: &str =
+    "N < n(303.230); n(303.230) <<< N(303.230); C < ch; ch <<< Ch; Ch <<< CH; L < ll; ll <<< Ll; \
+    Ll <<< LL";
+
+const SWEDISH: &str =
+    "# Swedish: Svenska Akademiens ordlista, from its 13th edition (2006) on. å, ä and ö are letters of their own behind z, in
+# this order. æ is sorted as ä, ø as ö and ü as y: such letters differ at the second level alone.
+#
+# For a table of all letters, as allkeys.txt, which has further letters behind z, of which the click ǀ (U+01C0) begins
+# another group: the three letters stand directly before it. v and w are two letters there, and stay so; in older editions
+# w was sorted as v.
+#
+# It leaves out letters of other languages that CLDR's data for Swedish names too: đ and ð as d, þ as th, ű as ü, ę as ä, ő,
+# œ and ô as ö.
+
+& Y << ü <<< Ü
+&[before 1] ǀ
+    < å <<< Å
+    < ä <<< Ä << æ <<< Æ
+    < ö <<< Ö << ø <<< Ø
+";
+
+const SWEDISH_MEANS: &str =
+    "Y << u(308.230); u(308.230) <<< U(308.230); before (1C0) < a(30A.230); a(30A.230) <<< A(30A.230); \
+    A(30A.230) < a(308.230); a(308.230) <<< A(308.230); A(308.230) << (E6); (E6) <<< (C6); \
+    (C6) < o(308.230); o(308.230) <<< O(308.230); O(308.230) << (F8); (F8) <<< (D8)";
+
+const DANISH: &str =
+    "# Danish and Norwegian: Retskrivningsordbogen and Bokmålsordboka. æ, ø and å are letters of their own behind z, in this
+# order, and aa counts as å. ä is sorted as æ, ö as ø and ü as y.
+#
+# For a table of all letters, as allkeys.txt; the letters stand directly before the click ǀ (U+01C0), behind all others that
+# such a table has behind z.
+#
+# It leaves out that Danish dictionaries put an upper-case letter before its lower-case one, which is a setting and no
+# relation; that an aa which is two letters, as at the seam of a compound word, is sorted as such, which no rule can tell;
+# aA; and letters of other languages that CLDR's data for Danish names too, as đ, ð, þ, ű, ę, ő and œ.
+
+& Y << ü <<< Ü
+&[before 1] ǀ
+    < æ <<< Æ << ä <<< Ä
+    < ø <<< Ø << ö <<< Ö
+    < å <<< Å <<< aa <<< Aa <<< AA
+";
+
+const DANISH_MEANS: &str =
+    "Y << u(308.230); u(308.230) <<< U(308.230); before (1C0) < (E6); (E6) <<< (C6); (C6) << a(308.230); \
+    a(308.230) <<< A(308.230); A(308.230) < (F8); (F8) <<< (D8); (D8) << o(308.230); \
+    o(308.230) <<< O(308.230); O(308.230) < a(30A.230); a(30A.230) <<< A(30A.230); A(30A.230) <<< aa; \
+    aa <<< Aa; Aa <<< AA";
+
+fn check(alloc: Global, data: &Data, rules: &str, wanted: &str) -> Result<(), Fail> {
+    same(&said(alloc, data, rules.as_bytes())?, wanted, rules)
+}
+
+#[test]
+fn rules_of_three_alphabets(rt: HostRuntime) -> Result<(), Fail> {
+    let data = classes(rt.alloc())?;
+    let examples = [
+        (SPANISH, SPANISH_MEANS),
+        (SWEDISH, SWEDISH_MEANS),
+        (DANISH, DANISH_MEANS),
+    ];
+    for (rules, wanted) in examples {
+        check(rt.alloc(), &data, rules, wanted)?;
+    }
+    Ok(())
+}

@@ -1,0 +1,183 @@
+//! Runs over readers and a writer that give or take few bytes a call. None of them fails, so no run does.
+
+use crate::files::push_key;
+use crate::paces::{
+    CHECK, COMPARE, Case, FAILED_CHECK, IDENTICAL_KEYS, KEYS, SORT, is_whole, run_at, with_input,
+};
+use crate::runs::Run;
+use std::alloc::{AllocError, Global};
+use std::test::Fail;
+use test_kit::{Pace, holds, repeated};
+
+/// How many bytes a call gives or takes at most. The last gives or takes all.
+const STEPS: [usize; 6] = [1, 2, 3, 7, 4096, usize::MAX];
+
+// The streams that a run has a use for, of the table, the data file, the input and the output.
+fn used_by(run: Run) -> [bool; 4] {
+    match run {
+        Run::Keys(..) | Run::Sort(..) => [true; 4],
+        Run::Check | Run::Compare(..) => [true, true, false, true],
+    }
+}
+
+// Where a call gives or takes so many bytes, the run prints all. Each stream that it has a use for is called, and
+// none fails.
+fn check_step(alloc: Global, case: &Case, step: usize) -> Result<(), Fail> {
+    let outcome = run_at(alloc, case, [Pace::steps(step); 4])?;
+    let is_used = outcome.called == used_by(case.run);
+    holds(is_whole(case, &outcome) && is_used, &outcome.end)
+}
+
+// However many bytes a call gives or takes.
+fn check_pieces(alloc: Global, case: &Case) -> Result<(), Fail> {
+    for step in STEPS {
+        check_step(alloc, case, step)?;
+    }
+    Ok(())
+}
+
+// A source that ends without its reader, and a run that always says that no memory is left, do not print this.
+#[test]
+fn any_number_of_bytes_a_call(rt: HostRuntime) -> Result<(), Fail> {
+    check_pieces(rt.alloc(), &KEYS)?;
+    check_pieces(rt.alloc(), &IDENTICAL_KEYS)?;
+    check_pieces(rt.alloc(), &SORT)?;
+    check_pieces(rt.alloc(), &CHECK)?;
+    check_pieces(rt.alloc(), &FAILED_CHECK)?;
+    check_pieces(rt.alloc(), &COMPARE)
+}
+
+// A line of so many `a`.
+fn push_line(text: &mut String, count: usize) -> Result<(), AllocError> {
+    for _ in 0..count {
+        text.push('a')?;
+    }
+    text.push('\n')
+}
+
+/// Lines of `a`.
+#[derive(Drop)]
+struct Lines {
+    /// In falling order.
+    falling: String,
+    /// In rising order.
+    rising: String,
+    /// The keys of those in falling order, as they are printed.
+    keys: String,
+}
+
+// Lines of these numbers of `a`, which are in rising order.
+fn lines_of(alloc: Global, counts: &[usize]) -> Result<Lines, AllocError> {
+    let mut lines = Lines {
+        falling: String::new(alloc),
+        rising: String::new(alloc),
+        keys: String::new(alloc),
+    };
+    for count in counts {
+        push_line(&mut lines.rising, *count)?;
+    }
+    for count in counts.iter().rev() {
+        push_line(&mut lines.falling, *count)?;
+        push_key(&mut lines.keys, *count)?;
+    }
+    Ok(lines)
+}
+
+// The keys of these lines.
+fn check_keys(alloc: Global, lines: &Lines) -> Result<(), Fail> {
+    let case = with_input(&KEYS, lines.falling.as_bytes(), &lines.keys);
+    check_pieces(alloc, &case)
+}
+
+// These lines sorted.
+fn check_sorted(alloc: Global, lines: &Lines) -> Result<(), Fail> {
+    let case = with_input(&SORT, lines.falling.as_bytes(), &lines.rising);
+    check_pieces(alloc, &case)
+}
+
+// The keys of lines of these numbers of `a`, and the lines sorted.
+fn check_lines(alloc: Global, counts: &[usize]) -> Result<(), Fail> {
+    let lines = lines_of(alloc, counts)?;
+    check_keys(alloc, &lines)?;
+    check_sorted(alloc, &lines)
+}
+
+/// Numbers of letters up to 300: so many, and so far apart.
+const LENGTHS: usize = 43;
+
+const STRIDE: usize = 7;
+
+#[test]
+fn a_line_of_any_length(rt: HostRuntime) -> Result<(), Fail> {
+    for place in 0..LENGTHS {
+        check_lines(rt.alloc(), &[place.saturating_mul(STRIDE)])?;
+    }
+    Ok(())
+}
+
+#[test]
+fn lines_of_many_lengths(rt: HostRuntime) -> Result<(), Fail> {
+    let mut counts = Vec::new(rt.alloc());
+    for place in 0..LENGTHS {
+        counts.push(place.saturating_mul(STRIDE))?;
+    }
+    check_lines(rt.alloc(), &counts)
+}
+
+/// Sizes of a sorted line with its LF: some size, and about the size of the buffers for input and output and
+/// its multiples.
+const SIZES: [usize; 5] = [12_345, 16_383, 16_384, 16_385, 32_769];
+
+fn check_size(alloc: Global, size: usize) -> Result<(), Fail> {
+    let lines = lines_of(alloc, &[size.saturating_sub(1)])?;
+    holds(lines.rising.len() == size, "another size")?;
+    check_sorted(alloc, &lines)
+}
+
+#[test]
+fn sorted_lines_about_the_size_of_the_buffer(rt: HostRuntime) -> Result<(), Fail> {
+    for size in SIZES {
+        check_size(rt.alloc(), size)?;
+    }
+    Ok(())
+}
+
+// Printed keys of a size, and the numbers of letters of lines that have such keys.
+fn check_key_size(alloc: Global, size: usize, counts: &[usize]) -> Result<(), Fail> {
+    let lines = lines_of(alloc, counts)?;
+    holds(lines.keys.len() == size, "another size")?;
+    check_keys(alloc, &lines)
+}
+
+// Sizes about the same. That of a printed key is a multiple of five.
+#[test]
+fn keys_about_the_size_of_the_buffer(rt: HostRuntime) -> Result<(), Fail> {
+    check_key_size(rt.alloc(), 12_345, &[0, 0, 821])?;
+    check_key_size(rt.alloc(), 16_380, &[0, 0, 1090])?;
+    check_key_size(rt.alloc(), 16_385, &[0, 1091])?;
+    check_key_size(rt.alloc(), 32_770, &[2184])
+}
+
+// The keys of these lines, and the end of the run.
+fn check_end<'a>(alloc: Global, lines: &'a str, keys: &'a str, end: &'a str) -> Result<(), Fail> {
+    let whole = with_input(&KEYS, lines.as_bytes(), keys);
+    let case = Case { end, ..whole };
+    let outcome = run_at(alloc, &case, [Pace::steps(usize::MAX); 4])?;
+    holds(is_whole(&case, &outcome), &outcome.end)
+}
+
+// The keys of a million empty lines, and then the end of the run, where this stands behind the lines.
+fn check_million(alloc: Global, more: &str, end: &str) -> Result<(), Fail> {
+    let mut lines = repeated(alloc, "\n", 1_000_000)?;
+    lines.push_str(more)?;
+    let keys = repeated(alloc, "0000 0000\n", 1_000_000)?;
+    check_end(alloc, &lines, &keys, end)
+}
+
+#[test]
+fn at_most_a_million_lines(rt: HostRuntime) -> Result<(), Fail> {
+    check_million(rt.alloc(), "", "done")?;
+    let limit = "input line 1000001: Limit, status 1";
+    check_million(rt.alloc(), "\n", limit)?;
+    check_million(rt.alloc(), "a", limit)
+}

@@ -1,0 +1,113 @@
+//! The runs of the command over any readers and any writer, and over files in memory.
+
+use crate::files::Files;
+use std::alloc::{AllocError, Global};
+use std::io::{Read, Write};
+use uca_cli::{RunFault, run_check, run_compare, run_keys, run_sort};
+use test_kit::{Streams, joined};
+use uca_weights::{Depth, Sink, Source, Weighting};
+
+/// A run, the weighting that it is asked for, if any, and its depth.
+#[derive(Clone, Copy)]
+pub enum Run<'a> {
+    /// It prints the keys of the lines of the input.
+    Keys(Option<Weighting>, Depth),
+    /// It prints the lines of the input in the order of their keys.
+    Sort(Option<Weighting>, Depth),
+    /// It says whether the table is well-formed.
+    Check,
+    /// It says how a left text and a right text compare.
+    Compare(&'a str, &'a str, Option<Weighting>, Depth),
+}
+
+/// What a run without a fault returns.
+#[derive(Clone, Copy)]
+pub enum Answer {
+    /// That it is done.
+    Done,
+    /// Whether the table is well-formed.
+    Verdict(bool),
+}
+
+/// What is told of the end of a run: what it returns, or the text of its fault.
+pub fn told(alloc: Global, end: &Result<Answer, RunFault>) -> Result<String, AllocError> {
+    match end {
+        Ok(Answer::Done) => String::from_str(alloc, "done"),
+        Ok(Answer::Verdict(verdict)) => format!(in alloc; "{verdict}"),
+        Err(RunFault::Write { written }) => format!(in alloc; "output: Write after {written}"),
+        Err(RunFault::CertificateWrite { written }) => {
+            format!(in alloc; "certificate: Write after {written}")
+        }
+        Err(fault) => format!(in alloc; "{fault}"),
+    }
+}
+
+// What a run without a verdict returns.
+fn done(end: Result<(), RunFault>) -> Result<Answer, RunFault> {
+    match end {
+        Ok(()) => Ok(Answer::Done),
+        Err(fault) => Err(fault),
+    }
+}
+
+// What a run with a verdict returns.
+fn verdict(end: Result<bool, RunFault>) -> Result<Answer, RunFault> {
+    match end {
+        Ok(verdict) => Ok(Answer::Verdict(verdict)),
+        Err(fault) => Err(fault),
+    }
+}
+
+/// Runs over streams.
+pub fn run_over<T: Read, D: Read, I: Read, W: Write>(
+    alloc: Global,
+    streams: &mut Streams<T, D, I, W>,
+    run: Run,
+) -> Result<Answer, RunFault> {
+    let Streams {
+        table,
+        properties,
+        input,
+        out,
+    } = streams;
+    match run {
+        Run::Keys(asked, depth) => done(run_keys(
+            alloc, table, properties, input, out, asked, depth,
+        )),
+        Run::Sort(asked, depth) => done(run_sort(
+            alloc, table, properties, input, out, asked, depth,
+        )),
+        Run::Check => verdict(run_check(alloc, table, properties, out)),
+        Run::Compare(left, right, asked, depth) => done(run_compare(
+            alloc, table, properties, left, right, out, asked, depth,
+        )),
+    }
+}
+
+/// What came of a run over files in memory.
+#[derive(Drop)]
+pub struct Outcome {
+    /// What is told of its end.
+    pub end: String,
+    /// What it printed.
+    pub printed: Vec<u8>,
+    /// Which of its streams say that they failed: the table, the data file, the input and the output.
+    pub failed: [bool; 4],
+}
+
+/// Runs over files in memory. None of the streams fails.
+pub fn run_files(alloc: Global, files: Files, run: Run) -> Result<Outcome, AllocError> {
+    let table = joined(alloc, files.table)?;
+    let mut streams = Streams {
+        table: Source::new(table.as_bytes()),
+        properties: Source::new(files.data.as_bytes()),
+        input: Source::new(files.input),
+        out: Sink::new(Vec::new(alloc)),
+    };
+    let end = run_over(alloc, &mut streams, run);
+    Ok(Outcome {
+        end: told(alloc, &end)?,
+        failed: streams.failed(),
+        printed: streams.out.into_inner(),
+    })
+}

@@ -1,5 +1,0 @@
-use Rattle.std.proofs.Common.{ℕ, List}
-use Rattle.uca_text_tests.proofs.lookups.said.Given as goal
-
-abbrev pub invariant-loop-point : goal.invariant-loop-point
-invariant-loop-point g l = (key : List ℕ) × g.L.Lookup.stands_for l.lookup l.node key
