@@ -7,7 +7,9 @@ mod drafts;
 mod faults;
 mod laws;
 
-pub use accepted::{plans_are_accepted, plans_are_faithful, plans_make_tailorings, room_is_counted};
+pub use accepted::{
+    plans_are_accepted, plans_are_faithful, plans_make_tailorings, room_is_counted,
+};
 pub use drafts::{DraftElement, DraftWeight, Segment};
 pub use faults::{TailorFault, TailorKind, level_number};
 pub use laws::{
