@@ -20,7 +20,7 @@ import kit
 
 IDLE = ""
 
-# A second processor shortens the check of a crate by a third, and costs a fifth more processor time; a third gains little.
+# Each further processor at one crate shortens its check less, and costs more processor time.
 MOST_JOBS = 2
 
 
