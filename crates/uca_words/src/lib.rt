@@ -28,7 +28,7 @@ use thiserror::Error;
 use uca_weights::{Depth, Weighting};
 
 /// What a command line asks for.
-#[derive(Clone, Copy, Debug, PartialEq, Eq)]
+#[derive(Clone, Copy, Debug)]
 pub enum Words<'a> {
     /// `check TABLE DATA`: say whether a weight table is well-formed.
     Check {
