@@ -7,7 +7,7 @@ ghost use Rattle.uca_rules.specs.declared.relations.Relation.{Relation};
 ghost use Rattle.uca_rules.specs.declared.signs.Last.{Last};
 ghost use Rattle.uca_rules.specs.declared.faults.RuleFaultKind.{RuleFaultKind};
 ghost use Rattle.uca_rules.specs.Characters;
-ghost use Rattle.uca_rules.specs.Relations.{IsRuleText};
+ghost use Rattle.uca_rules.specs.Relations.{AreRules, IsRuleText};
 ghost use Rattle.uca_rules.specs.Meaning.{Means};
 ghost use Rattle.uca_rules.specs.Faults.{IsCause, IsWrongBracket, RelationCause, StatementCause};
 ghost use Rattle.uca_rules.specs.Statements;
@@ -99,8 +99,22 @@ fn read_all<A: Allocator + Copy, T: Allocator>(
         }),
     };
     let characters = characters(alloc, text)?;
-    let mut reader = Reader::new(alloc, global, properties, bytes.len());
-    reader.read_statements(&characters)?;
+    read_characters(alloc, global, &characters, properties, bytes.len())
+}
+
+/// Reads the characters of rules that end at `end`.
+fn read_characters<A: Allocator + Copy, T: Allocator>(
+    alloc: A,
+    global: Global,
+    characters: &[Character],
+    properties: &Data<T>,
+    end: usize,
+) -> Result<Rules<A>, RuleFault>
+    ensures found { IfOk result (λ rules. ReadsAll (properties_of properties.now) characters.now rules × AreRules rules) }
+    ensures fault { IfErr result (IsReadingFault (properties_of properties.now) end characters.now) }
+{
+    let mut reader = Reader::new(alloc, global, properties, end);
+    reader.read_statements(characters)?;
     Ok(reader.rules.finish())
 }
 
