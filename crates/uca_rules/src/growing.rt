@@ -1,4 +1,4 @@
-//! Rules that grow by one relation after the other.
+//! Rules to which one relation after another is added.
 
 ghost use Rattle.std.specs.Prelude.{◌≡◌, ◌<◌, ◌++◌, ◌∷◌, [], ◌⊎◌, ℕ, Contains, IfErr, IsFalse, IsTrue, List, OnOk, length};
 ghost use Rattle.uca_text.specs.Occurring.{OccursInOrder};
@@ -17,8 +17,8 @@ use std::marker::Model;
 pub(crate) struct GrowingRules<A: Allocator> {
     alloc: A,
     relations: Vec<Relation, A>,
-    // the anchors and expansions that are no target of a relation before their own: no later target may occur in
-    // them in order
+    // The anchors and expansions that are not the target of a relation before their own. No later target may occur in
+    // them in order.
     held: Vec<HeldText<A>, A>,
 }
 

@@ -39,8 +39,8 @@ pub(crate) const MOST_RELATIONS: usize = 5000;
 ///
 /// # Errors
 ///
-/// The first fault, as the rules are read from left to right: `Limit` at byte 1,048,576 where there are more bytes; otherwise `Utf8`
-/// at the first byte that is not part of a valid beginning; otherwise what [`RuleFaultKind`] says of its kinds. `Memory` may
+/// The first error, as the rules are read from left to right: `Limit` at byte 1,048,576 where there are more bytes; otherwise `Utf8`
+/// at the first byte that is not part of a valid beginning; otherwise what [`RuleFaultKind`] says. `Memory` may
 /// come at any byte, where an allocation fails.
 pub fn read_rules<A: Allocator>(
     alloc: Global,
@@ -75,7 +75,7 @@ pub fn read_rules_in<A: Allocator + Copy, T: Allocator>(
     read_all(alloc, global, bytes, properties)
 }
 
-/// Reads rules to their end or their first fault.
+/// Reads rules to their end or their first error.
 fn read_all<A: Allocator + Copy, T: Allocator>(
     alloc: A,
     global: Global,
@@ -118,7 +118,7 @@ fn read_characters<A: Allocator + Copy, T: Allocator>(
     Ok(reader.rules.finish())
 }
 
-/// What has been read, and what the next statement stands behind.
+/// The relations so far, and what comes before the next statement.
 #[derive(Drop)]
 pub(crate) struct Reader<'a, A: Allocator, T: Allocator> {
     pub(crate) texts: TextReader<'a, A, T>,
@@ -167,7 +167,7 @@ impl<'a, A: Allocator + Copy, T: Allocator> Reader<'a, A, T> {
         Ok(())
     }
 
-    /// Reads the statement at the front. What follows it is given back.
+    /// Reads the statement at the front. Returns the characters after it.
     fn read_statement<'c>(
         &mut self,
         characters: &'c [Character],
@@ -248,7 +248,7 @@ impl<'a, A: Allocator + Copy, T: Allocator> Reader<'a, A, T> {
         Ok(rest)
     }
 
-    /// Adds a relation behind the anchor; its target is the next anchor. A fault of the relation is at `byte`, a failed
+    /// Adds a relation to the anchor; its target is the next anchor. An error of the relation is at `byte`, a failed
     /// allocation at `here`.
     pub(crate) fn add(
         &mut self,
@@ -291,7 +291,7 @@ impl<'a, A: Allocator + Copy, T: Allocator> Reader<'a, A, T> {
     }
 }
 
-/// The strength that a bracket behind `&` asks for, if there is one, and where the anchor is due.
+/// The strength that a bracket after `&` asks for, if there is one, and the characters where the anchor begins.
 fn behind_ampersand<'c>(
     characters: &'c [Character],
 ) -> Result<(Option<Strength>, &'c [Character]), RuleFault>
@@ -312,7 +312,7 @@ fn behind_ampersand<'c>(
     }
 }
 
-/// The sign of a relation behind so many others.
+/// The sign of a relation after `count` others.
 ///
 /// # Errors
 ///
@@ -350,7 +350,7 @@ fn sign_of_relation<'c>(
     Ok(sign)
 }
 
-/// Whether a relation there may have the strength: behind a bracket only the one that it asks for.
+/// Whether a relation may have the strength there: after a bracket only the strength that it asks for.
 fn may_have(last: Last, strength: Strength) -> bool
     requires { last ≢ Last.Nothing }
     ensures yes { IsTrue result → MayFollow last (Signs strength) }

@@ -30,7 +30,7 @@ impl<'a, A: Allocator + Copy, T: Allocator> Reader<'a, A, T> {
         self.read_symbols(strength, text, &mut Vec::new(self.texts.alloc))
     }
 
-    /// Reads a starred text and adds its relations; its symbols are written over those that are there.
+    /// Reads a starred text and adds its relations. Its symbols replace those that are there.
     fn read_symbols<'c>(
         &mut self,
         strength: Strength,
@@ -73,7 +73,7 @@ impl<'a, A: Allocator + Copy, T: Allocator> Reader<'a, A, T> {
         Ok(())
     }
 
-    /// Adds relations for the code points between the ends of a range, whose `-` is at the place.
+    /// Adds relations for the code points between the ends of a range. Its `-` is at the byte `place`.
     fn add_between(
         &mut self,
         strength: Strength,

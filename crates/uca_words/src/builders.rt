@@ -1,4 +1,4 @@
-//! The command `uca` as `clap` is told it: its subcommands, their words, and the help on them.
+//! The command `uca` as it is described to `clap`: its subcommands, their arguments, and the help on them.
 
 ghost use Rattle.std.specs.Prelude.{◌≡◌, codes, false, IfOk};
 ghost use Rattle.clap.specs.Words.{App, new_app, rule_of, with_rule, with_subcommand};
@@ -51,7 +51,7 @@ fn take_argument<'a>(
     }
 }
 
-// One more argument that has to be there.
+// One more argument, which is required.
 fn take_word<'a>(
     alloc: Global,
     command: Result<Command<'a>, AllocError>,
@@ -108,7 +108,7 @@ fn take_options<'a>(
     take_files(alloc, take_argument(command, identical_option(alloc)))
 }
 
-// A subcommand before its words: its name, what it does in one line and in full, and an example.
+// A subcommand before its arguments: its name, what it does in one line and in full, and an example.
 fn named<'a>(
     alloc: Global,
     name: &'a str,
@@ -276,7 +276,7 @@ fn bare_command<'a>(alloc: Global) -> Command<'a>
         .disable_help_subcommand(true)
 }
 
-// The command with the subcommands that read no rules, `compare` aside.
+// The command with its first three subcommands.
 fn line_commands<'a>(alloc: Global) -> Result<Command<'a>, AllocError>
     ensures { IfOk result (StandsFor line_app) }
 {
