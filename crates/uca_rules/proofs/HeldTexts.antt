@@ -1,4 +1,4 @@
--- One more relation behind others, and the texts that they hold.
+-- One more relation after others, and the texts that they hold.
 use Rattle.std.proofs.Common.{◌≡◌, ◌↔◌, ◌⊎◌, ℕ, ◌+◌, ◌<◌, List, [], ◌∷◌, ◌++◌, length, map, take, get_or, refl, sym, ap, subst, ◌∙◌, inl, inr, ⊎_elim, arith, lit≤, append_assoc, Contains, Option, Some, None, IsSomeAnd}
 use Rattle.std.specs.List.{AllByRecursion}
 use Rattle.std.proofs.lemmas.List.{length-append, map-append, take_more}

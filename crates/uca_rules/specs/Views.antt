@@ -22,7 +22,7 @@ slice_view o = option_map (λ s. s.now) o
 abbrev pub one_symbol : Symbol → List Character → Piece
 one_symbol symbol rest = record { symbols = symbol ∷ []; rest = rest }
 
--- the piece of an escape that stands for a character, behind its backslash
+-- the piece of an escape that stands for a character, after its backslash
 abbrev pub escaped_piece : Character → Option (ℕ × Bor (List Character)) → Option Piece
 escaped_piece first o = option_map (λ found. one_symbol (Literal (record { code = found.0; place = first.place })) found.1.now) o
 
