@@ -16,7 +16,7 @@ returns-then-occurs_in_one-clause-fault g c =
     (subst (λ (l : List (List ℕ)). (text : List ℕ) × Contains l text × OccursInOrder c.chars-target.result.now text) c.deref-2.ensures.value (c.if-occurs_in_one.ensures.found refl)) in
     inr (record {
       text = found.0;
-      held = (held_more rs r found.0).1 (⊎_elim (λ before. inl ((c.requires.are_held found.0).0 before)) (λ it. inr it) ((own.held found.0).0 found.1));
+      held = (held_more rs r found.0).1 (⊎_elim (λ before. inl ((c.requires.growing.are_held found.0).0 before)) (λ it. inr it) ((own.held found.0).0 found.1));
       occurs = found.2;
     })
 
