@@ -195,6 +195,21 @@ pub record Adds {A T : Type 0} (s : Statement) (old new : Reader A T) : Type 0 w
 abbrev pub relation_of : {A T : Type 0} → Reader A T → Strength → Spelled → Option Spelled → Relation
 relation_of r strength target expansion = record { anchor = r.anchor; before = r.before; strength = strength; target = target; expansion = expansion }
 
+-- the target is the next anchor, and no relation has been added
+pub record PassesOn {A T : Type 0} (target : Spelled) (old new : Reader A T) : Type 0 where
+  pub texts : new.texts ≡ old.texts
+  pub rules : new.rules ≡ old.rules
+  pub anchor : new.anchor ≡ target
+  pub before : new.before ≡ false
+  pub last : new.last ≡ old.last
+
+-- relations may have been added, and nothing else has changed
+pub record KeepsReading {A T : Type 0} (old new : Reader A T) : Type 0 where
+  pub texts : new.texts ≡ old.texts
+  pub anchor : new.anchor ≡ old.anchor
+  pub before : new.before ≡ old.before
+  pub last : new.last ≡ old.last
+
 -- it has been added, and its target is the next anchor
 pub record AddsOne {A T : Type 0} (relation : Relation) (old new : Reader A T) : Type 0 where
   pub kept : Keeps old.texts new.texts

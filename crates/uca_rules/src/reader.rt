@@ -7,13 +7,14 @@ ghost use Rattle.uca_rules.specs.declared.relations.Relation.{Relation};
 ghost use Rattle.uca_rules.specs.declared.signs.Last.{Last};
 ghost use Rattle.uca_rules.specs.declared.faults.RuleFaultKind.{RuleFaultKind};
 ghost use Rattle.uca_rules.specs.Characters;
-ghost use Rattle.uca_rules.specs.Relations.{AreRules, IsRuleText};
+ghost use Rattle.uca_rules.specs.Relations.{AreRules, HasRuleTexts, IsRuleText};
 ghost use Rattle.uca_rules.specs.Meaning.{Means};
+ghost use Rattle.uca_rules.specs.Growing.{AreGrowing};
 ghost use Rattle.uca_rules.specs.Faults.{IsCause, IsWrongBracket, RelationCause, StatementCause};
 ghost use Rattle.uca_rules.specs.Statements;
 ghost use Rattle.uca_rules.specs.Statements.{IsAnchorDue, MayFollow, Resets, Signs};
 ghost use Rattle.uca_rules.specs.Views.{IsMemoryAt, sign_view};
-ghost use Rattle.uca_rules.specs.Reading.{AddsOne, AddsPlain, GoesOn, IsNextFault, IsPlainFault, IsReadingFault, IsReady, ReadsAll, first_code, properties_in, relation_of, start, state_of};
+ghost use Rattle.uca_rules.specs.Reading.{AddsOne, AddsPlain, GoesOn, IsNextFault, IsPlainFault, IsReadingFault, IsReady, KeepsReading, PassesOn, ReadsAll, first_code, properties_in, relation_of, start, state_of};
 
 use crate::characters::{Character, behind_gaps, characters};
 use crate::faults::{RuleFault, RuleFaultKind};
@@ -22,7 +23,7 @@ use crate::relations::{Relation, Rules};
 use crate::signs::{BRACKET_LENGTH, Last, Sign, bracket_at, sign_at};
 use crate::text_reader::TextReader;
 use crate::texts::place_of;
-use std::alloc::{Allocator, Global};
+use std::alloc::{AllocError, Allocator, Global};
 use std::{mem, str};
 use uca_text::Normal;
 use uca_values::Data;
@@ -267,19 +268,49 @@ impl<'a, A: Allocator + Copy, T: Allocator> Reader<'a, A, T> {
         ensures fault { IfErr result (λ fault. IsMemoryAt here fault
             ⊎ ((fault.byte ≡ byte) × RelationCause self.old.rules.relations.items (relation_of self.old strength target expansion) fault.kind)) }
     {
-        let Ok(next) = target.clone() else {
-            return Err(RuleFault {
+        match self.take_relation(strength, target, expansion) {
+            Ok(relation) => self.add_relation(relation, byte, here),
+            Err(_) => Err(RuleFault {
                 byte: here,
                 kind: RuleFaultKind::Memory,
-            });
-        };
-        let relation = Relation {
+            }),
+        }
+    }
+
+    /// The relation of a target to the anchor. The target becomes the anchor.
+    fn take_relation(
+        &mut self,
+        strength: Strength,
+        target: Normal,
+        expansion: Option<Normal>,
+    ) -> Result<Relation, AllocError>
+        ensures { IfOk result (λ relation. (relation ≡ relation_of self.old strength target expansion) × PassesOn target self.old self.new) }
+    {
+        let next = target.clone()?;
+        Ok(Relation {
             anchor: mem::replace(&mut self.anchor, next),
             before: mem::replace(&mut self.before, false),
             strength,
             target,
             expansion,
-        };
+        })
+    }
+
+    /// Adds a relation. An error of the relation is at `byte`, a failed allocation at `here`.
+    fn add_relation(
+        &mut self,
+        relation: Relation,
+        byte: usize,
+        here: usize,
+    ) -> Result<(), RuleFault>
+        requires growing { AreGrowing self.old.rules }
+        requires few { length self.old.rules.relations.items < 5000 }
+        requires texts { HasRuleTexts relation }
+        ensures added { OnOk result (self.new.rules.relations.items ≡ self.old.rules.relations.items ++ relation ∷ []) }
+        ensures growing { OnOk result (AreGrowing self.new.rules) }
+        ensures kept { KeepsReading self.old self.new }
+        ensures fault { IfErr result (λ fault. IsMemoryAt here fault ⊎ ((fault.byte ≡ byte) × RelationCause self.old.rules.relations.items relation fault.kind)) }
+    {
         match self.rules.add(relation) {
             Ok(()) => Ok(()),
             Err(RuleFaultKind::Memory) => Err(RuleFault {
