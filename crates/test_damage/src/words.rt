@@ -298,13 +298,19 @@ fn meant<'a>(alloc: Global, model: &Model<'a>) -> Result<Vec<&'a str>, AllocErro
     with_options(alloc, model.name, (weighting, depth), texts)
 }
 
+/// Whether what is read of a line is written out as this line again.
+fn is_kept(alloc: Global, line: &[&str]) -> Result<bool, AllocError> {
+    match read_words(alloc, line) {
+        Ok(found) => Ok(spelled(alloc, found)?.as_slice() == line),
+        Err(_) => Ok(false),
+    }
+}
+
 /// Whether words are what the model says, and mean the same when they are written out.
 fn is_read(alloc: Global, words: Words, model: &Model) -> Result<bool, Fail> {
     let line = spelled(alloc, words)?;
-    let again = read_words(alloc, &line);
-    let is_kept = matches!(again, Ok(found) if found == words);
     let wanted = meant(alloc, model)?;
-    Ok(is_kept && line.as_slice() == wanted.as_slice())
+    Ok(is_kept(alloc, &line)? && line.as_slice() == wanted.as_slice())
 }
 
 /// Whether a text may be what is printed where words are refused.

@@ -1,5 +1,5 @@
 -- The causes of faults in characters are causes in bytes.
-use Rattle.std.proofs.Common.{◌≡◌, ℕ, ◌≤◌, ⊎_elim, Bool, true, false, List, length, sym, subst, inl, inr}
+use Rattle.std.proofs.Common.{◌≡◌, ℕ, ◌≤◌, ⊎_elim, Bool, true, false, List, length, sym, subst, inl, inr, Result, Ok, Err, IfOk, IfErr}
 use Rattle.std.specs.Prelude.{IsUtf8}
 use Rattle.uca_values.specs.Content.{Properties}
 use Rattle.uca_rules.specs.declared.characters.Character.{Character}
@@ -10,10 +10,11 @@ use Rattle.uca_rules.specs.declared.faults.RuleFaultKind.TheVariants as kinds
 use Rattle.uca_rules.specs.declared.signs.Last.{Last}
 use Rattle.uca_rules.specs.declared.signs.Last.TheVariants as lasts
 use Rattle.uca_rules.specs.Statements.{last_of}
-use Rattle.uca_rules.specs.Meaning.{relations_of, taken}
+use Rattle.uca_rules.specs.Meaning.{Means, relations_of, taken}
 use Rattle.uca_rules.specs.Characters.{characters}
 use Rattle.uca_rules.specs.Faults.{TextCause, StatementCause, RelationCause, HasCause, IsInside, IsCause}
-use Rattle.uca_rules.specs.Reading.{IsReadingFault}
+use Rattle.uca_rules.specs.Relations.{AreRules}
+use Rattle.uca_rules.specs.Reading.{IsReadingFault, ReadsAll}
 use Rattle.uca_rules.proofs.Suffixes.{place_within}
 
 no_text_memory : (end : ℕ) (starred : Bool) (text : List Character) (place : ℕ) → ¬ (TextCause end starred text place kinds.Memory)
@@ -85,3 +86,18 @@ pub fault_of : (properties properties' : Properties) (end end' : ℕ) (cs cs' : 
     → IsReadingFault properties end cs fault → IsReadingFault properties' end' cs' fault
 fault_of properties properties' end end' cs cs' fault p n c h =
     subst (λ (p : Properties). IsReadingFault p end' cs' fault) p (subst (λ (n : ℕ). IsReadingFault properties n cs' fault) n (subst (λ (c : List Character). IsReadingFault properties end c fault) c h))
+
+-- a fault of the characters is one of the bytes
+pub rejected : {A : Type 0} (properties : Properties) (bytes : List ℕ) (cs : List Character) (result : Result A RuleFault) → length bytes ≤ 1048576 → IsUtf8 bytes → cs ≡ characters bytes
+    → IfErr result (IsReadingFault properties (length bytes) cs) → IfErr result (λ fault. IsCause properties bytes fault.byte fault.kind)
+rejected properties bytes cs (Ok value) few utf8 are h = tt
+rejected properties bytes cs (Err fault) few utf8 are h =
+    fault_stands properties bytes fault few utf8 (subst (λ (c : List Character). IsReadingFault properties (length bytes) c fault) are h)
+
+-- characters that are rules are bytes that mean them
+pub means : (properties : Properties) (bytes : List ℕ) (cs : List Character) (result : Result (List Relation) RuleFault) → length bytes ≤ 1048576 → IsUtf8 bytes → cs ≡ characters bytes
+    → IfOk result (λ rules. ReadsAll properties cs rules × AreRules rules) → IfOk result (Means properties bytes)
+means properties bytes cs (Err fault) few utf8 are h = tt
+means properties bytes cs (Ok rules) few utf8 are h =
+    let all = subst (λ (c : List Character). ReadsAll properties c rules) are h.0 in
+    record { few_bytes = few; utf8 = utf8; statements = all.statements; divides = all.divides; chains = all.chains; short = all.short; give = all.give; rules = h.1 }

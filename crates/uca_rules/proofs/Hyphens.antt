@@ -75,7 +75,7 @@ ranges_more xs s so_far last before front back place e wrong =
 hyphen_is_no_literal : {A : Type 0} (place : ℕ) (x : Character) → Hyphen place ≡ Literal x → A
 hyphen_is_no_literal place x e = let no : ⊥ = cc in absurd no
 
--- behind a hyphen a character to which there is a range
+-- after a hyphen a character to which there is a range
 pub behind_hyphen : (xs front : List Symbol) (place : ℕ) (s last : Symbol) → xs ≡ front ++ last ∷ [] → last ≡ Hyphen place → BeginsRange front s → HasRangesSoFar xs → HasRangesSoFar (xs ++ s ∷ [])
 behind_hyphen xs front place s last is hyphen range so_far = ranges_more xs s so_far first second
   where
@@ -96,7 +96,7 @@ behind_hyphen xs front place s last is hyphen range so_far = ranges_more xs s so
     second : (f : List Symbol) (p : ℕ) → xs ≡ f ++ Hyphen p ∷ [] → ¬ (IsNoRange f (s ∷ []))
     second f p e wrong = let same = same_from_push f front (Hyphen p) last (sym e ∙ is) in inside (s ∷ []) refl (rw (← same.0) wrong)
 
--- behind a hyphen another symbol
+-- after a hyphen another symbol
 pub no_range_there : (xs front : List Symbol) (place : ℕ) (s last : Symbol) → xs ≡ front ++ last ∷ [] → last ≡ Hyphen place → ¬ (BeginsRange front s) → ShowsWrongHyphen (xs ++ s ∷ []) place
 no_range_there xs front place s last is hyphen none = record {
   front = front;
@@ -119,7 +119,7 @@ no_range_there xs front place s last is hyphen none = record {
     by_end (Hyphen p) e = Hyphen_behind p [] (ap (λ z. z ∷ []) e)
     by_end (Literal y) e = by_front y e (last_of front)
 
--- a hyphen behind a range
+-- a hyphen after a range
 pub behind_range : (xs front : List Symbol) (x : Character) (place : ℕ) (s last : Symbol) → xs ≡ front ++ last ∷ [] → last ≡ Literal x → s ≡ Hyphen place → (p : ℕ) → EndsInHyphen front p → ShowsWrongHyphen (xs ++ s ∷ []) place
 behind_range xs front x place s last is letter hyphen p ends = record {
   front = xs;
@@ -128,7 +128,7 @@ behind_range xs front x place s last is letter hyphen p ends = record {
   wrong = Range_before ends.front p x (is ∙ (ap (λ z. front ++ z ∷ []) letter ∙ (ap (λ zs. zs ++ Literal x ∷ []) ends.are ∙ append_assoc ends.front (Hyphen p ∷ []) (Literal x ∷ []))));
 }
 
--- a hyphen behind another character
+-- a hyphen after another character
 pub hyphen_behind : (xs front : List Symbol) (x : Character) (s last : Symbol) → xs ≡ front ++ last ∷ [] → last ≡ Literal x → ((p : ℕ) → ¬ (EndsInHyphen front p)) → HasRangesSoFar xs → HasRangesSoFar (xs ++ s ∷ [])
 hyphen_behind xs front x s last is letter none so_far = ranges_more xs s so_far first second
   where
@@ -147,7 +147,7 @@ hyphen_behind xs front x s last is letter none so_far = ranges_more xs s so_far 
     second : (f : List Symbol) (p : ℕ) → xs ≡ f ++ Hyphen p ∷ [] → ¬ (IsNoRange f (s ∷ []))
     second f p e wrong = let same = same_from_push front f last (Hyphen p) (sym is ∙ e) in hyphen_is_no_literal p x (sym same.1 ∙ letter)
 
--- a character behind another one
+-- a character after another one
 pub letter_behind : (xs front : List Symbol) (x y : Character) (s last : Symbol) → xs ≡ front ++ last ∷ [] → last ≡ Literal x → s ≡ Literal y → HasRangesSoFar xs → HasRangesSoFar (xs ++ s ∷ [])
 letter_behind xs front x y s last is letter end so_far = ranges_more xs s so_far first second
   where

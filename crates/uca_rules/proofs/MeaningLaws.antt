@@ -8,12 +8,12 @@ use Rattle.uca_rules.specs.Meaning.{Anchor, Taken, relations_in, anchor_behind, 
 use Rattle.uca_rules.specs.Laws.{OneMeaning}
 use Rattle.uca_rules.proofs.StatementLaws.{one_division}
 
--- the anchor that stands behind statements
+-- the anchor that comes after statements
 abbrev pub anchor_behind_all : Properties → Anchor → List Statement → Anchor
 anchor_behind_all properties anchor [] = anchor
 anchor_behind_all properties anchor (s ∷ statements) = anchor_behind_all properties (anchor_behind properties anchor s) statements
 
--- the relations of statements and of those behind them
+-- the relations of statements and of those after them
 pub relations_append : (properties : Properties) (anchor : Anchor) (xs ys : List Statement)
     → relations_from properties anchor (xs ++ ys) ≡ relations_from properties anchor xs ++ relations_from properties (anchor_behind_all properties anchor xs) ys
 relations_append properties anchor [] ys = refl
@@ -21,7 +21,7 @@ relations_append properties anchor (s ∷ xs) ys =
     ap (λ later. relations_in properties anchor s ++ later) (relations_append properties (anchor_behind properties anchor s) xs ys)
     ∙ sym (append_assoc (relations_in properties anchor s) (relations_from properties (anchor_behind properties anchor s) xs) (relations_from properties (anchor_behind_all properties (anchor_behind properties anchor s) xs) ys))
 
--- the anchor behind one more statement
+-- the anchor after one more statement
 pub anchor_behind_more : (properties : Properties) (anchor : Anchor) (statements : List Statement) (s : Statement)
     → anchor_behind_all properties anchor (statements ++ s ∷ []) ≡ anchor_behind properties (anchor_behind_all properties anchor statements) s
 anchor_behind_more properties anchor [] s = refl

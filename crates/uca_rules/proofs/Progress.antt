@@ -1,4 +1,4 @@
--- One more statement behind those that have been read, and the faults that it may have.
+-- One more statement after those that have been read, and the faults that it may have.
 use Rattle.std.proofs.Common.{◌≡◌, ◌≢◌, ◌⊎◌, ℕ, ◌+◌, ◌<◌, ◌≤◌, List, [], ◌∷◌, ◌++◌, length, ◌==◌, true, Option, refl, sym, ap, subst, ◌∙◌, inl, inr, arith}
 use Rattle.std.specs.List.{AllByRecursion}
 use Rattle.std.proofs.lemmas.Bool.Decides.{nat_tests}
@@ -21,7 +21,7 @@ use Rattle.uca_rules.specs.Reading.{State, start, BeginsNext, ReadsAll, IsMemory
 use Rattle.uca_rules.proofs.MeaningLaws.{anchor_behind_all, anchor_behind_more, taken_more, relations_more}
 use Rattle.uca_rules.proofs.Suffixes.{statements_end, statement_behind, behind_length, ends_length, gaps_end, ends_trans}
 
--- the characters begin with statements that give the state, and behind them and what stands between, the rest follows
+-- the characters begin with statements that give the state, and after them and what stands between, the rest follows
 pub record HasRead (properties : Properties) (cs : List Character) (state : State) (rest : List Character) : Type 0 where
   pub statements : List Statement
   pub lead : AreStatements cs statements rest
@@ -198,7 +198,7 @@ pub kept_next : {A T : Type 0} (old new : TextReader A T) (before after : State)
     → BeginsNext (properties_in new) before after cs rest → BeginsNext (properties_in old) before after cs rest
 kept_next {A} old new before after cs rest kept h = subst (λ (p : Properties). BeginsNext p before after cs rest) (kept_properties old new kept) h
 
--- behind a statement there are fewer characters
+-- after a statement there are fewer characters
 pub fewer_left : (properties : Properties) (old new : State) (cs rest : List Character) → BeginsNext properties old new cs rest → length (behind_gaps rest) < length cs
 fewer_left properties old new cs rest next =
     let fewer : length rest < length cs = behind_length cs rest (statement_behind cs next.s rest next.begins) in

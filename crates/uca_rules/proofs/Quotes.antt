@@ -6,7 +6,7 @@ use Rattle.uca_rules.specs.declared.characters.Character.{Character}
 use Rattle.uca_rules.specs.Characters.{apostrophe}
 use Rattle.uca_rules.specs.Pieces.{Symbol, Literal, Piece, with_literal, inside_quotes}
 
--- a piece behind other symbols
+-- a piece after other symbols
 abbrev pub behind : List Symbol → Option Piece → Option Piece
 behind front None = None
 behind front (Some piece) = Some (record { symbols = front ++ piece.symbols; rest = piece.rest })

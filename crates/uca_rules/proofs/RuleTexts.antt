@@ -58,7 +58,7 @@ short_text properties points text is accepted scalars some short = record {
   short = short;
 }
 
--- a text that is refused for its length or for a run is longer
+-- a text that is rejected for its length or for a run is longer
 pub too_long : (properties : Properties) (points : List ℕ) → IsCause (spelled properties points) TooLong → 16 < length (nfd points)
 too_long properties points cause = omega arith
 

@@ -13,7 +13,7 @@ use Rattle.uca_rules.specs.Relations.{IsTarget, IsUntouched}
 pub occurs_less : (x : ℕ) (xs ys : List ℕ) → OccursInOrder (x ∷ xs) ys → OccursInOrder xs ys
 occurs_less x xs ys h = occurs_trans xs (x ∷ xs) ys (occurs_more xs x xs (occurs_refl xs)) h
 
--- the first members are the same: the others are looked for behind them
+-- the first members are the same: the others are looked for after them
 pub found_same : (x y : ℕ) (xs ys : List ℕ) → x ≡ y → OccursInOrder (x ∷ xs) (y ∷ ys) ↔ OccursInOrder xs ys
 found_same x y xs ys same = (⊎_elim (λ here. here.1) (λ later. occurs_less x xs ys later), λ h. inl (same, h))
 

@@ -1,4 +1,4 @@
--- Targets of a starred text one behind the other: what they add, their faults, and the symbols that they are written with.
+-- Targets of a starred text one after the other: what they add, their faults, and the symbols that they are written with.
 use Rattle.std.proofs.Common.{◌≡◌, ◌≢◌, ◌⊎◌, ℕ, suc, ◌+◌, ◌-◌, ◌<◌, ◌≤◌, List, [], ◌∷◌, ◌++◌, length, take, drop, get_or, map, zero, Bool, true, None, refl, sym, ap, subst, ◌∙◌, inl, inr, ⊎_elim, arith, append_assoc}
 use Rattle.std.specs.List.{AllByRecursion, range_with_len}
 use Rattle.std.specs.Char.{OutOfScalarRange}
@@ -23,7 +23,7 @@ use Rattle.uca_rules.specs.Views.{IsMemoryAt}
 use Rattle.uca_rules.proofs.Suffixes.{pieces_end}
 use Rattle.uca_rules.specs.Reading.{Adds, AddsOne, HasRelationCause, HasTargetFault, IsOverLimit, IsReady, IsStarredFault, IsTextOf, Keeps, State, anchor_of, properties_in, relation_of, state_of}
 
--- ---- The relations of targets one behind the other
+-- ---- The relations of targets one after the other
 
 pub relations_further : (properties : Properties) (anchor : Anchor) (strength : Strength) (xs ys : List Character)
     → starred_relations properties anchor strength (xs ++ ys) ≡ starred_relations properties anchor strength xs ++ starred_relations properties (behind_targets properties anchor xs) strength ys
@@ -109,7 +109,7 @@ targets_hyphen (Literal x ∷ Hyphen p ∷ []) place = refl
 targets_hyphen (Literal x ∷ Hyphen p ∷ Hyphen q ∷ pre) place = ap (λ (l : List Character). x ∷ l) (targets_hyphen pre place)
 targets_hyphen (Literal x ∷ Hyphen p ∷ Literal y ∷ pre) place = ap (λ (l : List Character). x ∷ (between p x.code y.code ++ l)) (targets_hyphen (Literal y ∷ pre) place)
 
--- behind anything but a character and a hyphen a character adds itself
+-- after anything but a character and a hyphen a character adds itself
 pub targets_literal : (pre : List Symbol) (y : Character) → ((front : List Symbol) (x : Character) (p : ℕ) → pre ≢ front ++ Literal x ∷ Hyphen p ∷ [])
     → targets_of (pre ++ Literal y ∷ []) ≡ targets_of pre ++ y ∷ []
 targets_literal [] y other = refl
@@ -149,7 +149,7 @@ targets_first x (Hyphen p ∷ []) = ([], refl)
 targets_first x (Hyphen p ∷ Hyphen q ∷ more) = (targets_of more, refl)
 targets_first x (Hyphen p ∷ Literal y ∷ more) = (between p x.code y.code ++ targets_of (Literal y ∷ more), refl)
 
--- behind a character and a hyphen a character adds what is between them, and itself
+-- after a character and a hyphen a character adds what is between them, and itself
 pub targets_range : (front : List Symbol) (x : Character) (p : ℕ) (y : Character)
     → targets_of (front ++ Literal x ∷ Hyphen p ∷ Literal y ∷ []) ≡ targets_of (front ++ Literal x ∷ Hyphen p ∷ []) ++ (between p x.code y.code ++ y ∷ [])
 targets_range front x p y =
@@ -348,7 +348,7 @@ placed_more place a point behind =
     let is : a + (point - a) ≡ point = omega arith in
     ap (λ (n : ℕ). placed_at place (range_with_len a n)) count ∙ map-range_with_len_more f a (point - a) point is
 
--- those before one of them, itself, and those behind it
+-- those before one of them, itself, and those after it
 pub placed_around : (place a point end : ℕ) → a ≤ point → point < end
     → placed_at place (range_with_len a (end - a))
     ≡ placed_at place (range_with_len a (point - a)) ++ (record { code = point; place = place } ∷ [] ++ placed_at place (range_with_len (point + 1) (end - (point + 1))))
@@ -375,7 +375,7 @@ inside_range x y point range above below most out =
     (λ past. let over : 0x110000 ≤ point = past in omega arith)
     out
 
--- ---- A character behind the symbols before it
+-- ---- A character after the symbols before it
 
 -- the targets before a character, those of the range that it ends included, have been added
 pub record Before {A T : Type 0} (strength : Strength) (symbols : List Symbol) (at : ℕ) (c : Character) (old new : Reader A T) : Type 0 where
@@ -433,7 +433,7 @@ no_literal (Hyphen p) other = (p, refl)
 
 -- ---- Faults of starred texts
 
--- its targets are refused
+-- its targets are rejected
 pub starred_fault : (properties : Properties) (end : ℕ) (state : State) (strength : Strength) (text : List Character) (symbols : List Symbol) (rest : List Character) (here : ℕ) (fault : RuleFault)
     → BeginsText true text symbols rest → HasRanges symbols → here ≡ place_of end rest
     → HasTargetFault properties state strength (targets_of symbols) here fault → IsStarredFault properties end state strength text fault

@@ -38,7 +38,7 @@ written_stands text rest written begins short =
     let points : written.points ≡ points_of begins.symbols = ap (λ (written : Written). written.points) begins.is in
     record { symbols = begins.symbols; rest = rest; begins = begins.begins; fit = subst IsShort points short }
 
--- behind the target of a statement and `/` its expansion stands
+-- after the target of a statement and `/` its expansion stands
 expansion_stands : (cs rest text : List Character) (expansion : Option Written) → BeginsExpansion cs expansion rest → IfSome expansion (λ text. IsShort text.points) → IsExpansionDue cs text → TextStands false text
 expansion_stands cs rest text None begins short due = absurd (slash_at cs text due begins.0)
 expansion_stands cs rest text (Some expansion) begins short due =
@@ -140,7 +140,7 @@ no_text_ends : (starred : Bool) (text : List Character) → IsNoText starred tex
 no_text_ends starred [] none = absurd none
 no_text_ends starred (c ∷ text) none = none.1
 
--- a piece that begins behind others of the text is one
+-- a piece that begins after others of the text is one
 broken_behind : (starred : Bool) (code : ℕ) (first : Character) (behind rest : List Character) (pieces : List (List Symbol))
     → IsTrue (begins_piece starred code) → first.code ≡ code → EndsText starred rest → piece_at starred (first ∷ behind) ≡ None → ¬ (ArePieces starred (first ∷ behind) pieces rest)
 broken_behind starred code first behind rest [] begin is ends none are =

@@ -24,7 +24,7 @@ none_at_end starred (c ∷ cs) ends =
 
 -- ---- Pieces
 
--- behind pieces that lead somewhere the rest of all pieces stand
+-- after pieces that lead somewhere the rest of all pieces stand
 pub record StandBehind (starred : Bool) (front pieces : List (List Symbol)) (more rest : List Character) : Type 0 where
   pub back : List (List Symbol)
   pub parts : pieces ≡ front ++ back

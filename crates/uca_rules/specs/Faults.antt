@@ -1,4 +1,4 @@
--- Why bytes of rules are refused, and at which byte.
+-- Why bytes of rules are rejected, and at which byte.
 use Rattle.std.specs.Prelude.{◌≡◌, ◌≢◌, ◌⊎◌, ℕ, ◌+◌, ◌<◌, ◌≤◌, ◌==◌, ◌||◌, ⊤, Bool, true, false, IsTrue, IsFalse, List, [], ◌∷◌, ◌++◌, length, Option, Some, None, IsUtf8, if◌then◌else◌}
 use Rattle.std.specs.Str.{IsValidUpTo}
 use Rattle.unicode_normalization.specs.Forms.{nfd}
@@ -56,7 +56,7 @@ opened [] = []
 opened (c ∷ []) = []
 opened (c ∷ d ∷ cs) = if c.code == apostrophe then (if d.code == apostrophe then [] else Literal d ∷ []) else []
 
--- the `-` at a place stands for no range: by what stands around it, or because the text ends behind it
+-- the `-` at a place stands for no range: by what stands around it, or because the text ends after it
 pub record IsWrongHyphen (text : List Character) (place : ℕ) : Type 0 where
   pub pieces : List (List Symbol)
   pub rest : List Character
@@ -75,7 +75,7 @@ TextCause end true text place kinds.Syntax = (IsNoText true text × (place ≡ p
 TextCause end false text place kinds.Limit = IsLong text × (place ≡ place_of end text)
 TextCause end starred text place _ = ⊥
 
--- behind a target that is not starred, and `/`, an expansion is due
+-- after a target that is not starred, and `/`, an expansion is due
 pub record IsSlashBehind (cs : List Character) (strength : Strength) (text : List Character) : Type 0 where
   pub first : List Character
   pub due : IsTargetDue cs strength false first
@@ -112,7 +112,7 @@ abbrev pub IsMisplaced : Last → List Character → Type 0
 IsMisplaced last [] = ¬ (MayEnd last)
 IsMisplaced last (c ∷ cs) = IsFalse (may_begin last c.code)
 
--- behind `&` a bracket that is none of the three
+-- after `&` a bracket that is none of the three
 pub record IsWrongBracket (cs : List Character) (place : ℕ) : Type 0 where
   pub first : Character
   pub behind : List Character
@@ -129,12 +129,12 @@ pub record IsWrongBracket (cs : List Character) (place : ℕ) : Type 0 where
 abbrev pub IsSign : List Character → Type 0
 IsSign cs = (sign : SignAt) × (sign_at cs ≡ Some sign)
 
--- behind a bracket, a sign of another strength
+-- after a bracket, a sign of another strength
 abbrev pub IsWrongStrength : Last → List Character → Type 0
 IsWrongStrength (lasts.Reset (Some asked)) cs = (sign : SignAt) × (sign_at cs ≡ Some sign) × (sign.strength ≢ asked)
 IsWrongStrength last cs = ⊥
 
--- a cause at the first character of a statement, behind others that give so many relations
+-- a cause at the first character of a statement, after others that give so many relations
 abbrev pub StatementCause : ℕ → Last → ℕ → List Character → ℕ → RuleFaultKind → Type 0
 StatementCause end last count cs place kinds.Syntax =
     ((IsMisplaced last cs ⊎ (4 ≤ count_less cs)) × (place ≡ place_of end cs)) ⊎ (MayFollow last Resets × IsWrongBracket cs place)
@@ -149,7 +149,7 @@ RelationCause before r kinds.DuplicateTarget = IsTarget before r.target.points
 RelationCause before r kinds.LateTarget = IsLate before r
 RelationCause before r _ = ⊥
 
--- of these relations one has a cause, behind those before it; the place is that of its target
+-- of these relations one has a cause, after those before it; the place is that of its target
 pub record InRelation (ts : List Taken) (place : ℕ) (kind : RuleFaultKind) : Type 0 where
   pub before : List Taken
   pub t : Taken

@@ -1,5 +1,6 @@
 -- Rules that grow by one relation after the other. Only clauses inside this crate cite this file.
 use Rattle.std.specs.Prelude.{◌≡◌, ◌↔◌, ◌⊎◌, ℕ, List, Contains}
+use Rattle.uca_text.specs.Occurring.{OccursInOrder}
 use Rattle.uca_rules.specs.declared.relations.Relation.{Relation}
 use Rattle.uca_rules.specs.declared.growing.GrowingRules.{GrowingRules}
 use Rattle.uca_rules.specs.Relations.{AreRules, IsTarget, IsUsedBy, IsHeld}
@@ -22,3 +23,9 @@ pub record Holds {A : Type 0} (text : List ℕ) (old new : GrowingRules A) : Typ
 pub record HoldsOwn {A : Type 0} (r : Relation) (old new : GrowingRules A) : Type 0 where
   pub same : new.relations ≡ old.relations
   pub held : (t : List ℕ) → Contains (held_texts new) t ↔ (Contains (held_texts old) t ⊎ (IsUsedBy r t × ¬ (IsTarget old.relations.items t)))
+
+-- the relation may be added: its texts are held, its target is new and occurs in order in no text that is held
+pub record Admits {A : Type 0} (r : Relation) (old new : GrowingRules A) : Type 0 where
+  pub own : HoldsOwn r old new
+  pub other : ¬ (IsTarget old.relations.items r.target.points)
+  pub none_late : (text : List ℕ) → Contains (held_texts new) text → ¬ (OccursInOrder r.target.points text)

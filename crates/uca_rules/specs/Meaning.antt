@@ -21,7 +21,7 @@ pub record Anchor : Type 0 where
   pub text : Spelled
   pub before : Bool
 
--- behind a target, at the start of a starred text's next one too
+-- after a target: what the next relation is placed by, also within a starred text
 abbrev pub behind_target : Spelled → Anchor
 behind_target text = record { text = text; before = false }
 
@@ -40,14 +40,14 @@ abbrev pub behind_targets : Properties → Anchor → List Character → Anchor
 behind_targets properties anchor [] = anchor
 behind_targets properties anchor (c ∷ targets) = behind_targets properties (behind_target (one_letter properties c)) targets
 
--- the relations of a statement, behind the anchor that stands before it
+-- the relations of a statement, given the anchor before it
 abbrev pub relations_in : Properties → Anchor → Statement → List Taken
 relations_in properties anchor (Reset before text) = []
 relations_in properties anchor (Plain strength target expansion) =
     record { relation = record { anchor = anchor.text; before = anchor.before; strength = strength; target = spelled properties target.points; expansion = option_map (λ text. spelled properties text.points) expansion }; place = target.place } ∷ []
 relations_in properties anchor (Starred strength targets) = starred_relations properties anchor strength targets
 
--- the anchor that stands behind a statement
+-- the anchor of the relation after a statement
 abbrev pub anchor_behind : Properties → Anchor → Statement → Anchor
 anchor_behind properties anchor (Reset before text) = record { text = spelled properties text.points; before = is_some before }
 anchor_behind properties anchor (Plain strength target expansion) = behind_target (spelled properties target.points)

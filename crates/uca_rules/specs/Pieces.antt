@@ -34,7 +34,7 @@ inside_quotes (c ∷ d ∷ cs) =
     then (if d.code == apostrophe then with_literal c (inside_quotes cs) else Some (record { symbols = []; rest = d ∷ cs }))
     else with_literal c (inside_quotes (d ∷ cs))
 
--- behind an apostrophe: another one, and both stand for an apostrophe; or one or more characters in quotes
+-- after an apostrophe: another one, and both stand for an apostrophe; or one or more characters in quotes
 abbrev pub behind_apostrophe : Character → List Character → Option Piece
 behind_apostrophe c [] = None
 behind_apostrophe c (d ∷ cs) = if d.code == apostrophe then Some (record { symbols = Literal c ∷ []; rest = cs }) else inside_quotes (d ∷ cs)
@@ -50,7 +50,7 @@ number_at n cs = let digits = codes_of (take n cs) in if are_digits n digits the
 abbrev pub numbered : Character → ℕ → List Character → Option Piece
 numbered c n cs = option_map (λ code. record { symbols = Literal (record { code = code; place = c.place }) ∷ []; rest = drop n cs }) (number_at n cs)
 
--- behind a backslash: `u` and four digits, `U` and eight, or another character, which stands for itself
+-- after a backslash: `u` and four digits, `U` and eight, or another character, which stands for itself
 abbrev pub behind_backslash : Character → List Character → Option Piece
 behind_backslash c [] = None
 behind_backslash c (d ∷ cs) =
@@ -72,7 +72,7 @@ piece_at starred (c ∷ cs) =
     if starred && c.code == hyphen then Some (record { symbols = Hyphen c.place ∷ []; rest = cs }) else
     None
 
--- The characters are pieces, one behind the other, that give these symbols; behind them the rest follows.
+-- The characters are pieces, one after another, that give these symbols, and then the rest.
 abbrev pub ArePieces : Bool → List Character → List (List Symbol) → List Character → Type 0
 ArePieces starred cs [] rest = cs ≡ rest
 ArePieces starred cs (symbols ∷ pieces) rest = (more : List Character) × (piece_at starred cs ≡ Some (record { symbols = symbols; rest = more })) × ArePieces starred more pieces rest

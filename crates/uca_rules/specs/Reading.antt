@@ -47,7 +47,7 @@ pub record Keeps {A T : Type 0} (old new : TextReader A T) : Type 0 where
 
 -- ---- Statements
 
--- the relations so far, and what the next statement stands behind
+-- the relations so far, and what comes before the next statement
 pub record State : Type 0 where
   pub relations : List Relation
   pub anchor : Anchor
@@ -57,7 +57,7 @@ pub record State : Type 0 where
 abbrev pub start : State
 start = record { relations = []; anchor = no_anchor; last = lasts.Nothing }
 
--- behind one more statement
+-- after one more statement
 abbrev pub behind_statement : Properties → State → Statement → State
 behind_statement properties state s = record {
   relations = state.relations ++ relations_of (relations_in properties state.anchor s);
@@ -65,7 +65,7 @@ behind_statement properties state s = record {
   last = last_is s;
 }
 
--- the characters begin with a statement that may follow, and the rest stands behind it
+-- the characters begin with a statement that may follow, and the rest comes after it
 pub record BeginsNext (properties : Properties) (old new : State) (cs rest : List Character) : Type 0 where
   pub s : Statement
   pub begins : BeginsStatement cs s rest
@@ -99,7 +99,7 @@ pub record HasRelationCause (properties : Properties) (state : State) (s : State
   pub at : fault.byte ≡ t.place
   pub cause : RelationCause (state.relations ++ relations_of before) t.relation fault.kind
 
--- one of the targets of a starred text is too long, or one too many behind so many relations
+-- one of the targets of a starred text is too long, or one too many after `count` relations
 pub record IsOverLimit (count : ℕ) (targets : List Character) (fault : RuleFault) : Type 0 where
   pub limit : fault.kind ≡ kinds.Limit
   pub front : List Character
@@ -109,7 +109,7 @@ pub record IsOverLimit (count : ℕ) (targets : List Character) (fault : RuleFau
   pub at : fault.byte ≡ c.place
   pub over : (count + length front ≡ 5000) ⊎ (16 < length (nfd (c.code ∷ [])))
 
--- a target that is not starred is due, and the relation is refused
+-- a target that is not starred is due, and the relation is rejected
 pub data IsPlainFault (properties : Properties) (end : ℕ) (state : State) (strength : Strength) (text : List Character) (fault : RuleFault) : Type 0 where
   In_memory : IsMemoryIn end text fault → IsPlainFault properties end state strength text fault
   In_target : TextCause end false text fault.byte fault.kind → IsPlainFault properties end state strength text fault
@@ -118,7 +118,7 @@ pub data IsPlainFault (properties : Properties) (end : ℕ) (state : State) (str
   In_relation : (target : Written) (more : List Character) (expansion : Option Written) (rest : List Character) → BeginsWritten text target more → BeginsExpansion more expansion rest
       → HasRelationCause properties state (Plain strength target expansion) fault → IsPlainFault properties end state strength text fault
 
--- a starred text is due, and it or one of its relations is refused
+-- a starred text is due, and it or one of its relations is rejected
 pub data IsStarredFault (properties : Properties) (end : ℕ) (state : State) (strength : Strength) (text : List Character) (fault : RuleFault) : Type 0 where
   In_memory : IsMemoryIn end text fault → IsStarredFault properties end state strength text fault
   In_text : TextCause end true text fault.byte fault.kind → IsStarredFault properties end state strength text fault
@@ -127,7 +127,7 @@ pub data IsStarredFault (properties : Properties) (end : ℕ) (state : State) (s
   In_limit : (symbols : List Symbol) (rest : List Character) → BeginsText true text symbols rest → HasRanges symbols
       → IsOverLimit (length state.relations) (targets_of symbols) fault → IsStarredFault properties end state strength text fault
 
--- targets of a starred text are refused
+-- targets of a starred text are rejected
 abbrev pub HasTargetFault : Properties → State → Strength → List Character → ℕ → RuleFault → Type 0
 HasTargetFault properties state strength targets here fault =
     IsMemoryAt here fault ⊎ HasRelationCause properties state (Starred strength targets) fault ⊎ IsOverLimit (length state.relations) targets fault
@@ -150,7 +150,7 @@ pub record InNextTarget (state : State) (cs : List Character) (fault : RuleFault
   pub few : length state.relations < 5000
   pub over : IsOverLimit (length state.relations) targets fault
 
--- why the statement that begins there is refused
+-- why the statement that begins there is rejected
 pub data IsNextFault (properties : Properties) (end : ℕ) (state : State) (cs : List Character) (fault : RuleFault) : Type 0 where
   In_memory : IsMemoryIn end cs fault → IsNextFault properties end state cs fault
   In_text : InText end state.last cs fault.byte fault.kind → IsNextFault properties end state cs fault
@@ -158,7 +158,7 @@ pub data IsNextFault (properties : Properties) (end : ℕ) (state : State) (cs :
   In_relation : InNextRelation properties state cs fault → IsNextFault properties end state cs fault
   In_target : InNextTarget state cs fault → IsNextFault properties end state cs fault
 
--- why rules are refused
+-- why rules are rejected
 abbrev pub IsReadingFault : Properties → ℕ → List Character → RuleFault → Type 0
 IsReadingFault properties end cs fault = IsMemoryIn end cs fault ⊎ HasCause properties end cs fault.byte fault.kind
 
@@ -191,9 +191,24 @@ pub record Adds {A T : Type 0} (s : Statement) (old new : Reader A T) : Type 0 w
   pub anchor : anchor_of new ≡ anchor_behind (properties_in old.texts) (anchor_of old) s
   pub last : new.last ≡ old.last
 
--- a relation behind the anchor
+-- the relation of a target and an expansion, with the anchor of the reader
 abbrev pub relation_of : {A T : Type 0} → Reader A T → Strength → Spelled → Option Spelled → Relation
 relation_of r strength target expansion = record { anchor = r.anchor; before = r.before; strength = strength; target = target; expansion = expansion }
+
+-- the target is the next anchor, and no relation has been added
+pub record PassesOn {A T : Type 0} (target : Spelled) (old new : Reader A T) : Type 0 where
+  pub texts : new.texts ≡ old.texts
+  pub rules : new.rules ≡ old.rules
+  pub anchor : new.anchor ≡ target
+  pub before : new.before ≡ false
+  pub last : new.last ≡ old.last
+
+-- relations may have been added, and nothing else has changed
+pub record KeepsReading {A T : Type 0} (old new : Reader A T) : Type 0 where
+  pub texts : new.texts ≡ old.texts
+  pub anchor : new.anchor ≡ old.anchor
+  pub before : new.before ≡ old.before
+  pub last : new.last ≡ old.last
 
 -- it has been added, and its target is the next anchor
 pub record AddsOne {A T : Type 0} (relation : Relation) (old new : Reader A T) : Type 0 where

@@ -49,7 +49,7 @@ pub record AreRules (relations : List Relation) : Type 0 where
   pub distinct : AreDistinct relations
   pub none_late : HaveNoLateTarget relations
 
--- ---- Why one more relation is refused
+-- ---- Why one more relation is rejected
 
 -- a relation uses the text, which is not the target of a relation before it
 pub record IsHeld (relations : List Relation) (text : List ℕ) : Type 0 where
@@ -60,7 +60,7 @@ pub record IsHeld (relations : List Relation) (text : List ℕ) : Type 0 where
   pub used : IsUsedBy r text
   pub free : ¬ (IsTarget before text)
 
--- The target of one more relation behind others occurs in order in a text that one of them, or it itself, uses
+-- The target of one more relation after others occurs in order in a text that one of them, or it itself, uses
 -- and that is not the target of a relation before that one.
 pub record IsLate (relations : List Relation) (last : Relation) : Type 0 where
   pub text : List ℕ

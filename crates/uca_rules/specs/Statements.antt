@@ -62,14 +62,14 @@ abbrev pub IsNotAt : ℕ → List Character → Type 0
 IsNotAt code [] = ⊤
 IsNotAt code (c ∷ cs) = c.code ≢ code
 
--- perhaps a bracket, and behind it and white space and comments the rest
+-- perhaps a bracket, and after it and white space and comments the rest
 abbrev pub BeginsBracket : List Character → Option Strength → List Character → Type 0
 BeginsBracket cs None rest = IsNotAt bracket cs × (cs ≡ rest)
 BeginsBracket cs (Some strength) rest = (bracket_at cs ≡ Some strength) × (behind_gaps (drop 10 cs) ≡ rest)
 
 -- ---- Where a text is due
 
--- an anchor: behind `&` and perhaps a bracket
+-- an anchor: after `&` and perhaps a bracket
 pub record IsAnchorDue (cs : List Character) (before : Option Strength) (text : List Character) : Type 0 where
   pub first : Character
   pub behind : List Character
@@ -77,13 +77,13 @@ pub record IsAnchorDue (cs : List Character) (before : Option Strength) (text : 
   pub is : first.code ≡ ampersand
   pub perhaps : BeginsBracket (behind_gaps behind) before text
 
--- a target: behind a sign
+-- a target: after a sign
 pub record IsTargetDue (cs : List Character) (strength : Strength) (starred : Bool) (text : List Character) : Type 0 where
   pub behind : List Character
   pub sign : sign_at cs ≡ Some (record { strength = strength; starred = starred; rest = behind })
   pub gap : behind_gaps behind ≡ text
 
--- an expansion: behind a target and `/`
+-- an expansion: after a target and `/`
 pub record IsExpansionDue (cs text : List Character) : Type 0 where
   pub first : Character
   pub behind : List Character
@@ -98,7 +98,7 @@ pub record IsRange (x y : ℕ) : Type 0 where
   pub rising : x < y
   pub apart : (y < 0xD800) ⊎ (0xDFFF < x)
 
--- What may not be around the `-` of a range: no character before it, or the end of a range; no character behind
+-- What may not be around the `-` of a range: no character before it, or the end of a range; no character after
 -- it; or two characters that give no range.
 pub data IsNoRange (front back : List Symbol) : Type 0 where
   No_start : front ≡ [] → IsNoRange front back
@@ -147,7 +147,7 @@ pub record BeginsReset (cs : List Character) (before : Option Strength) (anchor 
   pub due : IsAnchorDue cs before text
   pub begins : BeginsWritten text anchor rest
 
--- behind a target: `/` and a text, or anything but `/`
+-- after a target: `/` and a text, or anything but `/`
 abbrev pub BeginsExpansion : List Character → Option Written → List Character → Type 0
 BeginsExpansion cs None rest = IsNotAt slash (behind_gaps cs) × (cs ≡ rest)
 BeginsExpansion cs (Some expansion) rest = (text : List Character) × IsExpansionDue cs text × BeginsWritten text expansion rest
@@ -167,13 +167,13 @@ pub record BeginsStarred (cs : List Character) (strength : Strength) (targets : 
   pub ranges : HasRanges symbols
   pub are : targets ≡ targets_of symbols
 
--- the characters begin with a statement, and behind it the rest follows
+-- the characters begin with a statement, and after it the rest follows
 abbrev pub BeginsStatement : List Character → Statement → List Character → Type 0
 BeginsStatement cs (Reset before anchor) rest = BeginsReset cs before anchor rest
 BeginsStatement cs (Plain strength target expansion) rest = BeginsPlain cs strength target expansion rest
 BeginsStatement cs (Starred strength targets) rest = BeginsStarred cs strength targets rest
 
--- The characters are these statements, with white space and comments before each and behind the last one; behind
+-- The characters are these statements, with white space and comments before each and after the last one; after
 -- them the rest follows.
 abbrev pub AreStatements : List Character → List Statement → List Character → Type 0
 AreStatements cs [] rest = behind_gaps cs ≡ rest
@@ -191,7 +191,7 @@ opening (Reset before anchor) = Resets
 opening (Plain strength target expansion) = Signs strength
 opening (Starred strength targets) = Signs strength
 
--- a relation of that strength may be the first one behind a reset
+-- a relation of that strength may be the first one after a reset
 abbrev pub HasStrength : Option Strength → Strength → Type 0
 HasStrength None strength = ⊤
 HasStrength (Some asked) strength = strength ≡ asked
@@ -203,7 +203,7 @@ last_is (Plain strength target expansion) = lasts.Relation
 last_is (Starred strength targets) = lasts.Relation
 
 -- Whether a statement that begins so may follow: a reset is first, and never follows another reset; the first
--- relation behind a bracket has its strength.
+-- relation after a bracket has its strength.
 abbrev pub MayFollow : Last → Opening → Type 0
 MayFollow lasts.Nothing Resets = ⊤
 MayFollow lasts.Nothing (Signs strength) = ⊥
@@ -222,12 +222,12 @@ abbrev pub AreInOrder : Last → List Statement → Type 0
 AreInOrder last [] = ⊤
 AreInOrder last (s ∷ statements) = MayFollow last (opening s) × AreInOrder (last_is s) statements
 
--- what stands behind statements
+-- what the last of the statements is
 abbrev pub last_of : Last → List Statement → Last
 last_of last [] = last
 last_of last (s ∷ statements) = last_of (last_is s) statements
 
--- the statements are chains: resets, each with one or more relations behind it
+-- the statements are chains: resets, each with one or more relations after it
 pub record AreChains (statements : List Statement) : Type 0 where
   pub ordered : AreInOrder lasts.Nothing statements
   pub ended : MayEnd (last_of lasts.Nothing statements)

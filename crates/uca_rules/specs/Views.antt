@@ -18,6 +18,14 @@ sign_view s = record { strength = s.strength; starred = s.starred; rest = s.rest
 abbrev pub slice_view : Option (Bor (List Character)) → Option (List Character)
 slice_view o = option_map (λ s. s.now) o
 
+-- a piece of one symbol
+abbrev pub one_symbol : Symbol → List Character → Piece
+one_symbol symbol rest = record { symbols = symbol ∷ []; rest = rest }
+
+-- the piece of an escape that stands for a character, after its backslash
+abbrev pub escaped_piece : Character → Option (ℕ × Bor (List Character)) → Option Piece
+escaped_piece first o = option_map (λ found. one_symbol (Literal (record { code = found.0; place = first.place })) found.1.now) o
+
 -- Of the piece at the front the symbols stand at the end of new, and the rest follows; or there is no such piece, and the
 -- old symbols are still the first ones.
 abbrev pub Takes : List Symbol → List Symbol → Option (List Character) → Option Piece → Type 0

@@ -1,4 +1,4 @@
-//! The characters of rules, with their places.
+//! The characters of rules, with the bytes at which they begin.
 
 ghost use Rattle.std.specs.Prelude.{◌≡◌, ◌≤◌, IfErr, IfOk, length};
 ghost use Rattle.uca_rules.specs.Characters;

@@ -1,4 +1,4 @@
-//! Why rules are refused.
+//! Why rules are rejected.
 
 ghost use Rattle.std.specs.Prelude.{◌≡◌, Some};
 ghost use Rattle.uca_rules.specs.declared.faults.RuleFaultKind.{RuleFaultKind};
@@ -8,7 +8,7 @@ use std::alloc::{AllocError, AllocFailed};
 use std::fmt;
 use thiserror::Error;
 
-/// Why rules are refused.
+/// Why rules are rejected.
 #[derive(Clone, Copy, Debug, PartialEq, Eq)]
 pub enum RuleFaultKind {
     /// A character stands where it may not; a bracket is none of the three forms; a quote has no end; four or more `<`
@@ -16,17 +16,17 @@ pub enum RuleFaultKind {
     Syntax,
     /// A backslash stands at the end, or its digits are missing, or give a surrogate or a number above 10FFFF.
     Escape,
-    /// The first relation behind `[before 1]`, `[before 2]` or `[before 3]` has another strength.
+    /// The first relation after `[before 1]`, `[before 2]` or `[before 3]` has another strength.
     BeforeStrength,
-    /// A text is due and the end, `&`, `<`, `=` or `/` stands there.
+    /// A text must begin there, and there is the end, `&`, `<`, `=` or `/`.
     EmptyText,
     /// There are more than 1,048,576 bytes or more than 5,000 relations, or a text has more than 16 code points in
     /// Normalization Form D.
     Limit,
     /// The target is the target of an earlier relation.
     DuplicateTarget,
-    /// The target occurs in order in an anchor or an expansion, of its own or of an earlier relation, that is not itself the
-    /// target of a relation before that one: this text would be read otherwise.
+    /// The target occurs in order in an anchor or an expansion, of its own or of an earlier relation. That text is not itself
+    /// the target of a relation before it, so the new target would change how it is read.
     LateTarget,
     /// An allocation failed.
     Memory,
@@ -35,7 +35,7 @@ pub enum RuleFaultKind {
 }
 
 impl RuleFaultKind {
-    /// The name of the kind, as it stands in a fault line.
+    /// The name of the kind, as it is written in an error line.
     pub fn name(self) -> &'static str
         ensures { result.now ≡ kind_text self }
     {
@@ -61,12 +61,12 @@ impl fmt::Display for RuleFaultKind {
     }
 }
 
-/// Rules are refused: at which byte, and why.
+/// Rules are rejected: at which byte, and why.
 #[derive(Clone, Copy, Debug, PartialEq, Eq, Error)]
 pub struct RuleFault {
     /// The byte, counted from 0; the length of the rules is their end.
     pub byte: usize,
-    /// Why they are refused.
+    /// Why they are rejected.
     pub kind: RuleFaultKind,
 }
 

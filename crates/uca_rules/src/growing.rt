@@ -1,11 +1,11 @@
-//! Rules that grow by one relation after the other.
+//! Rules to which one relation after another is added.
 
 ghost use Rattle.std.specs.Prelude.{◌≡◌, ◌<◌, ◌++◌, ◌∷◌, [], ◌⊎◌, ℕ, Contains, IfErr, IsFalse, IsTrue, List, OnOk, length};
 ghost use Rattle.uca_text.specs.Occurring.{OccursInOrder};
 ghost use Rattle.uca_rules.specs.declared.faults.RuleFaultKind.{RuleFaultKind};
 ghost use Rattle.uca_rules.specs.Relations.{AreRules, HasRuleTexts};
 ghost use Rattle.uca_rules.specs.Faults.{RelationCause};
-ghost use Rattle.uca_rules.specs.Growing.{AreGrowing, Holds, HoldsOwn};
+ghost use Rattle.uca_rules.specs.Growing.{Admits, AreGrowing, Holds, HoldsOwn};
 
 use crate::faults::RuleFaultKind;
 use crate::relations::{Relation, Rules, is_target, occurs_in_order};
@@ -17,8 +17,8 @@ use std::marker::Model;
 pub(crate) struct GrowingRules<A: Allocator> {
     alloc: A,
     relations: Vec<Relation, A>,
-    // the anchors and expansions that are no target of a relation before their own: no later target may occur in
-    // them in order
+    // The anchors and expansions that are not the target of a relation before their own. No later target may occur in
+    // them in order.
     held: Vec<HeldText<A>, A>,
 }
 
@@ -70,15 +70,25 @@ impl<A: Allocator + Copy> GrowingRules<A> {
         ensures growing { OnOk result (AreGrowing self.new) }
         ensures fault { IfErr result (λ kind. (kind ≡ RuleFaultKind.Memory) ⊎ RelationCause self.old.relations.items relation kind) }
     {
+        self.admit(&relation)?;
+        self.relations.push(relation)?;
+        Ok(())
+    }
+
+    /// Tests one more relation, and holds its texts. The relation itself is not added.
+    fn admit(&mut self, relation: &Relation) -> Result<(), RuleFaultKind>
+        requires growing { AreGrowing self.old }
+        ensures admitted { OnOk result (Admits relation.now self.old self.new) }
+        ensures fault { IfErr result (λ kind. (kind ≡ RuleFaultKind.Memory) ⊎ RelationCause self.old.relations.items relation.now kind) }
+    {
         let target = relation.target.chars();
         if is_target(&self.relations, target) {
             return Err(RuleFaultKind::DuplicateTarget);
         }
-        self.hold_own(&relation)?;
+        self.hold_own(relation)?;
         if occurs_in_one(target, &self.held) {
             return Err(RuleFaultKind::LateTarget);
         }
-        self.relations.push(relation)?;
         Ok(())
     }
 

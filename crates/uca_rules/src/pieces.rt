@@ -1,8 +1,9 @@
 //! The pieces that texts are made of.
 
-ghost use Rattle.std.specs.Prelude.{◌≡◌, ◌≤◌, IfOk, IsSome, length};
+ghost use Rattle.std.specs.Prelude.{◌≡◌, ◌≤◌, IfOk, IsSome, Some, length};
+ghost use Rattle.uca_rules.specs.declared.characters.Character.{Character};
 ghost use Rattle.uca_rules.specs.Pieces;
-ghost use Rattle.uca_rules.specs.Views.{Takes, slice_view};
+ghost use Rattle.uca_rules.specs.Views.{Takes, escaped_piece, one_symbol, slice_view};
 
 use crate::characters::{Character, Symbol, is_white};
 use std::alloc::{AllocError, Allocator};
@@ -24,8 +25,20 @@ fn is_plain(c: char) -> bool
         || (c >= '\u{80}' && !is_white(c))
 }
 
-/// Takes the piece at the front: its symbols come behind those that are there. What follows it is given back, or nothing
-/// where no piece stands.
+/// Writes the only symbol of a piece after the other symbols, and returns the characters after the piece.
+fn push_symbol<'a, A: Allocator>(
+    symbols: &mut Vec<Symbol, A>,
+    symbol: Symbol,
+    rest: &'a [Character],
+) -> Result<Option<&'a [Character]>, AllocError>
+    ensures { IfOk result (λ found. Takes symbols.old.items symbols.new.items (slice_view found) (Some (one_symbol symbol rest.now))) }
+{
+    symbols.push(symbol)?;
+    Ok(Some(rest))
+}
+
+/// Takes the piece at the front: its symbols are written after those that are there. Returns the characters after the
+/// piece, or nothing where there is no piece.
 pub(crate) fn take_piece<'a, A: Allocator>(
     symbols: &mut Vec<Symbol, A>,
     characters: &'a [Character],
@@ -44,17 +57,15 @@ pub(crate) fn take_piece<'a, A: Allocator>(
         return behind_backslash(symbols, *first, behind);
     }
     if is_plain(first.code) {
-        symbols.push(Symbol::Literal(*first))?;
-        return Ok(Some(behind));
+        return push_symbol(symbols, Symbol::Literal(*first), behind);
     }
     if starred && first.code == '-' {
-        symbols.push(Symbol::Hyphen(first.place))?;
-        return Ok(Some(behind));
+        return push_symbol(symbols, Symbol::Hyphen(first.place), behind);
     }
     Ok(None)
 }
 
-/// Behind an apostrophe: another one, and both stand for an apostrophe, or the inside of quotes.
+/// After an apostrophe: another one, and both stand for an apostrophe, or the inside of quotes.
 fn behind_apostrophe<'a, A: Allocator>(
     symbols: &mut Vec<Symbol, A>,
     first: Character,
@@ -66,8 +77,7 @@ fn behind_apostrophe<'a, A: Allocator>(
         return Ok(None);
     };
     if second.code == '\'' {
-        symbols.push(Symbol::Literal(first))?;
-        return Ok(Some(&characters[1..]));
+        return push_symbol(symbols, Symbol::Literal(first), &characters[1..]);
     }
     inside_quotes(symbols, characters)
 }
@@ -94,7 +104,7 @@ fn inside_quotes<'a, A: Allocator>(
     Ok(None)
 }
 
-/// Behind a backslash: `u` and four digits, `U` and eight, or another character, which stands for itself.
+/// After a backslash: the character that the escape stands for is one symbol.
 fn behind_backslash<'a, A: Allocator>(
     symbols: &mut Vec<Symbol, A>,
     first: Character,
@@ -102,31 +112,37 @@ fn behind_backslash<'a, A: Allocator>(
 ) -> Result<Option<&'a [Character]>, AllocError>
     ensures { IfOk result (λ found. Takes symbols.old.items symbols.new.items (slice_view found) (Pieces.behind_backslash first characters.now)) }
 {
-    let Some(second) = characters.first() else {
+    let Some((code, rest)) = escaped(characters) else {
         return Ok(None);
     };
-    let behind = &characters[1..];
-    let count = match second.code {
-        'u' => 4,
-        'U' => 8,
-        _ => 0,
-    };
-    let code = if count == 0 {
-        second.code
-    } else {
-        let Some(code) = numbered(behind, count) else {
-            return Ok(None);
-        };
-        code
-    };
-    symbols.push(Symbol::Literal(Character {
-        code,
-        place: first.place,
-    }))?;
-    Ok(Some(&behind[count..]))
+    let place = first.place;
+    push_symbol(symbols, Symbol::Literal(Character { code, place }), rest)
 }
 
-/// The code point that so many hexadecimal digits at the front give.
+/// What an escape stands for: `u` and four digits, `U` and eight, or another character, which stands for itself. The
+/// characters after it are returned too.
+fn escaped(characters: &[Character]) -> Option<(char, &[Character])>
+    ensures { (first : Character) → escaped_piece first result ≡ Pieces.behind_backslash first characters.now }
+{
+    let second = characters.first()?;
+    let behind = &characters[1..];
+    match second.code {
+        'u' => escaped_number(behind, 4),
+        'U' => escaped_number(behind, 8),
+        code => Some((code, behind)),
+    }
+}
+
+/// The code point of an escape with this number of digits, and the characters after it.
+fn escaped_number(characters: &[Character], count: usize) -> Option<(char, &[Character])>
+    requires { count ≤ 8 }
+    ensures { (first : Character) → escaped_piece first result ≡ Pieces.numbered first count characters.now }
+{
+    let code = numbered(characters, count)?;
+    Some((code, &characters[count..]))
+}
+
+/// The code point of `count` hexadecimal digits at the front.
 fn numbered(characters: &[Character], count: usize) -> Option<char>
     requires { count ≤ 8 }
     ensures number { result ≡ Pieces.number_at count characters.now }

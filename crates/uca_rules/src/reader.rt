@@ -7,13 +7,14 @@ ghost use Rattle.uca_rules.specs.declared.relations.Relation.{Relation};
 ghost use Rattle.uca_rules.specs.declared.signs.Last.{Last};
 ghost use Rattle.uca_rules.specs.declared.faults.RuleFaultKind.{RuleFaultKind};
 ghost use Rattle.uca_rules.specs.Characters;
-ghost use Rattle.uca_rules.specs.Relations.{IsRuleText};
+ghost use Rattle.uca_rules.specs.Relations.{AreRules, HasRuleTexts, IsRuleText};
 ghost use Rattle.uca_rules.specs.Meaning.{Means};
+ghost use Rattle.uca_rules.specs.Growing.{AreGrowing};
 ghost use Rattle.uca_rules.specs.Faults.{IsCause, IsWrongBracket, RelationCause, StatementCause};
 ghost use Rattle.uca_rules.specs.Statements;
 ghost use Rattle.uca_rules.specs.Statements.{IsAnchorDue, MayFollow, Resets, Signs};
 ghost use Rattle.uca_rules.specs.Views.{IsMemoryAt, sign_view};
-ghost use Rattle.uca_rules.specs.Reading.{AddsOne, AddsPlain, GoesOn, IsNextFault, IsPlainFault, IsReadingFault, IsReady, ReadsAll, first_code, properties_in, relation_of, start, state_of};
+ghost use Rattle.uca_rules.specs.Reading.{AddsOne, AddsPlain, GoesOn, IsNextFault, IsPlainFault, IsReadingFault, IsReady, KeepsReading, PassesOn, ReadsAll, first_code, properties_in, relation_of, start, state_of};
 
 use crate::characters::{Character, behind_gaps, characters};
 use crate::faults::{RuleFault, RuleFaultKind};
@@ -22,7 +23,7 @@ use crate::relations::{Relation, Rules};
 use crate::signs::{BRACKET_LENGTH, Last, Sign, bracket_at, sign_at};
 use crate::text_reader::TextReader;
 use crate::texts::place_of;
-use std::alloc::{Allocator, Global};
+use std::alloc::{AllocError, Allocator, Global};
 use std::{mem, str};
 use uca_text::Normal;
 use uca_values::Data;
@@ -39,8 +40,8 @@ pub(crate) const MOST_RELATIONS: usize = 5000;
 ///
 /// # Errors
 ///
-/// The first fault, as the rules are read from left to right: `Limit` at byte 1,048,576 where there are more bytes; otherwise `Utf8`
-/// at the first byte that is not part of a valid beginning; otherwise what [`RuleFaultKind`] says of its kinds. `Memory` may
+/// The first error, as the rules are read from left to right: `Limit` at byte 1,048,576 where there are more bytes; otherwise `Utf8`
+/// at the first byte that is not part of a valid beginning; otherwise what [`RuleFaultKind`] says. `Memory` may
 /// come at any byte, where an allocation fails.
 pub fn read_rules<A: Allocator>(
     alloc: Global,
@@ -75,7 +76,7 @@ pub fn read_rules_in<A: Allocator + Copy, T: Allocator>(
     read_all(alloc, global, bytes, properties)
 }
 
-/// Reads rules to their end or their first fault.
+/// Reads rules to their end or their first error.
 fn read_all<A: Allocator + Copy, T: Allocator>(
     alloc: A,
     global: Global,
@@ -99,12 +100,26 @@ fn read_all<A: Allocator + Copy, T: Allocator>(
         }),
     };
     let characters = characters(alloc, text)?;
-    let mut reader = Reader::new(alloc, global, properties, bytes.len());
-    reader.read_statements(&characters)?;
+    read_characters(alloc, global, &characters, properties, bytes.len())
+}
+
+/// Reads the characters of rules that end at `end`.
+fn read_characters<A: Allocator + Copy, T: Allocator>(
+    alloc: A,
+    global: Global,
+    characters: &[Character],
+    properties: &Data<T>,
+    end: usize,
+) -> Result<Rules<A>, RuleFault>
+    ensures found { IfOk result (λ rules. ReadsAll (properties_of properties.now) characters.now rules × AreRules rules) }
+    ensures fault { IfErr result (IsReadingFault (properties_of properties.now) end characters.now) }
+{
+    let mut reader = Reader::new(alloc, global, properties, end);
+    reader.read_statements(characters)?;
     Ok(reader.rules.finish())
 }
 
-/// What has been read, and what the next statement stands behind.
+/// The relations so far, and what comes before the next statement.
 #[derive(Drop)]
 pub(crate) struct Reader<'a, A: Allocator, T: Allocator> {
     pub(crate) texts: TextReader<'a, A, T>,
@@ -153,7 +168,7 @@ impl<'a, A: Allocator + Copy, T: Allocator> Reader<'a, A, T> {
         Ok(())
     }
 
-    /// Reads the statement at the front. What follows it is given back.
+    /// Reads the statement at the front. Returns the characters after it.
     fn read_statement<'c>(
         &mut self,
         characters: &'c [Character],
@@ -234,7 +249,7 @@ impl<'a, A: Allocator + Copy, T: Allocator> Reader<'a, A, T> {
         Ok(rest)
     }
 
-    /// Adds a relation behind the anchor; its target is the next anchor. A fault of the relation is at `byte`, a failed
+    /// Adds a relation to the anchor; its target is the next anchor. An error of the relation is at `byte`, a failed
     /// allocation at `here`.
     pub(crate) fn add(
         &mut self,
@@ -253,19 +268,49 @@ impl<'a, A: Allocator + Copy, T: Allocator> Reader<'a, A, T> {
         ensures fault { IfErr result (λ fault. IsMemoryAt here fault
             ⊎ ((fault.byte ≡ byte) × RelationCause self.old.rules.relations.items (relation_of self.old strength target expansion) fault.kind)) }
     {
-        let Ok(next) = target.clone() else {
-            return Err(RuleFault {
+        match self.take_relation(strength, target, expansion) {
+            Ok(relation) => self.add_relation(relation, byte, here),
+            Err(_) => Err(RuleFault {
                 byte: here,
                 kind: RuleFaultKind::Memory,
-            });
-        };
-        let relation = Relation {
+            }),
+        }
+    }
+
+    /// The relation of a target to the anchor. The target becomes the anchor.
+    fn take_relation(
+        &mut self,
+        strength: Strength,
+        target: Normal,
+        expansion: Option<Normal>,
+    ) -> Result<Relation, AllocError>
+        ensures { IfOk result (λ relation. (relation ≡ relation_of self.old strength target expansion) × PassesOn target self.old self.new) }
+    {
+        let next = target.clone()?;
+        Ok(Relation {
             anchor: mem::replace(&mut self.anchor, next),
             before: mem::replace(&mut self.before, false),
             strength,
             target,
             expansion,
-        };
+        })
+    }
+
+    /// Adds a relation. An error of the relation is at `byte`, a failed allocation at `here`.
+    fn add_relation(
+        &mut self,
+        relation: Relation,
+        byte: usize,
+        here: usize,
+    ) -> Result<(), RuleFault>
+        requires growing { AreGrowing self.old.rules }
+        requires few { length self.old.rules.relations.items < 5000 }
+        requires texts { HasRuleTexts relation }
+        ensures added { OnOk result (self.new.rules.relations.items ≡ self.old.rules.relations.items ++ relation ∷ []) }
+        ensures growing { OnOk result (AreGrowing self.new.rules) }
+        ensures kept { KeepsReading self.old self.new }
+        ensures fault { IfErr result (λ fault. IsMemoryAt here fault ⊎ ((fault.byte ≡ byte) × RelationCause self.old.rules.relations.items relation fault.kind)) }
+    {
         match self.rules.add(relation) {
             Ok(()) => Ok(()),
             Err(RuleFaultKind::Memory) => Err(RuleFault {
@@ -277,7 +322,7 @@ impl<'a, A: Allocator + Copy, T: Allocator> Reader<'a, A, T> {
     }
 }
 
-/// The strength that a bracket behind `&` asks for, if there is one, and where the anchor is due.
+/// The strength that a bracket after `&` asks for, if there is one, and the characters where the anchor begins.
 fn behind_ampersand<'c>(
     characters: &'c [Character],
 ) -> Result<(Option<Strength>, &'c [Character]), RuleFault>
@@ -298,7 +343,7 @@ fn behind_ampersand<'c>(
     }
 }
 
-/// The sign of a relation behind so many others.
+/// The sign of a relation after `count` others.
 ///
 /// # Errors
 ///
@@ -336,7 +381,7 @@ fn sign_of_relation<'c>(
     Ok(sign)
 }
 
-/// Whether a relation there may have the strength: behind a bracket only the one that it asks for.
+/// Whether a relation may have the strength there: after a bracket only the strength that it asks for.
 fn may_have(last: Last, strength: Strength) -> bool
     requires { last ≢ Last.Nothing }
     ensures yes { IsTrue result → MayFollow last (Signs strength) }

@@ -9,8 +9,8 @@ use std::marker::Model;
 use uca_text::Normal;
 use uca_weights::Strength;
 
-/// A relation between two texts (UTS #35 Part 5, section 3.3): the target stands behind the anchor, or before it, and
-/// differs from it at the strength; at `Identical` it stands where the anchor and the expansion stand.
+/// A relation between two texts (UTS #35 Part 5, section 3.3): the target comes after the anchor, or before it, and
+/// differs from it at the strength. At `Identical` it sorts as the anchor and the expansion do.
 #[derive(Drop)]
 pub struct Relation {
     /// The text that the target is placed by.
@@ -21,7 +21,7 @@ pub struct Relation {
     pub strength: Strength,
     /// The text that is placed.
     pub target: Normal,
-    /// A text whose collation elements follow those that the target has of its own.
+    /// A text whose collation elements follow those of the target.
     pub expansion: Option<Normal>,
 }
 

@@ -9,14 +9,14 @@ ghost use Rattle.uca_rules.specs.Views.{sign_view};
 use crate::characters::Character;
 use uca_weights::Strength;
 
-/// Behind what a statement stands.
+/// What comes before a statement.
 #[derive(Clone, Copy)]
 pub(crate) enum Last {
-    /// It is the first.
+    /// Nothing: the statement is the first.
     Nothing,
-    /// Behind a reset, with the strength that its bracket asks for.
+    /// A reset, with the strength that its bracket asks for.
     Reset(Option<Strength>),
-    /// Behind a relation or a starred one.
+    /// A relation, starred or not.
     Relation,
 }
 
@@ -25,7 +25,7 @@ pub(crate) enum Last {
 pub(crate) struct Sign<'a> {
     /// The strength of its relation.
     pub(crate) strength: Strength,
-    /// Whether `*` stands behind it.
+    /// Whether `*` follows it.
     pub(crate) starred: bool,
     /// What follows it.
     pub(crate) rest: &'a [Character],

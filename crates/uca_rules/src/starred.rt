@@ -27,9 +27,24 @@ impl<'a, A: Allocator + Copy, T: Allocator> Reader<'a, A, T> {
         ensures found { IfOk result (λ rest. AddsStarred self.old self.new strength text.now rest.now) }
         ensures fault { IfErr result (IsStarredFault (properties_in self.old.texts) self.old.texts.end (state_of self.old) strength text.now) }
     {
-        let mut symbols = Vec::new(self.texts.alloc);
-        let rest = read_text(&mut symbols, text, true, self.texts.end)?;
-        self.add_targets(strength, &symbols, place_of(self.texts.end, rest))?;
+        self.read_symbols(strength, text, &mut Vec::new(self.texts.alloc))
+    }
+
+    /// Reads a starred text and adds its relations. Its symbols replace those that are there.
+    fn read_symbols<'c>(
+        &mut self,
+        strength: Strength,
+        text: &'c [Character],
+        symbols: &mut Vec<Symbol, A>,
+    ) -> Result<&'c [Character], RuleFault>
+        requires ready { IsReady self.old }
+        requires anchored { IsRuleText self.old.anchor }
+        requires few { length self.old.rules.relations.items < 5000 }
+        ensures found { IfOk result (λ rest. AddsStarred self.old self.new strength text.now rest.now) }
+        ensures fault { IfErr result (IsStarredFault (properties_in self.old.texts) self.old.texts.end (state_of self.old) strength text.now) }
+    {
+        let rest = read_text(symbols, text, true, self.texts.end)?;
+        self.add_targets(strength, symbols, place_of(self.texts.end, rest))?;
         Ok(rest)
     }
 
@@ -58,7 +73,7 @@ impl<'a, A: Allocator + Copy, T: Allocator> Reader<'a, A, T> {
         Ok(())
     }
 
-    /// Adds relations for the code points between the ends of a range, whose `-` is at the place.
+    /// Adds relations for the code points between the ends of a range. Its `-` is at the byte `place`.
     fn add_between(
         &mut self,
         strength: Strength,

@@ -17,16 +17,16 @@ use std::alloc::{AllocError, Allocator, Global};
 use uca_text::Normal;
 use uca_values::Data;
 
-/// What reading a text takes.
+/// A reader of texts that are not starred.
 #[derive(Drop)]
 pub(crate) struct TextReader<'a, A: Allocator, T: Allocator> {
     pub(crate) alloc: A,
-    // what texts in Normalization Form D are taken from
+    // the allocator of texts in Normalization Form D
     global: Global,
     pub(crate) properties: &'a Data<T>,
     /// The length of the rules.
     pub(crate) end: usize,
-    // memory for the symbols of a text, and for its letters
+    // buffers for the symbols of a text, and for its letters
     symbols: Vec<Symbol, A>,
     letters: String<A>,
 }
@@ -52,7 +52,7 @@ impl<'a, A: Allocator + Copy, T: Allocator> TextReader<'a, A, T> {
         }
     }
 
-    /// Reads a text that is not starred. What follows it is given back beside it.
+    /// Reads a text that is not starred. Returns it with the characters after it.
     ///
     /// # Errors
     ///
@@ -85,7 +85,7 @@ impl<'a, A: Allocator + Copy, T: Allocator> TextReader<'a, A, T> {
         }
     }
 
-    /// Reads `/` and an expansion behind a target, if there is a `/`.
+    /// Reads `/` and an expansion after a target, if there is a `/`.
     pub(crate) fn read_expansion<'c>(
         &mut self,
         characters: &'c [Character],
@@ -115,7 +115,7 @@ impl<'a, A: Allocator + Copy, T: Allocator> TextReader<'a, A, T> {
     }
 }
 
-/// Where an expansion is due: behind a target and `/`, if there is a `/`.
+/// The characters where an expansion begins: those after a target and `/`, if there is a `/`.
 fn behind_slash(characters: &[Character]) -> Option<&[Character]>
     ensures { MatchOption result (IsNotAt Characters.slash (Characters.behind_gaps characters.now)) (λ text. IsExpansionDue characters.now text.now) }
 {

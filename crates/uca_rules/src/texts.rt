@@ -22,7 +22,7 @@ use uca_values::Data;
 /// How many code points a text of rules may have in Normalization Form D.
 const LONGEST_TEXT: usize = 16;
 
-/// Where the rest of the rules begins, which end at `end`.
+/// The byte at which the rest of the rules begins. The rules end at `end`.
 pub(crate) fn place_of(end: usize, characters: &[Character]) -> usize
     ensures { result ≡ Characters.place_of end characters.now }
 {
@@ -32,7 +32,7 @@ pub(crate) fn place_of(end: usize, characters: &[Character]) -> usize
     }
 }
 
-/// Reads the text at the front, whose symbols are written over those that are there. What follows it is given back.
+/// Reads the text at the front: its symbols replace those that are there. Returns the characters after the text.
 ///
 /// # Errors
 ///
@@ -75,7 +75,7 @@ pub(crate) fn read_text<'a, A: Allocator>(
     }
 }
 
-/// Why no piece stands where one begins, behind these symbols.
+/// Why there is no piece where one begins. The symbols are those of the pieces before.
 fn broken(symbols: &[Symbol], rest: &[Character], starred: bool) -> RuleFault
     requires begins { ¬ (EndsText starred rest.now) }
     requires none { piece_at starred rest.now ≡ None }
@@ -102,7 +102,7 @@ fn broken(symbols: &[Symbol], rest: &[Character], starred: bool) -> RuleFault
     }
 }
 
-/// Tests what stands around each `-`, as far as the symbols from `count` on show it.
+/// Tests the symbols around each `-`, as far as the symbols from `count` on show them.
 fn test_hyphens(symbols: &[Symbol], count: usize) -> Result<(), RuleFault>
     requires within { count ≤ length symbols.now }
     requires so_far { HasRangesSoFar (take count symbols.now) }
@@ -120,7 +120,7 @@ fn test_hyphens(symbols: &[Symbol], count: usize) -> Result<(), RuleFault>
     Ok(())
 }
 
-/// The `-` that stands for no range, as the symbol behind the others shows.
+/// The `-` that is no range, as the symbol after the others shows.
 fn wrong_hyphen(before: &[Symbol], symbol: Symbol) -> Option<usize>
     requires { HasRangesSoFar before.now }
     ensures { MatchOption result (HasRangesSoFar (before.now ++ symbol ∷ [])) (ShowsWrongHyphen (before.now ++ symbol ∷ [])) }
@@ -210,7 +210,7 @@ fn ends_text(rest: &[Character], starred: bool) -> bool
     }
 }
 
-/// The text of the symbols in Normalization Form D, unless it has more than 16 code points there.
+/// The text of the symbols in Normalization Form D, unless it has more than 16 code points.
 pub(crate) fn rule_text<A: Allocator, T: Allocator>(
     global: Global,
     letters: &mut String<A>,

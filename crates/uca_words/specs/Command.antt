@@ -43,9 +43,12 @@ compare_app = with_rule (with_rule (with_options (new_app (codes "compare"))) (w
 abbrev pub tailor_app : App
 tailor_app = with_rule (with_rule (with_files (new_app (codes "tailor"))) (word_rule (codes "rules"))) (word_rule (codes "certificate"))
 
--- `audit BASE DATA RULES TAILORED CERTIFICATE`
+-- `BASE DATA RULES TAILORED CERTIFICATE` come next
+abbrev pub with_audit_files : App → App
+with_audit_files app = with_rule (with_rule (with_rule (with_rule (with_rule app (word_rule (codes "base"))) (word_rule (codes "data"))) (word_rule (codes "rules"))) (word_rule (codes "tailored"))) (word_rule (codes "certificate"))
+
 abbrev pub audit_app : App
-audit_app = with_rule (with_rule (with_rule (with_rule (with_rule (new_app (codes "audit")) (word_rule (codes "base"))) (word_rule (codes "data"))) (word_rule (codes "rules"))) (word_rule (codes "tailored"))) (word_rule (codes "certificate"))
+audit_app = with_audit_files (new_app (codes "audit"))
 
 -- the command before its subcommands: one of them has to be named, and none is `help`
 abbrev pub bare_app : App
@@ -57,6 +60,10 @@ subcommands = check_app ∷ keys_app ∷ sort_app ∷ compare_app ∷ tailor_app
 
 abbrev pub uca_app : App
 uca_app = fold (λ app sub. with_subcommand app sub.top) bare_app subcommands
+
+-- the command with its first three subcommands: only private contracts cite this
+abbrev pub line_app : App
+line_app = with_subcommand (with_subcommand (with_subcommand bare_app check_app.top) keys_app.top) sort_app.top
 
 -- a parse reads the command so, and no argument of it is global: only private contracts cite this
 pub record StandsFor (app : App) (command : Command) : Type 0 where

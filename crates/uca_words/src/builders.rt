@@ -1,8 +1,8 @@
-//! The command `uca` as `clap` is told it: its subcommands, their words, and the help on them.
+//! The command `uca` as it is described to `clap`: its subcommands, their arguments, and the help on them.
 
-ghost use Rattle.std.specs.Prelude.{◌≡◌, false, IfOk};
+ghost use Rattle.std.specs.Prelude.{◌≡◌, codes, false, IfOk};
 ghost use Rattle.clap.specs.Words.{App, new_app, rule_of, with_rule, with_subcommand};
-ghost use Rattle.uca_words.specs.Command.{StandsFor, word_rule, weighting_rule, identical_rule, with_files, with_options, check_app, keys_app, sort_app, compare_app, tailor_app, audit_app, bare_app, uca_app};
+ghost use Rattle.uca_words.specs.Command.{StandsFor, word_rule, weighting_rule, identical_rule, with_files, with_options, with_audit_files, check_app, keys_app, sort_app, compare_app, tailor_app, audit_app, bare_app, line_app, uca_app};
 
 use clap::{Arg, ArgAction, Command};
 use std::alloc::{AllocError, Global};
@@ -37,7 +37,21 @@ fn identical_option<'a>(alloc: Global) -> Arg<'a>
         .help("Compare texts that weigh the same by their code points too")
 }
 
-// One more word. Each step takes what the step before returned, and returns its error.
+// One more argument. Each step takes what the step before returned, and returns its error.
+fn take_argument<'a>(
+    command: Result<Command<'a>, AllocError>,
+    argument: Arg<'a>,
+) -> Result<Command<'a>, AllocError>
+    requires { argument.global ≡ false }
+    ensures { (app : App) → IfOk command.entry (StandsFor app) → IfOk result (StandsFor (with_rule app (rule_of argument.entry))) }
+{
+    match command {
+        Ok(command) => command.arg(argument),
+        Err(error) => Err(error),
+    }
+}
+
+// One more argument, which is required.
 fn take_word<'a>(
     alloc: Global,
     command: Result<Command<'a>, AllocError>,
@@ -47,7 +61,18 @@ fn take_word<'a>(
 ) -> Result<Command<'a>, AllocError>
     ensures { (app : App) → IfOk command.entry (StandsFor app) → IfOk result (StandsFor (with_rule app (word_rule id.entry.now))) }
 {
-    command?.arg(word(alloc, id, name, help))
+    take_argument(command, word(alloc, id, name, help))
+}
+
+// `DATA` comes next.
+fn take_data<'a>(
+    alloc: Global,
+    command: Result<Command<'a>, AllocError>,
+) -> Result<Command<'a>, AllocError>
+    ensures { (app : App) → IfOk command.entry (StandsFor app) → IfOk result (StandsFor (with_rule app (word_rule (codes "data")))) }
+{
+    let data = "A data file: combining classes and Han ranges";
+    take_word(alloc, command, "data", "DATA", data)
 }
 
 // `TABLE DATA` come next.
@@ -59,28 +84,17 @@ fn take_files<'a>(
 {
     let table = "A weight table in the form of allkeys.txt";
     let command = take_word(alloc, command, "table", "TABLE", table);
-    let data = "A data file: combining classes and Han ranges";
-    take_word(alloc, command, "data", "DATA", data)
+    take_data(alloc, command)
 }
 
-// `[--weighting W]` comes next.
-fn take_weighting<'a>(
+// `RULES` comes next.
+fn take_rules<'a>(
     alloc: Global,
     command: Result<Command<'a>, AllocError>,
 ) -> Result<Command<'a>, AllocError>
-    ensures { (app : App) → IfOk command.entry (StandsFor app) → IfOk result (StandsFor (with_rule app weighting_rule)) }
+    ensures { (app : App) → IfOk command.entry (StandsFor app) → IfOk result (StandsFor (with_rule app (word_rule (codes "rules")))) }
 {
-    command?.arg(weighting_option(alloc))
-}
-
-// `[--identical]` comes next.
-fn take_identical<'a>(
-    alloc: Global,
-    command: Result<Command<'a>, AllocError>,
-) -> Result<Command<'a>, AllocError>
-    ensures { (app : App) → IfOk command.entry (StandsFor app) → IfOk result (StandsFor (with_rule app identical_rule)) }
-{
-    command?.arg(identical_option(alloc))
+    take_word(alloc, command, "rules", "RULES", "The tailoring rules")
 }
 
 // `[--weighting W] [--identical] TABLE DATA` come next.
@@ -90,11 +104,11 @@ fn take_options<'a>(
 ) -> Result<Command<'a>, AllocError>
     ensures { (app : App) → IfOk command.entry (StandsFor app) → IfOk result (StandsFor (with_options app)) }
 {
-    let command = take_weighting(alloc, command);
-    take_files(alloc, take_identical(alloc, command))
+    let command = take_argument(command, weighting_option(alloc));
+    take_files(alloc, take_argument(command, identical_option(alloc)))
 }
 
-// A subcommand before its words: its name, what it does in one line and in full, and an example.
+// A subcommand before its arguments: its name, what it does in one line and in full, and an example.
 fn named<'a>(
     alloc: Global,
     name: &'a str,
@@ -184,9 +198,25 @@ fn tailor_command<'a>(alloc: Global) -> Result<Command<'a>, AllocError>
         "Example: uca tailor table.txt data.txt rules.txt certificate.txt > tailored.txt",
     );
     let tailor = take_files(alloc, Ok(tailor));
-    let tailor = take_word(alloc, tailor, "rules", "RULES", "The tailoring rules");
+    let tailor = take_rules(alloc, tailor);
     let certificate = "The file that the certificate is written to";
     take_word(alloc, tailor, "certificate", "CERTIFICATE", certificate)
+}
+
+// `BASE DATA RULES TAILORED CERTIFICATE` come next.
+fn take_audit_files<'a>(
+    alloc: Global,
+    command: Result<Command<'a>, AllocError>,
+) -> Result<Command<'a>, AllocError>
+    ensures { (app : App) → IfOk command.entry (StandsFor app) → IfOk result (StandsFor (with_audit_files app)) }
+{
+    let base = "The weight table before the tailoring";
+    let command = take_word(alloc, command, "base", "BASE", base);
+    let command = take_rules(alloc, take_data(alloc, command));
+    let tailored = "The weight table after the tailoring";
+    let command = take_word(alloc, command, "tailored", "TAILORED", tailored);
+    let certificate = "The certificate of the tailoring";
+    take_word(alloc, command, "certificate", "CERTIFICATE", certificate)
 }
 
 fn audit_command<'a>(alloc: Global) -> Result<Command<'a>, AllocError>
@@ -202,15 +232,21 @@ fn audit_command<'a>(alloc: Global) -> Result<Command<'a>, AllocError>
          the rules occurs compare as under BASE.",
         "Example: uca audit table.txt data.txt rules.txt tailored.txt certificate.txt",
     );
-    let base = "The weight table before the tailoring";
-    let audit = take_word(alloc, Ok(audit), "base", "BASE", base);
-    let data = "A data file: combining classes and Han ranges";
-    let audit = take_word(alloc, audit, "data", "DATA", data);
-    let audit = take_word(alloc, audit, "rules", "RULES", "The tailoring rules");
-    let tailored = "The weight table after the tailoring";
-    let audit = take_word(alloc, audit, "tailored", "TAILORED", tailored);
-    let certificate = "The certificate of the tailoring";
-    take_word(alloc, audit, "certificate", "CERTIFICATE", certificate)
+    take_audit_files(alloc, Ok(audit))
+}
+
+// The command with one more subcommand, which may have an error.
+fn with_below<'a>(
+    command: Command<'a>,
+    below: Result<Command<'a>, AllocError>,
+) -> Result<Command<'a>, AllocError>
+    ensures { (app sub : App) → StandsFor app command.entry → IfOk below.entry (StandsFor sub) →
+        IfOk result (StandsFor (with_subcommand app sub.top)) }
+{
+    match below {
+        Ok(below) => command.subcommand(below),
+        Err(error) => Err(error),
+    }
 }
 
 // One more subcommand.
@@ -221,7 +257,10 @@ fn take_subcommand<'a>(
     ensures { (app sub : App) → IfOk command.entry (StandsFor app) → IfOk below.entry (StandsFor sub) →
         IfOk result (StandsFor (with_subcommand app sub.top)) }
 {
-    command?.subcommand(below?)
+    match command {
+        Ok(command) => with_below(command, below),
+        Err(error) => Err(error),
+    }
 }
 
 // The command before its subcommands.
@@ -237,14 +276,20 @@ fn bare_command<'a>(alloc: Global) -> Command<'a>
         .disable_help_subcommand(true)
 }
 
+// The command with its first three subcommands.
+fn line_commands<'a>(alloc: Global) -> Result<Command<'a>, AllocError>
+    ensures { IfOk result (StandsFor line_app) }
+{
+    let command = take_subcommand(Ok(bare_command(alloc)), check_command(alloc));
+    let command = take_subcommand(command, keys_command(alloc));
+    take_subcommand(command, sort_command(alloc))
+}
+
 /// The command with all its subcommands.
 pub(crate) fn uca_command<'a>(alloc: Global) -> Result<Command<'a>, AllocError>
     ensures { IfOk result (StandsFor uca_app) }
 {
-    let command = take_subcommand(Ok(bare_command(alloc)), check_command(alloc));
-    let command = take_subcommand(command, keys_command(alloc));
-    let command = take_subcommand(command, sort_command(alloc));
-    let command = take_subcommand(command, compare_command(alloc));
+    let command = take_subcommand(line_commands(alloc), compare_command(alloc));
     let command = take_subcommand(command, tailor_command(alloc));
     take_subcommand(command, audit_command(alloc))
 }

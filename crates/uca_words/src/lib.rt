@@ -1,12 +1,13 @@
-//! The words of the command line, read by `clap`.
+//! The arguments of the command line, read by `clap`.
 //!
-//! Proved of `read_words`, against the specification that `clap` has of what it takes and refuses: at `Ok`
-//! the command has no fault at the words, and what is returned are the words of the subcommand that was
-//! met; their depth is `Identical` where `--identical` is given, and only there. `Refused` has an error of
-//! a kind that the command has at the words, and is never returned where it takes them. `Weighting` is
-//! returned only where it takes them and they give a word for no weighting. Of the text of an error no
-//! contract says anything, nor when an allocation fails, and so `Memory` is returned: tests compare the
-//! whole texts.
+//! `read_words` is proved against the specification of `clap`, which says what a command accepts:
+//!
+//! - At `Ok` the command accepts the arguments, and the result has those of the subcommand that they name. The depth is
+//!   `Identical` exactly where `--identical` is given.
+//! - `Refused` has an error of a kind that the specification gives for the arguments. It is never returned for arguments
+//!   that the command accepts.
+//! - `Weighting` is returned only for arguments that the command accepts and whose weighting has no known name.
+//! - No contract says when an allocation fails, or what the text of an error is. Tests compare the whole texts.
 #![tactic(auto)]
 
 ghost use Rattle.std.specs.Prelude.{◌≡◌, Some, IfOk, IfErr, IfSome, IfNone, true, is_some, codes, option_map};
@@ -27,8 +28,8 @@ use std::alloc::{AllocError, Global};
 use thiserror::Error;
 use uca_weights::{Depth, Weighting};
 
-/// What a command line asks for.
-#[derive(Clone, Copy, Debug, PartialEq, Eq)]
+/// The arguments of a command line.
+#[derive(Clone, Copy, Debug)]
 pub enum Words<'a> {
     /// `check TABLE DATA`: say whether a weight table is well-formed.
     Check {
@@ -100,13 +101,13 @@ pub enum Words<'a> {
     },
 }
 
-/// Why a command line is refused.
+/// Why a command line is rejected.
 #[derive(Debug, Drop, Error)]
 pub enum WordFault {
-    /// `clap` refuses the words, or help was asked for.
+    /// `clap` rejects the arguments, or help was asked for.
     #[error("{0}")]
     Refused(clap::Error),
-    /// The word after `--weighting` is neither `non-ignorable` nor `shifted`.
+    /// The value of `--weighting` is neither `non-ignorable` nor `shifted`.
     #[error("weighting: unknown")]
     Weighting,
     /// An allocation failed.
@@ -146,7 +147,7 @@ fn value_of<'a>(found: &ArgMatches<'a>, id: &str) -> Option<&'a str>
     found.get_str(id)
 }
 
-// The word that is called so.
+// The value of a required argument.
 fn word_of<'a>(found: &ArgMatches<'a>, id: &str) -> &'a str
     requires { is_some (first_of id.now (rows_of (found_of found.now))) ≡ true }
     ensures { HasWord (rows_of (found_of found.now)) id.now result }
@@ -168,7 +169,7 @@ fn given_weighting(found: &ArgMatches) -> Result<Option<Weighting>, WordFault>
     }
 }
 
-// Whether the words give this argument: its default does not count, and what is found with no source does.
+// Whether the command line has this argument. Its default does not count; a value without a source does.
 fn is_in_words(found: &ArgMatches, id: &str) -> bool
     ensures { result ≡ is_given id.now (rows_of (found_of found.now)) }
 {
@@ -276,7 +277,7 @@ fn audit_words<'a>(found: &ArgMatches<'a>) -> Words<'a>
     }
 }
 
-// The words of the subcommand of this name.
+// The arguments of the subcommand of this name.
 fn subcommand_words<'a>(name: &str, found: &ArgMatches<'a>) -> Result<Words<'a>, WordFault>
     requires { is_met name.now (rows_of (found_of found.now)) ≡ true }
     ensures ok { IfOk result (Says name.now (rows_of (found_of found.now))) }
@@ -293,14 +294,13 @@ fn subcommand_words<'a>(name: &str, found: &ArgMatches<'a>) -> Result<Words<'a>,
     }
 }
 
-/// Reads the words of a command line, of which the first is the program's name: the subcommand that `clap`
-/// met, with its words, the weighting that is given and how far texts are compared.
+/// Reads the arguments of a command line, of which the first is the program's name. Returns the subcommand with its
+/// arguments, the weighting that is given and how far texts are compared.
 ///
 /// # Errors
 ///
-/// `Refused` with the error of `clap` where it refuses the words or help is asked for, `Weighting`
-/// where it takes them and the word after `--weighting` is neither, and `Memory` where an allocation
-/// failed.
+/// `Refused` with the error of `clap` where it rejects the arguments or help is asked for; `Weighting` where it accepts
+/// them and the value of `--weighting` is not known; `Memory` where an allocation failed.
 pub fn read_words<'a>(alloc: Global, words: &'a [&'a str]) -> Result<Words<'a>, WordFault>
     ensures ok { IfOk result (AreRead (texts words.entry.now)) }
     ensures err { IfErr result (IsFaultOf (texts words.entry.now)) }

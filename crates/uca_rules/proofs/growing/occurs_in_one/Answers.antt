@@ -1,4 +1,4 @@
-use Rattle.std.proofs.Common.{List, ℕ, Contains, ◌∙◌, sym, subst, arith}
+use Rattle.std.proofs.Common.{List, ℕ, Contains, ◌∙◌, sym, subst}
 use Rattle.std.proofs.lemmas.Bool.{false≢true}
 use Rattle.std.proofs.lemmas.List.{take_all}
 use Rattle.uca_text.specs.Occurring.{OccursInOrder}

@@ -1,45 +1,23 @@
-use Rattle.std.proofs.Common.{◌≡◌, ◌↔◌, ◌++◌, ◌∷◌, [], List, ℕ, Contains, ap, subst, sym, refl, ◌∙◌, inl, inr, ⊎_elim, true, false}
-use Rattle.uca_text.specs.Occurring.{OccursInOrder}
+use Rattle.std.proofs.Common.{◌≡◌, ◌↔◌, ◌++◌, ◌∷◌, [], List, ℕ, Contains, ap, subst, sym, ◌∙◌, inl, inr, ⊎_elim}
 use Rattle.uca_rules.specs.declared.relations.Relation.{Relation}
-use Rattle.uca_rules.specs.Growing.{held_texts, HoldsOwn}
-use Rattle.uca_rules.specs.Relations.{AreRules, IsTarget, IsHeld}
+use Rattle.uca_rules.specs.Growing.{held_texts, Admits}
+use Rattle.uca_rules.specs.Relations.{AreRules, IsHeld}
 use Rattle.uca_rules.proofs.HeldTexts.{held_more, rules_more}
 use Rattle.uca_rules.proofs.growing.GrowingRules.add.Goals as goal
-
-pub returns-then-occurs_in_one-clause-fault : goal.returns-then-occurs_in_one-clause-fault
-returns-then-occurs_in_one-clause-fault g c =
-    let rs : List Relation = c.args.self.now.relations.items in
-    let r : Relation = c.args.relation in
-    let own : HoldsOwn r c.args.self.now c.hold_own.new.self = c.in_ok-hold_own.ensures in
-    let found : (text : List ℕ) × Contains (held_texts c.hold_own.new.self) text × OccursInOrder r.target.points text =
-    subst (λ (p : List ℕ). (text : List ℕ) × Contains (held_texts c.hold_own.new.self) text × OccursInOrder p text) c.chars-target.ensures.value
-    (subst (λ (l : List (List ℕ)). (text : List ℕ) × Contains l text × OccursInOrder c.chars-target.result.now text) c.deref-2.ensures.value (c.if-occurs_in_one.ensures.found refl)) in
-    inr (record {
-      text = found.0;
-      held = (held_more rs r found.0).1 (⊎_elim (λ before. inl ((c.requires.growing.are_held found.0).0 before)) (λ it. inr it) ((own.held found.0).0 found.1));
-      occurs = found.2;
-    })
 
 pub returns-clause-growing : goal.returns-clause-growing
 returns-clause-growing g c =
     let rs : List Relation = c.args.self.now.relations.items in
     let r : Relation = c.args.relation in
-    let own : HoldsOwn r c.args.self.now c.hold_own.new.self = c.in_ok-hold_own.ensures in
+    let admits : Admits r c.args.self.now c.admit.new.self = c.in_ok-admit.ensures.admitted in
+    let own = admits.own in
     let is : c.push.new.self.items ≡ rs ++ r ∷ [] = c.in_ok-push.ensures.items ∙ ap (λ v. v.items ++ r ∷ []) own.same in
-    let held : (text : List ℕ) → Contains (held_texts c.hold_own.new.self) text ↔ IsHeld (rs ++ r ∷ []) text =
+    let held : (text : List ℕ) → Contains (held_texts c.admit.new.self) text ↔ IsHeld (rs ++ r ∷ []) text =
     λ text. (
       (λ h. (held_more rs r text).1 (⊎_elim (λ before. inl ((c.requires.growing.are_held text).0 before)) (λ it. inr it) ((own.held text).0 h))),
       (λ h. (own.held text).1 (⊎_elim (λ before. inl ((c.requires.growing.are_held text).1 before)) (λ it. inr it) ((held_more rs r text).0 h))),
     ) in
-    let new_target : ¬ (IsTarget rs r.target.points) = λ h.
-    let yes : false ≡ true = c.if-is_target.ensures.1
-    (subst (λ (l : List Relation). IsTarget l c.chars-target.result.now) (sym c.deref.ensures.value) (subst (λ (p : List ℕ). IsTarget rs p) (sym c.chars-target.ensures.value) h)) in
-    cc in
-    let none : (text : List ℕ) → IsHeld (rs ++ r ∷ []) text → ¬ (OccursInOrder r.target.points text) = λ text h occurs.
-    c.if-occurs_in_one.ensures.none refl text
-    (subst (λ (l : List (List ℕ)). Contains l text) (sym c.deref-2.ensures.value) ((held text).1 h))
-    (subst (λ (p : List ℕ). OccursInOrder p text) (sym c.chars-target.ensures.value) occurs) in
     record {
-      rules = subst AreRules (sym is) (rules_more rs r c.requires.growing.rules c.requires.few c.requires.texts new_target none);
-      are_held = (λ text. subst (λ (l : List Relation). Contains (held_texts c.hold_own.new.self) text ↔ IsHeld l text) (sym is) (held text));
+      rules = subst AreRules (sym is) (rules_more rs r c.requires.growing.rules c.requires.few c.requires.texts admits.other (λ text h. admits.none_late text ((held text).1 h)));
+      are_held = (λ text. subst (λ (l : List Relation). Contains (held_texts c.admit.new.self) text ↔ IsHeld l text) (sym is) (held text));
     }

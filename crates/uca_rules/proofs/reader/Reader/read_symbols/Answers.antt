@@ -4,7 +4,7 @@ use Rattle.uca_rules.specs.Pieces.{Symbol, BeginsText}
 use Rattle.uca_rules.specs.Statements.{HasRanges}
 use Rattle.uca_rules.specs.Reading.{properties_in, state_of}
 use Rattle.uca_rules.proofs.StarredLemmas.{starred_fault}
-use Rattle.uca_rules.proofs.reader.Reader.read_starred.Goals as goal
+use Rattle.uca_rules.proofs.reader.Reader.read_symbols.Goals as goal
 
 pub add_targets-requires-clause-ranges : goal.add_targets-requires-clause-ranges
 add_targets-requires-clause-ranges g c = subst HasRanges (sym c.deref.ensures.value) (c.in_ok-rest.ensures.ranges refl)
