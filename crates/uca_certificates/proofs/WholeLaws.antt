@@ -129,6 +129,14 @@ refused_content (Some bytes) left count content fault h refuses = inr (record {
   place = refuses.place;
 })
 
+-- the same of what is answered
+pub fault_content : (known left : Option (List ℕ)) (count : ℕ) (content : CertificateContent) (r : Result CertificateContent CertificateFault)
+    → IfSome known (λ bytes. ReadsLines CERTIFICATE_FORM Says bytes count content) → IfErr r (RefusesContent content)
+    → IfSome known (λ bytes. IfErr r (Refuses bytes left))
+fault_content None left count content r h refuses = tt
+fault_content (Some bytes) left count content (Ok read) h refuses = tt
+fault_content (Some bytes) left count content (Err fault) h refuses = refused_content (Some bytes) left count content fault h refuses
+
 -- the certificate of the runs
 pub found_content : (known : Option (List ℕ)) (count : ℕ) (content : CertificateContent) (r : Result CertificateContent CertificateFault)
     → IfSome known (λ bytes. ReadsLines CERTIFICATE_FORM Says bytes count content) → IfOk r (λ read. read ≡ content) → OnOk r (IsCertificate content)

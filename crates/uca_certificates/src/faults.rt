@@ -11,7 +11,7 @@ use uca_lines::files::FileFault;
 use uca_weights::MapFault;
 
 /// Why a certificate is refused.
-#[derive(Clone, Copy, Debug, PartialEq, Eq)]
+#[derive(Clone, Copy, PartialEq, Eq)]
 pub enum CertificateFaultKind {
     /// The line is not a level and three numbers of four digits, with one space between, or no LF ends it.
     Line,
@@ -42,9 +42,15 @@ impl fmt::Display for CertificateFaultKind {
     }
 }
 
+impl fmt::Debug for CertificateFaultKind {
+    fn fmt<W: fmt::Write>(&self, f: &mut fmt::Formatter<W>) -> fmt::Result {
+        write!(f, "{self}")
+    }
+}
+
 /// A certificate is refused: the line, and why. Where no run is to blame for the runs of a level, the line is the one
 /// past the last.
-#[derive(Clone, Copy, Debug, PartialEq, Eq, Error)]
+#[derive(Clone, Copy, PartialEq, Eq, Error)]
 pub struct CertificateFault {
     /// The line, counted from 1.
     pub line: u32,
@@ -57,6 +63,12 @@ impl fmt::Display for CertificateFault {
 
     fn fmt<W: fmt::Write>(&self, f: &mut fmt::Formatter<W>) -> fmt::Result {
         write!(f, "line {}: {}", self.line, self.kind)
+    }
+}
+
+impl fmt::Debug for CertificateFault {
+    fn fmt<W: fmt::Write>(&self, f: &mut fmt::Formatter<W>) -> fmt::Result {
+        write!(f, "{self}")
     }
 }
 

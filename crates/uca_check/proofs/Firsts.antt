@@ -1,7 +1,8 @@
 -- The first row without a property.
-use Rattle.std.proofs.Common.{ℕ, zero, suc, ◌+◌, ◌<◌, List, [], ◌∷◌, length, Option, Some, None, ap, refl, MatchOption, arith, ◌↔◌}
+use Rattle.std.proofs.Common.{◌≡◌, ◌≤◌, ℕ, zero, suc, ◌+◌, ◌<◌, ⊎_elim, Bool, true, false, not, IsTrue, get_or, sym, subst, List, [], ◌∷◌, length, Option, Some, None, ap, refl, MatchOption, arith, ◌↔◌}
 use Rattle.std.specs.List.{AllByRecursion, AllWithin, HoldsAt}
-use Rattle.std.proofs.lemmas.List.Elements.{recursion_from_All, All-from_all_within}
+use Rattle.std.proofs.lemmas.Bool.{cases_lt, false≢true}
+use Rattle.std.proofs.lemmas.List.Elements.{recursion_from_All, All-from_all_within, at_read}
 use Rattle.uca_weights.specs.declared.Element.{Element}
 use Rattle.uca_values.specs.Content.{Entry}
 use Rattle.uca_check.specs.WellFormed.{IsFirstWithout}
@@ -22,6 +23,32 @@ first_at P (r ∷ rows) (suc i) within fails earlier =
       earlier = (earlier zero r (omega arith) (omega arith), rest.earlier);
       without = rest.without;
     }
+
+-- one more row has the property
+pub within_more : (P : Entry → Type 0) (rows : List Entry) (i : ℕ) (r : Entry) → i < length rows → r ≡ get_or rows i r → AllWithin P rows 0 i → P r → AllWithin P rows 0 (i + 1)
+within_more P rows i r within there earlier here k d low high =
+    ⊎_elim
+    (λ (less : k < i). earlier k d low less)
+    (λ (not : i ≤ k). let same : i ≡ k = omega arith in subst (λ j. P (get_or rows j d)) same (at_read rows P i r within there here d))
+    (cases_lt k i)
+
+-- a test told whether the property holds
+abbrev pub Tested : Type 0 → Bool → Type 0
+Tested P fails = (holds : Bool) × (fails ≡ not holds) × (IsTrue holds ↔ P)
+
+pub fails_tested : (P : Type 0) → Tested P true → P → ⊥
+fails_tested P t p = true_not_true t.0 (sym t.1) (t.2.1 p)
+  where
+    true_not_true : (holds : Bool) → not holds ≡ true → holds ≡ true → ⊥
+    true_not_true true e h = false≢true e
+    true_not_true false e h = false≢true h
+
+pub holds_tested : (P : Type 0) → Tested P false → P
+holds_tested P t = t.2.0 (false_not t.0 (sym t.1))
+  where
+    false_not : (holds : Bool) → not holds ≡ false → holds ≡ true
+    false_not true e = refl
+    false_not false e = absurd (false≢true (sym e))
 
 pub first_found : (P : Entry → Type 0) (rows : List Entry) (found : Option ℕ) → MatchOption found (AllWithin P rows 0 (length rows)) (λ i. (i < length rows) × HoldsAt (λ row. P row → ⊥) rows i × AllWithin P rows 0 i) → FindsFirstWithout P rows found
 first_found P rows None h = recursion_from_All P rows (All-from_all_within P rows h)

@@ -1,7 +1,8 @@
 -- Keys by the places of their rows, and the last code points of keys.
 use Rattle.std.proofs.Common.{◌≡◌, ◌≢◌, ℕ, ◌+◌, ◌-◌, ◌<◌, ◌≤◌, ⊎_elim, List, [], ◌∷◌, ◌++◌, length, get_or, take, Bool, IsTrue, Contains, ap, sym, ◌∙◌, subst, ◌↔◌, arith}
 use Rattle.std.proofs.lemmas.Bool.{cases_lt}
-use Rattle.std.proofs.lemmas.List.{same_from_push, get_or-map, take_all}
+use Rattle.std.proofs.lemmas.List.{same_from_push, get_or-map, length-map, take_all}
+use Rattle.std.proofs.lemmas.List.Elements.{Contains-get_or, at_from_Contains}
 use Rattle.std.proofs.lemmas.Slice.Eq.{bytes_eq-Decides}
 use Rattle.std.specs.Str.{bytes_eq}
 use Rattle.uca_values.specs.Content.{Entry, keys_of}
@@ -35,6 +36,18 @@ further rows key from step k nearer before behind within low high =
     (cases_lt k (from + step)))
     (λ (not : k + step ≤ from). let here : k ≡ from - step = omega arith in subst (IsNotAt rows key) (sym here) (before (omega arith)))
     (cases_lt from (k + step))
+
+-- a key that is read is there
+pub key_found : (rows : List Entry) (key : List ℕ) (at : ℕ) → at < length rows → get_or (keys_of rows) at key ≡ key → Contains (keys_of rows) key
+key_found rows key at within there =
+    let inside : at < length (keys_of rows) = omega (arith, within, length-map rows (λ (r : Entry). r.key)) in
+    subst (Contains (keys_of rows)) there (Contains-get_or (keys_of rows) at key inside)
+
+-- a key that stands at no place is not there
+pub key_missing : (rows : List Entry) (key : List ℕ) → ((k : ℕ) → k < length rows → IsNotAt rows key k) → ¬ (Contains (keys_of rows) key)
+key_missing rows key none has =
+    let at = at_from_Contains (keys_of rows) key has in
+    none at.0 (omega (arith, at.1, length-map rows (λ (r : Entry). r.key))) (at.2 key)
 
 -- ---- The last code point of a key
 

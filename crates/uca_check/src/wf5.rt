@@ -88,5 +88,5 @@ fn is_key_at<A: Allocator>(rows: &[Row<A>], at: usize, key: &[char]) -> bool
     ensures { IsTrue result ↔ (slice_index_or (keys_of rows.now) at key.now ≡ key.now) }
 {
     let row = &rows[at];
-    row.key.len() == key.len() && row.key.as_slice() == key
+    row.key.as_slice() == key
 }

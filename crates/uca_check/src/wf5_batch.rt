@@ -1,6 +1,6 @@
 //! The rows of the shorter keys of a batch of rows, all found in one pass over the table.
 
-ghost use Rattle.std.specs.Prelude.{◌<◌, length};
+ghost use Rattle.std.specs.Prelude.{◌<◌, length, IfSome};
 
 use super::wf5::shorter_key;
 use std::alloc::Allocator;
@@ -51,10 +51,17 @@ impl<'a> ShorterKeys<'a> {
         requires { at < length rows.now }
         ensures { result < length rows.now }
     {
-        match self.keys.binary_search(&key) {
-            Ok(place) if self.met[place] < rows.len() => self.met[place],
-            _ => at,
+        match self.place(key) {
+            Some(place) => within(self.met[place], rows.len(), at),
+            None => at,
         }
+    }
+
+    /// The place of a shorter key in the batch, if it is one.
+    fn place(&self, key: &[char]) -> Option<usize>
+        ensures { IfSome result (λ place. place < 4096) }
+    {
+        self.keys.binary_search(&key).ok()
     }
 
     /// Fills the batch with the shorter keys of the next rows, and returns whether there are any.
@@ -88,12 +95,24 @@ impl<'a> ShorterKeys<'a> {
     /// Notes each row whose key is one of the shorter ones, which have two code points or more.
     fn meet<A: Allocator>(&mut self, rows: &[Row<A>]) {
         for (at, row) in rows.iter().enumerate() {
-            if row.key.len() < 2 {
-                continue;
-            }
-            if let Ok(place) = self.keys.binary_search(&row.key.as_slice()) {
-                self.met[place] = at;
+            if row.key.len() >= 2 {
+                self.note(&row.key, at);
             }
         }
     }
+
+    /// Notes the row of a key, if the key is one of the shorter ones.
+    fn note(&mut self, key: &[char], at: usize) {
+        if let Some(place) = self.place(key) {
+            self.met[place] = at;
+        }
+    }
+}
+
+/// The row, or the other one if there are not so many.
+fn within(row: usize, count: usize, other: usize) -> usize
+    requires { other < count }
+    ensures { result < count }
+{
+    if row < count { row } else { other }
 }

@@ -3,8 +3,17 @@ use Rattle.std.proofs.lemmas.Bool.{false≢true}
 use Rattle.std.proofs.lemmas.List.Elements.{recursion_from_All, All-from_all_within, AllWithin-upto, at_read}
 use Rattle.uca_values.specs.Content.{properties_of}
 use Rattle.uca_check.specs.WellFormed.{MeetsWF5}
-use Rattle.uca_check.proofs.Firsts.{first_at}
+use Rattle.uca_check.proofs.Firsts.{first_at, within_more}
 use Rattle.uca_check.proofs.wf5.first_failing.Goals as goal
+
+pub loop-at-init : goal.loop-at-init
+loop-at-init g c = λ k d low high. absurd (omega arith)
+
+pub loop-at-preserved : goal.loop-at-preserved
+loop-at-preserved g c =
+    let rows = c.args.rows.now in
+    let class = (properties_of c.args.«data».now).class in
+    within_more (MeetsWF5 class rows) rows c.loop-at.at c.index-rows-at.result c.loop-at-test.true c.index-rows-at.is c.loop-at.invariant (c.has_shorter.ensures.0 c.if-not-has_shorter.false)
 
 pub returns-then-not-has_shorter : goal.returns-then-not-has_shorter
 returns-then-not-has_shorter g c =

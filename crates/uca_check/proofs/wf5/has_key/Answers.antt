@@ -1,8 +1,29 @@
-use Rattle.std.proofs.Common.{◌≤◌, ◌<◌, ◌+◌, ◌-◌, length, sym, ◌∙◌, arith}
+use Rattle.std.proofs.Common.{◌≤◌, ◌<◌, ◌+◌, ◌-◌, length, refl, sym, ◌∙◌, arith}
 use Rattle.std.proofs.lemmas.Bool.{false≢true}
-use Rattle.uca_check.proofs.ShorterKeyLemmas.{IsNotAt, further}
+use Rattle.uca_check.proofs.ShorterKeyLemmas.{IsNotAt, further, key_found, key_missing}
 use Rattle.uca_check.proofs.wf5.has_key.Goals as goal
 use Rattle.uca_check.proofs.wf5.has_key.Goals.{else-step-from-via-then-step-from+else-is_key_at, else-step-from-via-else-step-from, else-step-rows-via-then-step-rows+else-is_key_at-2, else-step-rows-via-else-step-rows}
+
+pub loop-step-init : goal.loop-step-init
+loop-step-init g c = λ k within low high. absurd (omega arith)
+
+pub returns-then-is_key_at : goal.returns-then-is_key_at
+returns-then-is_key_at g c = (
+  (λ _. key_found c.args.rows.now c.args.key.now (c.args.from - c.loop-step.step) (omega arith) (c.is_key_at.ensures.0 c.if-is_key_at.true)),
+  (λ _. refl),
+)
+
+pub returns-then-is_key_at-2 : goal.returns-then-is_key_at-2
+returns-then-is_key_at-2 g c = (
+  (λ _. key_found c.args.rows.now c.args.key.now (c.args.from + c.loop-step.step) (omega arith) (c.is_key_at-then-step-rows.ensures.0 c.if-is_key_at-2.true)),
+  (λ _. refl),
+)
+
+pub returns : goal.returns
+returns g c = (
+  (λ h. absurd (false≢true h)),
+  (λ h. absurd (key_missing c.args.rows.now c.args.key.now (λ k within. c.loop-step.invariant k within (omega arith) (omega arith)) h)),
+)
 
 pub loop-step-preserved : goal.loop-step-preserved
 loop-step-preserved g c =
