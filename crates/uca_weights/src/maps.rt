@@ -14,7 +14,7 @@ use std::marker::Model;
 use thiserror::Error;
 
 /// Consecutive weights with consecutive images: `from + i` becomes `to + i`, for each `i` below `count`.
-#[derive(Clone, Copy, Debug, PartialEq, Eq)]
+#[derive(Clone, Copy, PartialEq, Eq)]
 pub struct Run {
     /// The least of the weights.
     pub from: u16,
@@ -98,20 +98,10 @@ impl<A: Allocator> WeightMap<A> {
         ensures proper { IfOk result (λ map. AreProperRuns level runs.items) }
         ensures fault { IfErr result (IsMapFault level runs.items) }
     {
-        let mut previous = None;
-        for (index, run) in runs.iter().enumerate() {
-            if let Some(kind) = cause(level, previous, *run) {
-                return Err(MapFault { run: index, kind });
-            }
-            previous = Some(*run);
+        match first_fault(level, &runs) {
+            Some(fault) => Err(fault),
+            None => Ok(WeightMap { level, runs }),
         }
-        if !keeps_pair_weight(level, &runs) {
-            return Err(MapFault {
-                run: runs.len(),
-                kind: MapFaultKind::Fixed,
-            });
-        }
-        Ok(WeightMap { level, runs })
     }
 
     /// The image of a weight, or `None` where it has none: 0 is its own, and so is at level 1 each weight from 8000 up;
@@ -147,7 +137,27 @@ pub fn runs_that_stay_keep_weights()
     ensures { RunsThatStayKeepWeights }
 {}
 
-// The first cause that a run has behind the run before it.
+// The first fault of some runs, or `None` if they make a map.
+fn first_fault(level: Level, runs: &[Run]) -> Option<MapFault>
+    ensures { MatchOption result (AreProperRuns level runs.now) (IsMapFault level runs.now) }
+{
+    let mut previous = None;
+    for (index, run) in runs.iter().enumerate() {
+        if let Some(kind) = cause(level, previous, *run) {
+            return Some(MapFault { run: index, kind });
+        }
+        previous = Some(*run);
+    }
+    if keeps_pair_weight(level, runs) {
+        return None;
+    }
+    Some(MapFault {
+        run: runs.len(),
+        kind: MapFaultKind::Fixed,
+    })
+}
+
+// The first cause that a run has after the run before it.
 fn cause(level: Level, previous: Option<Run>, run: Run) -> Option<MapFaultKind>
     ensures { MatchOption result (IsProperRun level previous run) (RefusesRun level previous run) }
 {
@@ -168,11 +178,14 @@ fn is_in_range(level: Level, run: Run) -> bool
     ensures { IsTrue result ↔ IsInRange level run }
 {
     let end = weights_end(level);
-    let count = u32::from(run.count);
-    run.from > 0
-        && run.to > 0
-        && u32::from(run.from) + count <= end
-        && u32::from(run.to) + count <= end
+    is_side_in_range(run.from, run.count, end) && is_side_in_range(run.to, run.count, end)
+}
+
+// Whether the weights of a side of a run are not 0 and below `end`.
+fn is_side_in_range(first: u16, count: u16, end: u32) -> bool
+    ensures { IsTrue result ↔ (0 < first) × (first + count ≤ end) }
+{
+    first > 0 && u32::from(first) + u32::from(count) <= end
 }
 
 // The least number above the weights of a level that a run may hold.

@@ -12,7 +12,7 @@ use uca_lines::files::FaultKind;
 use uca_values::{ClassRange, CodePointRange};
 
 /// A line that gives a property to the code points of a range.
-#[derive(Clone, Copy, Debug, PartialEq, Eq)]
+#[derive(Clone, Copy, PartialEq, Eq)]
 pub enum RangeLine {
     /// `ccc FIRST..LAST N`: their combining class.
     Class(ClassRange),
