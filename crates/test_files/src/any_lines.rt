@@ -3,7 +3,7 @@
 use std::alloc::{AllocError, Global};
 use std::test::Fail;
 use test_kit::{halves, same};
-use uca_lines::files::laws::{ExactLines, no_meaning_with_fault, one_meaning};
+use uca_lines::files::laws::{MayEndEarly, no_meaning_with_fault, one_meaning};
 use uca_lines::files::{FaultKind, FileForm, TABLE_FORM, TakesLines, read_lines};
 use uca_weights::Source;
 
@@ -12,7 +12,7 @@ use uca_weights::Source;
 struct AnyLines;
 
 impl TakesLines for AnyLines {
-    ghost use Rattle.std.specs.Prelude.{⊤, refl, false};
+    ghost use Rattle.std.specs.Prelude.{⊤};
     ghost use Rattle.uca_lines.specs.declared.files.TheConstants.{TABLE_FORM};
     ghost use Rattle.uca_lines.specs.FileStops.{is_read_kind};
 
@@ -24,8 +24,6 @@ impl TakesLines for AnyLines {
 
     ghost says = { λ _ _. ⊤ };
 
-    ghost takes = { λ _ _ _. ⊤ };
-
     ghost cause = { λ _ _ _. ⊥ };
 
     fn form() -> FileForm<FaultKind> {
@@ -35,22 +33,10 @@ impl TakesLines for AnyLines {
     fn take(&mut self, _line: &[u8]) -> Result<(), FaultKind> {
         Ok(())
     }
-
-    ghost apart = { record { failed_read = refl; too_long = refl; too_many = refl; no_lf = refl; no_memory = refl } };
-
-    ghost no_read = { λ _ _ _ cause. absurd cause };
-
-    ghost says_more = { λ _ _ _ _ _ _ _ _. tt };
-
-    ghost few = { λ _ _ none _. Prim.cc };
 }
 
-impl ExactLines for AnyLines {
-    ghost use Rattle.std.proofs.Common.{refl};
-
+impl MayEndEarly for AnyLines {
     ghost is_unfinished = { λ _. ⊥ };
-
-    ghost exact = { record { same = λ _ _ _ _ _. refl; excluded = λ _ _ _ _ _ _ _ cause _. cause } };
 }
 
 /// A file, and how many lines it has or why it is refused.

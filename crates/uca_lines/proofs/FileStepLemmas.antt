@@ -48,22 +48,42 @@ more_lines form front before line h fits few = record {
 }
 
 -- one more line is taken
-pub reaches_next : {K S : Type 0} (form : FileForm K) (Says : List (List ℕ) → S → Type 0) (Takes : S → List ℕ → S → Type 0)
-    → ((lines : List (List ℕ)) (old : S) (line : List ℕ) (new : S) → Says lines old → Takes old line new → length line ≤ form.longest
-    → length lines < 1000000 → Says (lines ++ line ∷ []) new)
-    → (known old new : Option (List ℕ)) (number : ℕ) (s t : S) → number ≤ 1000000
-    → ReachesKnown form Says known old number s → TakesNext form Takes old new s t → ReachesKnown form Says known new (number + 1) t
-reaches_next form Says Takes more None old new number s t few h k = tt
-reaches_next form Says Takes more (Some bytes) None new number s t few h k = absurd h
-reaches_next form Says Takes more (Some bytes) (Some rest) None number s t few h k = absurd k.gone
-reaches_next form Says Takes more (Some bytes) (Some rest) (Some left) number s t few h k =
+pub reaches_next : {K S : Type 0} (form : FileForm K) (Says : List (List ℕ) → S → Type 0) (known old new : Option (List ℕ)) (number : ℕ) (s t : S)
+    → number ≤ 1000000 → ReachesKnown form Says known old number s → TakesNext form Says old new s t → ReachesKnown form Says known new (number + 1) t
+reaches_next form Says None old new number s t few h k = tt
+reaches_next form Says (Some bytes) None new number s t few h k = absurd h
+reaches_next form Says (Some bytes) (Some rest) None number s t few h k = absurd k.gone
+reaches_next form Says (Some bytes) (Some rest) (Some left) number s t few h k =
     let below : length h.before < 1000000 = omega (arith, h.place) in record {
       front = h.front ++ ended k.line;
       before = h.before ++ k.line ∷ [];
       parts = h.parts ∙ ap (λ (xs : List ℕ). h.front ++ xs) k.gone ∙ sym (append_assoc h.front (ended k.line) left);
       divides = more_lines form h.front h.before k.line h.divides k.fits below;
-      says = more h.before s k.line t h.says k.takes k.fits.short below;
+      says = k.more h.before h.says;
       place = omega (arith, h.place, length-append h.before (k.line ∷ []));
+    }
+
+-- Some lines, this many of them, say s. Where the form has no limit on lines, they are fewer.
+pub record SaysSoMany {K S : Type 0} (form : FileForm K) (Says : List (List ℕ) → S → Type 0) (count : ℕ) (s : S) : Type 0 where
+  pub lines : List (List ℕ)
+  pub says : Says lines s
+  pub many : length lines ≡ count
+  pub few : form.too_many ≡ None → count < 1000000
+
+-- no lines say what a parser says at its start
+pub says_none : {K S : Type 0} (form : FileForm K) (Says : List (List ℕ) → S → Type 0) (count : ℕ) (s : S) → Says [] s → count ≡ 0
+    → SaysSoMany form Says count s
+says_none form Says count s says none = record { lines = []; says = says; many = sym none; few = λ _. omega (arith, none) }
+
+-- one more line is said
+pub says_next : {K S : Type 0} (form : FileForm K) (Says : List (List ℕ) → S → Type 0) (old new : Option (List ℕ)) (count next : ℕ) (s t : S)
+    → SaysSoMany form Says count s → TakesNext form Says old new s t → next ≡ count + 1 → SaysSoMany form Says next t
+says_next form Says old new count next s t h k is =
+    let many : length (h.lines ++ k.line ∷ []) ≡ next = omega (arith, h.many, is, length-append h.lines (k.line ∷ [])) in record {
+      lines = h.lines ++ k.line ∷ [];
+      says = k.more h.lines h.says;
+      many = many;
+      few = λ none. omega (arith, many, k.few none (h.lines ++ k.line ∷ []) (k.more h.lines h.says));
     }
 
 -- at the end all lines are read
@@ -268,19 +288,16 @@ pub line_not_taken : {K S : Type 0} (form : FileForm K) (Cause : S → List ℕ 
 line_not_taken form Cause old new left number s line kind gone lacks h =
     elim h [ inl memory ↦ inr (inl memory) | inr cause ↦ inr (inr (line_refused form Cause old new number s line kind gone lacks cause)) ]
 
--- a last line without LF was read that is not taken
+-- a last line without LF was read, and is rejected for want of memory, for that LF, or by a cause
 pub last_not_taken : {K S : Type 0} (form : FileForm K) (Cause : S → List ℕ → K → Type 0) (old new left : Option (List ℕ)) (number : ℕ) (s : S)
     (line : List ℕ) (kind : K)
-    → Consumes old new line × IsAtEnd new → Lacks is_lf line → 0 < length line → (kind ≡ form.no_memory) ⊎ Cause s line kind
-    → RefusesNext form Cause old left number s kind
+    → Consumes old new line × IsAtEnd new → Lacks is_lf line → 0 < length line
+    → (kind ≡ form.no_memory) ⊎ (kind ≡ form.no_lf) ⊎ Cause s line kind → RefusesNext form Cause old left number s kind
 last_not_taken form Cause old new left number s line kind gone lacks stands h =
-    elim h [ inl memory ↦ inr (inl memory) | inr cause ↦ inr (inr (last_refused form Cause old new number s line kind gone.0 gone.1 lacks stands (inr cause))) ]
-
--- a last line without LF is refused as a line, where it has no cause of its own
-pub last_without_lf : {K S : Type 0} (form : FileForm K) (Cause : S → List ℕ → K → Type 0) (old new left : Option (List ℕ)) (number : ℕ) (s : S) (line : List ℕ)
-    → Consumes old new line × IsAtEnd new → Lacks is_lf line → 0 < length line → RefusesNext form Cause old left number s form.no_lf
-last_without_lf form Cause old new left number s line gone lacks stands =
-    inr (inr (last_refused form Cause old new number s line form.no_lf gone.0 gone.1 lacks stands (inl refl)))
+    elim h [
+      | inl memory ↦ inr (inl memory)
+      | inr cause ↦ inr (inr (last_refused form Cause old new number s line kind gone.0 gone.1 lacks stands cause))
+    ]
 
 -- a source that did not fail in a step has failed as before
 pub failed_as_before : (old now start : Bool) → now ≡ (old || false) → old ≡ start → now ≡ start

@@ -4,7 +4,7 @@ use Rattle.std.specs.Prelude.{IfErr}
 use Rattle.std.specs.List.{flat_map}
 use Rattle.std.specs.Result.{IsErrAnd}
 use Rattle.std.specs.Io.KnownBytes.{Appends}
-use Rattle.std.proofs.lemmas.List.{take-append-le, append-nil, take_more, take_all}
+use Rattle.std.proofs.lemmas.List.{take-append-le, append-nil, take_more, take_all, drop_all, length-drop}
 use Rattle.std.proofs.lemmas.Grind.{flat_map-append}
 use Rattle.std.proofs.lemmas.Result.{err_from_is_err_and}
 use Rattle.uca_weights.specs.Streams.{SinkState}
@@ -49,6 +49,29 @@ fails_then {front} {piece} {b} {c} {s} {t} {u} {written} more h k = record {
   not_all = omega (arith, h.count, k.not_all, length-append (front ++ piece) more, length-append front piece);
   failed = k.failed;
 }
+
+-- all that waited went out, and nothing waits after it
+pub emptied : {b c : BufferState} {s t : SinkState}
+    → ((start : Option (List ℕ)) (before : List ℕ) → HandedOver start s.contents before b → Appends start t.contents before)
+    → c.held ≡ [] → c.written ≡ b.written + length b.held → t.failed ≡ s.failed → HasHanded [] b c s t
+emptied {b} {c} {s} {t} out empty count failed = record {
+  hands = λ start before h.
+      let whole : c.written ≡ length before = omega (arith, count, h.went_out.1, ap length h.held, length-drop b.written before) in
+      subst (λ (text : List ℕ). HandedOver start t.contents text c) (sym (append-nil before)) (record {
+        went_out = (subst (λ (text : List ℕ). Appends start t.contents text) (sym (take_all c.written before (omega (arith, whole)))) (out start before h),
+            omega (arith, whole));
+        held = empty ∙ sym (drop_all c.written before (omega (arith, whole)));
+      });
+  count = omega (arith, count, ap length empty);
+  failed = failed;
+}
+
+-- after nothing a text is handed over as at the start
+pub after_nothing : {A : Type 0} {b c : BufferState} {s t : SinkState} (text : List ℕ) (d : BufferState) (u : SinkState) (r : Result A WriteFault) → HasHanded [] b c s t
+    → Hands text c d t u r → Hands text b d s u r
+after_nothing text d u (Ok x) h k = handed_then h k
+after_nothing {b = b} {s = s} text d u (Err e) h k =
+    subst (λ (l : List ℕ). FailsToHand l b s u e.written) (append-nil text) (fails_then [] h k)
 
 -- ---- The parts of a text
 

@@ -1,16 +1,18 @@
 -- What one step of the reader of a file does: it takes the next line. For private contracts alone.
-use Rattle.std.specs.Prelude.{◌≡◌, ◌⊎◌, ℕ, List, Option, IfSome, IsSomeAnd}
+use Rattle.std.specs.Prelude.{◌≡◌, ◌⊎◌, ◌<◌, ℕ, List, [], ◌∷◌, ◌++◌, length, Option, None, IfSome, IsSomeAnd}
 use Rattle.std.specs.Io.KnownBytes.{Consumes}
 use Rattle.uca_lines.specs.Lines.{ended}
 use Rattle.uca_lines.specs.declared.files.FileForm.{FileForm}
 use Rattle.uca_lines.specs.Files.{IsFileLine, BeginsFault, LosesPart}
 
--- known bytes lose a line and its LF, and the line is taken after what makes s
-pub record TakesNext {K S : Type 0} (form : FileForm K) (Takes : S → List ℕ → S → Type 0) (old new : Option (List ℕ)) (s t : S) : Type 0 where
+-- Known bytes lose a line and its LF. Lines that say s say t with this line after them. Where the form has no limit on
+-- lines, they are fewer.
+pub record TakesNext {K S : Type 0} (form : FileForm K) (Says : List (List ℕ) → S → Type 0) (old new : Option (List ℕ)) (s t : S) : Type 0 where
   pub line : List ℕ
   pub gone : Consumes old new (ended line)
   pub fits : IsFileLine form line
-  pub takes : Takes s line t
+  pub more : (lines : List (List ℕ)) → Says lines s → Says (lines ++ line ∷ []) t
+  pub few : form.too_many ≡ None → (lines : List (List ℕ)) → Says lines t → length lines < 1000000
 
 -- Why line `number`, with which known bytes begin, is not taken: the source failed, which leaves these bytes; an
 -- allocation failed; or a cause of the kind stands there.

@@ -1,5 +1,5 @@
--- What the answer of a line reader says.
-use Rattle.std.specs.Prelude.{ℕ, ◌<◌, ◌≤◌, Bool, true, false, List, Option, Result, Ok, Err, IfSome, length, ⊤}
+-- What the result of a line reader says.
+use Rattle.std.specs.Prelude.{ℕ, ◌<◌, ◌≤◌, Bool, true, false, List, Option, Result, Ok, Err, IfSome, length, codes, ⊤}
 use Rattle.std.specs.List.{position_or_len}
 use Rattle.std.specs.Io.KnownBytes.{Consumes, IsAtEnd}
 use Rattle.uca_lines.specs.Lines.{is_lf, ended}
@@ -52,3 +52,10 @@ is_read (Err TooLong) = false
 is_read (Err Limit) = false
 is_read (Err Read) = true
 is_read (Err Memory) = false
+
+-- the words for an error of a line reader
+abbrev pub line_fault_text : LineFault → List ℕ
+line_fault_text TooLong = codes "the line is too long"
+line_fault_text Limit = codes "there are too many lines"
+line_fault_text Read = codes "the reader failed"
+line_fault_text Memory = codes "out of memory"

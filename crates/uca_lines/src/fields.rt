@@ -2,6 +2,9 @@
 //!
 //! A blank is a space or a tab. All numbers are hexadecimal with upper-case digits, but for classes.
 
+ghost use Rattle.std.specs.Prelude.{◌≡◌, Some};
+ghost use Rattle.uca_lines.specs.CodePointRanges.{range_fault_text};
+
 mod cuts;
 mod numbers;
 mod ranges;
@@ -9,15 +12,36 @@ mod ranges;
 pub use cuts::{cut_at, cut_word, halves, line_text, skip_blanks, trim};
 pub use numbers::{class_number, code_point, four_digits, hexadecimal_digit, six_digits, weight};
 pub use ranges::code_point_range;
-use thiserror::Error;
+use std::error::Error;
+use std::fmt;
 
 /// Why a text is no range of code points.
-#[derive(Clone, Copy, Debug, PartialEq, Eq, Error)]
+#[derive(Debug, Drop)]
 pub enum RangeFault {
     /// It has no `..`.
-    #[error("no `..`")]
     NoDots,
     /// The text before or after the first `..` is no code point.
-    #[error("no code point")]
     CodePoint,
 }
+
+impl RangeFault {
+    // The words for this error.
+    fn text(&self) -> &'static str
+        ensures { result.now ≡ range_fault_text self.now }
+    {
+        match self {
+            RangeFault::NoDots => "no `..`",
+            RangeFault::CodePoint => "no code point",
+        }
+    }
+}
+
+impl fmt::Display for RangeFault {
+    ghost output = { λ fault. Some (range_fault_text fault) };
+
+    fn fmt<W: fmt::Write>(&self, f: &mut fmt::Formatter<W>) -> fmt::Result {
+        f.write_str(self.text())
+    }
+}
+
+impl Error for RangeFault {}

@@ -11,8 +11,8 @@ mod reading;
 pub use reading::read_lines;
 pub use uca_values::{FaultKind, TableFault};
 
-/// How files of one kind are cut into lines, and what their faults are called.
-#[derive(Clone, Copy, Debug, PartialEq, Eq)]
+/// How files of one kind are cut into lines, and what their errors are called.
+#[derive(Drop)]
 pub struct FileForm<K> {
     /// How many bytes a line may have, its LF not counted.
     pub longest: usize,
@@ -45,7 +45,7 @@ pub const TABLE_FORM: FileForm<FaultKind> = FileForm {
 };
 
 /// A file is refused: the line, and why. A file that ends too early has the number of its lines plus one.
-#[derive(Clone, Copy, Debug, PartialEq, Eq)]
+#[derive(Debug, Drop)]
 pub struct FileFault<K> {
     /// The line, counted from 1.
     pub line: u32,
@@ -64,12 +64,12 @@ impl From<FileFault<FaultKind>> for TableFault {
     }
 }
 
-/// What the lines of a file say, taken one after the other.
+/// A parser of a file, which takes its lines in turn.
 pub trait TakesLines {
-    /// Why a file is refused.
+    /// Why a file is rejected.
     type Kind: Copy + Drop;
 
-    // how the file is cut into lines, and what its faults are called
+    // how the file is cut into lines, and what its errors are called
     ghost form: { FileForm Self.Kind };
 
     // whether the kind is that of a reader that failed
@@ -78,31 +78,22 @@ pub trait TakesLines {
     // the lines, from the first on, are acceptable in order and say this
     ghost says: { List (List ℕ) → Self → Type 0 };
 
-    // with one more line, the second is what they say
-    ghost takes: { Self → List ℕ → Self → Type 0 };
-
     // a cause of the kind stands in the next line
     ghost cause: { Self → List ℕ → Self.Kind → Type 0 };
 
-    /// How the file is cut into lines, and what its faults are called.
+    /// How the file is cut into lines, and what its errors are called. Of these kinds one alone is that of a
+    /// reader that failed.
     fn form() -> FileForm<Self::Kind>
-        ensures { result ≡ form };
+        ensures value { result ≡ form }
+        ensures reads { CallsReadsAlone result is_read };
 
-    /// Takes the next line, without its LF.
+    /// Takes the next line, without its LF. An error is never that of a reader that failed.
     fn take(&mut self, line: &[u8]) -> Result<(), Self::Kind>
         requires { length line.now ≤ form.longest }
-        ensures ok { OnOk result (takes self.old line.now self.new) }
-        ensures fault { IfErr result (λ kind. (kind ≡ form.no_memory) ⊎ cause self.old line.now kind) };
+        ensures ok { OnOk result ((lines : List (List ℕ)) → says lines self.old → says (lines ++ line.now ∷ []) self.new) }
+        ensures fault { IfErr result (λ kind. (kind ≡ form.no_memory) ⊎ cause self.old line.now kind) }
+        ensures not_read { IfErr result (λ kind. is_read kind ≡ false) }
 
-    // of the kinds of the form, that of a reader that failed alone is so called
-    ghost apart: { CallsReadsAlone form is_read };
-
-    // no line is to blame for a reader that fails
-    ghost no_read: { (said : Self) (line : List ℕ) (kind : Self.Kind) → cause said line kind → is_read kind ≡ false };
-
-    // one more line
-    ghost says_more: { (lines : List (List ℕ)) (old : Self) (line : List ℕ) (new : Self) → says lines old → takes old line new → length line ≤ form.longest → length lines < 1000000 → says (lines ++ line ∷ []) new };
-
-    // with no limit on lines, there are always fewer
-    ghost few: { (lines : List (List ℕ)) (said : Self) → form.too_many ≡ None → says lines said → length lines < 1000000 };
+        // A form without a limit on lines is one whose lines are always fewer.
+        ensures few { form.too_many ≡ None → (lines : List (List ℕ)) → says lines self.new → length lines < 1000000 };
 }

@@ -1,18 +1,19 @@
 //! Lines of a source, read a chunk at a time.
 
-ghost use Rattle.std.specs.Prelude.{◌≡◌, ◌+◌, ◌≤◌, ◌<◌, ◌++◌, ◌||◌, [], ℕ, length, if◌then◌else◌, ◌≢◌, IsTrue, ◌↔◌, is_ok, is_err, OnOk, OnErr, IfOk, IfErr, MatchBool, vec_capacity};
+ghost use Rattle.std.specs.Prelude.{◌≡◌, Some, ◌+◌, ◌≤◌, ◌<◌, ◌++◌, ◌||◌, [], ℕ, length, if◌then◌else◌, ◌≢◌, IsTrue, ◌↔◌, is_ok, is_err, OnOk, OnErr, IfOk, IfErr, MatchBool, vec_capacity};
 ghost use Rattle.std.specs.List.{before_first, after_first, position_or_len};
 ghost use Rattle.std.specs.Io.KnownBytes.{Keeps, IsAtEnd, Consumes};
 ghost use Rattle.uca_lines.specs.Lines.{is_lf, Lacks};
 ghost use Rattle.uca_lines.specs.LineReader.{left_of};
-ghost use Rattle.uca_lines.specs.NextLine.{SaysOfBytes, IsWithinLimit, is_line, is_read};
+ghost use Rattle.uca_lines.specs.NextLine.{SaysOfBytes, IsWithinLimit, is_line, is_read, line_fault_text};
 ghost use Rattle.uca_lines.specs.Taking.{IsTakeFault};
 
 use memchr::memchr;
 use std::alloc::Allocator;
+use std::error::Error;
+use std::fmt;
 use std::io::Read;
 use std::marker::Model;
-use thiserror::Error;
 use uca_weights::Source;
 
 /// How many lines may be read of one source.
@@ -22,7 +23,7 @@ pub const LINE_LIMIT: u32 = 1_000_000;
 const CHUNK: usize = 16_384;
 
 /// What was found where a line was due.
-#[derive(Clone, Copy, Debug, PartialEq, Eq)]
+#[derive(PartialEq, Drop)]
 pub enum NextLine {
     /// A line, and the LF that ends it.
     Terminated,
@@ -33,22 +34,42 @@ pub enum NextLine {
 }
 
 /// Why no line was read.
-#[derive(Clone, Copy, Debug, PartialEq, Eq, Error)]
+#[derive(Debug, Drop)]
 pub enum LineFault {
     /// The line, without its LF, has more bytes than it may have.
-    #[error("the line is too long")]
     TooLong,
     /// A byte is left, and as many lines were found before as may be. Nothing else of the line is
     /// looked at.
-    #[error("there are too many lines")]
     Limit,
     /// The reader failed.
-    #[error("the reader failed")]
     Read,
-    /// The vector of the line could not grow.
-    #[error("out of memory")]
+    /// Out of memory: the vector of the line could not grow.
     Memory,
 }
+
+impl LineFault {
+    // The words for this error.
+    fn text(&self) -> &'static str
+        ensures { result.now ≡ line_fault_text self.now }
+    {
+        match self {
+            LineFault::TooLong => "the line is too long",
+            LineFault::Limit => "there are too many lines",
+            LineFault::Read => "the reader failed",
+            LineFault::Memory => "out of memory",
+        }
+    }
+}
+
+impl fmt::Display for LineFault {
+    ghost output = { λ fault. Some (line_fault_text fault) };
+
+    fn fmt<W: fmt::Write>(&self, f: &mut fmt::Formatter<W>) -> fmt::Result {
+        f.write_str(self.text())
+    }
+}
+
+impl Error for LineFault {}
 
 /// Reads the lines of one source: each ends in an LF, and bytes after the last LF are a line too.
 #[derive(Drop)]
@@ -132,15 +153,20 @@ impl LineReader {
         ensures longest { self.new.longest ≡ self.old.longest }
     {
         line.clear();
-        if !self.fill(source)? {
-            return Ok(NextLine::EndOfInput);
+        match self.fill(source) {
+            Ok(false) => Ok(NextLine::EndOfInput),
+            Ok(true) => {
+                if self.number >= LINE_LIMIT {
+                    return Err(LineFault::Limit);
+                }
+                let next = self.read_line(source, line);
+                if next.is_ok() {
+                    self.number += 1;
+                }
+                next
+            }
+            Err(fault) => Err(fault),
         }
-        if self.number >= LINE_LIMIT {
-            return Err(LineFault::Limit);
-        }
-        let next = self.read_line(source, line)?;
-        self.number += 1;
-        Ok(next)
     }
 
     // Reads a line that has begun, up to its LF or to the end.

@@ -58,13 +58,30 @@ impl OutputBuffer {
             self.hold(text);
             return Ok(());
         }
-        self.flush(out)?;
+        match self.flush(out) {
+            Ok(()) => self.write_first(out, text),
+            Err(fault) => Err(fault),
+        }
+    }
+
+    // Writes a text through the empty buffer.
+    fn write_first<W: Write>(&mut self, out: &mut Sink<W>, text: &[u8]) -> Result<(), WriteFault>
+        requires room { HasRoom self.old (length text.now) }
+        requires empty { self.old.held ≡ [] }
+        ensures hands { Hands text.now self.old self.new out.old out.new result }
+        ensures err { OnErr result (self.new ≡ self.old) }
+    {
         if text.len() <= SIZE {
             self.hold(text);
             return Ok(());
         }
-        self.written = send(out, text, self.written)?;
-        Ok(())
+        match send(out, text, self.written) {
+            Ok(written) => {
+                self.written = written;
+                Ok(())
+            }
+            Err(fault) => Err(fault),
+        }
     }
 
     /// Writes all that waits. A fault says how many bytes went out of all that was handed over.
@@ -80,9 +97,14 @@ impl OutputBuffer {
         ensures not_all { IfErr result (λ fault. fault.written < self.old.written + length self.old.held) }
         ensures failed { out.new.failed ≡ (out.old.failed || is_err result) }
     {
-        self.written = send(out, &self.bytes[..self.len], self.written)?;
-        self.len = 0;
-        Ok(())
+        match send(out, &self.bytes[..self.len], self.written) {
+            Ok(written) => {
+                self.written = written;
+                self.len = 0;
+                Ok(())
+            }
+            Err(fault) => Err(fault),
+        }
     }
 
     // Lets a text wait, for which there is room.

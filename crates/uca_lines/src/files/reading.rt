@@ -1,6 +1,6 @@
 //! The loop that reads a file of lines.
 
-ghost use Rattle.std.specs.Prelude.{◌≡◌, ◌+◌, ◌<◌, ◌≤◌, ◌||◌, [], None, IfOk, IfErr, IfSome};
+ghost use Rattle.std.specs.Prelude.{◌≡◌, ◌⊎◌, ◌+◌, ◌<◌, ◌≤◌, ◌||◌, [], length, None, false, IfOk, IfErr, IfSome};
 ghost use Rattle.std.specs.Bool.{OnTrue, OnFalse};
 ghost use Rattle.std.specs.Io.KnownBytes.{IsAtEnd};
 ghost use Rattle.uca_lines.specs.Files.{ReadsLines, RefusesLine};
@@ -67,33 +67,45 @@ fn take_line<T: TakesLines, R: Read, A: Allocator>(
 ) -> Result<bool, T::Kind>
     requires longest { lines.old.longest ≡ T.form.longest }
     requires few { T.form.too_many ≡ None → lines.old.number < 1000000 }
-    ensures taken { IfOk result (λ more. OnTrue more (TakesNext T.form T.takes
+    ensures taken { IfOk result (λ more. OnTrue more (TakesNext T.form T.says
         (left_of lines.old source.old) (left_of lines.new source.new) taker.old taker.new)) }
-    ensures end { IfOk result (λ more. OnFalse more (IsAtEnd (left_of lines.old source.old))) }
-    ensures unchanged { IfOk result (λ more. OnFalse more (taker.new ≡ taker.old)) }
+    ensures number { IfOk result (λ more. OnTrue more
+        ((lines.old.number < 1000000) × (lines.new.number ≡ lines.old.number + 1))) }
+    ensures end { IfOk result (λ more. OnFalse more
+        (IsAtEnd (left_of lines.old source.old) × (taker.new ≡ taker.old))) }
     ensures fault { IfErr result (λ kind. RefusesNext T.form T.cause
         (left_of lines.old source.old) source.new.remaining (lines.old.number + 1) taker.old kind) }
-    ensures number { IfOk result (λ more. OnTrue more (lines.new.number ≡ lines.old.number + 1)) }
-    ensures below { IfOk result (λ more. OnTrue more (lines.old.number < 1000000)) }
     ensures longest { lines.new.longest ≡ lines.old.longest }
     ensures failed { source.new.failed ≡ (source.old.failed || is_read_step T.is_read result) }
 {
     match lines.next_line(source, line) {
-        Ok(NextLine::Terminated) => {
-            taker.take(line)?;
-            Ok(true)
-        }
-        Ok(NextLine::Unterminated) if T::form().lf_first => Err(T::form().no_lf),
-        Ok(NextLine::Unterminated) => {
-            taker.take(line)?;
-            Err(T::form().no_lf)
-        }
+        Ok(NextLine::Terminated) => match taker.take(line) {
+            Ok(()) => Ok(true),
+            Err(kind) => Err(kind),
+        },
+        Ok(NextLine::Unterminated) => Err(last_line_kind(line, taker)),
         Ok(NextLine::EndOfInput) => Ok(false),
         Err(fault) => Err(kind_of(T::form(), fault)),
     }
 }
 
-// What the form calls a fault of a line reader.
+// Why a last line that no LF ends is rejected.
+fn last_line_kind<T: TakesLines>(line: &[u8], taker: &mut T) -> T::Kind
+    requires { length line.now ≤ T.form.longest }
+    ensures cause { (result ≡ T.form.no_memory) ⊎ (result ≡ T.form.no_lf) ⊎ T.cause taker.old line.now result }
+    ensures not_read { T.is_read result ≡ false }
+{
+    let form = T::form();
+    if form.lf_first {
+        return form.no_lf;
+    }
+    match taker.take(line) {
+        Ok(()) => form.no_lf,
+        Err(kind) => kind,
+    }
+}
+
+// What the form calls an error of a line reader.
 fn kind_of<K: Copy + Drop>(form: FileForm<K>, fault: LineFault) -> K
     ensures { result ≡ kind_of_fault form fault }
 {

@@ -1,13 +1,13 @@
-use Rattle.std.proofs.Common.{◌≡◌, ◌-◌, ◌≤◌, ◌+◌, ℕ, List, length}
+use Rattle.std.proofs.Common.{◌≡◌, ◌-◌, ◌≤◌, ◌+◌}
 use Rattle.uca_lines.specs.LineReader.{left_of}
-use Rattle.uca_lines.proofs.FileStepLemmas.{ReachesKnown}
+use Rattle.uca_lines.proofs.FileStepLemmas.{ReachesKnown, SaysSoMany}
 use Rattle.uca_lines.proofs.files.reading.read_lines.Given as goal
 
 abbrev pub invariant-loop-line : goal.invariant-loop-line
 invariant-loop-line g l = record {
   reaches : ReachesKnown g.T.TakesLines.form g.T.TakesLines.says l.fn.source.remaining (left_of l.lines l.source) (l.lines.number + 1) l.taker;
   longest : l.lines.longest ≡ g.T.TakesLines.form.longest;
-  taken : (lines : List (List ℕ)) × g.T.TakesLines.says lines l.taker × (length lines ≡ l.lines.number);
+  said : SaysSoMany g.T.TakesLines.form g.T.TakesLines.says l.lines.number l.taker;
   failed : l.source.failed ≡ l.fn.source.failed;
   within : l.lines.number ≤ 1000000;
 }
