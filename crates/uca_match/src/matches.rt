@@ -12,7 +12,7 @@ use uca_text::Normal;
 use uca_weights::Element;
 
 /// A key, by its node, and its row.
-#[derive(Clone, Copy)]
+#[derive(Drop)]
 pub struct Found<'a, N> {
     /// The node that stands for the key.
     pub node: N,
@@ -21,7 +21,7 @@ pub struct Found<'a, N> {
 }
 
 /// A key at the front of what is left of a text, and the place after it.
-#[derive(Clone, Copy)]
+#[derive(Drop)]
 pub struct Longest<'a, N> {
     /// The key.
     pub found: Found<'a, N>,
@@ -30,7 +30,7 @@ pub struct Longest<'a, N> {
 }
 
 /// What the front of a text gives: the elements of a row, or the implicit elements of a code point.
-#[derive(Clone, Copy)]
+#[derive(Drop)]
 pub enum Given<'a> {
     /// The elements of a row.
     Row(&'a [Element]),
@@ -39,7 +39,7 @@ pub enum Given<'a> {
 }
 
 /// What the front of a text gives, and the place to read on from.
-#[derive(Clone, Copy)]
+#[derive(Drop)]
 pub struct Portion<'a> {
     /// What is given.
     pub given: Given<'a>,
@@ -92,7 +92,7 @@ fn longest_match<'a, L: Lookup>(
 }
 
 /// The non-starters after a key, as far as they have been gone through.
-#[derive(Clone, Copy)]
+#[derive(Drop)]
 pub struct Extension<'a, N> {
     /// The node that stands for what the key has become.
     pub node: N,

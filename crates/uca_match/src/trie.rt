@@ -126,7 +126,7 @@ fn sorted<A: Allocator, T: Allocator>(
 }
 
 /// A row beside the first code point of its key, by which most rows are told apart without a look at them.
-#[derive(Clone, Copy)]
+#[derive(Drop)]
 pub(crate) struct Headed<'a, T: Allocator> {
     head: Option<char>,
     row: &'a Row<T>,

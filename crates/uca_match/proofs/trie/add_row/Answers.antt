@@ -1,6 +1,6 @@
 -- The elements of the row go to the node to which its key has led.
-use Rattle.std.proofs.Common.{◌≡◌, length, take, Some, ap, subst, ◌∙◌, arith}
-use Rattle.std.proofs.lemmas.List.{take_all, get_or_read}
+use Rattle.std.proofs.Common.{◌≡◌, ◌+◌, ◌∷◌, ◌++◌, [], length, take, Some, ap, sym, subst, ◌∙◌, arith}
+use Rattle.std.proofs.lemmas.List.{take_all, take_more, get_or_read}
 use Rattle.uca_match.specs.Tries.{NodeContent, empty_node, node_at, IsAlong}
 use Rattle.uca_match.proofs.TrieWalks.{walk_root}
 use Rattle.uca_match.proofs.TrieRows.{row_put}
@@ -31,3 +31,15 @@ returns g c =
     let put = row_put c.args.nodes.now.items nodes n
     (record { edges = c.behind-nodes.inside.edges.items; row = Some c.in_ok-elements.elements.items }) row along same (ap Some elements) in
     record { tree = put.0; row = put.1 }
+
+pub loop-point-preserved : goal.loop-point-preserved
+loop-point-preserved g c =
+    let items = c.deref-point-items.result.now in
+    let i = c.loop-point.point-index in
+    let point = c.point-item.result in
+    let same : items ≡ c.args.row.now.key = c.deref-point-items.ensures.value ∙ ap (λ r. r.key) c.row.view_is in
+    let more : take (i + 1) c.args.row.now.key ≡ take i c.args.row.now.key ++ point ∷ [] =
+    subst (λ key. take (i + 1) key ≡ take i key ++ point ∷ []) same
+    (take_more items i point c.loop-point-test.true ∙ ap (λ p. take i items ++ p ∷ []) (sym c.point-item.is)) in
+    subst (λ front. IsAlong c.args.nodes.now.items c.add_step.new.nodes.items front c.in_ok-number.number) (sym more)
+    (c.in_ok-number.ensures c.args.nodes.now.items (take i c.args.row.now.key) c.loop-point.invariant)
