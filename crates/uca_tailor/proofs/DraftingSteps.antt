@@ -1,6 +1,6 @@
 -- Relation after relation.
 use Rattle.std.proofs.Common.{◌≡◌, ℕ, ◌+◌, ◌<◌, ◌≤◌, List, [], ◌∷◌, ◌++◌, length, take, drop, map, get_or, set, true, false, ltb, Option, Some}
-use Rattle.std.proofs.Common.{None, Ok, Err, refl, sym, ap, ap₂, ◌∙◌, ⊎_elim, arith, length-append, length-set}
+use Rattle.std.proofs.Common.{None, Ok, Err, ◌⊎◌, inl, inr, refl, sym, ap, ap₂, ◌∙◌, ⊎_elim, arith, length-append, length-set}
 use Rattle.std.proofs.lemmas.Bool.{or_left, or_right, or_from, or_parts, lt-ltb, le-ltb, ltb-false, cond-true, cond-false, cases_lt}
 use Rattle.std.proofs.lemmas.List.{length-map, drop_more, drop_all}
 use Rattle.uca_weights.specs.Levels.{level_of}
@@ -13,6 +13,8 @@ use Rattle.uca_plans.specs.declared.drafts.DraftWeight.{DraftWeight}
 use Rattle.uca_plans.specs.declared.drafts.DraftWeight.TheVariants.{New}
 use Rattle.uca_plans.specs.declared.faults.TailorKind.{TailorKind}
 use Rattle.uca_plans.specs.declared.faults.TailorKind.TheVariants as kinds
+use Rattle.uca_plans.specs.declared.faults.TailorFault.{TailorFault}
+use Rattle.uca_plans.specs.Tailors.{out_of_memory}
 use Rattle.uca_plans.specs.Lists.{Insertion}
 use Rattle.uca_plans.specs.Drafts.{DraftRow, row_as_draft, with_row, has_key, draft_elements}
 use Rattle.uca_plans.specs.Plans.{Basis, Drafting, Drafted, begun, draft_expansion, drafted_at, drafted, needs_prefix, passes_limit}
@@ -23,7 +25,7 @@ use Rattle.uca_plans.proofs.KeyPlaces.{has_key_is, keys_with_row}
 use Rattle.uca_plans.proofs.PlaceRows.{row_at, row_behind}
 use Rattle.uca_plans.proofs.PlanSteps.{target_row, step_of}
 use Rattle.uca_tailor.specs.Places.{IsPlaceOf}
-use Rattle.uca_tailor.specs.Ready.{IsReady}
+use Rattle.uca_tailor.specs.Ready.{IsReady, IsRejected}
 use Rattle.uca_plans.proofs.PlanKeys.{keys_of_drafts}
 use Rattle.uca_tailor.proofs.PlaceKeys.{targets_more, relations_more}
 use Rattle.uca_tailor.proofs.KeyLookups.{not_in_front, place_in_front, front_is}
@@ -202,6 +204,16 @@ pub first_refused : (basis : Basis) (relations : List Relation) (n : ℕ) (r : R
 first_refused basis relations n r so_far kind within is here refused =
     here.same ∙ ap (λ rs. with_relations basis n rs so_far) (rest_is relations n r within is)
     ∙ ap (λ o. and_then basis n o (λ d. with_relations basis (n + 1) (drop (n + 1) relations) d)) refused
+
+-- where it is rejected, or an allocation failed, so it is with all relations
+pub rejected_first : (basis : Basis) (relations all : List Relation) → relations ≡ all → (n : ℕ) (r : Relation) (so_far : Drafting) (fault : TailorFault) →
+    n < length relations → r ≡ get_or relations n r → IsDrafted basis relations n so_far → IsRejected basis so_far n r fault →
+    (with_relations basis 0 all (begun basis) ≡ Err fault) ⊎ (fault ≡ out_of_memory)
+rejected_first basis relations all same n r so_far fault within is here (inl cause) =
+    inl (sym (ap (λ rs. with_relations basis 0 rs (begun basis)) same)
+    ∙ first_refused basis relations n r so_far fault.kind within is here cause.0
+    ∙ ap (λ relation. Err (record { kind = fault.kind; relation = relation })) (sym cause.1))
+rejected_first basis relations all same n r so_far fault within is here (inr memory) = inr memory
 
 -- where no relation is left all have been drafted
 pub all_drafted : (basis : Basis) (relations : List Relation) (n : ℕ) (so_far : Drafting) → length relations ≤ n → IsDrafted basis relations n so_far →

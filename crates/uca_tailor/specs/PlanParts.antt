@@ -1,15 +1,22 @@
 -- The parts of a plan. Only clauses inside this crate cite this file.
 use Rattle.std.specs.Prelude.{◌≡◌, ◌⊎◌, List, [], Ok, Err}
-use Rattle.uca_values.specs.Content.{TableContent, Properties}
+use Rattle.uca_values.specs.Content.{TableContent, Properties, IsTable}
+use Rattle.uca_check.specs.WellFormed.{elements_of}
 use Rattle.uca_rules.specs.declared.relations.Relation.{Relation}
-use Rattle.uca_certificates.specs.Certificates.{CertificateContent}
+use Rattle.uca_certificates.specs.Certificates.{CertificateContent, IsCertificate}
 use Rattle.uca_plans.specs.declared.faults.TailorFault.{TailorFault}
-use Rattle.uca_plans.specs.Plans.{LevelPlans, plan_of, planned}
-use Rattle.uca_plans.specs.Tailors.{basis_of, plan_in, certificate_of, out_of_memory}
+use Rattle.uca_plans.specs.Plans.{Drafting, LevelPlans, plan_of, plan_drafted, planned}
+use Rattle.uca_plans.specs.Tailors.{basis_of, plan_in, table_of, certificate_of, out_of_memory}
 
 -- the certificate of numbers, which no row has a part in
 abbrev pub certificate_by : LevelPlans → CertificateContent
 certificate_by numbers = certificate_of (plan_of [] numbers)
+
+-- whatever numbers make the drafts a plan, its rows are those of a table, and its numbers those of a certificate
+abbrev pub AreSound : TableContent → Drafting → Type 0
+AreSound base drafting = (numbers : LevelPlans) →
+    plan_drafted (elements_of base.rows) (Ok drafting) ≡ Ok (plan_of drafting.rows numbers) →
+    (IsTable base → IsTable (table_of base (plan_of drafting.rows numbers))) × IsCertificate (certificate_by numbers)
 
 -- a table with the base's header and a certificate are the plan
 abbrev pub IsMade : TableContent → Properties → List Relation → TableContent → CertificateContent → Type 0

@@ -1,13 +1,14 @@
 -- When one more relation can be read and its row put in its place. Only clauses inside this crate cite this file.
-use Rattle.std.specs.Prelude.{◌≡◌, ℕ, ◌≤◌, List, ◌++◌, length, false}
+use Rattle.std.specs.Prelude.{◌≡◌, ◌⊎◌, ℕ, ◌+◌, ◌≤◌, List, ◌++◌, length, false, Err}
 use Rattle.uca_values.specs.Content.{properties_of}
 use Rattle.uca_text.specs.Texts.{Spelled}
 use Rattle.uca_rules.specs.declared.relations.Relation.{Relation}
 use Rattle.uca_match.specs.Rows.{Rows, is_key}
 use Rattle.uca_plans.specs.Drafts.{DraftRow, draft_elements}
 use Rattle.uca_plans.specs.Keys.{keys_in, is_among, read_over, IsTextOf}
-use Rattle.uca_plans.specs.Plans.{Basis}
-use Rattle.uca_plans.specs.Tailors.{basis_of}
+use Rattle.uca_plans.specs.Plans.{Basis, Drafting, with_relation}
+use Rattle.uca_plans.specs.declared.faults.TailorFault.{TailorFault}
+use Rattle.uca_plans.specs.Tailors.{basis_of, out_of_memory}
 use Rattle.uca_tailor.specs.References.{reference_at}
 use Rattle.uca_tailor.specs.declared.readings.Reader.{Reader}
 
@@ -32,3 +33,8 @@ pub record IsReady (basis : Basis) (places : Rows) (rows : List DraftRow) (r : R
   -- where the target has no place, there is no room for its row
   pub full : is_among (keys_in rows ++ more) r.target.points ≡ false → 200000 ≤ length rows
   pub alike : ReadsAlike basis places rows r
+
+-- the relation after n others is rejected for this cause, or an allocation failed
+abbrev pub IsRejected : Basis → Drafting → ℕ → Relation → TailorFault → Type 0
+IsRejected basis so_far n r fault =
+    ((with_relation basis so_far n r ≡ Err fault.kind) × (fault.relation ≡ n + 1)) ⊎ (fault ≡ out_of_memory)

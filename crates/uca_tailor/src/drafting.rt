@@ -1,16 +1,16 @@
 //! The rows of a tailored table before weights are numbered, relation by relation.
 
-ghost use Rattle.std.specs.Prelude.{◌≡◌, ◌<◌, ◌≤◌, ◌++◌, ◌∷◌, [], length, map, slice_set, IfOk, OnOk, MatchResult, Ok, Err, List, ℕ};
+ghost use Rattle.std.specs.Prelude.{◌≡◌, ◌⊎◌, ◌+◌, ◌<◌, ◌≤◌, ◌++◌, ◌∷◌, [], length, map, slice_set, IfOk, IfErr, OnOk, Ok, Err, List, ℕ};
 ghost use Rattle.std.specs.List.{AllByRecursion};
 ghost use Rattle.std.specs.Option.{option_to_list};
 ghost use Rattle.uca_values.specs.Content.{properties_of};
 ghost use Rattle.uca_plans.specs.Drafts as drafts;
 ghost use Rattle.uca_plans.specs.Plans as plans;
 ghost use Rattle.uca_plans.specs.Plans.{begun, with_relation, with_relations};
-ghost use Rattle.uca_plans.specs.Tailors.{basis_of};
+ghost use Rattle.uca_plans.specs.Tailors.{basis_of, out_of_memory};
 ghost use Rattle.uca_tailor.specs.NumberTables.{InsertsBelow};
 ghost use Rattle.uca_check.specs.WellFormed.{elements_of};
-ghost use Rattle.uca_tailor.specs.Ready.{basis_in, ArePlacesWith, IsReady};
+ghost use Rattle.uca_tailor.specs.Ready.{basis_in, ArePlacesWith, IsReady, IsRejected};
 ghost use Rattle.uca_tailor.specs.Variables.{AreBounds};
 
 use crate::insertions::Insertion;
@@ -79,38 +79,42 @@ impl<'a, A: Allocator> Drafting<'a, A> {
         &self.insertions
     }
 
-    /// Adds what a relation gives its target, or tells why the relation is refused.
+    /// Adds what a relation gives its target.
+    ///
+    /// # Errors
+    ///
+    /// Why the relation is rejected, or an allocation that fails.
     fn add<T: Allocator>(
         &mut self,
         alloc: A,
         reader: &Reader<A, T>,
         relation: &'a Relation,
         index: u32,
-    ) -> Result<Result<(), TailorKind>, AllocError>
+    ) -> Result<(), TailorFault>
+        requires index { index < 0xFFFF_FFFF }
         requires bounds { AreBounds reader.now.variables (elements_of reader.now.base.now.rows) }
         requires ready { IsReady (basis_in reader.now) (⟦<Trie<A> as Lookup>⟧.content reader.now.places.now) self.old.rows relation.now }
-        ensures { IfOk result (λ added. MatchResult added
-            (λ _. with_relation (basis_in reader.now) self.old index relation.now ≡ Ok self.new)
-            (λ kind. with_relation (basis_in reader.now) self.old index relation.now ≡ Err kind)) }
+        ensures added { OnOk result (with_relation (basis_in reader.now) self.old index relation.now ≡ Ok self.new) }
+        ensures rejected { IfErr result (IsRejected (basis_in reader.now) self.old index relation.now) }
     {
         let Some(new) = draft_target(alloc, reader, &self.rows, relation, index)? else {
-            return Ok(Err(TailorKind::Anchor));
+            return Err(rejected(TailorKind::Anchor, index));
         };
         if needs_prefix(reader, &self.rows, &relation.target) {
-            return Ok(Err(TailorKind::NeedsPrefix));
+            return Err(rejected(TailorKind::NeedsPrefix, index));
         }
         let Some(place) = place_of(reader.places, relation.target.chars()) else {
-            return Ok(Err(TailorKind::Limit));
+            return Err(rejected(TailorKind::Limit, index));
         };
         if new.elements.len() > MOST_ELEMENTS {
-            return Ok(Err(TailorKind::Limit));
+            return Err(rejected(TailorKind::Limit, index));
         }
         if holds_implicit_variable(reader.variables, &new.elements) {
-            return Ok(Err(TailorKind::ImplicitVariable));
+            return Err(rejected(TailorKind::ImplicitVariable, index));
         }
         let row = RowDraft::of_target(&relation.target, new.elements);
         self.put(place, row, new.insertion)?;
-        Ok(Ok(()))
+        Ok(())
     }
 
     /// Puts a row at a place, or behind the others, and an insertion, if there is one.
@@ -136,22 +140,34 @@ impl<'a, A: Allocator> Drafting<'a, A> {
     }
 }
 
-/// The drafts of all relations over a base, or the first relation that is refused, with the cause.
+/// Why the relation of an index is rejected.
+fn rejected(kind: TailorKind, index: u32) -> TailorFault
+    requires { index < 0xFFFF_FFFF }
+    ensures { result ≡ record { kind = kind; relation = index + 1 } }
+{
+    TailorFault {
+        kind,
+        relation: index + 1,
+    }
+}
+
+/// The drafts of all relations over a base.
 ///
 /// # Errors
 ///
-/// An allocation that fails.
+/// The first relation that is rejected, with the cause, or an allocation that fails.
 pub(crate) fn draft<'a, A: Allocator + Copy, T: Allocator>(
     alloc: A,
     base: &'a Table<T>,
     properties: &Data<T>,
     rules: &'a Rules<T>,
-) -> Result<Result<Drafting<'a, A>, TailorFault>, AllocError>
-    ensures drafted { let basis = basis_of base.now (properties_of properties.now) in IfOk result (λ found. MatchResult found
-        (λ drafting. with_relations basis 0 rules.now (begun basis) ≡ Ok drafting)
-        (λ fault. with_relations basis 0 rules.now (begun basis) ≡ Err fault)) }
+) -> Result<Drafting<'a, A>, TailorFault>
+    ensures drafted { let basis = basis_of base.now (properties_of properties.now) in
+        IfOk result (λ drafting. with_relations basis 0 rules.now (begun basis) ≡ Ok drafting) }
+    ensures rejected { let basis = basis_of base.now (properties_of properties.now) in
+        IfErr result (λ fault. (with_relations basis 0 rules.now (begun basis) ≡ Err fault) ⊎ (fault ≡ out_of_memory)) }
     // Each new weight has the index of its relation.
-    ensures names { IfOk result (λ found. IfOk found (λ drafting. AllByRecursion (InsertsBelow (length rules.now)) drafting.insertions)) }
+    ensures names { IfOk result (λ drafting. AllByRecursion (InsertsBelow (length rules.now)) drafting.insertions) }
 {
     let places = places_of(alloc, base, rules)?;
     let reader = Reader {
@@ -162,15 +178,9 @@ pub(crate) fn draft<'a, A: Allocator + Copy, T: Allocator>(
     };
     let mut drafting = Drafting::begun(alloc, base)?;
     for (at, relation) in rules.relations().iter().enumerate() {
-        let index = at as u32;
-        if let Err(kind) = drafting.add(alloc, &reader, relation, index)? {
-            return Ok(Err(TailorFault {
-                kind,
-                relation: index + 1,
-            }));
-        }
+        drafting.add(alloc, &reader, relation, at as u32)?;
     }
-    Ok(Ok(drafting))
+    Ok(drafting)
 }
 
 /// Whether a target has three or more code points and ends in a non-starter, and without it is no key of the rows so far.

@@ -9,10 +9,10 @@ ghost use Rattle.uca_certificates.specs.Certificates.{IsCertificate};
 ghost use Rattle.uca_plans.specs.Lists as lists;
 ghost use Rattle.uca_plans.specs.Plans as plans;
 ghost use Rattle.uca_plans.specs.Plans.{plan_drafted, plan_of};
-ghost use Rattle.uca_plans.specs.Tailors.{out_of_memory, table_of};
+ghost use Rattle.uca_plans.specs.Tailors.{out_of_memory, plan_in, table_of};
 ghost use Rattle.uca_tailor.specs.NumberTables.{InsertsBelow};
 ghost use Rattle.uca_tailor.specs.PlanParts as parts;
-ghost use Rattle.uca_tailor.specs.PlanParts.{IsMade, IsNotMade};
+ghost use Rattle.uca_tailor.specs.PlanParts.{AreSound, IsMade, IsNotMade};
 ghost use Rattle.uca_tailor.specs.RowDrafts.{row_elements};
 
 use crate::drafting::{Drafting, draft};
@@ -43,11 +43,42 @@ pub(crate) fn plan<A: Allocator + Copy, T: Allocator>(
     ensures made { IfOk result (λ answer. IsMade base.now (properties_of properties.now) rules.now answer.0 answer.1) }
     ensures not_made { IfErr result (IsNotMade base.now (properties_of properties.now) rules.now) }
 {
-    let drafting = draft(alloc, base, properties, rules)??;
-    let relations = rules.relations().len();
-    let numbers = number_levels(alloc, base, &drafting, relations)?;
-    let table = number_table(alloc, base, &drafting, &numbers)?;
-    let certificate = certificate_by(alloc, &numbers)?;
+    let drafting = draft(alloc, base, properties, rules)?;
+    plan_of_drafts(alloc, base, &drafting, rules.relations().len())
+}
+
+/// The table and the certificate of some drafts.
+fn plan_of_drafts<A: Allocator + Copy, T: Allocator>(
+    alloc: A,
+    base: &Table<T>,
+    drafting: &Drafting<A>,
+    relations: usize,
+) -> Result<(Table<A>, Certificate<A>), TailorFault>
+    requires names { AllByRecursion (InsertsBelow relations) drafting.now.insertions }
+    requires sound { AreSound base.now drafting.now }
+    ensures made { IfOk result (λ answer. (answer.0.header ≡ base.now.header)
+        × (plan_drafted (elements_of base.now.rows) (Ok drafting.now) ≡ Ok (plan_in answer.0 answer.1))) }
+    ensures not_made { IfErr result (λ fault.
+        (plan_drafted (elements_of base.now.rows) (Ok drafting.now) ≡ Err fault) ⊎ (fault ≡ out_of_memory)) }
+{
+    let numbers = number_levels(alloc, base, drafting, relations)?;
+    Ok(numbered_plan(alloc, base, drafting, &numbers)?)
+}
+
+/// The table and the certificate of numbers.
+fn numbered_plan<A: Allocator + Copy, T: Allocator>(
+    alloc: A,
+    base: &Table<T>,
+    drafting: &Drafting<A>,
+    numbers: &Numbers<A>,
+) -> Result<(Table<A>, Certificate<A>), AllocError>
+    requires table { IsTable base.now → IsTable (table_of base.now (plan_of drafting.now.rows numbers.now)) }
+    requires certificate { IsCertificate (parts.certificate_by numbers.now) }
+    ensures { IfOk result (λ answer. (answer.0 ≡ table_of base.now (plan_of drafting.now.rows numbers.now))
+        × (answer.1 ≡ parts.certificate_by numbers.now)) }
+{
+    let table = number_table(alloc, base, drafting, numbers)?;
+    let certificate = certificate_by(alloc, numbers)?;
     Ok((table, certificate))
 }
 

@@ -20,7 +20,7 @@ use uca_values::{Data, Table};
 use uca_weights::Element;
 
 /// What texts are read by.
-#[derive_where(Clone, Copy)]
+#[derive(Drop)]
 pub(crate) struct Reader<'r, A: Allocator, T: Allocator> {
     /// The base, whose header has the ranges for implicit weights.
     pub(crate) base: &'r Table<T>,

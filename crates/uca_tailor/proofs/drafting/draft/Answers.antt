@@ -1,3 +1,4 @@
+use Rattle.std.proofs.lemmas.Result.{err_from_is_err_and}
 use Rattle.std.proofs.Common.{List, length, sym, subst}
 use Rattle.std.specs.List.{AllByRecursion}
 use Rattle.uca_values.specs.Content.{keys_of, properties_of}
@@ -9,7 +10,7 @@ use Rattle.uca_rules.specs.Relations.{AreRules}
 use Rattle.uca_tailor.specs.NumberTables.{InsertsBelow}
 use Rattle.uca_tailor.specs.Places.{ArePlaces}
 use Rattle.uca_tailor.proofs.Readiness.{ready}
-use Rattle.uca_tailor.proofs.DraftingSteps.{none_drafted, one_more, all_drafted}
+use Rattle.uca_tailor.proofs.DraftingSteps.{none_drafted, one_more, rejected_first, all_drafted}
 use Rattle.uca_tailor.proofs.Names.{drafts_named, named_below}
 use Rattle.uca_tailor.proofs.drafting.draft.Goals as goal
 
@@ -27,7 +28,7 @@ add-requires-clause-ready g c =
 pub loop-at-preserved : goal.loop-at-preserved
 loop-at-preserved g c =
     one_more _ c.relations-relation-items.result.now c.loop-at.at c.relation-item.result c.loop-at.drafting c.add.new.self
-    c.loop-at-test.true c.relation-item.is c.loop-at.invariant (rw c.in_default.is at c.in_ok-kind.ensures)
+    c.loop-at-test.true c.relation-item.is c.loop-at.invariant c.in_ok-add.ensures.added
 
 pub returns-clause-names : goal.returns-clause-names
 returns-clause-names g c =
@@ -36,3 +37,10 @@ returns-clause-names g c =
     (named_below 0 (length c.relations-relation-items.result.now) c.loop-at.drafting.insertions
     (drafts_named basis c.relations-relation-items.result.now c.loop-at.drafting
     (all_drafted basis c.relations-relation-items.result.now c.loop-at.at c.loop-at.drafting c.loop-at-test.false c.loop-at.invariant)))
+
+pub returns-in_err-add-clause-rejected : goal.returns-in_err-add-clause-rejected
+returns-in_err-add-clause-rejected g c =
+    let basis : Basis = basis_of c.args.base.now (properties_of c.args.properties.now) in
+    let p = err_from_is_err_and c.from_residual-in_err-add.result c.from_residual-in_err-add.ensures.1 in
+    rw (p.1, p.2) (rejected_first basis c.relations-relation-items.result.now c.args.rules.now c.relations-relation-items.ensures.value
+    c.loop-at.at c.relation-item.result c.loop-at.drafting _ c.loop-at-test.true c.relation-item.is c.loop-at.invariant c.in_err-add.ensures.rejected)

@@ -1,0 +1,17 @@
+use Rattle.std.proofs.Common.{sym, ap, ap₂, ◌∙◌, Ok}
+use Rattle.uca_values.specs.Content.{TableContent}
+use Rattle.uca_plans.specs.Tailors.{plan_in}
+use Rattle.uca_tailor.proofs.plan.plan_of_drafts.Goals as goal
+
+pub numbered_plan-requires-clause-table : goal.numbered_plan-requires-clause-table
+numbered_plan-requires-clause-table g c = (c.requires.sound c.in_ok-numbers.numbers c.in_ok-numbers.ensures.numbers).0
+
+pub numbered_plan-requires-clause-certificate : goal.numbered_plan-requires-clause-certificate
+numbered_plan-requires-clause-certificate g c = (c.requires.sound c.in_ok-numbers.numbers c.in_ok-numbers.ensures.numbers).1
+
+pub returns-clause-made : goal.returns-clause-made
+returns-clause-made g c =
+    let are = c.in_ok-numbered_plan.ensures in (
+      ap (λ (t : TableContent). t.header) are.0,
+      c.in_ok-numbers.ensures.numbers ∙ ap Ok (sym (ap₂ plan_in are.0 are.1)),
+    )
