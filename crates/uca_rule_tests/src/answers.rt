@@ -111,6 +111,11 @@ pub fn counted(alloc: Global, data: &Data, rules: &[u8]) -> Result<String, Fail>
     }
 }
 
+/// This is said of these rules.
+pub fn check_rules(alloc: Global, data: &Data, rules: &str, wanted: &str) -> Result<(), Fail> {
+    same(&said(alloc, data, rules.as_bytes())?, wanted, rules)
+}
+
 /// Rules, and what is said of them.
 fn check(alloc: Global, data: &Data, case: &str) -> Result<(), Fail> {
     if is_remark(case) {
@@ -121,13 +126,18 @@ fn check(alloc: Global, data: &Data, case: &str) -> Result<(), Fail> {
     same(&said(alloc, data, rules.as_bytes())?, wanted, case)
 }
 
+fn check_table(alloc: Global, data: &Data, table: &str) -> Result<(), Fail> {
+    for case in table.lines() {
+        check(alloc, data, case)?;
+    }
+    Ok(())
+}
+
 /// Tables of rules, and what is said of them.
 pub fn check_all(alloc: Global, tables: &[&str]) -> Result<(), Fail> {
     let data = classes(alloc)?;
     for table in tables {
-        for case in table.lines() {
-            check(alloc, &data, case)?;
-        }
+        check_table(alloc, &data, table)?;
     }
     Ok(())
 }
