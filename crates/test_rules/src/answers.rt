@@ -13,34 +13,42 @@ pub fn classes(alloc: Global) -> Result<Data, Fail> {
     Ok(data_of(alloc, &mut Source::new(DATA.as_bytes()))?)
 }
 
+/// Adds what follows a `(`: the digits of a code point, `)`, and a text; or a text alone.
+fn push_part(text: &mut String, part: &str) -> Result<(), Fail> {
+    let Some((digits, rest)) = part.split_once(')') else {
+        return Ok(text.push_str(part)?);
+    };
+    text.push(code_point(digits)?)?;
+    Ok(text.push_str(rest)?)
+}
+
 /// The text of a field of a case: `(E9)` stands for the code point with these hexadecimal digits, and all else for itself.
 pub fn text_of(alloc: Global, field: &str) -> Result<String, Fail> {
     let mut text = String::new(alloc);
     for part in field.split('(') {
-        match part.split_once(')') {
-            Some((digits, rest)) => {
-                text.push(code_point(digits)?)?;
-                text.push_str(rest)?;
-            }
-            None => text.push_str(part)?,
-        }
+        push_part(&mut text, part)?;
     }
     Ok(text)
 }
 
-/// Adds a text: ASCII letters and digits as they stand, other code points as in a field, with the class behind a dot where
-/// it is not 0.
-fn push_text(words: &mut String, text: &Normal) -> Result<(), AllocError> {
+/// Adds a code point with its class: an ASCII letter or digit as it is, another one as in a field, with the class after a
+/// dot where it is not 0.
+fn push_point(words: &mut String, point: char, class: u8) -> Result<(), AllocError> {
     let alloc = *words.allocator();
+    let code = u32::from(point);
+    if class > 0 {
+        words.push_str(&format!(in alloc; "({:X}.{class})", code)?)
+    } else if point.is_ascii_alphanumeric() {
+        words.push(point)
+    } else {
+        words.push_str(&format!(in alloc; "({:X})", code)?)
+    }
+}
+
+/// Adds a text.
+fn push_text(words: &mut String, text: &Normal) -> Result<(), AllocError> {
     for (point, class) in text.chars().iter().zip(text.classes()) {
-        let code = u32::from(*point);
-        if *class > 0 {
-            words.push_str(&format!(in alloc; "({:X}.{class})", code)?)?;
-        } else if point.is_ascii_alphanumeric() {
-            words.push(*point)?;
-        } else {
-            words.push_str(&format!(in alloc; "({:X})", code)?)?;
-        }
+        push_point(words, *point, *class)?;
     }
     Ok(())
 }
@@ -111,6 +119,11 @@ pub fn counted(alloc: Global, data: &Data, rules: &[u8]) -> Result<String, Fail>
     }
 }
 
+/// This is said of these rules.
+pub fn check_rules(alloc: Global, data: &Data, rules: &str, wanted: &str) -> Result<(), Fail> {
+    same(&said(alloc, data, rules.as_bytes())?, wanted, rules)
+}
+
 /// Rules, and what is said of them.
 fn check(alloc: Global, data: &Data, case: &str) -> Result<(), Fail> {
     if is_remark(case) {
@@ -121,13 +134,18 @@ fn check(alloc: Global, data: &Data, case: &str) -> Result<(), Fail> {
     same(&said(alloc, data, rules.as_bytes())?, wanted, case)
 }
 
+fn check_table(alloc: Global, data: &Data, table: &str) -> Result<(), Fail> {
+    for case in table.lines() {
+        check(alloc, data, case)?;
+    }
+    Ok(())
+}
+
 /// Tables of rules, and what is said of them.
 pub fn check_all(alloc: Global, tables: &[&str]) -> Result<(), Fail> {
     let data = classes(alloc)?;
     for table in tables {
-        for case in table.lines() {
-            check(alloc, &data, case)?;
-        }
+        check_table(alloc, &data, table)?;
     }
     Ok(())
 }

@@ -1,10 +1,7 @@
 //! The rules of `examples/`: the same texts, and the relations that they mean.
 
-use crate::answers::{classes, said};
-use std::alloc::Global;
+use crate::answers::{check_rules, classes};
 use std::test::Fail;
-use test_kit::same;
-use uca_values::Data;
 
 const SPANISH: &str =
     "# Spanish, traditional order: the dictionaries of the Real Academia Española before the decision of 1994 of the
@@ -69,10 +66,6 @@ const DANISH_MEANS: &str =
     o(308.230) <<< O(308.230); O(308.230) < a(30A.230); a(30A.230) <<< A(30A.230); A(30A.230) <<< aa; \
     aa <<< Aa; Aa <<< AA";
 
-fn check(alloc: Global, data: &Data, rules: &str, wanted: &str) -> Result<(), Fail> {
-    same(&said(alloc, data, rules.as_bytes())?, wanted, rules)
-}
-
 #[test]
 fn rules_of_three_alphabets(rt: HostRuntime) -> Result<(), Fail> {
     let data = classes(rt.alloc())?;
@@ -82,7 +75,7 @@ fn rules_of_three_alphabets(rt: HostRuntime) -> Result<(), Fail> {
         (DANISH, DANISH_MEANS),
     ];
     for (rules, wanted) in examples {
-        check(rt.alloc(), &data, rules, wanted)?;
+        check_rules(rt.alloc(), &data, rules, wanted)?;
     }
     Ok(())
 }

@@ -1,6 +1,6 @@
 //! Rules that are refused, with the fault that is named where there are several.
 
-use crate::answers::{check_all, classes, said};
+use crate::answers::{check_all, check_rules, classes, said};
 use std::alloc::Global;
 use std::test::Fail;
 use test_kit::{bytes_of, halves, same};
@@ -298,15 +298,20 @@ fn bytes_that_are_not_utf8(rt: HostRuntime) -> Result<(), Fail> {
 /// All of ASCII that no text begins with, but `#`, white space and what makes a text empty.
 const NO_TEXT: &str = "!\"$%()*+,-.:;>?@[]^_`{|}~\u{0}\u{1}\u{8}\u{E}\u{1B}\u{1C}\u{1F}\u{7F}";
 
-/// The character begins no text, ends one, and stands for itself behind a backslash.
-fn check_character(alloc: Global, data: &Data, point: char) -> Result<(), Fail> {
-    let rules = format!(in alloc; "&a < {point}")?;
-    same(&said(alloc, data, rules.as_bytes())?, "Syntax at 5", &rules)?;
-    let rules = format!(in alloc; "&a < b{point}")?;
-    same(&said(alloc, data, rules.as_bytes())?, "Syntax at 6", &rules)?;
+/// The character stands for itself after a backslash.
+fn check_escaped(alloc: Global, data: &Data, point: char) -> Result<(), Fail> {
     let rules = format!(in alloc; "&a < \\{point}")?;
     let wanted = format!(in alloc; "a < ({:X})", u32::from(point))?;
-    same(&said(alloc, data, rules.as_bytes())?, &wanted, &rules)
+    check_rules(alloc, data, &rules, &wanted)
+}
+
+/// The character begins no text, ends one, and stands for itself after a backslash.
+fn check_character(alloc: Global, data: &Data, point: char) -> Result<(), Fail> {
+    let begins = format!(in alloc; "&a < {point}")?;
+    check_rules(alloc, data, &begins, "Syntax at 5")?;
+    let ends = format!(in alloc; "&a < b{point}")?;
+    check_rules(alloc, data, &ends, "Syntax at 6")?;
+    check_escaped(alloc, data, point)
 }
 
 #[test]

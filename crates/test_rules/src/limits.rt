@@ -7,11 +7,16 @@ use std::test::Fail;
 use test_kit::{bytes_of, halves, is_remark, repeated, same};
 use uca_values::Data;
 
-/// So many relations in one chain, of 11 bytes each, behind 2 bytes.
+/// Adds a relation of 11 bytes.
+fn push_relation(alloc: Global, rules: &mut String, number: u16) -> Result<(), AllocError> {
+    rules.push_str(&format!(in alloc; "<\\U{:08X}", 0x20000 + u32::from(number))?)
+}
+
+/// So many relations in one chain, of 11 bytes each, after 2 bytes.
 fn many_relations(alloc: Global, count: u16) -> Result<String, AllocError> {
     let mut rules = String::from_str(alloc, "&a")?;
     for number in 0..count {
-        rules.push_str(&format!(in alloc; "<\\U{:08X}", 0x20000 + u32::from(number))?)?;
+        push_relation(alloc, &mut rules, number)?;
     }
     Ok(rules)
 }
@@ -53,14 +58,18 @@ const BEFORE_THE_LAST: &str =
 <*\U00030000-\U000AFFFF | Limit at 54992
 &a<*\U00030000-\U000AFFFF | Limit at 54994";
 
+fn check_all_more(alloc: Global, data: &Data, rules: &str) -> Result<(), Fail> {
+    for case in BEFORE_THE_LAST.lines() {
+        check_more(alloc, data, rules, case)?;
+    }
+    Ok(())
+}
+
 #[test]
 fn at_most_5000_relations(rt: HostRuntime) -> Result<(), Fail> {
     let data = classes(rt.alloc())?;
     let rules = many_relations(rt.alloc(), 4998)?;
-    for case in BEFORE_THE_LAST.lines() {
-        check_more(rt.alloc(), &data, &rules, case)?;
-    }
-    Ok(())
+    check_all_more(rt.alloc(), &data, &rules)
 }
 
 /// What begins rules, a part, how often it follows, what ends them, and what is said of all.
@@ -92,13 +101,17 @@ const LONG: &str =
 &a<*\xF0\x90\x80\x80-\xF0\x91\x8E\x87 | # | 1 |  | 5000 relations
 &a<*\xF0\x90\x80\x80-\xF0\x91\x8E\x88 | # | 1 |  | Limit at 9";
 
+/// Adds a part so many times.
+fn push_parts(alloc: Global, rules: &mut Vec<u8>, part: &str, count: usize) -> Result<(), Fail> {
+    let part = text_of(alloc, part)?;
+    Ok(rules.extend_from_slice(repeated(alloc, &part, count)?.as_bytes())?)
+}
+
 /// Rules of a beginning, a part so many times and an end.
 fn long_rules(alloc: Global, parts: (&str, &str, &str, &str)) -> Result<Vec<u8>, Fail> {
     let (start, part, count, end) = parts;
     let mut rules = bytes_of(alloc, start)?;
-    let part = text_of(alloc, part)?;
-    let repeated = repeated(alloc, &part, count.parse()?)?;
-    rules.extend_from_slice(repeated.as_bytes())?;
+    push_parts(alloc, &mut rules, part, count.parse()?)?;
     rules.extend_from_slice(end.as_bytes())?;
     Ok(rules)
 }

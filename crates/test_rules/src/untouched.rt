@@ -4,7 +4,7 @@ use crate::answers::{classes, text_of};
 use std::alloc::Global;
 use std::test::Fail;
 use test_kit::{halves, is_remark, same};
-use uca_rules::read_rules;
+use uca_rules::{Rules, read_rules};
 use uca_text::normal;
 use uca_values::Data;
 
@@ -33,14 +33,22 @@ const TEXTS: &str =
  | a(323)(301) | untouched
 # |  | untouched";
 
-fn said(alloc: Global, data: &Data, rules: &str, text: &str) -> Result<&'static str, Fail> {
-    let rules = read_rules(alloc, text_of(alloc, rules)?.as_bytes(), data)?;
-    let text = normal(alloc, &text_of(alloc, text)?, data)?;
+fn said_of(alloc: Global, data: &Data, rules: &Rules, text: &str) -> Result<&'static str, Fail> {
+    let text = normal(alloc, text, data)?;
     Ok(if rules.untouched(&text) {
         "untouched"
     } else {
         "touched"
     })
+}
+
+fn said(alloc: Global, data: &Data, rules: &str, text: &str) -> Result<&'static str, Fail> {
+    let text = text_of(alloc, text)?;
+    let rules = text_of(alloc, rules)?;
+    match read_rules(alloc, rules.as_bytes(), data) {
+        Ok(read) => said_of(alloc, data, &read, &text),
+        Err(fault) => Err(Fail::from(fault)),
+    }
 }
 
 fn check(alloc: Global, data: &Data, case: &str) -> Result<(), Fail> {

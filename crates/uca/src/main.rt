@@ -1,4 +1,4 @@
-//! The program `uca`: it hands its words, its files and its standard streams to `run_command`.
+//! The program `uca`: it passes its arguments, its files and its standard streams to `run_command`.
 #![tactic(auto)]
 
 use std::alloc::{AllocError, Global};
@@ -38,7 +38,7 @@ fn main(rt: HostRuntime) -> ExitCode {
     }
 }
 
-// Reads the words and runs the command over the standard streams.
+// Reads the arguments and runs the command over the standard streams.
 fn run(rt: &HostRuntime) -> u8 {
     let mut out = Sink::new(rt.stdout());
     let mut err = Sink::new(rt.stderr());
@@ -48,7 +48,7 @@ fn run(rt: &HostRuntime) -> u8 {
     }
 }
 
-// Runs the command that these words ask for.
+// Runs the command of these arguments.
 fn run_given<O: Write, E: Write>(
     rt: &HostRuntime,
     given: &[String],
