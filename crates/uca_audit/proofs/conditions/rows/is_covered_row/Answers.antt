@@ -8,9 +8,8 @@ use Rattle.uca_audit.proofs.conditions.rows.is_covered_row.Goals as goal
 
 pub returns : goal.returns
 returns g c =
-    let maps = maps_of c.args.images.now in
-    let elements = c.args.row.now.elements in
-    let all = YieldsList-from_slice elements (c.iter.ensures.rest ∙ (c.deref.ensures.value ∙ ap (λ (r : Entry). r.elements) c.row.view_is)) in
-    all_told (IsCovered maps) c.all.result elements
-    (cases_from_all c.all.new.self _ _ (IsCovered maps) (λ e. IsCovered maps e → ⊥) c.all.ensures.ran all
-    (λ x q k. (search rules, told_true (IsCovered maps x.now) (search rules))) (λ x q k. told_false (IsCovered maps x.now) (search rules)))
+    all_told (IsCovered (maps_of c.args.images.now)) c.all.result c.args.row.now.elements
+    (cases_from_all c.all.new.self _ _ (IsCovered (maps_of c.args.images.now)) (λ e. IsCovered (maps_of c.args.images.now) e → ⊥) c.all.ensures.ran
+    (YieldsList-from_slice c.args.row.now.elements (c.iter.ensures.rest ∙ (c.deref.ensures.value ∙ ap (λ (r : Entry). r.elements) c.row.view_is)))
+    (λ x q k. (search rules, told_true (IsCovered (maps_of c.args.images.now) x.now) (search rules)))
+    (λ x q k. told_false (IsCovered (maps_of c.args.images.now) x.now) (search rules)))
