@@ -7,7 +7,7 @@ use Rattle.uca_tailorings.specs.declared.conditions.Condition.TheVariants.{BaseI
 use Rattle.uca_tailorings.specs.Tailorings.{Tailoring, Meets, IsAccepted}
 use Rattle.uca_audit.specs.declared.faults.AuditFault.{AuditFault}
 use Rattle.uca_audit.specs.Refusals.{number_of, IsFirstRefusal, IsMemory}
-use Rattle.uca_audit.specs.Chaining.{MeetsBelow, Fails, Passes}
+use Rattle.uca_audit.specs.Chaining.{MeetsBelow, Fails, Settles, Passes}
 
 -- the condition of a number
 abbrev condition_of : ℕ → Condition
@@ -105,3 +105,9 @@ pub passes_failed : {A : Type 0} (tailoring : Tailoring) (n : ℕ) (result : Res
     → IsFirstRefusal tailoring given ⊎ IsMemory given → Passes tailoring n result
 passes_failed tailoring n (Ok x) given handed refused = absurd handed
 passes_failed tailoring n (Err fault) given handed refused = subst (λ f. IsFirstRefusal tailoring f ⊎ IsMemory f) (sym handed) refused
+
+-- the last condition of a part is met, or its fault is that of the part
+pub passes_last : {A : Type 0} (tailoring : Tailoring) (condition : Condition) (result : Result A AuditFault) → MeetsBelow tailoring (number_of condition)
+    → Settles tailoring condition result → Passes tailoring (number_of condition + 1) result
+passes_last tailoring condition (Ok x) so_far met = meets_more tailoring condition so_far met
+passes_last tailoring condition (Err fault) so_far fails = refused_at tailoring condition fault so_far fails

@@ -1,8 +1,9 @@
 -- Lists of elements and of their images, element by element.
-use Rattle.std.proofs.Common.{◌≡◌, ℕ, zero, suc, ◌<◌, List, [], ◌∷◌, length, Bool, true, false, IsTrue, ◌↔◌, refl, arith}
+use Rattle.std.proofs.Common.{◌≡◌, ℕ, zero, suc, ◌<◌, List, [], ◌∷◌, length, Bool, true, false, IsTrue, ◌↔◌, refl, sym, ◌∙◌, arith}
 use Rattle.std.proofs.lemmas.Bool.{false≢true}
 use Rattle.std.specs.Bool.{MatchBool}
-use Rattle.std.specs.List.{zip, AllWithin, HoldsAt}
+use Rattle.std.specs.List.{zip, AllByRecursion, AllWithin, HoldsAt}
+use Rattle.std.proofs.lemmas.List.Elements.{recursion_from_All, All-from_all_within}
 use Rattle.uca_weights.specs.declared.Element.{Element}
 use Rattle.uca_tailorings.specs.Images.{Maps, IsImage, AreImages}
 
@@ -37,3 +38,25 @@ pub images_tested : (maps : Maps) (es fs : List Element) (test : Bool) → lengt
     → IsTrue test ↔ AreImages maps es fs
 images_tested maps es fs true same all = (λ h. pairs_are maps es fs same all, λ h. refl)
 images_tested maps es fs false same fault = (λ h. absurd (false≢true h), λ h. absurd (pair_fails maps es fs fault.0 fault.1 fault.2 h))
+
+-- a test told whether the property holds
+abbrev pub Told : Type 0 → Bool → Type 0
+Told P told = (holds : Bool) × (told ≡ holds) × (IsTrue holds ↔ P)
+
+pub told_true : (P : Type 0) → Told P true → P
+told_true P t = t.2.0 (sym t.1)
+
+pub told_false : (P : Type 0) → Told P false → P → ⊥
+told_false P t p = false≢true (t.1 ∙ t.2.1 p)
+
+-- an element without the property
+fails_at : (P : Element → Type 0) (xs : List Element) (k : ℕ) → k < length xs → HoldsAt (λ e. P e → ⊥) xs k → ¬ (AllByRecursion P xs)
+fails_at P [] k within fails all = absurd (omega arith)
+fails_at P (x ∷ xs) zero within fails all = fails x all.0
+fails_at P (x ∷ xs) (suc k) within fails all = fails_at P xs k (omega arith) fails all.1
+
+-- a test of all elements tells whether each has the property
+pub all_told : (P : Element → Type 0) (r : Bool) (xs : List Element)
+    → MatchBool r (AllWithin P xs 0 (length xs)) ((k : ℕ) × (k < length xs) × HoldsAt (λ e. P e → ⊥) xs k) → IsTrue r ↔ AllByRecursion P xs
+all_told P true xs h = (λ _. recursion_from_All P xs (All-from_all_within P xs h), λ _. refl)
+all_told P false xs h = (λ e. absurd (false≢true e), λ all. absurd (fails_at P xs h.0 h.1 h.2 all))

@@ -1,5 +1,5 @@
 -- A tailoring that is refused is not accepted.
-use Rattle.std.proofs.Common.{⊎_elim, ℕ, List, ◌∷◌, ◌++◌, subst}
+use Rattle.std.proofs.Common.{⊎_elim, ℕ, List, subst}
 use Rattle.std.specs.List.{AllByRecursion}
 use Rattle.uca_check.proofs.WellFormedLemmas.{inside, no_row_without, no_form_fails}
 use Rattle.uca_rules.specs.declared.relations.Relation.{Relation}

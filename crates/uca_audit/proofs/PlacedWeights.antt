@@ -7,7 +7,7 @@ use Rattle.std.proofs.lemmas.Bool.{false≢true}
 use Rattle.std.proofs.lemmas.Bool.Decides.{eqb_tells}
 use Rattle.uca_weights.specs.declared.Level.{Level}
 use Rattle.uca_weights.specs.declared.Level.TheVariants.{One, Two, Three}
-use Rattle.uca_weights.specs.Levels.{weight, level_number, level_of}
+use Rattle.uca_weights.specs.Levels.{level_number, level_of}
 use Rattle.uca_rules.specs.declared.relations.Relation.{Relation}
 use Rattle.uca_tailorings.specs.Tailorings.{Tailoring, IsPlacedAt, IsNewWeight}
 use Rattle.uca_tailorings.proofs.Relating.{one_new}

@@ -1,6 +1,7 @@
 -- Going through relations: the first without a property, and what is known of anchors on the way.
-use Rattle.std.proofs.Common.{◌≡◌, ℕ, suc, ◌+◌, ◌<◌, List, [], ◌∷◌, ◌++◌, Option, Some, None, is_some, MatchOption, true, false, length, take, drop, get_or, sym, ap, subst, ◌∙◌, arith, length-take}
+use Rattle.std.proofs.Common.{◌≡◌, ℕ, suc, ◌+◌, ◌<◌, ◌≤◌, List, [], ◌∷◌, ◌++◌, Option, Some, None, is_some, MatchOption, true, false, length, take, drop, get_or, sym, ap, subst, ◌∙◌, arith, length-take}
 use Rattle.std.specs.List.{AllByRecursion, AllZip}
+use Rattle.std.proofs.lemmas.List.{take_all}
 use Rattle.uca_weights.specs.declared.Element.{Element}
 use Rattle.uca_weights.specs.declared.Level.{Level}
 use Rattle.uca_weights.specs.Levels.{level_of}
@@ -22,6 +23,11 @@ pub each_further : (P : Relation → Type 0) (relations : List Relation) (at : �
 each_further P relations at r within there earlier here =
     subst (AllByRecursion P) (sym (taken_more relations at r within there)) ((each_push P (take at relations) r).1 (earlier, here))
 
+-- all relations have the property
+pub each_whole : (P : Relation → Type 0) (items relations : List Relation) (at : ℕ) → items ≡ relations → length items ≤ at →
+    AllByRecursion P (take at items) → AllByRecursion P relations
+each_whole P items relations at same over each = subst (AllByRecursion P) (take_all at items over ∙ same) each
+
 -- one more member of each of two lists stands beside the other
 zip_push : {X Y : Type 0} (R : X → Y → Type 0) (xs : List X) (ys : List Y) (x : X) (y : Y) → AllZip R xs ys → R x y → AllZip R (xs ++ x ∷ []) (ys ++ y ∷ [])
 zip_push R [] [] x y earlier here = (here, tt)
@@ -34,6 +40,11 @@ pub zip_further : {Y : Type 0} (R : Relation → Y → Type 0) (relations : List
     at < length relations → r ≡ get_or relations at r → AllZip R (take at relations) ys → R r y → AllZip R (take (at + 1) relations) (ys ++ y ∷ [])
 zip_further R relations ys at r y within there earlier here =
     subst (λ rs. AllZip R rs (ys ++ y ∷ [])) (sym (taken_more relations at r within there)) (zip_push R (take at relations) ys r y earlier here)
+
+-- each relation stands beside what is found of it
+pub zip_whole : {Y : Type 0} (R : Relation → Y → Type 0) (items relations : List Relation) (ys : List Y) (at : ℕ) → items ≡ relations → length items ≤ at →
+    AllZip R (take at items) ys → AllZip R relations ys
+zip_whole R items relations ys at same over each = subst (λ rs. AllZip R rs ys) (take_all at items over ∙ same) each
 
 -- the relations before it have the property, and it has not
 pub first_here : (P : Relation → Type 0) (relations : List Relation) (at : ℕ) (r : Relation) → at < length relations → r ≡ get_or relations at r →

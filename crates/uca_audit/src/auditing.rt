@@ -9,7 +9,7 @@ ghost use Rattle.uca_tailorings.specs.Meaning.{IsFaithful};
 ghost use Rattle.uca_tailorings.specs.Inputs.{maps_of, tailoring_of};
 ghost use Rattle.uca_audit.specs.Views.{tailoring_in, IsPlacement};
 ghost use Rattle.uca_audit.specs.Refusals.{IsFirstRefusal, IsMemory};
-ghost use Rattle.uca_audit.specs.Chaining.{FindsRowsOf, MeetsBelow, Passes};
+ghost use Rattle.uca_audit.specs.Chaining.{AreTargetsOf, FindsRowsOf, MeetsBelow, Passes};
 
 use crate::base_images::known_weights;
 use crate::conditions::placements::Placement;
@@ -83,8 +83,7 @@ fn audit_tables<T: Allocator>(inputs: &Inputs<T>) -> Result<(), AuditFault>
 {
     base_is_well_formed(inputs)?;
     tailored_is_well_formed(inputs)?;
-    headers_are_same(inputs)?;
-    Ok(())
+    headers_are_same(inputs)
 }
 
 // Conditions 4 to 11, which look weights up in the images. A lookup of the tailored table serves those from the fifth on.
@@ -131,10 +130,26 @@ fn audit_rows<A: Allocator + Copy, T: Allocator>(
     ensures { Passes (tailoring_in inputs.now) 8 result }
 {
     let targets = Targets::new(alloc, inputs.rules.relations())?;
-    rows_are_unchanged(inputs, tailored, &targets, images)?;
+    audit_table_rows(alloc, inputs, images, tailored, &targets)
+}
+
+// The same, by a lookup of the targets.
+fn audit_table_rows<A: Allocator + Copy, T: Allocator>(
+    alloc: A,
+    inputs: &Inputs<T>,
+    images: &Images<A, T>,
+    tailored: &Trie<A>,
+    targets: &Targets<A>,
+) -> Result<(), AuditFault>
+    requires images { images.now ≡ inputs.now.certificate.now }
+    requires rows { FindsRowsOf (tailoring_in inputs.now).tailored (⟦<Trie<A> as Lookup>⟧.content tailored.now) }
+    requires targets { AreTargetsOf (tailoring_in inputs.now).relations targets.now }
+    requires met { MeetsBelow (tailoring_in inputs.now) 5 }
+    ensures { Passes (tailoring_in inputs.now) 8 result }
+{
+    rows_are_unchanged(inputs, tailored, targets, images)?;
     rows_are_present(inputs, tailored)?;
-    rows_are_expected(alloc, inputs, &targets)?;
-    Ok(())
+    rows_are_expected(alloc, inputs, targets)
 }
 
 // Conditions 8 to 11.
@@ -171,8 +186,7 @@ fn audit_new_weights<A: Allocator + Copy, T: Allocator>(
 {
     let known = known_weights(alloc, inputs, images)?;
     new_weights_are_fresh(alloc, inputs, placements, &known)?;
-    targets_are_nearest(inputs, placements, known)?;
-    Ok(())
+    targets_are_nearest(inputs, placements, known)
 }
 
 // What follows where all conditions are met.

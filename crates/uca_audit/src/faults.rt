@@ -1,14 +1,14 @@
 //! Why an audit refuses a tailoring.
 
 ghost use Rattle.std.specs.Prelude.{◌≡◌, Some};
-ghost use Rattle.uca_audit.specs.FaultText.{audit_fault_text, name_of};
+ghost use Rattle.uca_audit.specs.FaultText.{audit_fault_text, name_of, place_text};
 
 use std::alloc::AllocError;
 use std::fmt;
 use thiserror::Error;
 
 /// Where a condition fails.
-#[derive(Clone, Copy, Debug, PartialEq, Eq)]
+#[derive(Clone, Copy, PartialEq, Eq)]
 pub enum Place {
     /// In no row and no relation.
     Nowhere,
@@ -20,8 +20,27 @@ pub enum Place {
     Relation(u32),
 }
 
+impl fmt::Display for Place {
+    ghost output = { λ place. Some (place_text place) };
+
+    fn fmt<W: fmt::Write>(&self, f: &mut fmt::Formatter<W>) -> fmt::Result {
+        match self {
+            Place::Nowhere => Ok(()),
+            Place::BaseRow(row) => write!(f, " base row {row}"),
+            Place::TailoredRow(row) => write!(f, " tailored row {row}"),
+            Place::Relation(number) => write!(f, " relation {number}"),
+        }
+    }
+}
+
+impl fmt::Debug for Place {
+    fn fmt<W: fmt::Write>(&self, f: &mut fmt::Formatter<W>) -> fmt::Result {
+        write!(f, "{self}")
+    }
+}
+
 /// An audit refuses a tailoring: the first condition that fails, and the first place where it does.
-#[derive(Clone, Copy, Debug, PartialEq, Eq, Error)]
+#[derive(Clone, Copy, PartialEq, Eq, Error)]
 pub struct AuditFault {
     /// The number of the condition, 1 to 11, in the order of [`Condition`](crate::Condition); 12 where an allocation
     /// failed.
@@ -56,13 +75,13 @@ impl fmt::Display for AuditFault {
     ghost output = { λ fault. Some (audit_fault_text fault) };
 
     fn fmt<W: fmt::Write>(&self, f: &mut fmt::Formatter<W>) -> fmt::Result {
-        write!(f, "refused {} {}", self.number, self.name())?;
-        match self.place {
-            Place::Nowhere => Ok(()),
-            Place::BaseRow(row) => write!(f, " base row {}", row),
-            Place::TailoredRow(row) => write!(f, " tailored row {}", row),
-            Place::Relation(number) => write!(f, " relation {}", number),
-        }
+        write!(f, "refused {} {}{}", self.number, self.name(), self.place)
+    }
+}
+
+impl fmt::Debug for AuditFault {
+    fn fmt<W: fmt::Write>(&self, f: &mut fmt::Formatter<W>) -> fmt::Result {
+        write!(f, "{self}")
     }
 }
 

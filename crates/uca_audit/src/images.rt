@@ -1,7 +1,8 @@
 //! The images of all weights, each found in one step.
 
-ghost use Rattle.std.specs.Prelude.{◌≡◌, IfOk};
+ghost use Rattle.std.specs.Prelude.{◌≡◌, IfOk, vec_len};
 ghost use Rattle.uca_weights.specs.Runs.{weight_image};
+ghost use Rattle.uca_audit.specs.ImageTables.{AreImagesBelow};
 
 use crate::Certificate;
 use std::alloc::{AllocError, Allocator};
@@ -33,17 +34,6 @@ impl<'a, A: Allocator, T: Allocator> Model for LevelImages<'a, A, T> {
 }
 
 impl<'a, A: Allocator + Copy, T: Allocator> LevelImages<'a, A, T> {
-    /// The images of all weights under a map. An error says that no memory was left.
-    fn new(alloc: A, map: &'a WeightMap<T>) -> Result<LevelImages<'a, A, T>, AllocError>
-        ensures { IfOk result (λ images. images ≡ map.now) }
-    {
-        let mut images = Vec::with_capacity(alloc, WEIGHT_COUNT)?;
-        for weight in 0..=u16::MAX {
-            images.push(map.get(weight))?;
-        }
-        Ok(LevelImages { map, images })
-    }
-
     /// The image of a weight, or `None` where it has none.
     pub(crate) fn get(&self, weight: u16) -> Option<u16>
         ensures { result ≡ weight_image self.now.level self.now.runs weight }
@@ -83,10 +73,37 @@ impl<'a, A: Allocator + Copy, T: Allocator> Images<'a, A, T> {
     ) -> Result<Images<'a, A, T>, AllocError>
         ensures { IfOk result (λ images. images ≡ certificate.now) }
     {
+        let primary = images_of(alloc, &certificate.primary)?;
+        let secondary = images_of(alloc, &certificate.secondary)?;
+        let tertiary = images_of(alloc, &certificate.tertiary)?;
         Ok(Images {
-            primary: LevelImages::new(alloc, &certificate.primary)?,
-            secondary: LevelImages::new(alloc, &certificate.secondary)?,
-            tertiary: LevelImages::new(alloc, &certificate.tertiary)?,
+            primary: LevelImages {
+                map: &certificate.primary,
+                images: primary,
+            },
+            secondary: LevelImages {
+                map: &certificate.secondary,
+                images: secondary,
+            },
+            tertiary: LevelImages {
+                map: &certificate.tertiary,
+                images: tertiary,
+            },
         })
     }
+}
+
+/// The image of each weight under a map, in order. An error says that no memory was left.
+fn images_of<A: Allocator + Copy, T: Allocator>(
+    alloc: A,
+    map: &WeightMap<T>,
+) -> Result<Vec<Option<u16>, A>, AllocError>
+    ensures length { IfOk result (λ images. vec_len images ≡ 0x1_0000) }
+    ensures images { IfOk result (λ images. AreImagesBelow 0x1_0000 map.now images.items) }
+{
+    let mut images = Vec::with_capacity(alloc, WEIGHT_COUNT)?;
+    for weight in 0..=u16::MAX {
+        images.push(map.get(weight))?;
+    }
+    Ok(images)
 }

@@ -6,7 +6,7 @@ use uca_rules::Rules;
 use uca_values::{Data, Table};
 
 /// What is handed in to an audit.
-#[derive_where(Clone, Copy)]
+#[derive(Drop)]
 pub(crate) struct Inputs<'a, T: Allocator> {
     /// The base.
     pub base: &'a Table<T>,

@@ -1,5 +1,5 @@
 -- Whole certificates: bytes mean at most one, and none where they are refused for a cause in them.
-use Rattle.std.proofs.Common.{◌≡◌, inl, inr, ℕ, ◌≤◌, List, [], ◌∷◌, ◌++◌, length, map, Option, Some, None, Result, Ok, Err, IfSome, IfOk, IfErr, MatchResult, refl, sym, ap, subst, ◌∙◌, arith}
+use Rattle.std.proofs.Common.{◌≡◌, ◌||◌, Bool, false, inl, inr, ℕ, ◌≤◌, List, [], ◌∷◌, ◌++◌, length, map, Option, Some, None, Result, Ok, Err, IfSome, IfOk, IfErr, MatchResult, refl, sym, ap, subst, ◌∙◌, arith}
 use Rattle.std.specs.Prelude.{OnOk}
 use Rattle.std.specs.List.{flat_map, AllByRecursion}
 use Rattle.std.proofs.lemmas.List.Folds.{flat_map-map}
@@ -14,7 +14,7 @@ use Rattle.uca_lines.proofs.FileLemmas.{one_meaning, no_meaning}
 use Rattle.uca_certificates.specs.declared.TheConstants.{CERTIFICATE_FORM}
 use Rattle.uca_certificates.specs.declared.faults.CertificateFault.{CertificateFault}
 use Rattle.uca_certificates.specs.Certificates.{CertificateContent, runs_at, IsCertificate}
-use Rattle.uca_certificates.specs.Texts.{RunLine, run_text, of_level, run_lines, Means, IsRunLine, Says, Cause, FaultOfMap, Refuses, IsStop}
+use Rattle.uca_certificates.specs.Texts.{RunLine, run_text, of_level, run_lines, Means, IsRunLine, Says, Cause, FaultOfMap, Refuses, IsStop, is_read, is_read_kind}
 use Rattle.uca_certificates.specs.Steps.{RefusesContent}
 use Rattle.uca_certificates.proofs.LineLaws.{length-run_text, run_text_lacks_lf}
 use Rattle.uca_certificates.proofs.Exact.{exact, says_same}
@@ -136,6 +136,12 @@ pub fault_content : (known left : Option (List ℕ)) (count : ℕ) (content : Ce
 fault_content None left count content r h refuses = tt
 fault_content (Some bytes) left count content (Ok read) h refuses = tt
 fault_content (Some bytes) left count content (Err fault) h refuses = refused_content (Some bytes) left count content fault h refuses
+
+-- no read failed there
+pub failed_content : (old new : Bool) (content : CertificateContent) (r : Result CertificateContent CertificateFault)
+    → IfErr r (RefusesContent content) → new ≡ (old || false) → new ≡ (old || is_read r)
+failed_content old new content (Ok read) refuses same = same
+failed_content old new content (Err fault) refuses same = same ∙ ap (λ kind. old || is_read_kind kind) (sym refuses.kind)
 
 -- the certificate of the runs
 pub found_content : (known : Option (List ℕ)) (count : ℕ) (content : CertificateContent) (r : Result CertificateContent CertificateFault)

@@ -1,29 +1,5 @@
-use Rattle.uca_tailorings.specs.declared.conditions.Condition.TheVariants.{RowChanged, RowMissing, RowExtra}
-use Rattle.uca_audit.specs.Views.{tailoring_in}
-use Rattle.uca_audit.proofs.Chaining.{meets_more, passes_refused}
 use Rattle.uca_audit.proofs.auditing.audit_rows.Goals as goal
-
-pub returns-in_err-rows_are_unchanged : goal.returns-in_err-rows_are_unchanged
-returns-in_err-rows_are_unchanged g c =
-    let t = tailoring_in c.args.inputs.now in
-    passes_refused t 8 RowChanged _ _ c.from_residual-in_err-rows_are_unchanged.ensures.1 c.requires.met c.in_err-rows_are_unchanged.ensures
-
-pub returns-in_err-rows_are_present : goal.returns-in_err-rows_are_present
-returns-in_err-rows_are_present g c =
-    let t = tailoring_in c.args.inputs.now in
-    let below_6 = meets_more t RowChanged c.requires.met c.in_ok-rows_are_unchanged.ensures in
-    passes_refused t 8 RowMissing _ _ c.from_residual-in_err-rows_are_present.ensures.1 below_6 c.in_err-rows_are_present.ensures
-
-pub returns-in_err-rows_are_expected : goal.returns-in_err-rows_are_expected
-returns-in_err-rows_are_expected g c =
-    let t = tailoring_in c.args.inputs.now in
-    let below_6 = meets_more t RowChanged c.requires.met c.in_ok-rows_are_unchanged.ensures in
-    let below_7 = meets_more t RowMissing below_6 c.in_ok-rows_are_present.ensures in
-    passes_refused t 8 RowExtra _ _ c.from_residual-in_err-rows_are_expected.ensures.1 below_7 c.in_err-rows_are_expected.ensures
 
 pub returns : goal.returns
 returns g c =
-    let t = tailoring_in c.args.inputs.now in
-    let below_6 = meets_more t RowChanged c.requires.met c.in_ok-rows_are_unchanged.ensures in
-    let below_7 = meets_more t RowMissing below_6 c.in_ok-rows_are_present.ensures in
-    meets_more t RowExtra below_7 c.in_ok-rows_are_expected.ensures
+    c.audit_table_rows.ensures

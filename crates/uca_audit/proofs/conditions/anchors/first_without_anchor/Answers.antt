@@ -4,8 +4,16 @@ use Rattle.uca_rules.specs.declared.relations.Relation.{Relation}
 use Rattle.uca_tailorings.specs.Tailorings.{HasAnchor, anchor_elements, tailored_reading}
 use Rattle.uca_audit.specs.Refusals.{IsFirstRelationWithout}
 use Rattle.uca_audit.specs.Views.{tailoring_in}
-use Rattle.uca_audit.proofs.RelationSteps.{each_further, first_here, read_alike, found_has, none_has}
+use Rattle.uca_audit.proofs.RelationSteps.{each_further, each_whole, first_here, read_alike, found_has, none_has}
 use Rattle.uca_audit.proofs.conditions.anchors.first_without_anchor.Goals as goal
+
+pub loop-at-init : goal.loop-at-init
+loop-at-init g c = tt
+
+pub returns : goal.returns
+returns g c =
+    each_whole (HasAnchor (tailoring_in c.args.inputs.now)) c.relations-relation-items.result.now _ c.loop-at.at c.relations-relation-items.ensures.value
+    c.loop-at-test.false c.loop-at.invariant
 
 pub loop-at-preserved : goal.loop-at-preserved
 loop-at-preserved g c =

@@ -1,13 +1,27 @@
-use Rattle.std.proofs.Common.{suc, List, take, ◌+◌, sym, subst}
+use Rattle.std.proofs.Common.{suc, List, [], take, ◌+◌, sym, subst}
 use Rattle.std.specs.List.{AllZip}
 use Rattle.uca_rules.specs.declared.relations.Relation.{Relation}
 use Rattle.uca_tailorings.specs.Tailorings.{IsPlaced}
 use Rattle.uca_audit.specs.declared.conditions.placements.Placement.{Placement}
 use Rattle.uca_audit.specs.Refusals.{IsFirstRelationWithout}
 use Rattle.uca_audit.specs.Views.{IsPlacement, tailoring_in}
-use Rattle.uca_audit.proofs.RelationSteps.{each_further, zip_further, first_here}
+use Rattle.uca_audit.proofs.RelationSteps.{each_further, each_whole, zip_further, zip_whole, first_here}
 use Rattle.uca_audit.proofs.TargetRows.{some_placed, none_placed}
 use Rattle.uca_audit.proofs.conditions.placements.place_targets.Goals as goal
+
+pub loop-at-init : goal.loop-at-init
+loop-at-init g c =
+    record { placed = tt; list = subst (λ (list : List Placement). AllZip (IsPlacement (tailoring_in c.args.inputs.now)) [] list) (sym c.requires.none) tt }
+
+pub returns-clause-found : goal.returns-clause-found
+returns-clause-found g c =
+    each_whole (IsPlaced (tailoring_in c.args.inputs.now)) c.relations-relation-items.result.now _ c.loop-at.at c.relations-relation-items.ensures.value
+    c.loop-at-test.false c.loop-at.invariant.placed
+
+pub returns-clause-placed : goal.returns-clause-placed
+returns-clause-placed g c =
+    zip_whole (IsPlacement (tailoring_in c.args.inputs.now)) c.relations-relation-items.result.now _ c.loop-at.list.items c.loop-at.at
+    c.relations-relation-items.ensures.value c.loop-at-test.false c.loop-at.invariant.list
 
 pub returns-in_default-clause-found : goal.returns-in_default-clause-found
 returns-in_default-clause-found g c =

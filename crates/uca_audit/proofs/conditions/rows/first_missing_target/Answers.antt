@@ -4,8 +4,13 @@ use Rattle.uca_rules.specs.declared.relations.Relation.{Relation}
 use Rattle.uca_tailorings.specs.Tailorings.{IsPresentTarget}
 use Rattle.uca_audit.specs.Refusals.{IsFirstRelationWithout}
 use Rattle.uca_audit.specs.Views.{tailoring_in}
-use Rattle.uca_audit.proofs.RelationSteps.{each_further, first_here}
+use Rattle.uca_audit.proofs.RelationSteps.{each_further, each_whole, first_here}
 use Rattle.uca_audit.proofs.conditions.rows.first_missing_target.Goals as goal
+
+pub returns : goal.returns
+returns g c =
+    each_whole (IsPresentTarget (tailoring_in c.args.inputs.now)) c.relations-relation-items.result.now _ c.loop-at.at c.relations-relation-items.ensures.value
+    c.loop-at-test.false c.loop-at.invariant
 
 pub loop-at-preserved : goal.loop-at-preserved
 loop-at-preserved g c =

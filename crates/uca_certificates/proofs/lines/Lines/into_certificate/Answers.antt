@@ -1,7 +1,7 @@
 -- The lowest level whose runs make no map.
 use Rattle.std.proofs.Common.{ap, subst, arith}
 use Rattle.std.proofs.lemmas.Result.{err_from_is_err_and}
-use Rattle.uca_weights.specs.declared.Level.TheVariants.{One, Two}
+use Rattle.uca_weights.specs.declared.Level.TheVariants.{One, Two, Three}
 use Rattle.uca_weights.specs.Runs.{AreProperRuns}
 use Rattle.uca_certificates.specs.Certificates.{CertificateContent}
 use Rattle.uca_certificates.proofs.MapLaws.{refuses_primary, refuses_secondary, refuses_tertiary}
@@ -33,3 +33,14 @@ returns-in_err-tertiary-clause-fault g c =
     rw (p.1, p.2) (refuses_tertiary c.args.self _ _ _ _ (subst (AreProperRuns One) first c.in_ok-primary.ensures.proper)
     (subst (AreProperRuns Two) second c.in_ok-secondary.ensures.proper) third (rw (← first, ← second) (omega arith))
     (rw (← first, ← second, ← third) (omega arith)) c.in_err-tertiary.ensures.fault)
+
+pub returns-clause-maps : goal.returns-clause-maps
+returns-clause-maps g c =
+    let first = ap (λ (s : CertificateContent). s.primary) c.self.view_is in
+    let second = ap (λ (s : CertificateContent). s.secondary) c.self.view_is in
+    let third = ap (λ (s : CertificateContent). s.tertiary) c.self.view_is in
+    record {
+      primary = subst (AreProperRuns One) first c.in_ok-primary.ensures.proper;
+      secondary = subst (AreProperRuns Two) second c.in_ok-secondary.ensures.proper;
+      tertiary = subst (AreProperRuns Three) third c.in_ok-tertiary.ensures.proper;
+    }
