@@ -112,18 +112,19 @@ impl LevelsSoFar {
         let mut step = Step::Either;
         let mut level = self.first;
         while level <= self.through {
-            let at = usize::from(level - 1);
+            let before = level - 1;
+            let at = usize::from(before);
             let found = match look_at(first[at], second[at], left.is_ended(), right.is_ended()) {
                 Look::May(found) => found,
                 Look::Differ(order) => {
-                    self.through = level - 1;
+                    self.through = before;
                     self.order = order;
                     return step;
                 }
             };
             let Some(both) = step.with(found) else {
-                self.through = level - 1;
-                self.last = level - 1;
+                self.through = before;
+                self.last = before;
                 self.order = Ordering::Equal;
                 return step;
             };
