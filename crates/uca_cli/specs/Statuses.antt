@@ -9,8 +9,8 @@ use Rattle.uca_rules.specs.declared.faults.RuleFaultKind.{RuleFaultKind}
 use Rattle.uca_rules.specs.declared.faults.RuleFaultKind.TheVariants as rule_kinds
 use Rattle.uca_certificates.specs.declared.faults.CertificateFaultKind.{CertificateFaultKind}
 use Rattle.uca_certificates.specs.declared.faults.CertificateFaultKind.TheVariants as certificate_kinds
-use Rattle.uca_text.specs.declared.limits.TextFault.{TextFault}
-use Rattle.uca_text.specs.declared.limits.TextFault.TheVariants as text_fault
+use Rattle.uca_text.specs.declared.normalize.TextFault.{TextFault}
+use Rattle.uca_text.specs.declared.normalize.TextFault.TheVariants as text_fault
 use Rattle.uca_runs.specs.declared.faults.InputKind.{InputKind}
 use Rattle.uca_runs.specs.declared.faults.InputKind.TheVariants as input_kind
 use Rattle.uca_runs.specs.declared.faults.FileFault.{FileFault}

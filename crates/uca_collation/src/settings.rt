@@ -29,7 +29,7 @@ impl Settings {
     }
 
     /// The order of two stored keys of these settings, and the level at which they differ: 1 to
-    /// [`level_count`](Settings::level_count), or 0 where the keys are equal. Any bytes have an answer, as
+    /// [`level_count`](Settings::level_count), or 0 where the keys are equal. Any bytes can be compared, as
     /// [`compare_keys`](uca_key::compare_keys) says.
     pub fn compare_keys(self, left: &[u8], right: &[u8]) -> (Ordering, u8)
         ensures order { result.0 ≡ dictionary left.now right.now }

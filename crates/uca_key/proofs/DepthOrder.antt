@@ -44,7 +44,7 @@ bytes_zero (v ∷ vs) (w ∷ ws) xs ys a b =
 one_level : (n : ℕ) (a b : List ℕ) → (compare_from n (a ∷ []) (b ∷ [])).order ≡ dictionary a b
 one_level n a b = order-decided (dictionary a b) n (record { order = Equal; level = 0 }) ∙ then_equal (dictionary a b)
 
--- what follows the bytes of a level and of the levels behind it
+-- what follows the bytes of a level and of the levels after it
 behind_level : (a b : List ℕ) (more : List (List ℕ)) (xs : List ℕ)
     → levels_bytes (a ∷ b ∷ more) ++ (0 ∷ 0 ∷ xs) ≡ level_bytes a ++ (0 ∷ 0 ∷ (levels_bytes (b ∷ more) ++ (0 ∷ 0 ∷ xs)))
 behind_level a b more xs = append_assoc (level_bytes a) (0 ∷ 0 ∷ levels_bytes (b ∷ more)) (0 ∷ 0 ∷ xs)

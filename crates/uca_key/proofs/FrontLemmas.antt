@@ -69,7 +69,7 @@ some_here count (w ∷ ws) some = rw (ne_eqb w 0 some) refl
 abbrev place_of : List ℕ → List ℕ → ℕ
 place_of vs ws = shared_length (non_zero vs) (non_zero ws)
 
--- the left one alone goes on behind a 0
+-- the left one alone goes on after a 0
 pub left_on : (vs ws : List ℕ) (f g : ℕ) (order : Ordering) (m n : ℕ) → first_of vs ≡ 0 → GoOn vs ws f g order m n
     → GoOn (behind vs) ws (with_first vs f) g order m n
 left_on vs ws f g order m n none on =
@@ -92,7 +92,7 @@ right_on vs ws f g order m n none on =
       fetches_right = sym (zero_count (place_of vs (behind ws)) g ws none) ∙ ap (λ p. counted g (length_to p ws)) (sym place) ∙ on.fetches_right;
     }
 
--- both go on behind a weight that is not 0
+-- both go on after a weight that is not 0
 some_on : (vs ws : List ℕ) (f g : ℕ) (order : Ordering) (m n : ℕ) → first_of vs ≢ 0 → first_of vs ≡ first_of ws → GoOn vs ws f g order m n
     → GoOn (behind vs) (behind ws) (with_first vs f) (with_first ws g) order m n
 some_on vs ws f g order m n some same on =
@@ -111,7 +111,7 @@ some_on vs ws f g order m n some same on =
       fetches_right = sym (some_count rest g ws more) ∙ ap (λ p. counted g (length_to p ws)) (sym place) ∙ on.fetches_right;
     }
 
--- both go on behind equal weights
+-- both go on after equal weights
 pub both_on : (vs ws : List ℕ) (f g : ℕ) (order : Ordering) (m n : ℕ) → first_of vs ≡ first_of ws → GoOn vs ws f g order m n
     → GoOn (behind vs) (behind ws) (with_first vs f) (with_first ws g) order m n
 both_on vs ws f g order m n same on = at (nat_eq (first_of vs) 0) refl
@@ -228,7 +228,7 @@ ended_count passed (e ∷ es) is = absurd cc
 pub fetched_all : (f : FrontState) → is_ended f ≡ true → fetched f ≡ f.passed
 fetched_all f is = ended_count f.passed f.elements is
 
--- behind the element at the front
+-- after the element at the front
 rest_behind : (weighting : Weighting) (level passed : ℕ) (flag : Bool) (es : List Element)
     → weights_left weighting level (behind_one flag passed es) ≡ behind (weights_of_rest weighting level flag es)
 rest_behind weighting level passed flag [] = refl
@@ -245,7 +245,7 @@ passed_behind passed flag (e ∷ es) = refl
 pub advanced_count : (weighting : Weighting) (level : ℕ) (f : FrontState) → (advanced f).passed ≡ with_first (weights_left weighting level f) f.passed
 advanced_count weighting level f = passed_behind f.passed f.after_variable f.elements ∙ front_count weighting level f
 
--- fewer elements are left behind it
+-- fewer elements are left after it
 fewer_behind : (passed : ℕ) (flag : Bool) (es : List Element) → is_empty es ≡ false → length (behind_one flag passed es).elements < length es
 fewer_behind passed flag [] is = absurd cc
 fewer_behind passed flag (e ∷ es) is = omega arith

@@ -233,7 +233,7 @@ pub weights_short : (key : List ℕ) (weighting : Weighting) (c : Collation) (te
 weights_short key weighting c text es are run short accepted =
     subst (λ (l : List ℕ). length l < 2 ^ 40) (sym (run_is key weighting c text es are run)) (keys_short c Weights weighting text short accepted)
 
--- also with the identical level behind it
+-- also with the identical level after it
 pub identical_short : {U E : Type 0} (r : Result U E) (key held points : List ℕ) (weighting : Weighting) (c : Collation) (text : Spelled) (es : List Element)
     → es ≡ elements_of c text → WholeRun (YieldsFirst (λ (rest : List Element). rest)) es (λ p. held ≡ key_bytes weighting p.items)
     → points ≡ text.points → OnOk r (key ≡ held ++ (0 ∷ 0 ∷ points_bytes points)) → HasShortRows c.rows → IsAccepted text → OnOk r (length key < 2 ^ 40)

@@ -1,4 +1,4 @@
--- A comparison of several levels, by those that come first and those behind them.
+-- A comparison of several levels, by those that come first and those after them.
 use Rattle.std.proofs.Common.{◌≡◌, ◌≢◌, ℕ, zero, suc, ◌+◌, ◌-◌, ◌<◌, ◌≤◌, List, [], ◌∷◌, ◌++◌, length, Bool, true, false, nat_lt, refl, sym, ap, ◌∙◌, arith}
 use Rattle.std.proofs.lemmas.Bool.{ltb-true, ltb-false}
 use Rattle.std.specs.Bool.{◌==◌}
@@ -7,17 +7,17 @@ use Rattle.std.specs.declared.cmp.Ordering.{Ordering}
 use Rattle.std.specs.declared.cmp.Ordering.TheVariants.{Less, Equal, Greater}
 use Rattle.uca_weights.specs.declared.Element.{Element}
 use Rattle.uca_weights.specs.declared.Weighting.{Weighting}
-use Rattle.uca_key.specs.declared.walks.LevelsSoFar.{LevelsSoFar}
-use Rattle.uca_key.specs.declared.walks.Walked.{Walked}
+use Rattle.uca_key.specs.declared.walk.LevelsSoFar.{LevelsSoFar}
+use Rattle.uca_key.specs.declared.walk.Walked.{Walked}
 use Rattle.uca_key.specs.Levels.{Comparison, Weights as WeightsType, level_list, level_lists_from, level_count, weighted, dictionary, decided, compare_from, compared}
 use Rattle.uca_key.specs.Fronts.{FrontState, fetched, weights_left, is_ended}
 use Rattle.uca_key.specs.Walks.{Stands, Walks, decided_level, compared_levels, order_at, fetched_left_at, fetched_right_at}
 use Rattle.uca_key.specs.Comparisons.{ComparesLevels}
 use Rattle.uca_key.proofs.FrontLemmas.{nothing_on, front_ended, fetched_all}
 
--- ---- Lists of levels, one behind the other
+-- ---- Lists of levels, one after the other
 
--- what some levels say, or else those behind them
+-- what some levels say, or else those after them
 abbrev pub then_levels : Comparison → Comparison → Comparison
 then_levels c later = decided c.order c.level later
 
@@ -55,7 +55,7 @@ levels_append level (suc m) n ws =
     ∙ ap (λ l. level_list level ws ∷ l) (levels_append (suc level) m n ws)
     ∙ ap (λ l. level_list level ws ∷ level_lists_from (suc level) m ws ++ level_lists_from l n ws) next
 
--- some levels and those behind them
+-- some levels and those after them
 pub levels_then : (weighting : Weighting) (es fs : List Element) (level m n : ℕ)
     → compared_levels weighting es fs level (m + n) ≡ then_levels (compared_levels weighting es fs level m) (compared_levels weighting es fs (level + m) n)
 levels_then weighting es fs level m n =
@@ -94,7 +94,7 @@ then_differs weighting es fs first n m order equal is differ =
     ∙ ap (λ o. decided o (first + n) (compared_levels weighting es fs (suc (first + n)) m)) (sym is)
     ∙ decided_here order (first + n) (compared_levels weighting es fs (suc (first + n)) m) differ
 
--- ---- What a walk answers
+-- ---- What a walk returns
 
 -- it has ended, or its first level differs
 pub record Ends (left right : FrontState) (s : LevelsSoFar) : Type 0 where
@@ -165,7 +165,7 @@ walk_answers weighting es fs left right s first last level f g stands ends from 
 
 -- ---- All levels
 
--- the levels of another walk behind those of the first
+-- the levels of another walk after those of the first
 pub next_levels : (weighting : Weighting) (es fs : List Element) (last first : ℕ) (w n : Walked) → Walks weighting 1 last es fs w → w.order ≡ Equal
     → first ≡ w.last + 1 → Walks weighting first last es fs n
     → Walks weighting 1 last es fs (record { order = n.order; level = n.level; last = n.last; fetched_left = w.fetched_left; fetched_right = w.fetched_right })

@@ -255,7 +255,7 @@ stored_key_level weighting left right =
 pub stored_keys_compare : StoredKeysCompareAsElements
 stored_keys_compare weighting left right = (key_order weighting left right, stored_key_level weighting left right)
 
--- ---- What `compare_keys` answers
+-- ---- What `compare_keys` returns
 
 -- equal slices have the level 0
 pub equal_level : (levels : ℕ) (left right : List ℕ) → dictionary left right ≡ Equal → 0 ≡ stored_level levels left right

@@ -1,5 +1,5 @@
 -- A walk over two texts goes on from front to front.
-use Rattle.std.proofs.Common.{◌≡◌, ◌≢◌, ℕ, suc, ◌-◌, ◌<◌, ◌≤◌, List, [], Bool, true, false, nat_eq, map, refl, ap, arith, sym, ◌∙◌, subst, ◌⊎◌, inl, inr, Some, eq-eqb}
+use Rattle.std.proofs.Common.{◌≡◌, ◌≢◌, ℕ, suc, ◌+◌, ◌-◌, ◌<◌, ◌≤◌, List, [], length, Bool, true, false, nat_eq, map, refl, ap, arith, sym, ◌∙◌, subst, ◌⊎◌, inl, inr, Some, eq-eqb}
 use Rattle.std.proofs.lemmas.Bool.{eqb-true}
 use Rattle.std.specs.Ordering.{nat_cmp}
 use Rattle.std.specs.declared.cmp.Ordering.{Ordering}
@@ -7,14 +7,14 @@ use Rattle.std.specs.declared.cmp.Ordering.TheVariants.{Less, Equal, Greater}
 use Rattle.std.proofs.lemmas.Cmp.{ranked, by_ranked}
 use Rattle.uca_weights.specs.declared.Element.{Element}
 use Rattle.uca_weights.specs.declared.Weighting.{Weighting}
-use Rattle.uca_key.specs.declared.walks.Step.{Step}
-use Rattle.uca_key.specs.declared.walks.Step.TheVariants.{Either, Both, Left, Right}
-use Rattle.uca_key.specs.declared.walks.LevelsSoFar.{LevelsSoFar}
+use Rattle.uca_key.specs.declared.walk.Step.{Step}
+use Rattle.uca_key.specs.declared.walk.Step.TheVariants.{Either, Both, Left, Right}
+use Rattle.uca_key.specs.declared.walk.LevelsSoFar.{LevelsSoFar}
 use Rattle.uca_key.specs.Levels.{weight_at}
 use Rattle.uca_key.proofs.WeightLemmas.{weighted_after-follows}
 use Rattle.uca_key.specs.Fronts.{FrontState, weights_left, weight_here, front_weights, first_of, is_ended, begun, advanced, fetched}
-use Rattle.uca_key.specs.Walks.{AllowsWith, Allows, Differs, GoOn, GoesOn, Stands, together, order_at, weights_of_level, fetched_left_at, fetched_right_at}
-use Rattle.uca_key.proofs.FrontLemmas.{weight_is, behind, with_first, left_on, right_on, both_on, decides, front_count, front_ended, advanced_weights, advanced_count}
+use Rattle.uca_key.specs.Walks.{AllowsWith, Allows, IsTaken, Differs, GoOn, GoesOn, Stands, together, order_at, weights_of_level, fetched_left_at, fetched_right_at}
+use Rattle.uca_key.proofs.FrontLemmas.{weight_is, behind, with_first, left_on, right_on, both_on, decides, front_count, front_ended, advanced_weights, advanced_count, fewer_left, no_more_left}
 
 -- ---- Steps that levels allow together
 
@@ -252,3 +252,53 @@ stands_agreed weighting es fs left right s stands one some same =
     let to : level ≤ 4 = omega (arith, up, high) in
     sym (weight_is weighting left level (level - 1) (front_weights weighting left) refl from to refl)
     ∙ weight_is weighting right level (level - 1) (front_weights weighting left) same from to refl)
+
+-- ---- One step
+
+stands_same : (weighting : Weighting) (es fs : List Element) (left right left1 right1 : FrontState) (s : LevelsSoFar)
+    → Stands weighting es fs left right s → left1 ≡ left → right1 ≡ right → Stands weighting es fs left1 right1 s
+stands_same weighting es fs left right left1 right1 s stands one other =
+    subst (λ (f : FrontState). Stands weighting es fs f right1 s) (sym one)
+    (subst (λ (f : FrontState). Stands weighting es fs left f s) (sym other) stands)
+
+-- after a step that all levels so far allow
+pub stands_taken : (step : Step) (weighting : Weighting) (es fs : List Element) (left right left1 right1 : FrontState) (s : LevelsSoFar)
+    → Stands weighting es fs left right s → s.first ≤ s.through
+    → ((level : ℕ) → s.first ≤ level → level ≤ s.through → Allows weighting step level left right)
+    → IsTaken step left right left1 right1 → Stands weighting es fs left1 right1 s
+stands_taken Either weighting es fs left right left1 right1 s stands some allowed taken =
+    stands_same weighting es fs (advanced left) (advanced right) left1 right1 s
+    (stands_both weighting es fs left right s Either stands some (inl refl) allowed) taken.0 taken.1
+stands_taken Both weighting es fs left right left1 right1 s stands some allowed taken =
+    stands_same weighting es fs (advanced left) (advanced right) left1 right1 s
+    (stands_both weighting es fs left right s Both stands some (inr refl) allowed) taken.0 taken.1
+stands_taken Left weighting es fs left right left1 right1 s stands some allowed taken =
+    stands_same weighting es fs (advanced left) right left1 right1 s (stands_left weighting es fs left right s stands some allowed) taken.0 taken.1
+stands_taken Right weighting es fs left right left1 right1 s stands some allowed taken =
+    stands_same weighting es fs left (advanced right) left1 right1 s (stands_right weighting es fs left right s stands some allowed) taken.0 taken.1
+
+length_of : (f g : FrontState) → f ≡ g → length f.elements ≡ length g.elements
+length_of f g is = ap (λ (h : FrontState). length h.elements) is
+
+-- where one of two texts has not ended, fewer elements are left after both go on
+fewer_both : (left right left1 right1 : FrontState) → (is_ended left ≡ false) ⊎ (is_ended right ≡ false)
+    → left1 ≡ advanced left → right1 ≡ advanced right
+    → length left1.elements + length right1.elements < length left.elements + length right.elements
+fewer_both left right left1 right1 some one other =
+    let left_is = length_of left1 (advanced left) one in
+    let right_is = length_of right1 (advanced right) other in
+    elim some [
+      | inl e ↦ omega (arith, left_is, right_is, fewer_left left e, no_more_left right)
+      | inr e ↦ omega (arith, left_is, right_is, no_more_left left, fewer_left right e)
+    ]
+
+-- where one of two texts has not ended, fewer elements are left after a step that a level allows
+pub fewer_taken : (step : Step) (weighting : Weighting) (level : ℕ) (left right left1 right1 : FrontState)
+    → (is_ended left ≡ false) ⊎ (is_ended right ≡ false) → Allows weighting step level left right → IsTaken step left right left1 right1
+    → length left1.elements + length right1.elements < length left.elements + length right.elements
+fewer_taken Either weighting level left right left1 right1 some allowed taken = fewer_both left right left1 right1 some taken.0 taken.1
+fewer_taken Both weighting level left right left1 right1 some allowed taken = fewer_both left right left1 right1 some taken.0 taken.1
+fewer_taken Left weighting level left right left1 right1 some allowed taken =
+    omega (arith, length_of left1 (advanced left) taken.0, length_of right1 right taken.1, fewer_left left allowed.1)
+fewer_taken Right weighting level left right left1 right1 some allowed taken =
+    omega (arith, length_of left1 left taken.0, length_of right1 (advanced right) taken.1, fewer_left right allowed.1)

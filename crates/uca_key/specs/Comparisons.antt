@@ -1,9 +1,9 @@
--- How two texts compare at all levels of a weighting, and behind them. Private contracts alone cite this file.
+-- How two texts compare at all levels of a weighting, and after them. Private contracts alone cite this file.
 use Rattle.std.specs.Prelude.{◌≡◌, ℕ, suc, List}
 use Rattle.std.specs.declared.cmp.Ordering.TheVariants.{Equal}
 use Rattle.uca_weights.specs.declared.Element.{Element}
 use Rattle.uca_weights.specs.declared.Weighting.{Weighting}
-use Rattle.uca_key.specs.declared.walks.Walked.{Walked}
+use Rattle.uca_key.specs.declared.walk.Walked.{Walked}
 use Rattle.uca_key.specs.Levels.{Comparison, level_count, dictionary, decided, compared}
 use Rattle.uca_key.specs.Walks.{fetched_left_at, fetched_right_at}
 
@@ -13,6 +13,6 @@ pub record ComparesLevels (weighting : Weighting) (es fs : List Element) (w : Wa
   pub left_is : w.fetched_left ≡ fetched_left_at weighting es fs 1
   pub right_is : w.fetched_right ≡ fetched_right_at weighting es fs 1
 
--- code points stand behind all levels of the weights
+-- code points stand after all levels of the weights
 abbrev pub compared_points : Weighting → List ℕ → List ℕ → Comparison
 compared_points weighting left right = decided (dictionary left right) (suc (level_count weighting)) (record { order = Equal; level = 0 })

@@ -20,7 +20,7 @@ length_to (suc place) (w ∷ ws) = suc (length_to (if nat_eq w 0 then suc place 
 abbrev pub primaries : Weighting → List Element → List ℕ
 primaries weighting es = map (weight_at 1) (weighted weighting es)
 
--- the first place at which the lists of level 1 differ; where they do not, the one behind their last weight
+-- the first position at which the lists of level 1 differ; where they do not, the one after their last weight
 abbrev pub first_difference : Weighting → List Element → List Element → ℕ
 first_difference weighting left right = shared_length (level_list 1 (weighted weighting left)) (level_list 1 (weighted weighting right))
 

@@ -24,7 +24,7 @@ counted count (suc more) = min 18446744073709551615 (count + suc more)
 abbrev pub begun : List Element → FrontState
 begun es = record { elements = es; after_variable = false; passed = 0 }
 
--- behind the element at the front
+-- after the element at the front
 abbrev pub behind_one : Bool → ℕ → List Element → FrontState
 behind_one after_variable passed [] = record { elements = []; after_variable = after_variable; passed = passed }
 behind_one after_variable passed (e ∷ es) = record { elements = es; after_variable = is_after_variable after_variable e; passed = counted passed 1 }

@@ -5,19 +5,19 @@ use Rattle.std.specs.declared.cmp.Ordering.{Ordering}
 use Rattle.std.specs.declared.cmp.Ordering.TheVariants.{Equal}
 use Rattle.uca_weights.specs.declared.Element.{Element}
 use Rattle.uca_weights.specs.declared.Weighting.{Weighting}
-use Rattle.uca_key.specs.declared.walks.Step.{Step}
-use Rattle.uca_key.specs.declared.walks.Step.TheVariants.{Either, Both, Left, Right}
-use Rattle.uca_key.specs.declared.walks.Look.{Look}
-use Rattle.uca_key.specs.declared.walks.Look.TheVariants.{May, Differ}
-use Rattle.uca_key.specs.declared.walks.LevelsSoFar.{LevelsSoFar}
-use Rattle.uca_key.specs.declared.walks.Walked.{Walked}
+use Rattle.uca_key.specs.declared.walk.Step.{Step}
+use Rattle.uca_key.specs.declared.walk.Step.TheVariants.{Either, Both, Left, Right}
+use Rattle.uca_key.specs.declared.walk.Look.{Look}
+use Rattle.uca_key.specs.declared.walk.Look.TheVariants.{May, Differ}
+use Rattle.uca_key.specs.declared.walk.LevelsSoFar.{LevelsSoFar}
+use Rattle.uca_key.specs.declared.walk.Walked.{Walked}
 use Rattle.uca_key.specs.Levels.{Comparison, dictionary, weight_at, weighted, level_list, level_lists_from, compare_from}
 use Rattle.uca_key.specs.Fetched.{shared_length, length_to}
-use Rattle.uca_key.specs.Fronts.{FrontState, weights_left, weight_here, is_ended, counted, fetched}
+use Rattle.uca_key.specs.Fronts.{FrontState, advanced, weights_left, weight_here, is_ended, counted, fetched}
 
 -- ---- What the weights at the fronts allow
 
--- the lists of a level compare behind this step as before it, where these are its weights at the fronts
+-- the lists of a level compare after this step as before it, where these are its weights at the fronts
 abbrev pub AllowsWith : Step → ℕ → ℕ → Bool → Bool → Type 0
 AllowsWith Either left right left_ended right_ended = (left ≡ 0) × (right ≡ 0)
 AllowsWith Both left right left_ended right_ended = left ≡ right
@@ -26,6 +26,13 @@ AllowsWith Right left right left_ended right_ended = (right ≡ 0) × (right_end
 
 abbrev pub Allows : Weighting → Step → ℕ → FrontState → FrontState → Type 0
 Allows weighting step level left right = AllowsWith step (weight_here weighting level left) (weight_here weighting level right) (is_ended left) (is_ended right)
+
+-- the fronts before a step, and after it
+abbrev pub IsTaken : Step → FrontState → FrontState → FrontState → FrontState → Type 0
+IsTaken Either left right new_left new_right = (new_left ≡ advanced left) × (new_right ≡ advanced right)
+IsTaken Both left right new_left new_right = (new_left ≡ advanced left) × (new_right ≡ advanced right)
+IsTaken Left left right new_left new_right = (new_left ≡ advanced left) × (new_right ≡ right)
+IsTaken Right left right new_left new_right = (new_left ≡ left) × (new_right ≡ advanced right)
 
 -- what two steps allow together
 abbrev pub together : Step → Step → Option Step
@@ -85,7 +92,7 @@ GoesOn weighting es fs left right level =
     GoOn (weights_left weighting level left) (weights_left weighting level right) left.passed right.passed
     (order_at weighting es fs level) (fetched_left_at weighting es fs level) (fetched_right_at weighting es fs level)
 
--- The levels up to `through` go on; the one behind them decides, if there is one; and the counts are those of the first level once it
+-- The levels up to `through` go on; the one after them decides, if there is one; and the counts are those of the first level once it
 -- decides.
 pub record Stands (weighting : Weighting) (es fs : List Element) (left right : FrontState) (levels : LevelsSoFar) : Type 0 where
   pub within : (levels.first ≤ suc levels.through) × (levels.through ≤ levels.last) × (levels.first ≤ levels.last) × (levels.last ≤ 4)
@@ -98,14 +105,14 @@ pub record Stands (weighting : Weighting) (es fs : List Element) (left right : F
 abbrev pub decided_level : ℕ → ℕ → ℕ
 decided_level through last = if nat_lt through last then suc through else 0
 
--- ---- What a walk answers
+-- ---- What a walk returns
 
 -- how two texts compare at so many levels
 abbrev pub compared_levels : Weighting → List Element → List Element → ℕ → ℕ → Comparison
 compared_levels weighting es fs first count =
     compare_from first (level_lists_from first count (weighted weighting es)) (level_lists_from first count (weighted weighting fs))
 
--- the order and the level at the levels `first` to that of the answer, which is at most `last`, and the counts of the first one
+-- the order and the level at the levels `first` to that of the result, which is at most `last`, and the counts of the first one
 pub record Walks (weighting : Weighting) (first last : ℕ) (es fs : List Element) (w : Walked) : Type 0 where
   pub within : (first ≤ w.last) × (w.last ≤ last)
   pub order_is : w.order ≡ (compared_levels weighting es fs first (suc w.last - first)).order

@@ -7,7 +7,7 @@ ghost use Rattle.uca_key.specs.Fetched.{fetched_left, fetched_right};
 ghost use Rattle.uca_key.specs.Comparisons.{ComparesLevels, compared_points};
 
 use crate::stored::level_count;
-use crate::walks::{Walked, walk};
+use crate::walk::{Walked, walk};
 use std::alloc::Allocator;
 use std::cmp::Ordering;
 use uca_match::{Collator, Lookup};
@@ -21,8 +21,8 @@ pub struct Compared {
     pub order: Ordering,
     /// The first level at which they differ, from 1 on, or 0 where none does.
     pub level: u8,
-    /// How many elements of the left text there are up to the one that holds the first level-1 weight in which the
-    /// texts differ, or in all, where it has no such weight or level 1 is equal.
+    /// How many elements the left text has up to the one with the first level-1 weight that differs. If it has no such
+    /// weight, or level 1 is equal, the number of all its elements.
     pub fetched_left: u64,
     /// The same of the right text.
     pub fetched_right: u64,
@@ -50,7 +50,7 @@ fn compare_levels<'a, L: Lookup, A: Allocator>(
     walked
 }
 
-// How two texts compare by their code points, which stand behind all levels of the weighting.
+// How two texts compare by their code points, which come after all levels of the weighting.
 fn compare_points(weighting: Weighting, left: &Normal, right: &Normal) -> (Ordering, u8)
     ensures { let answer = compared_points weighting left.now.points right.now.points in
         (result.0 ≡ answer.order) × (result.1 ≡ answer.level) }
@@ -61,13 +61,13 @@ fn compare_points(weighting: Weighting, left: &Normal, right: &Normal) -> (Order
     }
 }
 
-/// How two texts compare (UTS #10, section 1.1): by the first level whose weights differ, and at the depth `Identical`
-/// behind all levels by their code points in Normalization Form D. These are the order and the level of
+/// How two texts compare (UTS #10, section 1.1): by the first level whose weights differ. If none differs, at the depth
+/// `Identical` their code points in Normalization Form D decide. These are the order and the level of
 /// [`compare_keys`](crate::compare_keys) for the keys of the two texts.
 ///
-/// No key is made, and no memory taken. One walk over both texts, side by side, compares all levels: it ends at the first
-/// weight of level 1 that differs, and else behind both texts. Only where two levels do not let the texts go on together the
-/// later one is walked once more, by itself or with those behind it.
+/// It makes no key and takes no memory. One walk over both texts, side by side, compares all levels. It ends at the
+/// first weight of level 1 that differs, or else after both texts. Where two levels do not let the texts go on
+/// together, another walk compares the later one, alone or with the levels after it.
 ///
 /// The counts are those of level 1, but at most `u64::MAX`. Under rows of at most 32 elements, as every table has them,
 /// no text has so many elements ([`counts_are_exact`](crate::laws::counts_are_exact)).

@@ -1,4 +1,4 @@
-//! Where a comparison stands in a text: at one of its collation elements, or behind the last.
+//! `Front`: a position in a text during a comparison, at one of its collation elements or after the last.
 
 ghost use Rattle.std.specs.Prelude.{◌≡◌};
 ghost use Rattle.std.specs.Bool.{OnTrue};
@@ -16,9 +16,9 @@ use uca_weights::{Element, Weighting};
 /// The collation elements of a text from the front on.
 #[derive(Drop)]
 pub(crate) struct Front<'a, L: Lookup, A: Allocator> {
-    // the element at the front, or none behind the last
+    // the element at the front, or none after the last
     element: Option<Element>,
-    // those behind it
+    // the elements after it
     elements: Elements<'a, L, A>,
     // whether the nearest element with a primary weight before them is variable
     after_variable: bool,
@@ -52,7 +52,7 @@ impl<'a, L: Lookup, A: Allocator> Front<'a, L, A> {
         }
     }
 
-    /// Goes on to the next element; behind the last it stays.
+    /// Goes on to the next element. After the last one it stays.
     pub(crate) fn advance(&mut self)
         ensures { self.new ≡ advanced self.old }
     {
@@ -64,7 +64,7 @@ impl<'a, L: Lookup, A: Allocator> Front<'a, L, A> {
         self.element = self.elements.next();
     }
 
-    /// Whether it is behind the last element.
+    /// Whether it is after the last element.
     pub(crate) fn is_ended(&self) -> bool
         ensures { result ≡ Fronts.is_ended self.now }
     {
@@ -81,8 +81,8 @@ impl<'a, L: Lookup, A: Allocator> Front<'a, L, A> {
         }
     }
 
-    /// Whether two fronts have the same element, with the same weights, or both none. It is asked for speed alone, and `false`
-    /// says nothing.
+    /// Whether two fronts have the same element with the same weights, or both have none. It is a test for speed alone:
+    /// `false` says nothing.
     pub(crate) fn agrees(&self, other: &Front<'a, L, A>) -> bool
         ensures { OnTrue result (Agree self.now other.now) }
     {

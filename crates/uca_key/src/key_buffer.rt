@@ -1,19 +1,19 @@
-//! A place for keys, which is used for one key after another.
+//! `KeyBuffer`: memory that is used for one key after another.
 
 ghost use Rattle.std.specs.Prelude.{◌≡◌, [], ◌<◌, ◌^◌, length, OnOk};
 ghost use Rattle.uca_match.specs.Collations.{collation_of};
 ghost use Rattle.uca_key.specs.Depths.{read_text, key_at};
 ghost use Rattle.uca_key.specs.Lengths.{HasShortRows};
 
-use crate::levels::LevelBuffers;
+use crate::level_buffers::LevelBuffers;
 use std::alloc::{AllocError, Allocator, Global};
 use std::marker::Model;
 use uca_match::{Collator, Lookup};
 use uca_text::Normal;
 use uca_weights::{Depth, Weighting};
 
-/// A place for sort keys (UTS #10, section 7.3) under one weighting and at one depth: each key that is written takes the
-/// place of the one before, and the memory is used again.
+/// Memory for sort keys (UTS #10, section 7.3) under one weighting and at one depth. Each key that is written replaces
+/// the one before, and the memory is used again.
 #[derive(Drop)]
 pub struct KeyBuffer<A: Allocator = Global> {
     weighting: Weighting,

@@ -9,7 +9,7 @@ ghost use Rattle.uca_key.specs.Depths.{read_text, key_at};
 ghost use Rattle.uca_key.specs.Lengths.{HasShortRows};
 
 use crate::KeyBuffer;
-use crate::levels::LevelBuffers;
+use crate::level_buffers::LevelBuffers;
 use std::alloc::{AllocError, Allocator};
 use uca_match::{Collator, Lookup};
 use uca_text::Normal;

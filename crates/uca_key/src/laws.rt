@@ -19,8 +19,9 @@ pub fn stored_keys_compare_as_elements()
     ensures { StoredKeysCompareAsElements }
 {}
 
-/// The keys of two texts compare as the texts do, at either depth: what [`compare`](crate::compare) answers of two texts
-/// is what [`compare_keys`](crate::compare_keys) answers of their keys, with [`level_count`](crate::level_count) levels.
+/// The keys of two texts compare as the texts do, at either depth: [`compare`](crate::compare) returns the same for
+/// two texts as [`compare_keys`](crate::compare_keys) returns for their keys, with
+/// [`level_count`](crate::level_count) levels.
 pub fn keys_compare_as_texts()
     ensures { KeysCompareAsTexts }
 {}

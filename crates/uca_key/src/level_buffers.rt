@@ -121,7 +121,7 @@ impl<A: Allocator> LevelBuffers<A> {
         }
     }
 
-    /// Puts the identical level behind the key: the code points, three bytes each with the high byte first.
+    /// Appends the identical level to the key: the code points, three bytes each with the high byte first.
     pub(crate) fn push_points(&mut self, points: &[char]) -> Result<(), AllocError>
         ensures { OnOk result (self.new.key ≡ self.old.key ++ (0 ∷ 0 ∷ points_bytes points.now)) }
     {

@@ -1,20 +1,20 @@
-//! Sort keys (UTS #10, section 7.3): the levels of the collation elements of a text, one after the other,
-//! as bytes that compare as the texts do, with an identical level behind them or without; how two stored keys
-//! compare; and how two texts do, without keys.
+//! Sort keys (UTS #10, section 7.3), and comparison. A key holds the levels of the collation elements of a text in
+//! order, with an identical level after them or without. Keys compare as bytes, and give the order of their texts.
+//! Two texts also compare without keys.
 #![tactic(auto)]
 
-pub mod buffers;
 pub mod comparison;
-mod fronts;
+mod front;
+pub mod key_buffer;
 pub mod keys;
 pub mod laws;
-mod levels;
+mod level_buffers;
 pub mod stored;
-mod walks;
+mod walk;
 pub mod weighting;
 
-pub use buffers::KeyBuffer;
 pub use comparison::{Compared, compare};
+pub use key_buffer::KeyBuffer;
 pub use keys::{key, key_of};
 pub use stored::{compare_keys, level_count};
 pub use weighting::{is_after_variable, weights_of};

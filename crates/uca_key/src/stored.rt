@@ -5,12 +5,12 @@ ghost use Rattle.uca_key.specs.Levels.{dictionary};
 ghost use Rattle.uca_key.specs.Depths.{levels_at};
 ghost use Rattle.uca_key.specs.StoredKeys.{shared_separators, stored_level};
 
-use crate::levels::SEPARATOR;
+use crate::level_buffers::SEPARATOR;
 use std::cmp::Ordering;
 use uca_weights::{Depth, Weighting};
 
-/// How many levels a key has: 3 under `NonIgnorable` and 4 under `Shifted` (UTS #10, section 4), and one more at the depth
-/// `Identical`.
+/// How many levels a key has: 3 under `NonIgnorable` and 4 under `Shifted` (UTS #10, section 4), and one more at the
+/// depth `Identical`.
 pub fn level_count(weighting: Weighting, depth: Depth) -> u8
     ensures { result ≡ levels_at depth weighting }
 {
@@ -29,7 +29,7 @@ pub fn level_count(weighting: Weighting, depth: Depth) -> u8
 ///
 /// The order is that of the bytes, where a beginning is less. The level is one more than the groups `00 00`
 /// among the groups of two bytes before the first group that differs, or that one side is without; a last
-/// single byte is a group. So every two slices have an answer. For two keys of one weighting and one
+/// single byte is a group. So any two slices can be compared. For two keys of one weighting and one
 /// depth, with as many levels as they have ([`level_count`]), these are the order and
 /// the level of multilevel comparison (UTS #10, section 1.1), as
 /// [`keys_compare_as_texts`](crate::laws::keys_compare_as_texts) says.

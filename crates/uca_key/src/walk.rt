@@ -4,9 +4,9 @@ ghost use Rattle.std.specs.Prelude.{◌≡◌, ◌≤◌, ◌<◌, ℕ, List, fa
 ghost use Rattle.uca_match.specs.Collations.{collation_of, elements_of};
 ghost use Rattle.uca_weights.specs.declared.Element.{Element};
 ghost use Rattle.uca_key.specs.Walks;
-ghost use Rattle.uca_key.specs.Walks.{Says, Allows, Stands, Walks, together};
+ghost use Rattle.uca_key.specs.Walks.{Says, Allows, IsTaken, Stands, Walks, together};
 
-use crate::fronts::Front;
+use crate::front::Front;
 use std::alloc::Allocator;
 use std::cmp::Ordering;
 use uca_match::{Collator, Lookup};
@@ -37,6 +37,24 @@ impl Step {
             (Step::Left, Step::Left) => Some(Step::Left),
             (Step::Right, Step::Right) => Some(Step::Right),
             _ => None,
+        }
+    }
+
+    // Takes the step: one text goes on, or both do.
+    fn take<'a, L: Lookup, A: Allocator>(
+        self,
+        left: &mut Front<'a, L, A>,
+        right: &mut Front<'a, L, A>,
+    )
+        ensures { IsTaken self left.old right.old left.new right.new }
+    {
+        match self {
+            Step::Left => left.advance(),
+            Step::Right => right.advance(),
+            Step::Either | Step::Both => {
+                left.advance();
+                right.advance();
+            }
         }
     }
 }
@@ -74,8 +92,8 @@ struct LevelsSoFar {
 }
 
 impl LevelsSoFar {
-    // How the texts may go on from their fronts. A level that differs here decides, and those behind it no longer
-    // matter. Where two levels allow no step together, the second and those behind it are left for another walk.
+    // How the texts may go on from their fronts. A level that differs here decides, and the levels after it no longer
+    // matter. Where two levels allow no step together, the second and those after it are left for another walk.
     fn step<'a, L: Lookup, A: Allocator>(
         &mut self,
         weighting: Weighting,
@@ -94,18 +112,19 @@ impl LevelsSoFar {
         let mut step = Step::Either;
         let mut level = self.first;
         while level <= self.through {
-            let at = usize::from(level - 1);
+            let before = level - 1;
+            let at = usize::from(before);
             let found = match look_at(first[at], second[at], left.is_ended(), right.is_ended()) {
                 Look::May(found) => found,
                 Look::Differ(order) => {
-                    self.through = level - 1;
+                    self.through = before;
                     self.order = order;
                     return step;
                 }
             };
             let Some(both) = step.with(found) else {
-                self.through = level - 1;
-                self.last = level - 1;
+                self.through = before;
+                self.last = before;
                 self.order = Ordering::Equal;
                 return step;
             };
@@ -176,14 +195,7 @@ pub(crate) fn walk<'a, L: Lookup, A: Allocator>(
         if levels.through < first {
             break;
         }
-        match step {
-            Step::Left => left.advance(),
-            Step::Right => right.advance(),
-            Step::Either | Step::Both => {
-                left.advance();
-                right.advance();
-            }
-        }
+        step.take(&mut left, &mut right);
     }
     Walked {
         order: levels.order,

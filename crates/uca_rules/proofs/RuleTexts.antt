@@ -13,7 +13,7 @@ use Rattle.std.specs.Char.{IsScalar}
 use Rattle.uca_values.specs.Content.{Properties}
 use Rattle.uca_text.specs.Texts.{Spelled, spelled}
 use Rattle.uca_text.specs.Limits.{IsAccepted}
-use Rattle.uca_text.specs.declared.limits.TextFault.TheVariants.{TooLong, LongRun}
+use Rattle.uca_text.specs.declared.normalize.TextFault.TheVariants.{TooLong, LongRun}
 use Rattle.uca_text.specs.Faults.{IsCause}
 use Rattle.uca_rules.specs.Relations.{IsRuleText}
 use Rattle.uca_rules.specs.declared.characters.Character.{Character}

@@ -8,8 +8,8 @@ use Rattle.uca_text.specs.Texts.{Spelled, spelled}
 use Rattle.uca_text.specs.Limits.{IsAccepted, IsFirstLongRun}
 use Rattle.uca_runs.specs.declared.faults.InputKind.TheVariants.{Utf8, TooLong, LongRun, Limit}
 use Rattle.uca_text.specs.Faults.{IsCause}
-use Rattle.uca_text.specs.declared.limits.TextFault.{TextFault}
-use Rattle.uca_text.specs.declared.limits.TextFault.TheVariants as text_fault
+use Rattle.uca_text.specs.declared.normalize.TextFault.{TextFault}
+use Rattle.uca_text.specs.declared.normalize.TextFault.TheVariants as text_fault
 use Rattle.uca_runs.specs.Texts.{HasTextCause, text_kind}
 use Rattle.uca_runs.specs.Input.{text_cause, cause_of}
 use Rattle.uca_runs.proofs.LongRuns.{first_long_run_is, no_long_run_is}

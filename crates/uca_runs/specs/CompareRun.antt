@@ -11,7 +11,7 @@ use Rattle.uca_values.specs.Content.{TableContent, Properties}
 use Rattle.uca_text.specs.Texts.{spelled}
 use Rattle.uca_text.specs.Limits.{IsAccepted}
 use Rattle.uca_text.specs.Faults.{IsCause}
-use Rattle.uca_text.specs.declared.limits.TextFault.{TextFault}
+use Rattle.uca_text.specs.declared.normalize.TextFault.{TextFault}
 use Rattle.uca_key.specs.Levels.{Comparison}
 use Rattle.uca_runs.specs.declared.faults.RunFault.{RunFault}
 use Rattle.uca_runs.specs.declared.faults.RunFault.TheVariants.{Write, Memory, Text}

@@ -3,8 +3,8 @@ use Rattle.std.specs.Prelude.{◌≡◌, ℕ, ◌+◌, ◌<◌, ◌≤◌, ◌�
 use Rattle.std.specs.Io.KnownBytes.{Consumes, IsAtEnd}
 use Rattle.uca_values.specs.Content.{Properties}
 use Rattle.uca_text.specs.Texts.{Spelled, spelled}
-use Rattle.uca_text.specs.declared.limits.TextFault.{TextFault}
-use Rattle.uca_text.specs.declared.limits.TextFault.TheVariants as text_fault
+use Rattle.uca_text.specs.declared.normalize.TextFault.{TextFault}
+use Rattle.uca_text.specs.declared.normalize.TextFault.TheVariants as text_fault
 use Rattle.uca_lines.specs.NextLine.{HasBytes}
 use Rattle.uca_lines.specs.Lines.{is_lf, Lacks, ended, lines_of}
 use Rattle.uca_lines.specs.declared.lines.LineFault.{LineFault}

@@ -3,9 +3,9 @@
 #![tactic(auto)]
 
 mod laws;
-mod limits;
-mod texts;
+mod normal_text;
+mod normalize;
 
 pub use laws::canonically_equivalent_texts_are_spelled_alike;
-pub use limits::{TextFault, normal};
-pub use texts::Normal;
+pub use normal_text::Normal;
+pub use normalize::{TextFault, normal};

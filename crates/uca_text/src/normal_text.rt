@@ -1,4 +1,4 @@
-//! Texts that are ready to be collated.
+//! `Normal`: a text in Normalization Form D, which is ready to be collated.
 
 use std::alloc::{AllocError, Global};
 use std::fmt;
@@ -11,7 +11,7 @@ use std::marker::Model;
 pub struct Normal {
     pub(crate) chars: Vec<char>,
     pub(crate) classes: Vec<u8>,
-    // Memory for the next text. What it holds says nothing.
+    // Memory for the next text. Its contents do not matter.
     pub(crate) spare: Vec<char>,
 }
 

@@ -1,4 +1,4 @@
-//! Bringing a text to Normalization Form D within the limits.
+//! Normalizes a text: Normalization Form D, the class of each code point, and the limits.
 ghost use Rattle.std.specs.Prelude.{◌≡◌, ◌≤◌, [], chars, length, map, IfOk, IfErr, OnOk, OnErr};
 ghost use Rattle.std.specs.List.{AllByRecursion};
 ghost use Rattle.std.specs.Char.{IsScalar};
@@ -22,7 +22,7 @@ const LONGEST_TEXT: usize = 1_048_576;
 /// How many non-starters may stand in a row.
 const LONGEST_RUN: usize = 64;
 
-/// Why a text is refused.
+/// Why a text is rejected.
 #[derive(Clone, Copy, Debug, PartialEq, Eq, Error)]
 pub enum TextFault {
     /// It has more than 1,048,576 code points in Normalization Form D.
@@ -51,7 +51,7 @@ impl fmt::Display for TextFault {
 
 impl From<AllocError> for TextFault {
     ghost use Rattle.std.specs.Prelude.{◌≡◌};
-    ghost use Rattle.uca_text.specs.declared.limits.TextFault.TheVariants.{Memory};
+    ghost use Rattle.uca_text.specs.declared.normalize.TextFault.TheVariants.{Memory};
 
     ghost from_gives = { λ _ fault. fault ≡ Memory };
 
@@ -62,7 +62,7 @@ impl From<AllocError> for TextFault {
 
 impl<T: Drop> From<AllocFailed<T>> for TextFault {
     ghost use Rattle.std.specs.Prelude.{◌≡◌};
-    ghost use Rattle.uca_text.specs.declared.limits.TextFault.TheVariants.{Memory};
+    ghost use Rattle.uca_text.specs.declared.normalize.TextFault.TheVariants.{Memory};
 
     ghost from_gives = { λ _ fault. fault ≡ Memory };
 
@@ -118,7 +118,7 @@ impl Normal {
     }
 }
 
-/// Writes the text and its classes over what the two lists hold. `spare` only lends its memory.
+/// Replaces the contents of the two lists by the normalized text and its classes. `spare` only lends its memory.
 fn spell<A: Allocator>(
     points: &mut Vec<char>,
     spare: &mut Vec<char>,
@@ -143,7 +143,7 @@ fn decompose(points: &mut Vec<char>, spare: &mut Vec<char>, text: &str) -> Resul
     ensures { OnOk result (points.new.items ≡ nfd (chars text.now)) }
 {
     write_points(points, text)?;
-    // A code point for each byte: all are ASCII, and stand for themselves.
+    // One code point for each byte: the text is ASCII, and ASCII is in Normalization Form D.
     if points.len() == text.len() {
         return Ok(());
     }
@@ -153,7 +153,7 @@ fn decompose(points: &mut Vec<char>, spare: &mut Vec<char>, text: &str) -> Resul
     Ok(())
 }
 
-/// Writes the code points of the text as they stand.
+/// Writes the code points of the text without a change.
 #[tactic(auto, using(std::proofs::lemmas::Str::chars_from_encodes))]
 fn write_points(points: &mut Vec<char>, text: &str) -> Result<(), AllocError>
     ensures { OnOk result (points.new.items ≡ chars text.now) }

@@ -1,13 +1,12 @@
-use Rattle.std.proofs.Common.{◌≡◌, ◌≤◌, length, false, ◌∙◌, ap, refl, sym, subst, arith}
+use Rattle.std.proofs.Common.{◌≡◌, ◌≤◌, ◌⊎◌, inl, inr, length, false, ◌∙◌, ap, refl, sym, subst, arith}
 use Rattle.uca_match.specs.Collations.{collation_of, elements_of}
-use Rattle.uca_key.specs.declared.walks.LevelsSoFar.{LevelsSoFar}
+use Rattle.uca_key.specs.declared.walk.LevelsSoFar.{LevelsSoFar}
 use Rattle.uca_key.specs.Fronts.{FrontState, advanced, is_ended}
 use Rattle.uca_key.specs.Walks.{Stands}
-use Rattle.uca_key.proofs.FrontLemmas.{fewer_left}
-use Rattle.uca_key.proofs.WalkSteps.{stands_agreed, stands_begun, stands_left, stands_right, stands_both}
+use Rattle.uca_key.proofs.WalkSteps.{stands_agreed, stands_begun, stands_taken, fewer_taken}
 use Rattle.uca_key.proofs.LevelSteps.{walk_answers}
-use Rattle.uca_key.proofs.walks.walk.Goals as goal
-use Rattle.uca_key.proofs.walks.walk.Goals.{then-is_ended, else-is_ended, else-not-is_ended, then-not-is_ended+else-agrees+then-levels-first}
+use Rattle.uca_key.proofs.walk.walk.Goals as goal
+use Rattle.uca_key.proofs.walk.walk.Goals.{then-is_ended, else-is_ended, else-not-is_ended, then-not-is_ended+else-agrees+then-levels-first}
 
 pub loop-right-init : goal.loop-right-init
 loop-right-init g c =
@@ -19,51 +18,15 @@ loop-right-init g c =
       omega arith,
     )
 
-pub loop-right-smaller-in-Left : goal.loop-right-smaller-in-Left
-loop-right-smaller-in-Left g c =
+pub loop-right-smaller : goal.loop-right-smaller
+loop-right-smaller g c =
     let first = c.step-step.ensures.first ∙ c.loop-right.invariant.1 in
-    let ends : is_ended c.loop-right.left ≡ false = (c.in-Left.ensures.step c.args.first (omega (arith, first)) (omega (arith, c.if-levels-first.false))).1 in
-    let less = fewer_left c.loop-right.left ends in
-    let is = ap (λ (f : FrontState). length f.elements) c.advance-in-Left.ensures in
-    omega (arith, less, is)
-
-pub loop-right-smaller-in-Right : goal.loop-right-smaller-in-Right
-loop-right-smaller-in-Right g c =
-    let first = c.step-step.ensures.first ∙ c.loop-right.invariant.1 in
-    let ends : is_ended c.loop-right.right ≡ false = (c.in-Right.ensures.step c.args.first (omega (arith, first)) (omega (arith, c.if-levels-first.false))).1 in
-    let less = fewer_left c.loop-right.right ends in
-    let is = ap (λ (f : FrontState). length f.elements) c.advance-in-Right.ensures in
-    omega (arith, less, is)
-
-pub loop-right-preserved-in-Left : goal.loop-right-preserved-in-Left
-loop-right-preserved-in-Left g c =
-    let by = collation_of g.L.Lookup.content c.args.collator.now in
-    let es = elements_of by c.args.left.now in
-    let fs = elements_of by c.args.right.now in
-    let first : c.step-step.new.self.first ≡ c.args.first = c.step-step.ensures.first ∙ c.loop-right.invariant.1 in
-    let some : c.args.first ≤ c.step-step.new.self.through = omega (arith, c.if-levels-first.false) in (
-      subst (λ (f : FrontState). Stands c.args.weighting es fs f c.loop-right.right c.step-step.new.self) (sym c.advance-in-Left.ensures)
-          (stands_left c.args.weighting es fs c.loop-right.left c.loop-right.right c.step-step.new.self
-          (c.step-step.ensures.stands es fs c.loop-right.invariant.0) (omega (arith, first, some)) c.in-Left.ensures.step),
-      first,
-      some,
-      omega (arith, c.step-step.ensures.last, c.loop-right.invariant.3),
-    )
-
-pub loop-right-preserved-in-Right : goal.loop-right-preserved-in-Right
-loop-right-preserved-in-Right g c =
-    let by = collation_of g.L.Lookup.content c.args.collator.now in
-    let es = elements_of by c.args.left.now in
-    let fs = elements_of by c.args.right.now in
-    let first : c.step-step.new.self.first ≡ c.args.first = c.step-step.ensures.first ∙ c.loop-right.invariant.1 in
-    let some : c.args.first ≤ c.step-step.new.self.through = omega (arith, c.if-levels-first.false) in (
-      subst (λ (f : FrontState). Stands c.args.weighting es fs c.loop-right.left f c.step-step.new.self) (sym c.advance-in-Right.ensures)
-          (stands_right c.args.weighting es fs c.loop-right.left c.loop-right.right c.step-step.new.self
-          (c.step-step.ensures.stands es fs c.loop-right.invariant.0) (omega (arith, first, some)) c.in-Right.ensures.step),
-      first,
-      some,
-      omega (arith, c.step-step.ensures.last, c.loop-right.invariant.3),
-    )
+    let allowed = c.step-step.ensures.step c.args.first (omega (arith, first)) (omega (arith, c.if-levels-first.false)) in
+    let some : (is_ended c.loop-right.left ≡ false) ⊎ (is_ended c.loop-right.right ≡ false) = elim c.if-is_ended.branch [
+      | then-is_ended v ↦ inr (sym v.is_ended-then-is_ended.ensures ∙ sym v.value-is ∙ c.if-not-is_ended.true)
+      | else-is_ended v ↦ inl (sym c.is_ended.ensures ∙ v.if-is_ended.false)
+    ] in
+    fewer_taken c.step-step.result c.args.weighting c.args.first c.loop-right.left c.loop-right.right c.take.new.left c.take.new.right some allowed c.take.ensures
 
 pub loop-right-preserved : goal.loop-right-preserved
 loop-right-preserved g c =
@@ -71,11 +34,9 @@ loop-right-preserved g c =
     let es = elements_of by c.args.left.now in
     let fs = elements_of by c.args.right.now in
     let first : c.step-step.new.self.first ≡ c.args.first = c.step-step.ensures.first ∙ c.loop-right.invariant.1 in
-    let some : c.args.first ≤ c.step-step.new.self.through = omega (arith, c.if-levels-first.false) in
-    let stands = stands_both c.args.weighting es fs c.loop-right.left c.loop-right.right c.step-step.new.self c.step-step.result
-    (c.step-step.ensures.stands es fs c.loop-right.invariant.0) (omega (arith, first, some)) c.in-Either.is c.step-step.ensures.step in (
-      subst (λ (f : FrontState). Stands c.args.weighting es fs f c.advance-in-Either-2.new.self c.step-step.new.self) (sym c.advance-in-Either.ensures)
-          (subst (λ (f : FrontState). Stands c.args.weighting es fs (advanced c.loop-right.left) f c.step-step.new.self) (sym c.advance-in-Either-2.ensures) stands),
+    let some : c.args.first ≤ c.step-step.new.self.through = omega (arith, c.if-levels-first.false) in (
+      stands_taken c.step-step.result c.args.weighting es fs c.loop-right.left c.loop-right.right c.take.new.left c.take.new.right c.step-step.new.self
+          (c.step-step.ensures.stands es fs c.loop-right.invariant.0) (omega (arith, first, some)) c.step-step.ensures.step c.take.ensures,
       first,
       some,
       omega (arith, c.step-step.ensures.last, c.loop-right.invariant.3),

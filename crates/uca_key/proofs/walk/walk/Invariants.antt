@@ -1,7 +1,7 @@
 use Rattle.std.proofs.Common.{◌≡◌, ◌≤◌, ◌+◌, length}
 use Rattle.uca_match.specs.Collations.{collation_of, elements_of}
 use Rattle.uca_key.specs.Walks.{Stands}
-use Rattle.uca_key.proofs.walks.walk.Given as goal
+use Rattle.uca_key.proofs.walk.walk.Given as goal
 
 abbrev pub invariant-loop-right : goal.invariant-loop-right
 invariant-loop-right g l =

@@ -4,8 +4,8 @@ use Rattle.std.specs.Char.{IsScalar}
 use Rattle.uca_values.specs.Ranges.{class_in}
 use Rattle.uca_text.proofs.Runs.{nothing_counted, after_starter, after_non_starter, first_long_run, no_long_run, class_at, classes_more, all_classes, scalars_more}
 use Rattle.uca_text.proofs.Runs.{all_scalars}
-use Rattle.uca_text.proofs.limits.classify.Goals as goal
-use Rattle.uca_text.proofs.limits.classify.Goals.{then-class-eq0, else-class-eq0+then-run-lt-LONGEST_RUN}
+use Rattle.uca_text.proofs.normalize.classify.Goals as goal
+use Rattle.uca_text.proofs.normalize.classify.Goals.{then-class-eq0, else-class-eq0+then-run-lt-LONGEST_RUN}
 
 pub returns-else-run-lt-LONGEST_RUN-clause-fault :
     goal.returns-else-run-lt-LONGEST_RUN-clause-fault

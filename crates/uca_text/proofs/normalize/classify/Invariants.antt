@@ -3,7 +3,7 @@ use Rattle.std.specs.List.{AllByRecursion}
 use Rattle.std.specs.Char.{IsScalar}
 use Rattle.uca_values.specs.Ranges.{class_in}
 use Rattle.uca_text.proofs.Runs.{IsCounted}
-use Rattle.uca_text.proofs.limits.classify.Given as goal
+use Rattle.uca_text.proofs.normalize.classify.Given as goal
 
 abbrev pub invariant-loop-place : goal.invariant-loop-place
 invariant-loop-place g l = record {

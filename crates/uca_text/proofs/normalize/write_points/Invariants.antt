@@ -1,5 +1,5 @@
 use Rattle.std.proofs.Common.{◌≡◌}
-use Rattle.uca_text.proofs.limits.write_points.Given as goal
+use Rattle.uca_text.proofs.normalize.write_points.Given as goal
 
 abbrev pub invariant-loop-point : goal.invariant-loop-point
 invariant-loop-point l = l.points.items ≡ l.yielded

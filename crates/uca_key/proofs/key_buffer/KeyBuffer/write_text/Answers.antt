@@ -1,6 +1,6 @@
 use Rattle.uca_match.specs.Collations.{collation_of}
 use Rattle.uca_key.proofs.KeyLength.{weights_short, identical_short}
-use Rattle.uca_key.proofs.buffers.KeyBuffer.write_text.Goals as goal
+use Rattle.uca_key.proofs.key_buffer.KeyBuffer.write_text.Goals as goal
 
 pub returns-in-Weights-clause-short : goal.returns-in-Weights-clause-short
 returns-in-Weights-clause-short g c = λ short.

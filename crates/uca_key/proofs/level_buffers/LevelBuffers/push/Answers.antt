@@ -1,5 +1,5 @@
 use Rattle.uca_key.proofs.BufferLemmas.{pushed}
-use Rattle.uca_key.proofs.levels.LevelBuffers.push.Goals as goal
+use Rattle.uca_key.proofs.level_buffers.LevelBuffers.push.Goals as goal
 
 pub returns : goal.returns
 returns g c = λ es h.

@@ -1,6 +1,6 @@
 use Rattle.std.proofs.Common.{refl}
 use Rattle.uca_key.proofs.BufferLemmas.{written}
-use Rattle.uca_key.proofs.levels.LevelBuffers.write.Goals as goal
+use Rattle.uca_key.proofs.level_buffers.LevelBuffers.write.Goals as goal
 
 pub loop-element-init : goal.loop-element-init
 loop-element-init g c = c.clear.ensures c.args.weighting

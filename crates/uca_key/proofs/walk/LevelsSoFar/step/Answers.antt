@@ -1,8 +1,8 @@
 use Rattle.std.proofs.Common.{◌≤◌, ap, refl, arith}
-use Rattle.uca_key.specs.declared.walks.LevelsSoFar.{LevelsSoFar}
+use Rattle.uca_key.specs.declared.walk.LevelsSoFar.{LevelsSoFar}
 use Rattle.uca_key.proofs.FrontLemmas.{weight_is}
 use Rattle.uca_key.proofs.WalkSteps.{differs_at, stands_decided}
-use Rattle.uca_key.proofs.walks.LevelsSoFar.step.Goals as goal
+use Rattle.uca_key.proofs.walk.LevelsSoFar.step.Goals as goal
 
 pub returns-in-Differ-clause-stands : goal.returns-in-Differ-clause-stands
 returns-in-Differ-clause-stands g c = λ es fs stands.

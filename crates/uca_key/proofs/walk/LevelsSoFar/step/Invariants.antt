@@ -1,7 +1,7 @@
 use Rattle.std.proofs.Common.{◌+◌, ◌-◌, ◌≡◌, ◌≤◌, ◌<◌, ℕ}
-use Rattle.uca_key.specs.declared.walks.Step.TheVariants.{Either}
+use Rattle.uca_key.specs.declared.walk.Step.TheVariants.{Either}
 use Rattle.uca_key.specs.Walks.{Allows}
-use Rattle.uca_key.proofs.walks.LevelsSoFar.step.Given as goal
+use Rattle.uca_key.proofs.walk.LevelsSoFar.step.Given as goal
 
 -- the step is one that all levels before allow
 abbrev pub invariant-loop-level : goal.invariant-loop-level
