@@ -4,14 +4,14 @@ use std::alloc::{AllocError, Global};
 use std::test::Fail;
 use test_kit::{halves, same};
 use uca_lines::files::laws::{MayEndEarly, no_meaning_with_fault, one_meaning};
-use uca_lines::files::{FaultKind, FileForm, TABLE_FORM, TakesLines, read_lines};
+use uca_lines::files::{FaultKind, FileForm, LineParser, TABLE_FORM, read_lines};
 use uca_weights::Source;
 
 /// Takes any lines, which say nothing.
 #[derive(Drop)]
 struct AnyLines;
 
-impl TakesLines for AnyLines {
+impl LineParser for AnyLines {
     ghost use Rattle.std.specs.Prelude.{⊤};
     ghost use Rattle.uca_lines.specs.declared.files.TheConstants.{TABLE_FORM};
     ghost use Rattle.uca_lines.specs.FileStops.{is_read_kind};

@@ -1,3 +1,4 @@
+pub mod TextsLemmas
 pub mod LineLaws
 pub mod TakeLaws
 pub mod Exact

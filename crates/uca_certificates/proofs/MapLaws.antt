@@ -12,7 +12,7 @@ use Rattle.uca_certificates.specs.declared.faults.CertificateFault.{CertificateF
 use Rattle.uca_certificates.specs.Certificates.{CertificateContent, runs_at}
 use Rattle.uca_certificates.specs.Texts.{run_lines, lines_below, map_line}
 use Rattle.uca_certificates.specs.Steps.{fault_line, RefusesRuns, RefusesContent}
-use Rattle.uca_certificates.specs.OneMore.{length-run_lines}
+use Rattle.uca_certificates.proofs.TextsLemmas.{length-run_lines}
 
 -- the first run that is refused is one of the runs
 refused_within : (level : Level) (previous : Option Run) (runs : List Run) (index : ℕ) (kind : MapFaultKind)

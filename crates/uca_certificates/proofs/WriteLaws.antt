@@ -13,7 +13,7 @@ use Rattle.uca_lines.proofs.HandingLemmas.{part}
 use Rattle.uca_certificates.specs.Certificates.{CertificateContent, IsCertificate}
 use Rattle.uca_certificates.specs.Texts.{RunLine, run_text, of_level, run_lines, certificate_text}
 use Rattle.uca_certificates.specs.Steps.{level_text}
-use Rattle.uca_certificates.specs.OneMore.{length-run_lines}
+use Rattle.uca_certificates.proofs.TextsLemmas.{length-run_lines}
 use Rattle.uca_certificates.proofs.LineLaws.{length-run_text}
 use Rattle.uca_certificates.proofs.Sizes.{few_proper}
 

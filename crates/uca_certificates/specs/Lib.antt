@@ -2,5 +2,4 @@ pub mod Certificates
 pub mod Texts
 pub mod FaultText
 pub mod Steps
-pub mod OneMore
 pub mod Laws

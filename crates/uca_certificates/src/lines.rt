@@ -9,7 +9,7 @@ use crate::spelling::read_line;
 use crate::{CERTIFICATE_FORM, Certificate, CertificateFault, CertificateFaultKind};
 use std::alloc::{Allocator, Global};
 use std::marker::Model;
-use uca_lines::files::{FileForm, TakesLines};
+use uca_lines::files::{FileForm, LineParser};
 use uca_weights::{Level, MapFault, MapFaultKind, Run, WeightMap};
 
 /// How many runs a level may have.
@@ -111,12 +111,29 @@ impl<A: Allocator + Copy> Lines<A> {
     }
 }
 
-impl<A: Allocator + Copy> TakesLines for Lines<A> {
-    ghost use Rattle.std.specs.Prelude.{refl};
+impl<A: Allocator + Copy> Lines<A> {
+    ghost use Rattle.std.specs.Prelude.{◌≡◌, ◌⊎◌, OnOk, IfErr};
+    ghost use Rattle.uca_certificates.specs.Texts.{Cause};
+    ghost use Rattle.uca_certificates.specs.Steps.{Takes};
+
+    // Takes the next line, without its LF.
+    fn take_line(&mut self, line: &[u8]) -> Result<(), CertificateFaultKind>
+        ensures ok { OnOk result (Takes self.old line.now self.new) }
+        ensures fault { IfErr result (λ kind. (kind ≡ CertificateFaultKind.Memory) ⊎ Cause self.old line.now kind) }
+    {
+        let Some((level, run)) = read_line(line) else {
+            return Err(CertificateFaultKind::Line);
+        };
+        if self.is_passed(level) {
+            return Err(CertificateFaultKind::Order);
+        }
+        self.add(level, run)
+    }
+}
+
+impl<A: Allocator + Copy> LineParser for Lines<A> {
     ghost use Rattle.uca_certificates.specs.declared.TheConstants.{CERTIFICATE_FORM};
     ghost use Rattle.uca_certificates.specs.Texts.{Says, Cause, is_read_kind};
-    ghost use Rattle.uca_certificates.specs.Steps.{Takes};
-    ghost use Rattle.uca_certificates.specs.OneMore as one_more;
 
     type Kind = CertificateFaultKind;
 
@@ -126,8 +143,6 @@ impl<A: Allocator + Copy> TakesLines for Lines<A> {
 
     ghost says = { Says };
 
-    ghost takes = { Takes };
-
     ghost cause = { Cause };
 
     fn form() -> FileForm<CertificateFaultKind> {
@@ -135,22 +150,8 @@ impl<A: Allocator + Copy> TakesLines for Lines<A> {
     }
 
     fn take(&mut self, line: &[u8]) -> Result<(), CertificateFaultKind> {
-        let Some((level, run)) = read_line(line) else {
-            return Err(CertificateFaultKind::Line);
-        };
-        if self.is_passed(level) {
-            return Err(CertificateFaultKind::Order);
-        }
-        self.add(level, run)
+        self.take_line(line)
     }
-
-    ghost apart = { record { failed_read = refl; too_long = refl; too_many = tt; no_lf = refl; no_memory = refl } };
-
-    ghost no_read = { λ said line kind cause. one_more.not_read said line kind cause };
-
-    ghost says_more = { λ lines old line new before taken _ _. one_more.says_more lines old line new before taken };
-
-    ghost few = { λ lines said _ says. one_more.few_lines lines said says };
 }
 
 // Adds a run to those of a level.

@@ -58,8 +58,10 @@ emptied {b} {c} {s} {t} out empty count failed = record {
   hands = λ start before h.
       let whole : c.written ≡ length before = omega (arith, count, h.went_out.1, ap length h.held, length-drop b.written before) in
       subst (λ (text : List ℕ). HandedOver start t.contents text c) (sym (append-nil before)) (record {
-        went_out = (subst (λ (text : List ℕ). Appends start t.contents text) (sym (take_all c.written before (omega (arith, whole)))) (out start before h),
-            omega (arith, whole));
+        went_out = (
+          subst (λ (text : List ℕ). Appends start t.contents text) (sym (take_all c.written before (omega (arith, whole)))) (out start before h),
+          omega (arith, whole),
+        );
         held = empty ∙ sym (drop_all c.written before (omega (arith, whole)));
       });
   count = omega (arith, count, ap length empty);

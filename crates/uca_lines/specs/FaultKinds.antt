@@ -1,4 +1,4 @@
--- What the faults of the loop that reads files are called, for the contracts of that loop and of what takes the lines.
+-- What the errors of the loop that reads files are called, for the contracts of that loop and of parsers of lines.
 use Rattle.std.specs.Prelude.{◌≡◌, Bool, true, false, IfSome, Result, Ok, Err}
 use Rattle.std.specs.Option.{unwrap_or}
 use Rattle.uca_lines.specs.declared.files.FileForm.{FileForm}
@@ -24,7 +24,7 @@ abbrev pub is_read_step : {X K : Type 0} → (K → Bool) → Result X K → Boo
 is_read_step is_read (Ok x) = false
 is_read_step is_read (Err kind) = is_read kind
 
--- what the form calls a fault of a line reader
+-- what the form calls an error of a line reader
 abbrev pub kind_of_fault : {K : Type 0} → FileForm K → LineFault → K
 kind_of_fault form TooLong = form.too_long
 kind_of_fault form Limit = unwrap_or form.too_many form.too_long

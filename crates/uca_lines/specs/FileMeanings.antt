@@ -21,7 +21,7 @@ pub record IsExactByLine {K S : Type 0} (Says : List (List ℕ) → S → Type 0
 abbrev pub OneMeaning : {K S : Type 0} → FileForm K → (List (List ℕ) → S → Type 0) → Type 0
 OneMeaning {K} {S} form Says = (bytes : List ℕ) (s t : S) → Reads form Says bytes s → Reads form Says bytes t → s ≡ t
 
--- bytes in which a fault stands mean nothing with which a file may end
+-- bytes in which an error stands mean nothing with which a file may end
 abbrev pub NoMeaning : {K S : Type 0} → FileForm K → (List (List ℕ) → S → Type 0) → (S → List ℕ → K → Type 0) → (S → Type 0) → Type 0
 NoMeaning {K} {S} form Says Cause IsUnfinished = (bytes : List ℕ) (number : ℕ) (kind : K) (s : S)
     → HasFault form Says Cause IsUnfinished bytes number kind → Reads form Says bytes s → (IsUnfinished s → ⊥) → ⊥

@@ -1,4 +1,4 @@
--- Which faults of a table file or a data file are stops: reading went no further, and the bytes are not to blame.
+-- Which errors of a table file or a data file are stops: reading went no further, and the bytes are not to blame.
 use Rattle.std.specs.Prelude.{◌≡◌, ◌⊎◌, Bool, true, false, Result, Ok, Err}
 use Rattle.uca_values.specs.declared.faults.FaultKind.{FaultKind}
 use Rattle.uca_values.specs.declared.faults.FaultKind.TheVariants as kinds

@@ -1,7 +1,7 @@
--- Files of lines: which bytes are lines, what the bytes mean, and where a fault stands.
+-- Files of lines: which bytes are lines, what the bytes mean, and where an error stands.
 --
--- How a kind of file is cut into lines, and what its faults are called, is its form. What its lines say is (Says lines s):
--- the lines, from the first on, are acceptable in order and say s. Why the next line is refused is (Cause s line kind).
+-- How a kind of file is cut into lines, and what its errors are called, is its form. What its lines say is (Says lines s):
+-- the lines, from the first on, are acceptable in order and say s. Why the next line is rejected is (Cause s line kind).
 use Rattle.std.specs.Prelude.{◌≡◌, ◌≢◌, ℕ, suc, ◌<◌, ◌≤◌, ◌⊎◌, ⊤, List, [], ◌∷◌, ◌++◌, length, Option, Some, IfSome, IsSomeAnd}
 use Rattle.std.specs.List.{flat_map, AllByRecursion}
 use Rattle.uca_lines.specs.Lines.{is_lf, Lacks, ended}
@@ -108,7 +108,7 @@ RefusesLine form Says Cause bytes left number kind = ((kind ≡ form.failed_read
     ⊎ ((kind ≡ form.no_memory) × StopsAt form Says bytes number)
     ⊎ FaultInLine form Says Cause bytes number kind
 
--- why a file of known bytes was refused: one of its lines was, or it may not end where it does
+-- why a file of known bytes was rejected: one of its lines was, or it may not end where it does
 abbrev pub Refuses : {K S : Type 0} → FileForm K → (List (List ℕ) → S → Type 0) → (S → List ℕ → K → Type 0) → (S → Type 0) → List ℕ → Option (List ℕ)
     → ℕ → K → Type 0
 Refuses form Says Cause IsUnfinished bytes left number kind =

@@ -1,11 +1,11 @@
--- What handing a text over does to a buffer and a sink.
+-- What writing a text does to a buffer and a sink.
 use Rattle.std.specs.Prelude.{◌≡◌, ℕ, ◌+◌, ◌^◌, ◌<◌, true, List, ◌++◌, length, Option, Result, MatchResult}
 use Rattle.uca_weights.specs.Streams.{SinkState}
 use Rattle.uca_weights.specs.Writes.{WentOut}
 use Rattle.uca_weights.specs.declared.streams.sink.WriteFault.{WriteFault}
 use Rattle.uca_lines.specs.OutputBuffer.{BufferState, HandedOver}
 
--- how many bytes were handed over
+-- how many bytes were written to the buffer
 abbrev pub count_of : BufferState → ℕ
 count_of buffer = buffer.written + length buffer.held
 
@@ -13,18 +13,18 @@ count_of buffer = buffer.written + length buffer.held
 abbrev pub HasRoom : BufferState → ℕ → Type 0
 HasRoom buffer more = count_of buffer + more < 2 ^ 64
 
--- the text has been handed over, whatever the writer held at the start, and whatever was handed over since
+-- the text was written to the buffer, whatever the writer held at the start, and whatever was written since
 pub record HasHanded (text : List ℕ) (buffer held : BufferState) (out now : SinkState) : Type 0 where
   pub hands : (start : Option (List ℕ)) (before : List ℕ) → HandedOver start out.contents before buffer → HandedOver start now.contents (before ++ text) held
   pub count : count_of held ≡ count_of buffer + length text
   pub failed : now.failed ≡ out.failed
 
--- the writer failed after so many bytes of all that was handed over and the text
+-- the writer failed after this many bytes of all that was written before and of the text
 pub record FailsToHand (text : List ℕ) (buffer : BufferState) (out now : SinkState) (written : ℕ) : Type 0 where
   pub went_out : (start : Option (List ℕ)) (before : List ℕ) → HandedOver start out.contents before buffer → WentOut start now.contents (before ++ text) written
   pub not_all : written < count_of buffer + length text
   pub failed : now.failed ≡ true
 
--- a text was handed over, or the writer failed
+-- a text was written to the buffer, or the writer failed
 abbrev pub Hands : {A : Type 0} → List ℕ → BufferState → BufferState → SinkState → SinkState → Result A WriteFault → Type 0
 Hands text buffer held out now r = MatchResult r (λ _. HasHanded text buffer held out now) (λ fault. FailsToHand text buffer out now fault.written)

@@ -17,8 +17,8 @@ BeginsLonger known n = IfSome known (λ xs. n < position_or_len is_lf xs)
 abbrev pub HasBytes : Option (List ℕ) → Type 0
 HasBytes known = IfSome known (λ xs. 0 < length xs)
 
--- Known bytes were left, and lost the line and its LF, the last line, or the part of a line that was read before a
--- fault. `line` is that line or part.
+-- Known bytes were left, and lost the line and its LF, the last line, or the part of a line that was read before an
+-- error. `line` is that line or part.
 abbrev pub SaysOfBytes : Option (List ℕ) → Option (List ℕ) → List ℕ → ℕ → Result NextLine LineFault → Type 0
 SaysOfBytes old new line longest (Ok Terminated) = Consumes old new (ended line)
 SaysOfBytes old new line longest (Ok Unterminated) = Consumes old new line × IsAtEnd new
@@ -28,7 +28,7 @@ SaysOfBytes old new line longest (Err Limit) = Consumes old new line × HasBytes
 SaysOfBytes old new line longest (Err Read) = Consumes old new line
 SaysOfBytes old new line longest (Err Memory) = Consumes old new line × HasBytes old
 
--- with so many lines before, this may be answered: the limit comes before all else but the end and a failed read
+-- with this many lines before, this may be returned: the limit comes before all else but the end and a failed read
 abbrev pub IsWithinLimit : ℕ → Result NextLine LineFault → Type 0
 IsWithinLimit number (Ok Terminated) = number < LINE_LIMIT
 IsWithinLimit number (Ok Unterminated) = number < LINE_LIMIT
@@ -45,7 +45,7 @@ is_line (Ok Unterminated) = true
 is_line (Ok EndOfInput) = false
 is_line (Err fault) = false
 
--- whether the fault is the reader's
+-- whether the error is the reader's
 abbrev pub is_read : Result NextLine LineFault → Bool
 is_read (Ok next) = false
 is_read (Err TooLong) = false

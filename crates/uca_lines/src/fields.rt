@@ -3,7 +3,7 @@
 //! A blank is a space or a tab. All numbers are hexadecimal with upper-case digits, but for classes.
 
 ghost use Rattle.std.specs.Prelude.{◌≡◌, Some};
-ghost use Rattle.uca_lines.specs.CodePointRanges.{range_fault_text};
+ghost use Rattle.uca_lines.specs.CodePointRanges.{range_syntax_text};
 
 mod cuts;
 mod numbers;
@@ -17,31 +17,31 @@ use std::fmt;
 
 /// Why a text is no range of code points.
 #[derive(Debug, Drop)]
-pub enum RangeFault {
+pub enum RangeSyntax {
     /// It has no `..`.
     NoDots,
     /// The text before or after the first `..` is no code point.
     CodePoint,
 }
 
-impl RangeFault {
+impl RangeSyntax {
     // The words for this error.
     fn text(&self) -> &'static str
-        ensures { result.now ≡ range_fault_text self.now }
+        ensures { result.now ≡ range_syntax_text self.now }
     {
         match self {
-            RangeFault::NoDots => "no `..`",
-            RangeFault::CodePoint => "no code point",
+            RangeSyntax::NoDots => "no `..`",
+            RangeSyntax::CodePoint => "no code point",
         }
     }
 }
 
-impl fmt::Display for RangeFault {
-    ghost output = { λ fault. Some (range_fault_text fault) };
+impl fmt::Display for RangeSyntax {
+    ghost output = { λ fault. Some (range_syntax_text fault) };
 
     fn fmt<W: fmt::Write>(&self, f: &mut fmt::Formatter<W>) -> fmt::Result {
         f.write_str(self.text())
     }
 }
 
-impl Error for RangeFault {}
+impl Error for RangeSyntax {}

@@ -1,4 +1,4 @@
-//! Files that are read line by line: what each line must be, where a fault stands, and the loop that
+//! Files that are read line by line: what each line must be, where an error stands, and the loop that
 //! reads them.
 
 ghost use Rattle.std.specs.Prelude.{◌≡◌, ◌⊎◌, ℕ, ◌<◌, ◌≤◌, List, [], ◌∷◌, ◌++◌, length, Bool, false, None, OnOk, IfErr};
@@ -16,19 +16,19 @@ pub use uca_values::{FaultKind, TableFault};
 pub struct FileForm<K> {
     /// How many bytes a line may have, its LF not counted.
     pub longest: usize,
-    /// The fault of a line with more bytes.
+    /// The kind of a line with more bytes.
     pub too_long: K,
-    /// The fault of line 1,000,001. None where the lines that a file may have are fewer in any case.
+    /// The kind of line 1,000,001. None where the lines that a file may have are fewer in any case.
     pub too_many: Option<K>,
-    /// The fault of a last line that no LF ends.
+    /// The kind of a last line that no LF ends.
     pub no_lf: K,
-    /// Whether a last line that no LF ends is refused before what it says is judged.
+    /// Whether a last line that no LF ends is rejected before what it says is judged.
     pub lf_first: bool,
-    /// The fault where the reader failed.
+    /// The kind where the reader failed.
     pub failed_read: K,
-    /// The fault where an allocation failed.
+    /// The kind where an allocation failed.
     pub no_memory: K,
-    /// The fault of a file that ends too early. None where a file may end after any line.
+    /// The kind of a file that ends too early. None where a file may end after any line.
     pub early_end: Option<K>,
 }
 
@@ -44,12 +44,12 @@ pub const TABLE_FORM: FileForm<FaultKind> = FileForm {
     early_end: Some(FaultKind::Order),
 };
 
-/// A file is refused: the line, and why. A file that ends too early has the number of its lines plus one.
+/// Why a file is rejected: the line, and the kind. A file that ends too early has the number of its lines plus one.
 #[derive(Debug, Drop)]
 pub struct FileFault<K> {
     /// The line, counted from 1.
     pub line: u32,
-    /// Why it is refused.
+    /// Why it is rejected.
     pub kind: K,
 }
 
@@ -65,7 +65,7 @@ impl From<FileFault<FaultKind>> for TableFault {
 }
 
 /// A parser of a file, which takes its lines in turn.
-pub trait TakesLines {
+pub trait LineParser {
     /// Why a file is rejected.
     type Kind: Copy + Drop;
 

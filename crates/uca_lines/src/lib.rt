@@ -1,4 +1,5 @@
-//! The lines of a source, and a buffer for what goes to a sink.
+//! Files of lines: the lines of a source, the parts of a line (`fields`), files that are read line by line
+//! (`files`), and a buffer for what goes to a sink.
 #![tactic(auto)]
 
 pub mod fields;

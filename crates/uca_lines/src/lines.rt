@@ -119,7 +119,7 @@ impl LineReader {
 
     /// Reads the next line into `line`, in place of what it held, and without its LF.
     ///
-    /// After a fault `line` holds what was read of the line, and the reader is not used further.
+    /// After an error `line` holds what was read of the line, and the reader is not used further.
     ///
     /// # Errors
     ///
@@ -146,7 +146,7 @@ impl LineReader {
         ensures none_beyond { LINE_LIMIT ≤ self.old.number → line.new.items ≡ [] }
         ensures number { self.new.number ≡ (if is_line result then self.old.number + 1 else self.old.number) }
 
-        // The other faults.
+        // The other errors.
         ensures read { result ≡ Err LineFault.Read → self.new.pending ≡ [] }
         ensures memory { result ≡ Err LineFault.Memory → vec_capacity line.old < self.old.longest }
         ensures failed { source.new.failed ≡ (source.old.failed || is_read result) }

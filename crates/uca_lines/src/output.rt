@@ -15,7 +15,7 @@ const SIZE: usize = 16_384;
 
 /// Gathers what goes to one sink, and counts the bytes that went out.
 ///
-/// After a fault it is not used further: what waited then may have gone out in part.
+/// After an error it is not used further: what waited then may have gone out in part.
 #[derive(Drop)]
 pub struct OutputBuffer {
     bytes: [u8; SIZE],
@@ -47,8 +47,8 @@ impl OutputBuffer {
         }
     }
 
-    /// Hands over a text, which waits, or goes out after all that waits. A fault says how many bytes
-    /// went out of all that was handed over.
+    /// Writes a text, which waits, or goes out after all that waits. An error says how many bytes went
+    /// out of all that was written to this buffer.
     pub fn write<W: Write>(&mut self, out: &mut Sink<W>, text: &[u8]) -> Result<(), WriteFault>
         requires { HasRoom self.old (length text.now) }
         ensures hands { Hands text.now self.old self.new out.old out.new result }
@@ -84,7 +84,8 @@ impl OutputBuffer {
         }
     }
 
-    /// Writes all that waits. A fault says how many bytes went out of all that was handed over.
+    /// Writes all that waits to the sink. An error says how many bytes went out of all that was written
+    /// to this buffer.
     pub fn flush<W: Write>(&mut self, out: &mut Sink<W>) -> Result<(), WriteFault>
         ensures text { (start : Option (List ℕ)) (before : List ℕ) →
             HandedOver start out.old.contents before self.old →
@@ -120,7 +121,7 @@ impl OutputBuffer {
     }
 }
 
-// Writes a text after all that was handed over, and returns how many bytes went out of it all.
+// Writes a text after the first `written` bytes, and returns how many bytes went out in all.
 fn send<W: Write>(out: &mut Sink<W>, text: &[u8], written: u64) -> Result<u64, WriteFault>
     requires { written + length text.now < 2 ^ 64 }
     ensures text { (start : Option (List ℕ)) (before : List ℕ) →

@@ -14,7 +14,7 @@ use Rattle.uca_lines.proofs.FileLemmas.{one_value}
 use Rattle.uca_table.specs.TableSoFar.{IsBegun}
 use Rattle.uca_table.specs.TableLines.{Item, OfVersion, OfSetting, OfRange, OfRow, IsLine, said, in_order, Says, all_of, Gives, Means}
 use Rattle.uca_table.specs.Laws.{MeansOnly}
-use Rattle.uca_table.specs.AppendTableLine.{said-append}
+use Rattle.uca_table.proofs.TableLinesLemmas.{said-append}
 use Rattle.uca_table.proofs.TableMeanings.{exact, gives_one}
 use Rattle.uca_table.proofs.CanonicalLines.{version_says, version_has_no_lf, setting_says, setting_has_no_lf, range_says, range_has_no_lf, row_says, row_has_no_lf}
 

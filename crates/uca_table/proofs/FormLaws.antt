@@ -12,7 +12,7 @@ use Rattle.uca_values.specs.declared.ImplicitRange.{ImplicitRange}
 use Rattle.uca_values.specs.Content.{Entry}
 use Rattle.uca_values.specs.declared.faults.FaultKind.{FaultKind}
 use Rattle.uca_values.specs.declared.faults.FaultKind.TheVariants as kinds
-use Rattle.uca_lines.specs.declared.fields.RangeFault.{RangeFault}
+use Rattle.uca_lines.specs.declared.fields.RangeSyntax.{RangeSyntax}
 use Rattle.uca_lines.specs.Fields.{is_blank, is_semicolon, up_to, from_first, skip_blanks, trim, word_of, after_word}
 use Rattle.uca_lines.specs.Numbers.{code_point_of, weight_of}
 use Rattle.uca_lines.specs.Leads.{Leads, BeginsCodePoint}
@@ -60,7 +60,7 @@ ok_is x y h = cc
 pub range_same : (text : List ℕ) (r s : ImplicitRange) → IsRangeText text r → IsRangeText text s → r ≡ s
 range_same text r s h g =
     let ends : ◌≡◌ {A = ℕ × ℕ} (r.first, r.last) (s.first, s.last) =
-    ok_is {A = ℕ × ℕ} {E = RangeFault} (r.first, r.last) (s.first, s.last) (sym h.ends ∙ g.ends) in
+    ok_is {A = ℕ × ℕ} {E = RangeSyntax} (r.first, r.last) (s.first, s.last) (sym h.ends ∙ g.ends) in
     let lead = same_Some r.lead s.lead (sym h.lead ∙ (ap (λ t. weight_of (trim t)) (rest_same text h.rest g.rest h.cut g.cut) ∙ g.lead)) in
     ap (λ (e : ℕ × ℕ). make e r.lead) ends ∙ ap (λ l. make (s.first, s.last) l) lead
   where

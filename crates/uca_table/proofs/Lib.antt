@@ -1,3 +1,6 @@
+pub mod TableLinesLemmas
+pub mod DataSoFarLemmas
+pub mod KindLemmas
 pub mod ElementLaws
 pub mod KeyLaws
 pub mod RowLaws

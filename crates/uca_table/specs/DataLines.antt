@@ -1,8 +1,8 @@
 -- What the lines of a data file say.
 use Rattle.std.specs.Prelude.{◌≡◌, ℕ, List, [], ◌∷◌, codes, Option, Some, None, Result, Ok, Err, if◌then◌else◌}
 use Rattle.std.specs.Str.{bytes_eq}
-use Rattle.uca_lines.specs.declared.fields.RangeFault.TheVariants as ends
-use Rattle.uca_lines.specs.declared.fields.RangeFault.{RangeFault}
+use Rattle.uca_lines.specs.declared.fields.RangeSyntax.TheVariants as ends
+use Rattle.uca_lines.specs.declared.fields.RangeSyntax.{RangeSyntax}
 use Rattle.uca_lines.specs.Fields.{text_of}
 use Rattle.uca_lines.specs.Numbers.{class_of}
 use Rattle.uca_lines.specs.CodePointRanges.{range_of}
@@ -18,7 +18,7 @@ abbrev pub AreWords : List ℕ → List (List ℕ) → Type 0
 AreWords text words = Leads BeginsWord text words []
 
 -- `FIRST..LAST`
-abbrev pub range_read : Result (ℕ × ℕ) RangeFault → Result CodePointRange FaultKind
+abbrev pub range_read : Result (ℕ × ℕ) RangeSyntax → Result CodePointRange FaultKind
 range_read (Ok r) = Ok (record { first = r.0; last = r.1 })
 range_read (Err ends.NoDots) = Err kinds.Line
 range_read (Err ends.CodePoint) = Err kinds.CodePoint

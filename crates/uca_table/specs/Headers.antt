@@ -4,7 +4,7 @@ use Rattle.std.specs.List.{AllByRecursion}
 use Rattle.uca_weights.specs.declared.Weighting.{Weighting}
 use Rattle.uca_values.specs.declared.faults.FaultKind.{FaultKind}
 use Rattle.uca_values.specs.declared.faults.FaultKind.TheVariants as kinds
-use Rattle.uca_lines.specs.declared.fields.RangeFault.TheVariants as faults
+use Rattle.uca_lines.specs.declared.fields.RangeSyntax.TheVariants as faults
 use Rattle.uca_lines.specs.Fields.{is_semicolon, up_to, from_first, skip_blanks, trim, word_of, after_word}
 use Rattle.uca_lines.specs.Numbers.{weight_of}
 use Rattle.uca_lines.specs.CodePointRanges.{range_of}

@@ -8,11 +8,9 @@ pub mod ElementSteps
 pub mod Keeping
 pub mod Worked
 pub mod Laws
-pub mod AppendTableLine
 pub mod DataLines
 pub mod DataSoFar
 pub mod DataSteps
-pub mod AppendDataLine
 pub mod CanonicalWords
 pub mod CanonicalElements
 pub mod Canonical

@@ -6,7 +6,7 @@ ghost use Rattle.uca_values.specs.Content.{is_version_name, is_name_byte, IsImpl
 ghost use Rattle.uca_table.specs.Headers.{IsRangeText, MayFollow, RangeTextCause};
 ghost use Rattle.uca_table.specs.CanonicalWords.{setting_word};
 
-use uca_lines::fields::{RangeFault, code_point_range, cut_at, trim, weight};
+use uca_lines::fields::{RangeSyntax, code_point_range, cut_at, trim, weight};
 use uca_values::{FaultKind, ImplicitRange};
 use uca_weights::Weighting;
 
@@ -72,8 +72,8 @@ pub fn read_range(text: &[u8]) -> Result<ImplicitRange, FaultKind>
     };
     let ends = match code_point_range(trim(ends)) {
         Ok(ends) => ends,
-        Err(RangeFault::NoDots) => return Err(FaultKind::Line),
-        Err(RangeFault::CodePoint) => return Err(FaultKind::CodePoint),
+        Err(RangeSyntax::NoDots) => return Err(FaultKind::Line),
+        Err(RangeSyntax::CodePoint) => return Err(FaultKind::CodePoint),
     };
     let Some(lead) = weight(trim(back)) else {
         return Err(FaultKind::Weight);

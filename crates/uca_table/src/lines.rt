@@ -10,7 +10,7 @@ use std::collections::BTreeSet;
 use std::marker::Model;
 use std::str;
 use uca_lines::fields::{cut_word, line_text, skip_blanks};
-use uca_lines::files::{FileForm, TABLE_FORM, TakesLines};
+use uca_lines::files::{FileForm, LineParser, TABLE_FORM};
 use uca_values::{FaultKind, Header, ImplicitRange, Row, Table};
 use uca_weights::Weighting;
 
@@ -231,32 +231,16 @@ impl<A: Allocator + Copy> TableLines<A> {
     }
 }
 
-impl<A: Allocator + Copy> TakesLines for TableLines<A> {
-    ghost use Rattle.uca_table.specs.TableLines.{Says, Cause};
+impl<A: Allocator + Copy> TableLines<A> {
+    ghost use Rattle.std.specs.Prelude.{◌≡◌, ◌⊎◌, OnOk, IfErr};
+    ghost use Rattle.uca_table.specs.TableLines.{Cause};
     ghost use Rattle.uca_table.specs.Taking.{Takes};
-    ghost use Rattle.uca_table.specs.AppendTableLine as one_more;
-    ghost use Rattle.std.specs.Prelude.{refl};
-    ghost use Rattle.uca_lines.specs.declared.files.TheConstants.{TABLE_FORM};
-    ghost use Rattle.uca_lines.specs.FileStops.{is_read_kind};
-    ghost use Rattle.uca_lines.proofs.FaultKindLemmas.{not_read};
 
-    type Kind = FaultKind;
-
-    ghost form = { TABLE_FORM };
-
-    ghost is_read = { is_read_kind };
-
-    ghost says = { Says };
-
-    ghost takes = { Takes };
-
-    ghost cause = { Cause };
-
-    fn form() -> FileForm<FaultKind> {
-        TABLE_FORM
-    }
-
-    fn take(&mut self, line: &[u8]) -> Result<(), FaultKind> {
+    // Takes the next line, without its LF.
+    fn take_line(&mut self, line: &[u8]) -> Result<(), FaultKind>
+        ensures ok { OnOk result (Takes self.old line.now self.new) }
+        ensures fault { IfErr result (λ kind. (kind ≡ FaultKind.Memory) ⊎ Cause self.old line.now kind) }
+    {
         let text = line_text(line);
         match text.first() {
             None => {
@@ -268,14 +252,30 @@ impl<A: Allocator + Copy> TakesLines for TableLines<A> {
             Some(_) => self.take_row(text),
         }
     }
+}
 
-    ghost apart = { record { failed_read = refl; too_long = refl; too_many = refl; no_lf = refl; no_memory = refl } };
+impl<A: Allocator + Copy> LineParser for TableLines<A> {
+    ghost use Rattle.uca_table.specs.TableLines.{Says, Cause};
+    ghost use Rattle.uca_lines.specs.declared.files.TheConstants.{TABLE_FORM};
+    ghost use Rattle.uca_lines.specs.FileStops.{is_read_kind};
 
-    ghost no_read = { λ begun line. not_read (Cause begun line) (one_more.no_read begun line) };
+    type Kind = FaultKind;
 
-    ghost says_more = { λ lines old line new said takes short few. one_more.says_more lines old line new said takes };
+    ghost form = { TABLE_FORM };
 
-    ghost few = { λ _ _ none _. Prim.cc };
+    ghost is_read = { is_read_kind };
+
+    ghost says = { Says };
+
+    ghost cause = { Cause };
+
+    fn form() -> FileForm<FaultKind> {
+        TABLE_FORM
+    }
+
+    fn take(&mut self, line: &[u8]) -> Result<(), FaultKind> {
+        self.take_line(line)
+    }
 }
 
 // What follows the first word of a text, blanks between them aside.

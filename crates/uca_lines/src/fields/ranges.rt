@@ -3,20 +3,20 @@
 ghost use Rattle.std.specs.Prelude.{◌≡◌};
 ghost use Rattle.uca_lines.specs.CodePointRanges.{range_of};
 
-use crate::fields::RangeFault;
+use crate::fields::RangeSyntax;
 use crate::fields::cuts::halves;
 use crate::fields::numbers::code_point;
 
 /// The ends of the range that the text `FIRST..LAST` stands for, without blanks inside. The first may be
 /// greater than the last.
-pub fn code_point_range(text: &[u8]) -> Result<(char, char), RangeFault>
+pub fn code_point_range(text: &[u8]) -> Result<(char, char), RangeSyntax>
     ensures { result ≡ range_of text.now }
 {
     let Some((first, last)) = halves(text) else {
-        return Err(RangeFault::NoDots);
+        return Err(RangeSyntax::NoDots);
     };
     match (code_point(first), code_point(last)) {
         (Some(first), Some(last)) => Ok((first, last)),
-        _ => Err(RangeFault::CodePoint),
+        _ => Err(RangeSyntax::CodePoint),
     }
 }

@@ -2,16 +2,16 @@
 
 ghost use Rattle.uca_lines.specs.FileMeanings.{IsExact, OneMeaning, NoMeaning};
 
-use crate::files::TakesLines;
+use crate::files::LineParser;
 
 /// A parser of files that may end too early.
-pub trait MayEndEarly: TakesLines {
+pub trait MayEndEarly: LineParser {
     // a file whose lines say this may not end with them
     ghost is_unfinished: { Self → Type 0 };
 }
 
 /// The law that the bytes of a file mean at most one thing, where its lines do.
-pub fn one_meaning<T: TakesLines>()
+pub fn one_meaning<T: LineParser>()
     ensures { IsExact T.says T.cause → OneMeaning T.form T.says }
 {}
 

@@ -8,22 +8,22 @@ ghost use Rattle.uca_lines.specs.FaultKinds.{is_read_fault, is_read_step, kind_o
 ghost use Rattle.uca_lines.specs.FileSteps.{TakesNext, RefusesNext};
 ghost use Rattle.uca_lines.specs.LineReader.{left_of};
 
-use crate::files::{FileFault, FileForm, TakesLines};
+use crate::files::{FileFault, FileForm, LineParser};
 use crate::{LineFault, LineReader, NextLine};
 use std::alloc::Allocator;
 use std::io::Read;
 use uca_weights::Source;
 
-/// Reads a file of lines from a source to its end, or to its first fault, and lets `taker` take each
+/// Reads a file of lines from a source to its end, or to its first error, and lets `taker` take each
 /// line in turn. Returns how many lines the file has.
 ///
 /// # Errors
 ///
-/// The line, counted from 1, and of its faults the first in this order, each called as the form of the
+/// The line, counted from 1, and of its errors the first in this order, each called as the form of the
 /// taker says: it is line 1,000,001 or has more bytes than the form allows; where the form has `lf_first`,
 /// no LF ends it; what `taker` returns; no LF ends it. A source that fails and an allocation that fails
-/// come with the line that was being read. After a fault the source is not used further.
-pub fn read_lines<T: TakesLines, R: Read, A: Allocator>(
+/// come with the line that was being read. After an error the source is not used further.
+pub fn read_lines<T: LineParser, R: Read, A: Allocator>(
     alloc: A,
     source: &mut Source<R>,
     taker: &mut T,
@@ -59,7 +59,7 @@ pub fn read_lines<T: TakesLines, R: Read, A: Allocator>(
 }
 
 // Reads the next line and lets the taker take it. Returns whether there was one.
-fn take_line<T: TakesLines, R: Read, A: Allocator>(
+fn take_line<T: LineParser, R: Read, A: Allocator>(
     lines: &mut LineReader,
     source: &mut Source<R>,
     line: &mut Vec<u8, A>,
@@ -90,7 +90,7 @@ fn take_line<T: TakesLines, R: Read, A: Allocator>(
 }
 
 // Why a last line that no LF ends is rejected.
-fn last_line_kind<T: TakesLines>(line: &[u8], taker: &mut T) -> T::Kind
+fn last_line_kind<T: LineParser>(line: &[u8], taker: &mut T) -> T::Kind
     requires { length line.now ≤ T.form.longest }
     ensures cause { (result ≡ T.form.no_memory) ⊎ (result ≡ T.form.no_lf) ⊎ T.cause taker.old line.now result }
     ensures not_read { T.is_read result ≡ false }

@@ -6,13 +6,11 @@ ghost use Rattle.uca_lines.specs.declared.files.TheConstants.{TABLE_FORM};
 ghost use Rattle.uca_lines.specs.FileStops.{is_read_kind};
 ghost use Rattle.uca_table.specs.DataSoFar.{Says, Cause, RangeCause, summary};
 ghost use Rattle.uca_table.specs.DataSteps.{Takes, IsAdded, IsNumbered};
-ghost use Rattle.uca_lines.proofs.FaultKindLemmas.{not_read};
-ghost use Rattle.uca_table.specs.AppendDataLine.{no_read, says_more};
 
 use crate::data_file::lines::{RangeLine, range_line};
 use std::alloc::Allocator;
 use uca_lines::fields::line_text;
-use uca_lines::files::{FileForm, TABLE_FORM, TakesLines};
+use uca_lines::files::{FileForm, LineParser, TABLE_FORM};
 use uca_values::{Data, FaultKind, RangeFault};
 
 /// The line before all ranges.
@@ -25,24 +23,14 @@ pub struct Begun<A: Allocator> {
     pub data: Data<A>,
 }
 
-impl<A: Allocator> TakesLines for Begun<A> {
-    type Kind = FaultKind;
-
-    ghost form = { TABLE_FORM };
-
-    ghost is_read = { is_read_kind };
-
-    ghost says = { λ lines begun. Says lines (summary begun.started begun.«data») };
-
-    ghost takes = { λ old line new. Takes (summary old.started old.«data») line (summary new.started new.«data») };
-
-    ghost cause = { λ begun line kind. Cause (summary begun.started begun.«data») line kind };
-
-    fn form() -> FileForm<FaultKind> {
-        TABLE_FORM
-    }
-
-    fn take(&mut self, line: &[u8]) -> Result<(), FaultKind> {
+impl<A: Allocator> Begun<A> {
+    // Takes the next line, without its LF.
+    fn take_line(&mut self, line: &[u8]) -> Result<(), FaultKind>
+        ensures ok { OnOk result (Takes (summary self.old.started self.old.«data») line.now
+            (summary self.new.started self.new.«data»)) }
+        ensures fault { IfErr result (λ kind. (kind ≡ FaultKind.Memory)
+            ⊎ Cause (summary self.old.started self.old.«data») line.now kind) }
+    {
         let text = line_text(line);
         if text.is_empty() {
             return Ok(());
@@ -55,14 +43,26 @@ impl<A: Allocator> TakesLines for Begun<A> {
         }
         add(&mut self.data, range_line(text)?)
     }
+}
 
-    ghost apart = { record { failed_read = refl; too_long = refl; too_many = refl; no_lf = refl; no_memory = refl } };
+impl<A: Allocator> LineParser for Begun<A> {
+    type Kind = FaultKind;
 
-    ghost no_read = { λ begun line. not_read (Cause (summary begun.started begun.«data») line) (no_read (summary begun.started begun.«data») line) };
+    ghost form = { TABLE_FORM };
 
-    ghost says_more = { λ lines old line new before taken _ _. says_more lines (summary old.started old.«data») line (summary new.started new.«data») before taken };
+    ghost is_read = { is_read_kind };
 
-    ghost few = { λ _ _ none _. Prim.cc };
+    ghost says = { λ lines begun. Says lines (summary begun.started begun.«data») };
+
+    ghost cause = { λ begun line kind. Cause (summary begun.started begun.«data») line kind };
+
+    fn form() -> FileForm<FaultKind> {
+        TABLE_FORM
+    }
+
+    fn take(&mut self, line: &[u8]) -> Result<(), FaultKind> {
+        self.take_line(line)
+    }
 }
 
 // The header stands from now on, if it does not stand already.

@@ -7,12 +7,12 @@ ghost use Rattle.uca_lines.specs.CodePointRanges.{range_of};
 ghost use Rattle.uca_table.specs.DataLines.{AreWords, read_words, range_read};
 ghost use Rattle.uca_table.specs.DataSteps.{IsNumbered};
 
-use uca_lines::fields::{RangeFault, class_number, code_point_range, cut_word, skip_blanks};
+use uca_lines::fields::{RangeSyntax, class_number, code_point_range, cut_word, skip_blanks};
 use uca_lines::files::FaultKind;
 use uca_values::{ClassRange, CodePointRange};
 
 /// A line that gives a property to the code points of a range.
-#[derive(Clone, Copy, PartialEq, Eq)]
+#[derive(Drop)]
 pub enum RangeLine {
     /// `ccc FIRST..LAST N`: their combining class.
     Class(ClassRange),
@@ -92,7 +92,7 @@ fn code_points(text: &[u8]) -> Result<CodePointRange, FaultKind>
 {
     match code_point_range(text) {
         Ok((first, last)) => Ok(CodePointRange { first, last }),
-        Err(RangeFault::NoDots) => Err(FaultKind::Line),
-        Err(RangeFault::CodePoint) => Err(FaultKind::CodePoint),
+        Err(RangeSyntax::NoDots) => Err(FaultKind::Line),
+        Err(RangeSyntax::CodePoint) => Err(FaultKind::CodePoint),
     }
 }

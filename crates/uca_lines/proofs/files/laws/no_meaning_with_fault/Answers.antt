@@ -2,4 +2,4 @@ use Rattle.uca_lines.proofs.FileLemmas.{no_meaning}
 use Rattle.uca_lines.proofs.files.laws.no_meaning_with_fault.Goals as goal
 
 pub returns : goal.returns
-returns g c exact = no_meaning g.T.TakesLines.form g.T.TakesLines.says g.T.TakesLines.cause g.T.MayEndEarly.is_unfinished exact
+returns g c exact = no_meaning g.T.LineParser.form g.T.LineParser.says g.T.LineParser.cause g.T.MayEndEarly.is_unfinished exact

@@ -10,8 +10,8 @@ loop-line-preserved g c =
     let step = c.in-Ok-true.ensures in
     let taken = rw c.in-Ok-true.field-0-test at step.taken in
     let number = rw c.in-Ok-true.field-0-test at step.number in
-    let form = g.T.TakesLines.form in
-    let says = g.T.TakesLines.says in
+    let form = g.T.LineParser.form in
+    let says = g.T.LineParser.says in
     let old = left_of c.loop-line.lines c.loop-line.source in
     let new = left_of c.take_line.new.lines c.take_line.new.source in
     record {

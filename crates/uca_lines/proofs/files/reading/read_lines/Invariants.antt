@@ -5,9 +5,9 @@ use Rattle.uca_lines.proofs.files.reading.read_lines.Given as goal
 
 abbrev pub invariant-loop-line : goal.invariant-loop-line
 invariant-loop-line g l = record {
-  reaches : ReachesKnown g.T.TakesLines.form g.T.TakesLines.says l.fn.source.remaining (left_of l.lines l.source) (l.lines.number + 1) l.taker;
-  longest : l.lines.longest ≡ g.T.TakesLines.form.longest;
-  said : SaysSoMany g.T.TakesLines.form g.T.TakesLines.says l.lines.number l.taker;
+  reaches : ReachesKnown g.T.LineParser.form g.T.LineParser.says l.fn.source.remaining (left_of l.lines l.source) (l.lines.number + 1) l.taker;
+  longest : l.lines.longest ≡ g.T.LineParser.form.longest;
+  said : SaysSoMany g.T.LineParser.form g.T.LineParser.says l.lines.number l.taker;
   failed : l.source.failed ≡ l.fn.source.failed;
   within : l.lines.number ≤ 1000000;
 }

@@ -6,7 +6,7 @@ use Rattle.uca_lines.proofs.files.reading.take_line.Goals as goal
 -- the taker rejects a line
 pub returns-in-Err-take-clause-fault : goal.returns-in-Err-take-clause-fault
 returns-in-Err-take-clause-fault g c =
-    line_not_taken g.T.TakesLines.form g.T.TakesLines.cause (left_of c.args.lines.now c.args.source.now)
+    line_not_taken g.T.LineParser.form g.T.LineParser.cause (left_of c.args.lines.now c.args.source.now)
     (left_of c.next_line.new.self c.next_line.new.source) c.next_line.new.source.remaining (c.args.lines.now.number + 1) c.args.taker.now
     c.next_line.new.line.items _ (rw c.in-Ok-Terminated.field-0-is at c.in-Ok-Terminated.ensures.bytes) c.next_line.ensures.no_lf
     (rw c.deref.ensures.value at c.in-Err-take.ensures.fault)
@@ -14,7 +14,7 @@ returns-in-Err-take-clause-fault g c =
 -- no line was read
 pub returns-in-Err-clause-fault : goal.returns-in-Err-clause-fault
 returns-in-Err-clause-fault g c =
-    rw (c.kind_of.ensures, c.form.ensures.value) (step_fault g.T.TakesLines.form g.T.TakesLines.cause (left_of c.args.lines.now c.args.source.now)
+    rw (c.kind_of.ensures, c.form.ensures.value) (step_fault g.T.LineParser.form g.T.LineParser.cause (left_of c.args.lines.now c.args.source.now)
     c.next_line.new.source.remaining c.next_line.new.self.pending c.next_line.new.line.items c.args.lines.now.longest c.args.lines.now.number
     c.args.taker.now
     c.in-Err.fault c.requires.longest c.requires.few c.in-Err.ensures.bytes c.next_line.ensures.no_lf c.next_line.ensures.fits c.in-Err.ensures.limit

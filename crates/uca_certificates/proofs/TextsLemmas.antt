@@ -1,5 +1,5 @@
--- With one line more, acceptable lines stay acceptable. For the laws that what takes lines must have.
-use Rattle.std.proofs.Common.{◌≡◌, ◌≢◌, ℕ, ◌+◌, ◌<◌, ◌≤◌, false, List, [], ◌∷◌, ◌++◌, length, map, refl, sym, ap, subst, ◌∙◌, append_assoc, append-nil, arith, length-append}
+-- The lines of a certificate, with one line more.
+use Rattle.std.proofs.Common.{◌≡◌, ◌≢◌, ◌⊎◌, inl, inr, IfErr, Result, Ok, Err, ℕ, ◌+◌, ◌<◌, ◌≤◌, false, List, [], ◌∷◌, ◌++◌, length, map, refl, sym, ap, subst, ◌∙◌, append_assoc, append-nil, arith, length-append}
 use Rattle.std.specs.List.{AllByRecursion}
 use Rattle.std.proofs.lemmas.List.{map-append, length-map}
 use Rattle.uca_weights.specs.declared.Level.{Level}
@@ -21,6 +21,13 @@ not_read said line (kinds.Map fault) h = refl
 not_read said line kinds.Limit h = refl
 not_read said line kinds.Read h = absurd h
 not_read said line kinds.Memory h = refl
+
+-- nor is an error one
+pub never_read : {X : Type 0} (said : CertificateContent) (line : List ℕ) (r : Result X CertificateFaultKind)
+    → IfErr r (λ kind. (kind ≡ kinds.Memory) ⊎ Cause said line kind) → IfErr r (λ kind. is_read_kind kind ≡ false)
+never_read said line (Ok x) h = tt
+never_read said line (Err kind) (inl memory) = rw memory refl
+never_read said line (Err kind) (inr cause) = not_read said line kind cause
 
 -- ---- The lines
 

@@ -1,5 +1,4 @@
--- What the reader of lines asks of every kind of file, for table files: no line is to blame for a reader
--- that fails, and lines with one more that is taken are said in order too.
+-- The lines of a table file, with one line more.
 use Rattle.std.specs.Prelude.{◌≡◌, ℕ, List, [], ◌∷◌, ◌++◌, refl}
 use Rattle.std.specs.List.{AllZip}
 use Rattle.std.proofs.Common.{sym, ap, ◌∙◌, inl, inr}

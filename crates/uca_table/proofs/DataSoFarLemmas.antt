@@ -1,13 +1,12 @@
--- Proofs that the lines of a data file can be taken one by one, which the impl of `TakesLines` names. Nothing here has to be
--- believed.
+-- The lines of a data file, with one line more.
 use Rattle.std.proofs.Common.{◌≡◌, ◌⊎◌, inl, inr, ℕ, zero, suc, ◌+◌, ◌<◌, ◌≤◌, Bool, true, false, ltb, leb, max, cond, ◌||◌, List, [], ◌∷◌, ◌++◌, length, codes, Option, Some, None, Result, Ok, Err, refl, sym, ap, ◌∙◌, subst, arith, length-append, append_assoc, append-nil}
 use mathlib.Core.Path.{fun_ext}
 use Rattle.std.specs.List.{AllByRecursion, AllZip}
 use Rattle.std.specs.Str.{bytes_eq}
 use Rattle.std.proofs.lemmas.Bool.{and_parts}
 use Rattle.std.proofs.lemmas.Bool.Decides.{nat_tests}
-use Rattle.uca_lines.specs.declared.fields.RangeFault.{RangeFault}
-use Rattle.uca_lines.specs.declared.fields.RangeFault.TheVariants as ends
+use Rattle.uca_lines.specs.declared.fields.RangeSyntax.{RangeSyntax}
+use Rattle.uca_lines.specs.declared.fields.RangeSyntax.TheVariants as ends
 use Rattle.std.specs.Str.Parse.{digits_value}
 use Rattle.uca_lines.specs.Numbers.{class_of, is_class}
 use Rattle.uca_lines.specs.CodePointRanges.{range_of}
@@ -56,13 +55,13 @@ class_is word n h =
     subst P is (le_true _ _ before.1, le_true _ _ last.1))
     (λ e. let none : None ≡ Some n = rw e at h in cc)
 
-han_well : (K : CodePointRange → RangeLine) → ((r : CodePointRange) → IsNumbered (K r)) → (r : Result (ℕ × ℕ) RangeFault)
+han_well : (K : CodePointRange → RangeLine) → ((r : CodePointRange) → IsNumbered (K r)) → (r : Result (ℕ × ℕ) RangeSyntax)
     → ReadsWell (han_read K (range_read r))
 han_well K named (Ok r) = named _
 han_well K named (Err ends.NoDots) = tt
 han_well K named (Err ends.CodePoint) = tt
 
-class_well : (r : Result (ℕ × ℕ) RangeFault) (word : List ℕ) (o : Option ℕ) → class_of word ≡ o → ReadsWell (class_read (range_read r) o)
+class_well : (r : Result (ℕ × ℕ) RangeSyntax) (word : List ℕ) (o : Option ℕ) → class_of word ≡ o → ReadsWell (class_read (range_read r) o)
 class_well (Ok r) word None e = tt
 class_well (Ok r) word (Some n) e = class_is word n e
 class_well (Err ends.NoDots) word o e = tt
