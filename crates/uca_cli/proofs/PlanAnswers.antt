@@ -48,20 +48,19 @@ refusal_answered base points relations fault refuses = by_kind fault.kind fault.
 
 -- ---- One plan
 
--- a table with this header and the rows of a plan
-abbrev tailored_by : HeaderContent → Plan → TableContent
-tailored_by header plan = record { header = header; rows = plan.rows }
+-- a table with this header and the rows of a plan, and the plan's certificate
+abbrev tailored_by : HeaderContent → Plan → TableContent × CertificateContent
+tailored_by header plan = (record { header = header; rows = plan.rows }, certificate_of plan)
 
 -- there is one at most
 pub one_plan : (base : TableContent) (points : Properties) (relations : List Relation) (table other : TableContent) (certificate another : CertificateContent)
-    → IsPlanOf base points relations table certificate → IsPlanOf base points relations other another → (table, certificate) ≡ (other, another)
+    → IsPlanOf base points relations table certificate → IsPlanOf base points relations other another → ◌≡◌ {A = TableContent × CertificateContent} (table, certificate) (other, another)
 one_plan base points relations table other certificate another is also =
     let plan = is.plan in
     let second = also.plan in
     let same : plan_in table certificate ≡ plan_in other another = cc in
     let header : table.header ≡ other.header = is.header ∙ sym also.header in
-    ap (λ h. (tailored_by h (plan_in table certificate), certificate_of (plan_in table certificate))) header
-    ∙ ap (λ p. (tailored_by other.header p, certificate_of p)) same
+    ap (λ h. tailored_by h (plan_in table certificate)) header ∙ ap (λ p. tailored_by other.header p) same
 
 -- where there is a plan, the definition does not refuse the rules
 plan_or_refusal : (base : TableContent) (points : Properties) (relations : List Relation) (table : TableContent) (certificate : CertificateContent) (fault : TailorFault)
