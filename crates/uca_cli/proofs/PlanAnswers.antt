@@ -1,14 +1,14 @@
 -- What a run answers of a plan, and of the fault of a planner.
-use Rattle.std.proofs.Common.{◌≡◌, ℕ, List, false, Err, refl}
-use Rattle.uca_values.specs.Content.{TableContent, Properties}
+use Rattle.std.proofs.Common.{◌≡◌, ℕ, List, false, Err, refl, ap, sym, ◌∙◌}
+use Rattle.uca_values.specs.Content.{HeaderContent, TableContent, Properties}
 use Rattle.uca_rules.specs.declared.relations.Relation.{Relation}
 use Rattle.uca_certificates.specs.Certificates.{CertificateContent}
 use Rattle.uca_plans.specs.declared.faults.TailorFault.{TailorFault}
 use Rattle.uca_plans.specs.declared.faults.TailorKind.{TailorKind}
 use Rattle.uca_plans.specs.declared.faults.TailorKind.TheVariants as kinds
-use Rattle.uca_plans.specs.Tailors.{IsPlanOf, IsRefusedBy, CauseOf, TailorRefuses}
-use Rattle.uca_runs.specs.AuditSources.{IsStop}
-use Rattle.uca_runs.specs.Runs.{is_file}
+use Rattle.uca_plans.specs.Plans.{Plan}
+use Rattle.uca_plans.specs.Tailors.{plan_in, certificate_of, IsPlanOf, IsRefusedBy, CauseOf, TailorRefuses}
+use Rattle.uca_runs.specs.Files.{IsStop, is_file, tailor_content}
 use Rattle.uca_cli.specs.TailorRun.{RunsTailor}
 use Rattle.uca_runs.specs.PlanFaults.{refused_plan}
 
@@ -33,11 +33,11 @@ no_file_of_plan A fault = by_kind fault.kind fault.relation
 
 -- what the planner refuses is answered
 pub refusal_answered : (base : TableContent) (points : Properties) (relations : List Relation) (fault : TailorFault)
-    → TailorRefuses base points relations fault → RunsTailor (Err (refused_plan fault)) base points relations
+    → TailorRefuses base points relations fault → RunsTailor (Err (refused_plan fault)) (tailor_content base points relations)
 refusal_answered base points relations fault refuses = by_kind fault.kind fault.relation refuses
   where
     by_kind : (kind : TailorKind) (relation : ℕ) → CauseOf base points relations (fault_by kind relation) kind
-        → RunsTailor (Err (refused_plan (fault_by kind relation))) base points relations
+        → RunsTailor (Err (refused_plan (fault_by kind relation))) (tailor_content base points relations)
     by_kind kinds.BaseIllFormed relation cause = (cause, λ same. cc)
     by_kind kinds.Anchor relation cause = (cause, λ same. cc)
     by_kind kinds.NeedsPrefix relation cause = (cause, λ same. cc)
@@ -47,6 +47,20 @@ refusal_answered base points relations fault refuses = by_kind fault.kind fault.
     by_kind kinds.Memory relation cause = tt
 
 -- ---- One plan
+
+-- a table with this header and the rows of a plan, and the plan's certificate
+abbrev tailored_by : HeaderContent → Plan → TableContent × CertificateContent
+tailored_by header plan = (record { header = header; rows = plan.rows }, certificate_of plan)
+
+-- there is one at most
+pub one_plan : (base : TableContent) (points : Properties) (relations : List Relation) (table other : TableContent) (certificate another : CertificateContent)
+    → IsPlanOf base points relations table certificate → IsPlanOf base points relations other another → ◌≡◌ {A = TableContent × CertificateContent} (table, certificate) (other, another)
+one_plan base points relations table other certificate another is also =
+    let plan = is.plan in
+    let second = also.plan in
+    let same : plan_in table certificate ≡ plan_in other another = cc in
+    let header : table.header ≡ other.header = is.header ∙ sym also.header in
+    ap (λ h. tailored_by h (plan_in table certificate)) header ∙ ap (λ p. tailored_by other.header p) same
 
 -- where there is a plan, the definition does not refuse the rules
 plan_or_refusal : (base : TableContent) (points : Properties) (relations : List Relation) (table : TableContent) (certificate : CertificateContent) (fault : TailorFault)

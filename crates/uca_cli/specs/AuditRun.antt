@@ -1,6 +1,6 @@
 -- What a run of audit answers and writes of what its files mean.
-use Rattle.std.specs.Prelude.{◌≡◌, ℕ, List, [], ◌∷◌, ◌++◌, Bool, true, false, Result, Ok, Err, codes}
-use Rattle.uca_weights.specs.Streams.{SinkState}
+use Rattle.std.specs.Prelude.{◌≡◌, ℕ, List, [], ◌∷◌, ◌++◌, ◌||◌, Bool, true, false, Result, Ok, Err, codes}
+use Rattle.uca_weights.specs.Streams.{SourceState, SinkState}
 use Rattle.uca_tailorings.specs.Tailorings.{Tailoring, IsAccepted}
 use Rattle.uca_tailorings.specs.Meaning.{IsFaithful}
 use Rattle.uca_audit.specs.declared.faults.AuditFault.{AuditFault}
@@ -8,7 +8,8 @@ use Rattle.uca_audit.specs.Refusals.{IsFirstRefusal}
 use Rattle.uca_audit.specs.FaultText.{audit_fault_text}
 use Rattle.uca_runs.specs.declared.faults.RunFault.{RunFault}
 use Rattle.uca_runs.specs.declared.faults.RunFault.TheVariants.{Memory}
-use Rattle.uca_runs.specs.AuditSources.{AuditSources, AuditContent, HaveContent, IsStop, tailoring_by}
+use Rattle.uca_runs.specs.Files.{HaveFailed, IsStop, Mean, Over, audit_files, audit_roles}
+use Rattle.uca_runs.specs.Runs.{is_before_output, is_write}
 use Rattle.uca_runs.specs.Verdicts.{WritesVerdict}
 
 -- the tailoring is accepted, or the run stopped
@@ -17,8 +18,8 @@ AcceptsOrStops (Ok verdict) = verdict ≡ true
 AcceptsOrStops (Err fault) = IsStop fault
 
 -- files that mean an accepted tailoring are accepted, unless the run stops
-abbrev pub AcceptsAccepted : AuditSources → Result Bool RunFault → Type 0
-AcceptsAccepted sources result = (content : AuditContent) → HaveContent sources content → IsAccepted (tailoring_by content) → AcceptsOrStops result
+abbrev pub AcceptsAccepted : List SourceState → Result Bool RunFault → Type 0
+AcceptsAccepted sources result = (tailoring : Tailoring) → Mean audit_files sources tailoring → IsAccepted tailoring → AcceptsOrStops result
 
 -- ---- The verdict
 
@@ -31,3 +32,12 @@ IsVerdict tailoring false line = (fault : AuditFault) × IsFirstRefusal tailorin
 abbrev pub RunsAudit : SinkState → SinkState → Result Bool RunFault → Tailoring → Type 0
 RunsAudit out out_new (Err Memory) tailoring = out_new ≡ out
 RunsAudit out out_new result tailoring = WritesVerdict (IsVerdict tailoring) out.contents out_new.contents result
+
+-- A run of audit: what it returns where the bytes of its files are known, and that it accepts what is accepted; and
+-- whatever its files and its output are, when nothing is written, and what has failed.
+pub record Audits (olds news : List SourceState) (out out_new : SinkState) (result : Result Bool RunFault) : Type 0 where
+  pub runs : Over audit_files olds news (RunsAudit out out_new result) result
+  pub only : AcceptsAccepted olds result
+  pub nothing_written : is_before_output result ≡ true → out_new ≡ out
+  pub failed : HaveFailed audit_roles olds news result
+  pub out_failed : out_new.failed ≡ (out.failed || is_write result)

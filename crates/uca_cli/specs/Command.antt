@@ -14,16 +14,14 @@ use Rattle.uca_runs.specs.declared.faults.Role.{Role}
 use Rattle.uca_runs.specs.declared.faults.Role.TheVariants as roles
 use Rattle.uca_runs.specs.declared.faults.RunFault.{RunFault}
 use Rattle.uca_runs.specs.declared.faults.RunFault.TheVariants.{CertificateWrite, Open, Words}
-use Rattle.uca_runs.specs.AuditSources.{AuditSources, AuditsOver, AuditHasFailed}
-use Rattle.uca_runs.specs.CheckRun.{RunsCheck}
-use Rattle.uca_runs.specs.CompareRun.{RunsCompare}
-use Rattle.uca_runs.specs.KeysRun.{RunsKeys, is_before_input}
-use Rattle.uca_runs.specs.SortRun.{RunsSort}
-use Rattle.uca_runs.specs.TailorSources.{TailorSources, TailorsOver, TailorHasFailed}
-use Rattle.uca_runs.specs.Runs.{RunsOver, HaveFailed, is_before_output, is_file, is_input_read, is_write}
+use Rattle.uca_runs.specs.CheckRun.{Checks}
+use Rattle.uca_runs.specs.CompareRun.{Compares, Comparing, comparing}
+use Rattle.uca_runs.specs.KeysRun.{PrintsKeys}
+use Rattle.uca_runs.specs.SortRun.{SortsLines}
+use Rattle.uca_runs.specs.Runs.{is_write}
 use Rattle.uca_cli.specs.declared.command.OpenFault.{OpenFault}
-use Rattle.uca_cli.specs.AuditRun.{AcceptsAccepted, RunsAudit}
-use Rattle.uca_cli.specs.TailorRun.{RunsTailor, PlansPlanned, WritesTailored, is_certificate_write}
+use Rattle.uca_cli.specs.AuditRun.{Audits}
+use Rattle.uca_cli.specs.TailorRun.{TailorsFiles, WritesTailored, is_certificate_write}
 use Rattle.uca_cli.specs.Reports.{Reports}
 use Rattle.uca_cli.specs.Statuses.{IsStatus}
 
@@ -52,11 +50,6 @@ pub record Streams : Type 0 where
 abbrev pub streams : SourceState → SinkState → Streams
 streams input out = record { input = input; out = out }
 
--- the sources of the two files of most subcommands
-pub record TableAndData : Type 0 where
-  pub table : SourceState
-  pub properties : SourceState
-
 -- ---- The files of a subcommand
 
 -- a file that is to be opened: what it is for, and its name
@@ -69,19 +62,11 @@ abbrev pub table_and_data : List ℕ → List ℕ → List NamedFile
 table_and_data table properties =
     record { role = roles.Table; name = table } ∷ record { role = roles.Data; name = properties } ∷ []
 
--- their sources, in that order
-abbrev pub two_sources : TableAndData → List SourceState
-two_sources sources = sources.table ∷ sources.properties ∷ []
-
 -- the three files that `tailor` reads
 abbrev pub tailor_files : List ℕ → List ℕ → List ℕ → List NamedFile
 tailor_files table properties rules =
     record { role = roles.Table; name = table } ∷ record { role = roles.Data; name = properties }
     ∷ record { role = roles.Rules; name = rules } ∷ []
-
--- their sources, in that order
-abbrev pub three_sources : TailorSources → List SourceState
-three_sources sources = sources.base ∷ sources.properties ∷ sources.rules ∷ []
 
 -- the five files of `audit`
 abbrev pub audit_files : List ℕ → List ℕ → List ℕ → List ℕ → List ℕ → List NamedFile
@@ -89,11 +74,6 @@ audit_files base properties rules tailored certificate =
     record { role = roles.Base; name = base } ∷ record { role = roles.Data; name = properties }
     ∷ record { role = roles.Rules; name = rules } ∷ record { role = roles.Tailored; name = tailored }
     ∷ record { role = roles.Certificate; name = certificate } ∷ []
-
--- their sources, in that order
-abbrev pub five_sources : AuditSources → List SourceState
-five_sources sources =
-    sources.base ∷ sources.properties ∷ sources.rules ∷ sources.tailored ∷ sources.certificate ∷ []
 
 -- ---- Opened files
 
@@ -118,27 +98,22 @@ DoesNotOpen {O = O} files old new (file ∷ named) role =
     ⊎ ((between : O) × (source : SourceState) × IsOpened files old between file.name source
     × DoesNotOpen files between new named role)
 
--- The files were opened and run over: P of their sources before and after the run, where `listed` are these in their
--- order.
-pub record RunsOpened {O F M S : Type 0} (files : FileSystem O F M) (old new : O) (named : List NamedFile)
-    (listed : S → List SourceState) (P : S → S → Type 0) : Type 0 where
-  pub before : S
-  pub after : S
-  pub opened : AreOpened files old new named (listed before)
+-- The files were opened and run over: P of their sources before and after the run, in their order.
+pub record RunsOpened {O F M : Type 0} (files : FileSystem O F M) (old new : O) (named : List NamedFile)
+    (P : List SourceState → List SourceState → Type 0) : Type 0 where
+  pub before : List SourceState
+  pub after : List SourceState
+  pub opened : AreOpened files old new named before
   pub runs : P before after
 
 -- one of the files does not open, and then this stays as it was; or all are run over
-abbrev pub OpensAndRuns : {O F M S : Type 0} → FileSystem O F M → O → O → List NamedFile → Type 0
-    → (S → List SourceState) → (S → S → Type 0) → Result ℕ RunFault → Type 0
-OpensAndRuns files old new named Stays listed P result =
+abbrev pub OpensAndRuns : {O F M : Type 0} → FileSystem O F M → O → O → List NamedFile → Type 0
+    → (List SourceState → List SourceState → Type 0) → Result ℕ RunFault → Type 0
+OpensAndRuns files old new named Stays P result =
     ((role : Role) × (result ≡ Err (Open role)) × DoesNotOpen files old new named role × Stays)
-    ⊎ RunsOpened files old new named listed P
+    ⊎ RunsOpened files old new named P
 
 -- ---- The subcommands over two files
---
--- Each record says of a run what it returns where the bytes of its files are known, and what holds whatever its files
--- and streams are: where it ended before its output nothing was written, and a source or the output has failed where it
--- had before, or where the run ended by just that.
 
 -- the status of a run that was done, or its fault
 abbrev pub done_result : {A : Type 0} → Result A RunFault → Result ℕ RunFault
@@ -151,85 +126,42 @@ check_result (Ok true) = Ok 0
 check_result (Ok false) = Ok 1
 check_result (Err fault) = Err fault
 
--- a run of check
-pub record Checks (out out_new : SinkState) (result : Result ℕ RunFault) (old new : TableAndData) : Type 0 where
-  pub run : Result Bool RunFault
-  pub status : result ≡ check_result run
-  pub runs : RunsOver old.table new.table old.properties new.properties (RunsCheck out out_new run) run
-  pub nothing_written : is_before_output run ≡ true → out_new ≡ out
-  pub failed : HaveFailed old.table new.table old.properties new.properties out out_new run
+-- what a run returned, and the result of the command after it: this holds of the run, and the result is made of it
+pub record Ran {A : Type 0} (result_of : Result A RunFault → Result ℕ RunFault) (P : Result A RunFault → Type 0)
+    (result : Result ℕ RunFault) : Type 0 where
+  pub run : Result A RunFault
+  pub runs : P run
+  pub status : result ≡ result_of run
 
 -- what `check` does with the names of its files
 abbrev pub DoesCheck : {O F M : Type 0} → FileSystem O F M → O → O → List ℕ → List ℕ → SinkState → SinkState
     → Result ℕ RunFault → Type 0
 DoesCheck files old new table properties out out_new result =
     OpensAndRuns files old new (table_and_data table properties) (out_new ≡ out)
-    two_sources (Checks out out_new result) result
-
--- a run of keys, which writes while it reads its input
-pub record PrintsKeys (weighting : Option Weighting) (depth : Depth) (start end : Streams) (result : Result ℕ RunFault)
-    (old new : TableAndData) : Type 0 where
-  pub run : Result (Unit {0}) RunFault
-  pub status : result ≡ done_result run
-  pub runs : RunsOver old.table new.table old.properties new.properties
-      (RunsKeys weighting depth start.input end.input start.out end.out run) run
-  pub nothing_written : is_before_input run ≡ true → (end.out ≡ start.out) × (end.input ≡ start.input)
-  pub input_failed : is_write run ≡ false → end.input.failed ≡ (start.input.failed || is_input_read run)
-  pub failed : HaveFailed old.table new.table old.properties new.properties start.out end.out run
+    (λ olds news. Ran check_result (Checks olds news out out_new) result) result
 
 -- what `keys` does
 abbrev pub DoesKeys : {O F M : Type 0} → FileSystem O F M → O → O → Option Weighting → Depth → List ℕ → List ℕ
     → Streams → Streams → Result ℕ RunFault → Type 0
 DoesKeys files old new weighting depth table properties start end result =
     OpensAndRuns files old new (table_and_data table properties) (end ≡ start)
-    two_sources (PrintsKeys weighting depth start end result) result
-
--- a run of sort, whose input is not looked at where a file is refused
-pub record SortsLines (weighting : Option Weighting) (depth : Depth) (start end : Streams) (result : Result ℕ RunFault)
-    (old new : TableAndData) : Type 0 where
-  pub run : Result (Unit {0}) RunFault
-  pub status : result ≡ done_result run
-  pub runs : RunsOver old.table new.table old.properties new.properties
-      (RunsSort weighting depth start.input end.input start.out end.out run) run
-  pub nothing_written : is_before_output run ≡ true → end.out ≡ start.out
-  pub nothing_read : is_file run ≡ true → end.input ≡ start.input
-  pub input_failed : end.input.failed ≡ (start.input.failed || is_input_read run)
-  pub failed : HaveFailed old.table new.table old.properties new.properties start.out end.out run
+    (λ olds news. Ran (done_result {A = Unit {0}})
+    (PrintsKeys weighting depth olds news start.input end.input start.out end.out) result) result
 
 -- what `sort` does
 abbrev pub DoesSort : {O F M : Type 0} → FileSystem O F M → O → O → Option Weighting → Depth → List ℕ → List ℕ
     → Streams → Streams → Result ℕ RunFault → Type 0
 DoesSort files old new weighting depth table properties start end result =
     OpensAndRuns files old new (table_and_data table properties) (end ≡ start)
-    two_sources (SortsLines weighting depth start end result) result
-
--- what a run of compare goes by: the weighting that is asked for, the depth and the two texts
-pub record Comparing : Type 0 where
-  pub weighting : Option Weighting
-  pub depth : Depth
-  pub left : List ℕ
-  pub right : List ℕ
-
--- the same from its parts
-abbrev pub comparing : Option Weighting → Depth → List ℕ → List ℕ → Comparing
-comparing weighting depth left right = record { weighting = weighting; depth = depth; left = left; right = right }
-
--- a run of compare
-pub record Compares (asked : Comparing) (out out_new : SinkState) (result : Result ℕ RunFault)
-    (old new : TableAndData) : Type 0 where
-  pub run : Result (Unit {0}) RunFault
-  pub status : result ≡ done_result run
-  pub runs : RunsOver old.table new.table old.properties new.properties
-      (RunsCompare asked.weighting asked.depth asked.left asked.right out out_new run) run
-  pub nothing_written : is_before_output run ≡ true → out_new ≡ out
-  pub failed : HaveFailed old.table new.table old.properties new.properties out out_new run
+    (λ olds news. Ran (done_result {A = Unit {0}})
+    (SortsLines weighting depth olds news start.input end.input start.out end.out) result) result
 
 -- what `compare` does
 abbrev pub DoesCompare : {O F M : Type 0} → FileSystem O F M → O → O → Comparing → List ℕ → List ℕ
     → SinkState → SinkState → Result ℕ RunFault → Type 0
 DoesCompare files old new asked table properties out out_new result =
     OpensAndRuns files old new (table_and_data table properties) (out_new ≡ out)
-    two_sources (Compares asked out out_new result) result
+    (λ olds news. Ran (done_result {A = Unit {0}}) (Compares asked olds news out out_new) result) result
 
 -- ---- Tailor
 
@@ -263,13 +195,11 @@ KeepsTailored files old new name out out_new (Ok answer) result =
     DoesNotMake files old new name out out_new result
     ⊎ MakesFile files old new name answer.0 answer.1 out out_new result
 
--- a run of tailor, and what becomes of its answer
+-- a run of tailor, and what becomes of what it returns
 pub record Tailors {O F M : Type 0} (files : FileSystem O F M) (between end : O) (certificate : List ℕ)
-    (out out_new : SinkState) (result : Result ℕ RunFault) (old new : TailorSources) : Type 0 where
+    (out out_new : SinkState) (result : Result ℕ RunFault) (olds news : List SourceState) : Type 0 where
   pub run : Result (TableContent × CertificateContent) RunFault
-  pub runs : TailorsOver old new (RunsTailor run) run
-  pub only : PlansPlanned old run
-  pub failed : TailorHasFailed old new run
+  pub runs : TailorsFiles olds news run
   pub keeps : KeepsTailored files between end certificate out out_new run result
 
 -- what `tailor` does
@@ -277,25 +207,16 @@ abbrev pub DoesTailor : {O F M : Type 0} → FileSystem O F M → O → O → Li
     → SinkState → SinkState → Result ℕ RunFault → Type 0
 DoesTailor {O = O} files old new table properties rules certificate out out_new result = (between : O)
     × OpensAndRuns files old between (tailor_files table properties rules) ((new ≡ between) × (out_new ≡ out))
-    three_sources (Tailors files between new certificate out out_new result) result
+    (Tailors files between new certificate out out_new result) result
 
 -- ---- Audit
-
--- a run of audit
-pub record Audits (out out_new : SinkState) (result : Result ℕ RunFault) (old new : AuditSources) : Type 0 where
-  pub run : Result Bool RunFault
-  pub status : result ≡ check_result run
-  pub runs : AuditsOver old new (RunsAudit out out_new run) run
-  pub only : AcceptsAccepted old run
-  pub nothing_written : is_before_output run ≡ true → out_new ≡ out
-  pub failed : AuditHasFailed old new out out_new run
 
 -- what `audit` does
 abbrev pub DoesAudit : {O F M : Type 0} → FileSystem O F M → O → O → List ℕ → List ℕ → List ℕ → List ℕ → List ℕ
     → SinkState → SinkState → Result ℕ RunFault → Type 0
 DoesAudit files old new base properties rules tailored certificate out out_new result =
     OpensAndRuns files old new (audit_files base properties rules tailored certificate) (out_new ≡ out)
-    five_sources (Audits out out_new result) result
+    (λ olds news. Ran check_result (Audits olds news out out_new) result) result
 
 -- ---- The command
 

@@ -1,7 +1,7 @@
 -- What a run of tailor answers, and what is written of its answer.
 use Rattle.std.specs.Prelude.{◌≡◌, ◌≢◌, ◌<◌, List, Bool, true, false, MatchResult, Result, Ok, Err, length, ⊤}
 use Rattle.std.specs.Io.KnownBytes.{Appends}
-use Rattle.uca_weights.specs.Streams.{SinkState}
+use Rattle.uca_weights.specs.Streams.{SourceState, SinkState}
 use Rattle.uca_weights.specs.Writes.{WentOut}
 use Rattle.uca_values.specs.Content.{TableContent, Properties}
 use Rattle.uca_table.specs.Canonical.{canonical}
@@ -15,8 +15,7 @@ use Rattle.uca_plans.specs.declared.faults.TailorKind.TheVariants as kinds
 use Rattle.uca_plans.specs.Tailors.{IsPlanOf, TailorRefuses}
 use Rattle.uca_runs.specs.declared.faults.RunFault.{RunFault}
 use Rattle.uca_runs.specs.declared.faults.RunFault.TheVariants.{Tailor, CertificateWrite, Memory, Write}
-use Rattle.uca_runs.specs.AuditSources.{IsStop}
-use Rattle.uca_runs.specs.TailorSources.{TailorSources, TailorContent, HaveTailorContent}
+use Rattle.uca_runs.specs.Files.{HaveFailed, IsStop, Mean, Over, TailorContent, tailor_files, tailor_roles}
 
 -- ---- The answer
 
@@ -27,11 +26,12 @@ pub record IsTailored (base : TableContent) (properties : Properties) (relations
   pub faithful : IsFaithful (tailoring_of base properties relations table certificate)
 
 -- what a run of tailor answers of what its files mean: the plan, or why there is none, or an allocation failed
-abbrev pub RunsTailor : Result (TableContent × CertificateContent) RunFault → TableContent → Properties → List Relation → Type 0
-RunsTailor (Ok answer) base properties relations = IsTailored base properties relations answer.0 answer.1
-RunsTailor (Err (Tailor fault)) base properties relations = TailorRefuses base properties relations fault × (fault.kind ≢ kinds.Memory)
-RunsTailor (Err Memory) base properties relations = ⊤
-RunsTailor (Err _) base properties relations = ⊥
+abbrev pub RunsTailor : Result (TableContent × CertificateContent) RunFault → TailorContent → Type 0
+RunsTailor (Ok answer) files = IsTailored files.base files.properties files.relations answer.0 answer.1
+RunsTailor (Err (Tailor fault)) files =
+    TailorRefuses files.base files.properties files.relations fault × (fault.kind ≢ kinds.Memory)
+RunsTailor (Err Memory) files = ⊤
+RunsTailor (Err _) files = ⊥
 
 -- where this is the plan of what the files mean, it is the answer, or the run stopped
 abbrev pub PlanIsAnswered : TailorContent → Result (TableContent × CertificateContent) RunFault → TableContent → CertificateContent → Type 0
@@ -40,9 +40,16 @@ PlanIsAnswered content result table certificate =
     → MatchResult result (λ answer. answer ≡ (table, certificate)) IsStop
 
 -- files of which there is a plan are never refused
-abbrev pub PlansPlanned : TailorSources → Result (TableContent × CertificateContent) RunFault → Type 0
-PlansPlanned sources result = (content : TailorContent) → HaveTailorContent sources content
+abbrev pub PlansPlanned : List SourceState → Result (TableContent × CertificateContent) RunFault → Type 0
+PlansPlanned sources result = (content : TailorContent) → Mean tailor_files sources content
     → (table : TableContent) (certificate : CertificateContent) → PlanIsAnswered content result table certificate
+
+-- A run of tailor: what it returns where the bytes of its files are known, and that it returns the plan where there is
+-- one; and which sources have failed, whatever they are.
+pub record TailorsFiles (olds news : List SourceState) (result : Result (TableContent × CertificateContent) RunFault) : Type 0 where
+  pub runs : Over tailor_files olds news (RunsTailor result) result
+  pub only : PlansPlanned olds result
+  pub failed : HaveFailed tailor_roles olds news result
 
 -- ---- What is written
 

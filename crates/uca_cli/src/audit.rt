@@ -5,9 +5,9 @@ ghost use Rattle.uca_values.specs.Content.{properties_of};
 ghost use Rattle.uca_tailorings.specs.Tailorings.{IsAccepted};
 ghost use Rattle.uca_audit.specs.FaultText.{audit_fault_text};
 ghost use Rattle.uca_tailorings.specs.Inputs.{tailoring_of};
-ghost use Rattle.uca_cli.specs.AuditRun.{AcceptsAccepted, AcceptsOrStops, RunsAudit};
-ghost use Rattle.uca_runs.specs.AuditSources.{AuditHasFailed, AuditsOver, audit_sources};
-ghost use Rattle.uca_runs.specs.Runs.{is_before_output, is_file, is_write};
+ghost use Rattle.uca_cli.specs.AuditRun.{AcceptsOrStops, Audits, RunsAudit};
+ghost use Rattle.uca_runs.specs.Files.{is_file};
+ghost use Rattle.uca_runs.specs.Runs.{is_before_output, is_write};
 
 use crate::reporting::line::{Line, push_number};
 use std::alloc::{Allocator, Global};
@@ -39,15 +39,8 @@ pub fn run_audit<B: Read, D: Read, U: Read, T: Read, C: Read, W: Write>(
     certificate: &mut Source<C>,
     out: &mut Sink<W>,
 ) -> Result<bool, RunFault>
-    // Where the bytes of its files are known.
-    ensures runs { AuditsOver (audit_sources base.old properties.old rules.old tailored.old certificate.old)
-        (audit_sources base.new properties.new rules.new tailored.new certificate.new) (RunsAudit out.old out.new result) result }
-    ensures only { AcceptsAccepted (audit_sources base.old properties.old rules.old tailored.old certificate.old) result }
-
-    // Whatever the readers and the writer are.
-    ensures nothing_written { is_before_output result ≡ true → out.new ≡ out.old }
-    ensures failed { AuditHasFailed (audit_sources base.old properties.old rules.old tailored.old certificate.old)
-        (audit_sources base.new properties.new rules.new tailored.new certificate.new) out.old out.new result }
+    ensures { Audits (base.old ∷ properties.old ∷ rules.old ∷ tailored.old ∷ certificate.old ∷ [])
+        (base.new ∷ properties.new ∷ rules.new ∷ tailored.new ∷ certificate.new ∷ []) out.old out.new result }
 {
     run_audit_in(
         alloc,
@@ -72,15 +65,8 @@ pub fn run_audit_in<A: Allocator + Copy, B: Read, D: Read, U: Read, T: Read, C: 
     certificate: &mut Source<C>,
     out: &mut Sink<W>,
 ) -> Result<bool, RunFault>
-    // Where the bytes of its files are known.
-    ensures runs { AuditsOver (audit_sources base.old properties.old rules.old tailored.old certificate.old)
-        (audit_sources base.new properties.new rules.new tailored.new certificate.new) (RunsAudit out.old out.new result) result }
-    ensures only { AcceptsAccepted (audit_sources base.old properties.old rules.old tailored.old certificate.old) result }
-
-    // Whatever the readers and the writer are.
-    ensures nothing_written { is_before_output result ≡ true → out.new ≡ out.old }
-    ensures failed { AuditHasFailed (audit_sources base.old properties.old rules.old tailored.old certificate.old)
-        (audit_sources base.new properties.new rules.new tailored.new certificate.new) out.old out.new result }
+    ensures { Audits (base.old ∷ properties.old ∷ rules.old ∷ tailored.old ∷ certificate.old ∷ [])
+        (base.new ∷ properties.new ∷ rules.new ∷ tailored.new ∷ certificate.new ∷ []) out.old out.new result }
 {
     let files = read_audit_files(
         alloc,

@@ -2,7 +2,8 @@
 
 ghost use Rattle.std.specs.Prelude.{◌∷◌, [], ⊤, ℕ, List, Result, MatchResult, ◌≡◌, ◌⊎◌};
 ghost use Rattle.clap.specs.Walk.{texts};
-ghost use Rattle.uca_cli.specs.Command.{AreOpened, DoesAudit, DoesCheck, DoesCommand, DoesCompare, DoesKeys, DoesNotMake, DoesNotOpen, DoesSort, DoesTailor, DoesWords, MakesFile, audit_files, check_result, comparing, done_result, file_system, streams, table_and_data, tailor_files};
+ghost use Rattle.uca_cli.specs.Command.{AreOpened, DoesAudit, DoesCheck, DoesCommand, DoesCompare, DoesKeys, DoesNotMake, DoesNotOpen, DoesSort, DoesTailor, DoesWords, MakesFile, audit_files, check_result, done_result, file_system, streams, table_and_data, tailor_files};
+ghost use Rattle.uca_runs.specs.CompareRun.{comparing};
 ghost use Rattle.uca_cli.specs.declared.command.OpenFault.{OpenFault};
 
 use crate::audit::run_audit;

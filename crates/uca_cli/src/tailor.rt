@@ -1,9 +1,8 @@
 //! The run that tailors a table, and the writing of what it answers.
 
-ghost use Rattle.std.specs.Prelude.{◌≡◌, ◌||◌};
+ghost use Rattle.std.specs.Prelude.{◌≡◌, ◌||◌, ◌∷◌, []};
 ghost use Rattle.uca_runs.specs.Runs.{is_write};
-ghost use Rattle.uca_cli.specs.TailorRun.{PlansPlanned, RunsTailor, WritesTailored, is_certificate_write};
-ghost use Rattle.uca_runs.specs.TailorSources.{TailorHasFailed, TailorsOver, tailor_sources};
+ghost use Rattle.uca_cli.specs.TailorRun.{TailorsFiles, WritesTailored, is_certificate_write};
 
 use std::alloc::{Allocator, Global};
 use std::io::{Read, Write};
@@ -28,14 +27,7 @@ pub fn run_tailor<B: Read, D: Read, U: Read>(
     properties: &mut Source<D>,
     rules: &mut Source<U>,
 ) -> Result<(Table, Certificate), RunFault>
-    // Where the bytes of its files are known.
-    ensures runs { TailorsOver (tailor_sources base.old properties.old rules.old)
-        (tailor_sources base.new properties.new rules.new) (RunsTailor result) result }
-    ensures only { PlansPlanned (tailor_sources base.old properties.old rules.old) result }
-
-    // Whatever the readers are.
-    ensures failed { TailorHasFailed (tailor_sources base.old properties.old rules.old)
-        (tailor_sources base.new properties.new rules.new) result }
+    ensures { TailorsFiles (base.old ∷ properties.old ∷ rules.old ∷ []) (base.new ∷ properties.new ∷ rules.new ∷ []) result }
 {
     run_tailor_in(alloc, alloc, base, properties, rules)
 }
@@ -48,14 +40,7 @@ pub fn run_tailor_in<A: Allocator + Copy, B: Read, D: Read, U: Read>(
     properties: &mut Source<D>,
     rules: &mut Source<U>,
 ) -> Result<(Table<A>, Certificate<A>), RunFault>
-    // Where the bytes of its files are known.
-    ensures runs { TailorsOver (tailor_sources base.old properties.old rules.old)
-        (tailor_sources base.new properties.new rules.new) (RunsTailor result) result }
-    ensures only { PlansPlanned (tailor_sources base.old properties.old rules.old) result }
-
-    // Whatever the readers are.
-    ensures failed { TailorHasFailed (tailor_sources base.old properties.old rules.old)
-        (tailor_sources base.new properties.new rules.new) result }
+    ensures { TailorsFiles (base.old ∷ properties.old ∷ rules.old ∷ []) (base.new ∷ properties.new ∷ rules.new ∷ []) result }
 {
     let files = read_tailor_files(alloc, global, base, properties, rules)?;
     Ok(tailor(alloc, &files.base, &files.properties, &files.rules)?)

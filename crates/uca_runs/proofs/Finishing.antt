@@ -11,7 +11,8 @@ use Rattle.uca_runs.specs.declared.faults.RunFault.{RunFault}
 use Rattle.uca_runs.specs.declared.faults.RunFault.TheVariants.{File, Input, Write, Memory}
 use Rattle.uca_runs.specs.declared.faults.InputKind.{InputKind}
 use Rattle.uca_runs.specs.Keys.{Keying, key_lines, keys_output}
-use Rattle.uca_runs.specs.Runs.{IsInputFault, is_write, is_file}
+use Rattle.uca_runs.specs.Files.{is_file}
+use Rattle.uca_runs.specs.Runs.{IsInputFault, is_write}
 use Rattle.uca_runs.specs.KeysRun.{WritesKeys, is_before_input}
 use Rattle.uca_runs.specs.LinesSoFar.{IsKnownBehind, AreAll}
 use Rattle.uca_runs.specs.KeysSoFar.{HasPrinted, IsPartOfOutput, PrintsRest}

@@ -17,5 +17,5 @@ pub mod NormalLines
 pub mod UntouchedLines
 pub mod OneOrder
 pub mod RuleBytes
-pub mod Auditing
-pub mod Tailoring
+pub mod FilesLemmas
+pub mod ReadFilesLemmas

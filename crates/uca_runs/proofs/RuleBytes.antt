@@ -14,8 +14,8 @@ use Rattle.uca_rules.specs.Meaning.{Means}
 use Rattle.uca_runs.specs.declared.faults.FileFault.TheVariants.{Rules}
 use Rattle.uca_runs.specs.declared.faults.Role.TheVariants as roles
 use Rattle.uca_runs.specs.declared.faults.RunFault.TheVariants.{File}
-use Rattle.uca_runs.specs.AuditFiles.{AreRead, ReadsThat}
-use Rattle.uca_runs.specs.AuditSources.{LosesAtMost, RefusesRules}
+use Rattle.uca_runs.specs.Files.{LosesAtMost, RefusesRules}
+use Rattle.uca_runs.specs.ReadFiles.{AreRead, ReadsThat}
 
 -- no more bytes were read than there are
 no_more : (bytes left : Option (List ℕ)) (read all : List ℕ) → AreRead bytes left read → bytes ≡ Some all → length read ≤ length all

@@ -1,26 +1,23 @@
--- What the runs of check and compare answer, from what is found and what went out of its line.
+-- What the runs of check and compare return, from what is found and what went out of its line.
 use Rattle.std.proofs.Common.{◌≡◌, ℕ, ◌||◌, List, [], ◌∷◌, ◌++◌, append_assoc, Bool, true, false, Option, IfSome, Result, Ok, Err, OnOk, IfErr, chars, refl, ap, subst, sym, ◌∙◌}
 use Rattle.std.specs.Io.KnownBytes.{Appends}
 use Rattle.std.specs.declared.cmp.Ordering.{Ordering}
-use Rattle.uca_weights.specs.Streams.{SourceState, SinkState}
+use Rattle.uca_weights.specs.Streams.{SinkState}
 use Rattle.uca_weights.specs.Writes.{WentOut}
 use Rattle.uca_weights.specs.declared.Depth.{Depth}
 use Rattle.uca_weights.specs.declared.Weighting.{Weighting}
-use Rattle.uca_values.specs.Content.{TableContent, Properties}
+use Rattle.uca_values.specs.Content.{Properties}
 use Rattle.uca_text.specs.Texts.{Spelled, spelled}
 use Rattle.uca_text.specs.Limits.{IsAccepted}
 use Rattle.uca_key.specs.Levels.{Comparison}
-use Rattle.uca_table.specs.TableLines as tables
-use Rattle.uca_table.specs.DataSoFar as data_files
 use Rattle.uca_runs.specs.declared.faults.RunFault.{RunFault}
 use Rattle.uca_runs.specs.declared.faults.RunFault.TheVariants.{File, Input, Write, Memory, Text, Tailor, CertificateWrite, Open, Words}
-use Rattle.uca_runs.specs.declared.faults.Role.TheVariants as roles
 use Rattle.uca_runs.specs.Keys.{Keying, keying}
 use Rattle.uca_runs.specs.Laws.{texts_compared, lines_compared}
-use Rattle.uca_runs.specs.Runs.{RunsOver, FailsToWrite, HaveFailed, is_file, is_write}
-use Rattle.uca_runs.specs.CheckRun.{IsVerdict, RunsCheck}
+use Rattle.uca_runs.specs.Files.{TableAndData, is_file}
+use Rattle.uca_runs.specs.Runs.{FailsToWrite, is_write}
+use Rattle.uca_runs.specs.Verdicts.{WritesVerdict}
 use Rattle.uca_runs.specs.CompareRun.{comparison_line, IsWithinLimits, WritesComparison, RefusesWord, RunsCompare}
-use Rattle.uca_runs.proofs.Running.{runs_over_both, no_file_read}
 
 -- ---- Check
 
@@ -32,21 +29,10 @@ pub line_from_front : (a b c d : List ℕ) → (a ++ b) ++ ((c ++ d) ++ 10 ∷ [
 line_from_front a b c d = sym (append_assoc (a ++ b) (c ++ d) (10 ∷ [])) ∙ line_parts a b c d
 
 -- the verdict did not go out whole
-pub verdict_not_written : (table table_new properties properties_new : SourceState) (out out_new : SinkState) (content : TableContent) (points : Properties) (well_formed : Bool) (line : List ℕ) (fault : RunFault)
-    → IfSome table.remaining (λ bytes. tables.Means bytes content) → IfSome properties.remaining (λ bytes. data_files.Means bytes points)
-    → IsVerdict points.class content.rows well_formed line → FailsToWrite Write out.contents out_new.contents line fault
-    → RunsOver {A = Bool} table table_new properties properties_new (RunsCheck out out_new (Err fault)) (Err fault)
-verdict_not_written table table_new properties properties_new out out_new content points well_formed line fault means_table means_data verdict fails =
-    subst (λ f. RunsOver {A = Bool} table table_new properties properties_new (RunsCheck out out_new (Err f)) (Err f)) (sym fails.1)
-    (runs_over_both {A = Bool} table table_new properties properties_new (RunsCheck out out_new (Err (Write fails.0))) (Err (Write fails.0)) content points refl means_table means_data (well_formed, line, verdict, fails.2))
-
--- or it did
-pub verdict_written : (table table_new properties properties_new : SourceState) (out out_new : SinkState) (content : TableContent) (points : Properties) (well_formed : Bool) (line : List ℕ)
-    → IfSome table.remaining (λ bytes. tables.Means bytes content) → IfSome properties.remaining (λ bytes. data_files.Means bytes points)
-    → IsVerdict points.class content.rows well_formed line → Appends out.contents out_new.contents line
-    → RunsOver {A = Bool} table table_new properties properties_new (RunsCheck out out_new (Ok well_formed)) (Ok well_formed)
-verdict_written table table_new properties properties_new out out_new content points well_formed line means_table means_data verdict written =
-    runs_over_both {A = Bool} table table_new properties properties_new (RunsCheck out out_new (Ok well_formed)) (Ok well_formed) content points refl means_table means_data (line, verdict, written)
+pub verdict_cut : {V : Type 0} (Is : V → List ℕ → Type 0) (verdict : V) (line : List ℕ) (begun now : Option (List ℕ)) (fault : RunFault)
+    → Is verdict line → FailsToWrite Write begun now line fault → WritesVerdict Is begun now (Err fault)
+verdict_cut Is verdict line begun now fault is fails =
+    subst (λ f. WritesVerdict Is begun now (Err f)) (sym fails.1) (verdict, line, is, fails.2)
 
 -- ---- Compare
 
@@ -91,13 +77,13 @@ pub of_word : (points : Properties) (right : Bool) (text : List ℕ) (fault : Ru
 of_word points right text fault refuses = rw refuses.1 (refl, refl)
 
 -- what is written of two texts is what a run answers of them
-pub run_compares : (asked : Option Weighting) (depth : Depth) (left right : List ℕ) (out out_new : SinkState) (content : TableContent) (points : Properties) (result : Result (Unit {0}) RunFault)
-    → WritesComparison (keying asked depth content points) left right out.contents out_new.contents result → RunsCompare asked depth left right out out_new result content points
-run_compares asked depth left right out out_new content points (Ok x) writes = writes
-run_compares asked depth left right out out_new content points (Err fault) writes = by_fault fault writes
+pub run_compares : (asked : Option Weighting) (depth : Depth) (left right : List ℕ) (out out_new : SinkState) (files : TableAndData) (result : Result (Unit {0}) RunFault)
+    → WritesComparison (keying asked depth files.table files.properties) left right out.contents out_new.contents result → RunsCompare asked depth left right out out_new result files
+run_compares asked depth left right out out_new files (Ok x) writes = writes
+run_compares asked depth left right out out_new files (Err fault) writes = by_fault fault writes
   where
-    by_fault : (fault : RunFault) → WritesComparison {A = Unit {0}} (keying asked depth content points) left right out.contents out_new.contents (Err fault)
-        → RunsCompare {A = Unit {0}} asked depth left right out out_new (Err fault) content points
+    by_fault : (fault : RunFault) → WritesComparison {A = Unit {0}} (keying asked depth files.table files.properties) left right out.contents out_new.contents (Err fault)
+        → RunsCompare {A = Unit {0}} asked depth left right out out_new (Err fault) files
     by_fault (File role cause) writes = writes
     by_fault (Input line kind) writes = writes
     by_fault (Write written) writes = writes
@@ -108,15 +94,3 @@ run_compares asked depth left right out out_new content points (Err fault) write
     by_fault (CertificateWrite written) writes = writes
     by_fault (Open role) writes = writes
     by_fault (Words cause) writes = writes
-
--- ---- What has failed
-
--- by a run that ended after its files, as the output says
-pub failed_by_output : {A : Type 0} (table table_new properties properties_new : SourceState) (out out_new : SinkState) (result : Result A RunFault)
-    → table_new.failed ≡ (table.failed || false) → properties_new.failed ≡ (properties.failed || false) → is_file result ≡ false → out_new.failed ≡ (out.failed || is_write result)
-    → HaveFailed table table_new properties properties_new out out_new result
-failed_by_output table table_new properties properties_new out out_new result same_table same_data no_file same_out = record {
-  table_failed = same_table ∙ ap (λ b. table.failed || b) (sym (no_file_read roles.Table result no_file));
-  data_failed = same_data ∙ ap (λ b. properties.failed || b) (sym (no_file_read roles.Data result no_file));
-  out_failed = same_out;
-}

@@ -1,13 +1,13 @@
 -- What a run of compare answers and writes.
-use Rattle.std.specs.Prelude.{◌≡◌, ℕ, ◌+◌, List, [], ◌∷◌, Bool, true, false, Option, Result, Ok, Err, chars}
+use Rattle.std.specs.Prelude.{◌≡◌, ℕ, ◌+◌, ◌||◌, List, [], ◌∷◌, Bool, true, false, Option, Result, Ok, Err, chars}
 use Rattle.std.specs.declared.cmp.Ordering.{Ordering}
 use Rattle.std.specs.declared.cmp.Ordering.TheVariants.{Less, Equal, Greater}
 use Rattle.std.specs.Io.KnownBytes.{Appends}
 use Rattle.uca_weights.specs.declared.Depth.{Depth}
 use Rattle.uca_weights.specs.declared.Weighting.{Weighting}
-use Rattle.uca_weights.specs.Streams.{SinkState}
+use Rattle.uca_weights.specs.Streams.{SourceState, SinkState}
 use Rattle.uca_weights.specs.Writes.{WentOut}
-use Rattle.uca_values.specs.Content.{TableContent, Properties}
+use Rattle.uca_values.specs.Content.{Properties}
 use Rattle.uca_text.specs.Texts.{spelled}
 use Rattle.uca_text.specs.Limits.{IsAccepted}
 use Rattle.uca_text.specs.Faults.{IsCause}
@@ -15,6 +15,8 @@ use Rattle.uca_text.specs.declared.normalize.TextFault.{TextFault}
 use Rattle.uca_key.specs.Levels.{Comparison}
 use Rattle.uca_runs.specs.declared.faults.RunFault.{RunFault}
 use Rattle.uca_runs.specs.declared.faults.RunFault.TheVariants.{Write, Memory, Text}
+use Rattle.uca_runs.specs.Files.{TableAndData, Over, HaveFailed, table_and_data, table_and_data_roles}
+use Rattle.uca_runs.specs.Runs.{is_before_output, is_write}
 use Rattle.uca_runs.specs.Keys.{Keying, keying}
 use Rattle.uca_runs.specs.Laws.{lines_compared}
 
@@ -47,6 +49,27 @@ WritesComparison c left right begun now (Err _) = ⊥
 
 -- What a run of compare answers under a table and properties. An allocation that failed for looking up rows says nothing of
 -- the texts, and nothing was written.
-abbrev pub RunsCompare : {A : Type 0} → Option Weighting → Depth → List ℕ → List ℕ → SinkState → SinkState → Result A RunFault → TableContent → Properties → Type 0
-RunsCompare asked depth left right out out_new (Err Memory) table properties = out_new ≡ out
-RunsCompare asked depth left right out out_new result table properties = WritesComparison (keying asked depth table properties) left right out.contents out_new.contents result
+abbrev pub RunsCompare : {A : Type 0} → Option Weighting → Depth → List ℕ → List ℕ → SinkState → SinkState → Result A RunFault → TableAndData → Type 0
+RunsCompare asked depth left right out out_new (Err Memory) files = out_new ≡ out
+RunsCompare asked depth left right out out_new result files = WritesComparison (keying asked depth files.table files.properties) left right out.contents out_new.contents result
+
+-- what a run of compare goes by: the weighting that is asked for, the depth and the two texts
+pub record Comparing : Type 0 where
+  pub weighting : Option Weighting
+  pub depth : Depth
+  pub left : List ℕ
+  pub right : List ℕ
+
+-- the same from its parts
+abbrev pub comparing : Option Weighting → Depth → List ℕ → List ℕ → Comparing
+comparing weighting depth left right = record { weighting = weighting; depth = depth; left = left; right = right }
+
+-- A run of compare: what it returns where the bytes of its files are known; and whatever its files and its output are,
+-- when nothing is written, and what has failed.
+pub record Compares {A : Type 0} (asked : Comparing) (olds news : List SourceState) (out out_new : SinkState)
+    (result : Result A RunFault) : Type 0 where
+  pub runs : Over table_and_data olds news
+      (RunsCompare asked.weighting asked.depth asked.left asked.right out out_new result) result
+  pub nothing_written : is_before_output result ≡ true → out_new ≡ out
+  pub failed : HaveFailed table_and_data_roles olds news result
+  pub out_failed : out_new.failed ≡ (out.failed || is_write result)

@@ -1,5 +1,7 @@
 pub mod Input
 pub mod Keys
+pub mod Files
+pub mod ReadFiles
 pub mod Runs
 pub mod KeysRun
 pub mod LinesSoFar
@@ -9,10 +11,6 @@ pub mod SortSoFar
 pub mod Verdicts
 pub mod CheckRun
 pub mod CompareRun
-pub mod AuditSources
-pub mod AuditFiles
-pub mod TailorSources
-pub mod TailorFiles
 pub mod Laws
 pub mod Print
 pub mod RoleText

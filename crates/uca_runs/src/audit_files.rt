@@ -1,11 +1,11 @@
 //! The five files that an audit goes by.
 
-ghost use Rattle.std.specs.Prelude.{◌≡◌, ◌||◌, is_err, IfOk, IfErr, IfSome, OnErr, MatchResult};
+ghost use Rattle.std.specs.Prelude.{◌≡◌, ◌||◌, ◌∷◌, [], is_err, IfOk, IfErr, IfSome};
+ghost use Rattle.uca_tailorings.specs.Inputs.{tailoring_of};
+ghost use Rattle.uca_runs.specs.Files.{HaveFailed, Over, RefusesCertificate, audit_files, audit_roles, is_file, is_file_read};
+ghost use Rattle.uca_runs.specs.ReadFiles.{IsRead, IsRefused, ReadsOnly, ReadsThat};
 ghost use Rattle.uca_values.specs.Content.{properties_of};
 ghost use Rattle.uca_certificates.specs.Texts as certificates;
-ghost use Rattle.uca_runs.specs.AuditFiles.{MayMean, ReadsThat};
-ghost use Rattle.uca_runs.specs.AuditSources.{AuditContent, AuditsOver, HaveContent, IsStop, RefusesCertificate, SourcesHaveFailed, audit_content, audit_sources};
-ghost use Rattle.uca_runs.specs.Runs.{is_file, is_file_read, IsRefused};
 
 use crate::faults::{FileFault, Role, RunFault};
 use crate::files::{read_data_file, read_table_file};
@@ -46,15 +46,14 @@ pub fn read_audit_files<A: Allocator + Copy, B: Read, D: Read, U: Read, T: Read,
     tailored: &mut Source<T>,
     certificate: &mut Source<C>,
 ) -> Result<AuditFiles<A>, RunFault>
-    ensures means { IfOk result (λ files. MayMean (audit_sources base.old properties.old rules.old tailored.old certificate.old)
-        (audit_content files.base (properties_of files.properties) files.rules files.tailored files.certificate)) }
-    ensures only { (content : AuditContent) → HaveContent (audit_sources base.old properties.old rules.old tailored.old certificate.old) content →
-        MatchResult result (λ files. audit_content files.base (properties_of files.properties) files.rules files.tailored files.certificate ≡ content) IsStop }
-    ensures refused { OnErr result (AuditsOver (audit_sources base.old properties.old rules.old tailored.old certificate.old)
-        (audit_sources base.new properties.new rules.new tailored.new certificate.new) (λ _. ⊥) result) }
+    ensures read { Over audit_files (base.old ∷ properties.old ∷ rules.old ∷ tailored.old ∷ certificate.old ∷ [])
+        (base.new ∷ properties.new ∷ rules.new ∷ tailored.new ∷ certificate.new ∷ [])
+        (IsRead (λ files. tailoring_of files.base (properties_of files.properties) files.rules files.tailored files.certificate) result) result }
+    ensures only { ReadsOnly audit_files (base.old ∷ properties.old ∷ rules.old ∷ tailored.old ∷ certificate.old ∷ [])
+        (λ files. tailoring_of files.base (properties_of files.properties) files.rules files.tailored files.certificate) result }
     ensures of_files { is_file result ≡ is_err result }
-    ensures failed { SourcesHaveFailed (audit_sources base.old properties.old rules.old tailored.old certificate.old)
-        (audit_sources base.new properties.new rules.new tailored.new certificate.new) result }
+    ensures failed { HaveFailed audit_roles (base.old ∷ properties.old ∷ rules.old ∷ tailored.old ∷ certificate.old ∷ [])
+        (base.new ∷ properties.new ∷ rules.new ∷ tailored.new ∷ certificate.new ∷ []) result }
 {
     let base = read_table_file(alloc, Role::Base, base)?;
     let properties = read_data_file(alloc, properties)?;

@@ -4,12 +4,14 @@ ghost use Rattle.std.specs.Prelude.{◌≡◌, ◌≤◌, ◌+◌, ◌++◌, ◌
 ghost use Rattle.std.specs.Io.KnownBytes.{Appends};
 ghost use Rattle.uca_weights.specs.Writes.{WentOut, Writes};
 ghost use Rattle.uca_lines.specs.OutputBuffer.{HandedOver};
+ghost use Rattle.uca_values.specs.Content.{properties_of};
 ghost use Rattle.uca_check.specs.FaultText.{ill_formed_text};
-ghost use Rattle.uca_runs.specs.Runs.{is_before_output, is_file, is_write, FailsToWrite, HaveFailed, RunsOver};
-ghost use Rattle.uca_runs.specs.CheckRun.{RunsCheck};
+ghost use Rattle.uca_runs.specs.Files.{is_file, table_with};
+ghost use Rattle.uca_runs.specs.Runs.{is_before_output, is_write, FailsToWrite};
+ghost use Rattle.uca_runs.specs.CheckRun.{Checks, RunsCheck};
 
 use crate::faults::RunFault;
-use crate::files::read_files;
+use crate::files::{Files, read_files};
 use crate::output::write_text;
 use std::alloc::Allocator;
 use std::io::{Read, Write};
@@ -31,15 +33,22 @@ pub fn run_check<A: Allocator + Copy, T: Read, D: Read, W: Write>(
     properties: &mut Source<D>,
     out: &mut Sink<W>,
 ) -> Result<bool, RunFault>
-    // Where the bytes of its files are known.
-    ensures runs { RunsOver table.old table.new properties.old properties.new
-        (RunsCheck out.old out.new result) result }
-
-    // Whatever the readers and the writer are.
-    ensures nothing_written { is_before_output result ≡ true → out.new ≡ out.old }
-    ensures failed { HaveFailed table.old table.new properties.old properties.new out.old out.new result }
+    ensures { Checks (table.old ∷ properties.old ∷ []) (table.new ∷ properties.new ∷ []) out.old out.new result }
 {
     let files = read_files(alloc, table, properties)?;
+    write_verdict(&files, out)
+}
+
+// Checks whether the table is well-formed, and writes the verdict.
+fn write_verdict<A: Allocator, W: Write>(
+    files: &Files<A>,
+    out: &mut Sink<W>,
+) -> Result<bool, RunFault>
+    ensures verdict { RunsCheck out.old out.new result (table_with files.now.table (properties_of files.now.properties)) }
+    ensures of_output { is_before_output result ≡ false }
+    ensures no_file { is_file result ≡ false }
+    ensures failed { out.new.failed ≡ (out.old.failed || is_write result) }
+{
     match check(&files.table, &files.properties) {
         Ok(()) => {
             write_text(b"well-formed\n", out)?;

@@ -1,15 +1,16 @@
 //! The run that compares two texts.
 
-ghost use Rattle.std.specs.Prelude.{◌≡◌, ◌≤◌, ◌||◌, true, false, chars, IfOk, IfErr};
+ghost use Rattle.std.specs.Prelude.{◌≡◌, ◌∷◌, [], ◌≤◌, ◌||◌, true, false, chars, IfOk, IfErr};
 ghost use Rattle.uca_values.specs.Content.{properties_of};
 ghost use Rattle.uca_text.specs.Texts.{spelled};
 ghost use Rattle.uca_text.specs.Limits.{IsAccepted};
 ghost use Rattle.uca_runs.specs.Keys.{keying_of};
-ghost use Rattle.uca_runs.specs.Runs.{is_before_output, is_file, is_write, HaveFailed, RunsOver};
-ghost use Rattle.uca_runs.specs.CompareRun.{comparison_line, RefusesWord, WritesComparison, RunsCompare};
+ghost use Rattle.uca_runs.specs.Files.{is_file};
+ghost use Rattle.uca_runs.specs.Runs.{is_before_output, is_write};
+ghost use Rattle.uca_runs.specs.CompareRun.{comparison_line, RefusesWord, Compares, WritesComparison, comparing};
 
 use crate::faults::RunFault;
-use crate::files::{chosen_weighting, read_files, rows_of_table};
+use crate::files::read_collation;
 use crate::output::write_text;
 use std::alloc::{Allocator, Global};
 use std::cmp::Ordering;
@@ -68,13 +69,8 @@ pub fn run_compare<T: Read, D: Read, W: Write>(
     weighting: Option<Weighting>,
     depth: Depth,
 ) -> Result<(), RunFault>
-    // Where the bytes of its files are known.
-    ensures runs { RunsOver table.old table.new properties.old properties.new
-        (RunsCompare weighting depth left.now right.now out.old out.new result) result }
-
-    // Whatever the readers and the writer are.
-    ensures nothing_written { is_before_output result ≡ true → out.new ≡ out.old }
-    ensures failed { HaveFailed table.old table.new properties.old properties.new out.old out.new result }
+    ensures { Compares (comparing weighting depth left.now right.now) (table.old ∷ properties.old ∷ [])
+        (table.new ∷ properties.new ∷ []) out.old out.new result }
 {
     run_compare_in(
         alloc, alloc, table, properties, left, right, out, weighting, depth,
@@ -94,20 +90,12 @@ pub fn run_compare_in<A: Allocator + Copy, T: Read, D: Read, W: Write>(
     weighting: Option<Weighting>,
     depth: Depth,
 ) -> Result<(), RunFault>
-    // Where the bytes of its files are known.
-    ensures runs { RunsOver table.old table.new properties.old properties.new
-        (RunsCompare weighting depth left.now right.now out.old out.new result) result }
-
-    // Whatever the readers and the writer are.
-    ensures nothing_written { is_before_output result ≡ true → out.new ≡ out.old }
-    ensures failed { HaveFailed table.old table.new properties.old properties.new out.old out.new result }
+    ensures { Compares (comparing weighting depth left.now right.now) (table.old ∷ properties.old ∷ [])
+        (table.new ∷ properties.new ∷ []) out.old out.new result }
 {
-    let files = read_files(alloc, table, properties)?;
-    let rows = rows_of_table(alloc, &files.table)?;
-    let header = &files.table.header;
-    let collator = Collator::new(&rows, header, &files.properties);
-    let weighting = chosen_weighting(weighting, header);
-    compare_words(global, &collator, weighting, depth, left, right, out)
+    let read = read_collation(alloc, table, properties, weighting)?;
+    let collator = read.collator();
+    compare_words(global, &collator, read.weighting, depth, left, right, out)
 }
 
 // The text of a word, which is the right one of the two or the left one.

@@ -1,21 +1,22 @@
 //! The table and the data file that a run goes by.
 
-ghost use Rattle.std.specs.Prelude.{◌≡◌, ◌||◌, is_err, IfOk, IfErr, IfSome, OnErr, MatchResult};
+ghost use Rattle.std.specs.Prelude.{◌≡◌, ◌||◌, ◌∷◌, [], true, is_err, IfOk, IfErr, IfSome, MatchResult};
 ghost use Rattle.uca_values.specs.Content.{Properties, properties_of};
 ghost use Rattle.uca_table.specs.TableLines as tables;
 ghost use Rattle.uca_table.specs.DataSoFar as data_files;
 ghost use Rattle.uca_match.specs.Rows.{rows_of};
 ghost use Rattle.uca_key.specs.Lengths.{HasShortRows};
-ghost use Rattle.uca_runs.specs.AuditFiles.{ReadsThat};
-ghost use Rattle.uca_runs.specs.AuditSources.{IsStop};
+ghost use Rattle.uca_runs.specs.Files.{HaveFailed, IsStop, OfLines, Over, is_file, is_file_read, table_and_data, table_and_data_roles, table_with};
+ghost use Rattle.uca_runs.specs.ReadFiles.{IsCollation, IsRead, IsRefused, ReadsThat, collation_in};
+ghost use Rattle.uca_runs.specs.KeysRun.{is_before_input};
+ghost use Rattle.uca_match.specs.Collations.{collation_of};
 ghost use Rattle.uca_runs.specs.Keys.{weighting_by};
-ghost use Rattle.uca_runs.specs.Runs.{is_file, is_file_read, IsRefused, OfLines, RunsOver};
 
 use crate::faults::{FileFault, Role, RunFault};
 use std::alloc::{Allocator, Global};
 use std::io::Read;
 use uca_key::laws::rows_are_short;
-use uca_match::{Lookup, Trie};
+use uca_match::{Collator, Lookup, Trie};
 use uca_table::{read_data, read_table};
 use uca_values::{Data, Header, Table};
 use uca_weights::{Source, Weighting};
@@ -39,13 +40,11 @@ pub fn read_files<A: Allocator + Copy, T: Read, D: Read>(
     table: &mut Source<T>,
     properties: &mut Source<D>,
 ) -> Result<Files<A>, RunFault>
-    ensures table { IfOk result (λ files. IfSome table.old.remaining (λ bytes. tables.Means bytes files.table)) }
-    ensures properties { IfOk result (λ files. IfSome properties.old.remaining
-        (λ bytes. data_files.Means bytes (properties_of files.properties))) }
-    ensures refused { OnErr result (RunsOver table.old table.new properties.old properties.new (λ _ _. ⊥) result) }
+    ensures read { Over table_and_data (table.old ∷ properties.old ∷ []) (table.new ∷ properties.new ∷ [])
+        (IsRead (λ files. table_with files.table (properties_of files.properties)) result) result }
     ensures of_files { is_file result ≡ is_err result }
-    ensures table_failed { table.new.failed ≡ (table.old.failed || is_file_read Role.Table result) }
-    ensures data_failed { properties.new.failed ≡ (properties.old.failed || is_file_read Role.Data result) }
+    ensures failed { HaveFailed table_and_data_roles (table.old ∷ properties.old ∷ [])
+        (table.new ∷ properties.new ∷ []) result }
 {
     let table = read_table_file(alloc, Role::Table, table)?;
     let properties = read_data_file(alloc, properties)?;
@@ -101,12 +100,60 @@ pub fn read_data_file<A: Allocator + Copy, D: Read>(
     }
 }
 
-/// The rows of a table, ready to be looked up.
+/// What keys go by: what the two files mean, the rows of the table, and a weighting.
+#[derive(Drop)]
+pub struct ReadCollation<A: Allocator = Global> {
+    files: Files<A>,
+    rows: Trie<A>,
+    /// The weighting.
+    pub weighting: Weighting,
+}
+
+impl<A: Allocator> ReadCollation<A> {
+    /// What texts are read by.
+    pub fn collator(&self) -> Collator<'_, Trie<A>, A>
+        ensures { collation_of ⟦<Trie<A> as Lookup>⟧.content result
+            ≡ collation_in (⟦<Trie<A> as Lookup>⟧.content self.now.rows)
+            (table_with self.now.files.table (properties_of self.now.files.properties)) }
+    {
+        Collator::new(&self.rows, &self.files.table.header, &self.files.properties)
+    }
+}
+
+/// Reads the table, and then the data file, and makes the rows ready to be looked up. The weighting is the one that is
+/// asked for, or else that of the table's `@variable`, or else shifted (UTS #10, section 4).
 ///
 /// # Errors
 ///
-/// `Memory` where an allocation fails.
-pub fn rows_of_table<A: Allocator + Copy>(alloc: A, table: &Table<A>) -> Result<Trie<A>, RunFault>
+/// `File` where the table, or else the data file, is rejected; then `Memory` where an allocation fails for the rows.
+pub fn read_collation<A: Allocator + Copy, T: Read, D: Read>(
+    alloc: A,
+    table: &mut Source<T>,
+    properties: &mut Source<D>,
+    weighting: Option<Weighting>,
+) -> Result<ReadCollation<A>, RunFault>
+    ensures read { Over table_and_data (table.old ∷ properties.old ∷ []) (table.new ∷ properties.new ∷ [])
+        (λ content. MatchResult result
+        (λ read. IsCollation weighting (collation_in (⟦<Trie<A> as Lookup>⟧.content read.rows)
+        (table_with read.files.table (properties_of read.files.properties))) read.weighting content)
+        (λ fault. fault ≡ RunFault.Memory)) result }
+    ensures short { IfOk result (λ read. HasShortRows (⟦<Trie<A> as Lookup>⟧.content read.rows)) }
+    ensures before_input { IfErr result (λ _. is_before_input result ≡ true) }
+    ensures failed { HaveFailed table_and_data_roles (table.old ∷ properties.old ∷ [])
+        (table.new ∷ properties.new ∷ []) result }
+{
+    let files = read_files(alloc, table, properties)?;
+    let rows = rows_of_table(alloc, &files.table)?;
+    let weighting = chosen_weighting(weighting, &files.table.header);
+    Ok(ReadCollation {
+        files,
+        rows,
+        weighting,
+    })
+}
+
+// The rows of a table, ready to be looked up.
+fn rows_of_table<A: Allocator + Copy>(alloc: A, table: &Table<A>) -> Result<Trie<A>, RunFault>
     ensures rows { IfOk result (λ rows. ⟦<Trie<A> as Lookup>⟧.content rows ≡ rows_of table.now.rows) }
     ensures short { IfOk result (λ rows. HasShortRows (⟦<Trie<A> as Lookup>⟧.content rows)) }
     ensures refused { IfErr result (λ fault. fault ≡ RunFault.Memory) }
@@ -120,9 +167,9 @@ pub fn rows_of_table<A: Allocator + Copy>(alloc: A, table: &Table<A>) -> Result<
     }
 }
 
-/// The weighting that is asked for, or else that of the table's `@variable`, or else shifted
-/// (UTS #10, section 4).
-pub fn chosen_weighting<A: Allocator>(asked: Option<Weighting>, header: &Header<A>) -> Weighting
+// The weighting that is asked for, or else that of the table's `@variable`, or else shifted
+// (UTS #10, section 4).
+fn chosen_weighting<A: Allocator>(asked: Option<Weighting>, header: &Header<A>) -> Weighting
     ensures { result ≡ weighting_by asked header.now.setting }
 {
     asked.or(header.setting).unwrap_or(Weighting::Shifted)

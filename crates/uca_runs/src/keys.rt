@@ -1,6 +1,6 @@
 //! The run that prints the sort key of each line.
 
-ghost use Rattle.std.specs.Prelude.{◌≡◌, ℕ, ◌+◌, ◌-◌, ◌*◌, ◌^◌, ◌<◌, ◌≤◌, ◌||◌, true, false, List, Option, IfOk, IfSome, OnOk, length};
+ghost use Rattle.std.specs.Prelude.{◌≡◌, ◌∷◌, [], ℕ, ◌+◌, ◌-◌, ◌*◌, ◌^◌, ◌<◌, ◌≤◌, ◌||◌, true, false, List, Option, IfOk, IfSome, OnOk, length};
 ghost use Rattle.uca_weights.specs.Writes.{WentOut};
 ghost use Rattle.std.specs.Bool.{OnTrue};
 ghost use Rattle.uca_lines.specs.OutputBuffer.{HandedOver};
@@ -8,12 +8,12 @@ ghost use Rattle.uca_match.specs.Collations.{collation_of};
 ghost use Rattle.uca_weights.specs.declared.Depth.TheVariants.{Weights};
 ghost use Rattle.uca_key.specs.Lengths.{HasShortRows};
 ghost use Rattle.uca_runs.specs.Keys.{keying_of, text_line};
-ghost use Rattle.uca_runs.specs.Runs.{is_input_read, is_write, HaveFailed, RunsOver};
-ghost use Rattle.uca_runs.specs.KeysRun.{is_before_input, WritesKeys, RunsKeys};
+ghost use Rattle.uca_runs.specs.Runs.{is_input_read, is_write};
+ghost use Rattle.uca_runs.specs.KeysRun.{is_before_input, PrintsKeys, WritesKeys};
 ghost use Rattle.uca_runs.specs.KeysSoFar.{HasPrinted, PrintsNext, PrintsText, PrintsRest};
 
 use crate::faults::{InputKind, RunFault};
-use crate::files::{chosen_weighting, read_files, rows_of_table};
+use crate::files::read_collation;
 use crate::input::{LONGEST_INPUT_LINE, next_text};
 use crate::print::print_key;
 use std::alloc::{Allocator, Global};
@@ -220,15 +220,8 @@ pub fn run_keys<T: Read, D: Read, I: Read, W: Write>(
     weighting: Option<Weighting>,
     depth: Depth,
 ) -> Result<(), RunFault>
-    // Where the bytes of its files are known.
-    ensures runs { RunsOver table.old table.new properties.old properties.new
-        (RunsKeys weighting depth input.old input.new out.old out.new result) result }
-
-    // Whatever the readers and the writer are.
-    ensures nothing_written { is_before_input result ≡ true → (out.new ≡ out.old) × (input.new ≡ input.old) }
-    ensures input_failed { is_write result ≡ false →
-        input.new.failed ≡ (input.old.failed || is_input_read result) }
-    ensures failed { HaveFailed table.old table.new properties.old properties.new out.old out.new result }
+    ensures { PrintsKeys weighting depth (table.old ∷ properties.old ∷ []) (table.new ∷ properties.new ∷ [])
+        input.old input.new out.old out.new result }
 {
     run_keys_in(
         alloc, alloc, table, properties, input, out, weighting, depth,
@@ -247,20 +240,10 @@ pub fn run_keys_in<A: Allocator + Copy, T: Read, D: Read, I: Read, W: Write>(
     weighting: Option<Weighting>,
     depth: Depth,
 ) -> Result<(), RunFault>
-    // Where the bytes of its files are known.
-    ensures runs { RunsOver table.old table.new properties.old properties.new
-        (RunsKeys weighting depth input.old input.new out.old out.new result) result }
-
-    // Whatever the readers and the writer are.
-    ensures nothing_written { is_before_input result ≡ true → (out.new ≡ out.old) × (input.new ≡ input.old) }
-    ensures input_failed { is_write result ≡ false →
-        input.new.failed ≡ (input.old.failed || is_input_read result) }
-    ensures failed { HaveFailed table.old table.new properties.old properties.new out.old out.new result }
+    ensures { PrintsKeys weighting depth (table.old ∷ properties.old ∷ []) (table.new ∷ properties.new ∷ [])
+        input.old input.new out.old out.new result }
 {
-    let files = read_files(alloc, table, properties)?;
-    let rows = rows_of_table(alloc, &files.table)?;
-    let header = &files.table.header;
-    let collator = Collator::new(&rows, header, &files.properties);
-    let weighting = chosen_weighting(weighting, header);
-    print_keys(alloc, global, &collator, weighting, depth, input, out)
+    let read = read_collation(alloc, table, properties, weighting)?;
+    let collator = read.collator();
+    print_keys(alloc, global, &collator, read.weighting, depth, input, out)
 }

@@ -2,7 +2,8 @@
 
 ghost use Rattle.std.specs.Prelude.{◌≡◌, ◌||◌, false, IfErr, OnOk};
 ghost use Rattle.std.specs.Io.KnownBytes.{Appends};
-ghost use Rattle.uca_runs.specs.Runs.{is_before_output, is_file, is_write, FailsToWrite};
+ghost use Rattle.uca_runs.specs.Files.{is_file};
+ghost use Rattle.uca_runs.specs.Runs.{is_before_output, is_write, FailsToWrite};
 
 use crate::faults::RunFault;
 use std::io::Write;

@@ -4,9 +4,8 @@ ghost use Rattle.std.specs.Prelude.{◌≡◌, ◌<◌, ◌≤◌, ◌||◌, ℕ
 ghost use Rattle.std.specs.Io.KnownBytes.{Consumes, IsAtEnd};
 ghost use Rattle.uca_values.specs.Content.{properties_of};
 ghost use Rattle.uca_rules.specs.Meaning as rule_files;
-ghost use Rattle.uca_runs.specs.AuditFiles.{AreRead, IsNotRead, ReadsThat, is_rules_read};
-ghost use Rattle.uca_runs.specs.AuditSources.{RefusesRules};
-ghost use Rattle.uca_runs.specs.Runs.{is_file_read, IsRefused};
+ghost use Rattle.uca_runs.specs.Files.{RefusesRules, is_file_read};
+ghost use Rattle.uca_runs.specs.ReadFiles.{AreRead, IsNotRead, ReadsThat, is_rules_read, IsRefused};
 
 use crate::faults::{FileFault, Role, RunFault};
 use std::alloc::{Allocator, Global};

@@ -1,11 +1,9 @@
 //! The three files that a tailoring is made by.
 
-ghost use Rattle.std.specs.Prelude.{◌≡◌, is_err, IfOk, OnErr, MatchResult};
+ghost use Rattle.std.specs.Prelude.{◌≡◌, ◌∷◌, [], is_err};
+ghost use Rattle.uca_runs.specs.Files.{HaveFailed, Over, is_file, tailor_content, tailor_files, tailor_roles};
+ghost use Rattle.uca_runs.specs.ReadFiles.{IsRead, ReadsOnly};
 ghost use Rattle.uca_values.specs.Content.{properties_of};
-ghost use Rattle.uca_runs.specs.AuditSources.{IsStop};
-ghost use Rattle.uca_runs.specs.Runs.{is_file};
-ghost use Rattle.uca_runs.specs.TailorFiles.{MayMean};
-ghost use Rattle.uca_runs.specs.TailorSources.{HaveTailorContent, TailorContent, TailorHasFailed, TailorsOver, tailor_content, tailor_sources};
 
 use crate::faults::{Role, RunFault};
 use crate::files::{read_data_file, read_table_file};
@@ -39,15 +37,14 @@ pub fn read_tailor_files<A: Allocator + Copy, B: Read, D: Read, U: Read>(
     properties: &mut Source<D>,
     rules: &mut Source<U>,
 ) -> Result<TailorFiles<A>, RunFault>
-    ensures means { IfOk result (λ files. MayMean (tailor_sources base.old properties.old rules.old)
-        (tailor_content files.base (properties_of files.properties) files.rules)) }
-    ensures only { (content : TailorContent) → HaveTailorContent (tailor_sources base.old properties.old rules.old) content →
-        MatchResult result (λ files. tailor_content files.base (properties_of files.properties) files.rules ≡ content) IsStop }
-    ensures refused { OnErr result (TailorsOver (tailor_sources base.old properties.old rules.old)
-        (tailor_sources base.new properties.new rules.new) (λ _ _ _. ⊥) result) }
+    ensures read { Over tailor_files (base.old ∷ properties.old ∷ rules.old ∷ [])
+        (base.new ∷ properties.new ∷ rules.new ∷ [])
+        (IsRead (λ files. tailor_content files.base (properties_of files.properties) files.rules) result) result }
+    ensures only { ReadsOnly tailor_files (base.old ∷ properties.old ∷ rules.old ∷ [])
+        (λ files. tailor_content files.base (properties_of files.properties) files.rules) result }
     ensures of_files { is_file result ≡ is_err result }
-    ensures failed { TailorHasFailed (tailor_sources base.old properties.old rules.old)
-        (tailor_sources base.new properties.new rules.new) result }
+    ensures failed { HaveFailed tailor_roles (base.old ∷ properties.old ∷ rules.old ∷ [])
+        (base.new ∷ properties.new ∷ rules.new ∷ []) result }
 {
     let base = read_table_file(alloc, Role::Table, base)?;
     let properties = read_data_file(alloc, properties)?;

@@ -1,6 +1,5 @@
 -- All files are opened, and then run over.
-use Rattle.std.proofs.Common.{inr}
-use Rattle.uca_runs.specs.AuditSources.{audit_sources}
+use Rattle.std.proofs.Common.{[], ◌∷◌, inr}
 use Rattle.uca_cli.proofs.command.audit.Goals as goal
 
 pub returns : goal.returns
@@ -8,15 +7,8 @@ returns g c =
     let files = c.in-Ok.files in
     let new = c.run_audit.new in
     inr (record {
-      before = audit_sources files.base files.properties files.rules files.tailored files.certificate;
-      after = audit_sources new.base new.properties new.rules new.tailored new.certificate;
+      before = files.base ∷ files.properties ∷ files.rules ∷ files.tailored ∷ files.certificate ∷ [];
+      after = new.base ∷ new.properties ∷ new.rules ∷ new.tailored ∷ new.certificate ∷ [];
       opened = c.in-Ok.ensures;
-      runs = record {
-        run = c.run_audit.result;
-        status = c.checked.ensures;
-        runs = c.run_audit.ensures.runs;
-        only = c.run_audit.ensures.only;
-        nothing_written = c.run_audit.ensures.nothing_written;
-        failed = c.run_audit.ensures.failed;
-      };
+      runs = record { run = c.run_audit.result; runs = c.run_audit.ensures; status = c.checked.ensures };
     })

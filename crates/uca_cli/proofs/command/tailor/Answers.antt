@@ -1,7 +1,6 @@
 -- A file does not open; or all are opened and run over, and what is answered is kept.
-use Rattle.std.proofs.Common.{Ok, Err, inl, inr, refl}
+use Rattle.std.proofs.Common.{[], ◌∷◌, Ok, Err, inl, inr, refl}
 use Rattle.std.proofs.lemmas.Result.{err_from_is_err_and}
-use Rattle.uca_runs.specs.TailorSources.{tailor_sources}
 use Rattle.uca_cli.proofs.command.tailor.Goals as goal
 
 pub returns-in-Err : goal.returns-in-Err
@@ -15,14 +14,12 @@ returns-in_err-tailored g c =
     rw (p.1, p.2) (
       c.open_tailor_files.new.opener,
       inr (record {
-        before = tailor_sources files.0 files.1 files.2;
-        after = tailor_sources new.base new.properties new.rules;
+        before = files.0 ∷ files.1 ∷ files.2 ∷ [];
+        after = new.base ∷ new.properties ∷ new.rules ∷ [];
         opened = c.in-Ok.ensures;
         runs = record {
           run = Err c.in_err-tailored.field-0.0;
-          runs = c.in_err-tailored.ensures.runs;
-          only = c.in_err-tailored.ensures.only;
-          failed = c.in_err-tailored.ensures.failed;
+          runs = c.in_err-tailored.ensures;
           keeps = (refl, refl {a = c.open_tailor_files.new.opener}, refl {a = c.args.out.now});
         };
       }),
@@ -34,14 +31,12 @@ returns g c =
     let new = c.run_tailor.new in (
       c.open_tailor_files.new.opener,
       inr (record {
-        before = tailor_sources files.0 files.1 files.2;
-        after = tailor_sources new.base new.properties new.rules;
+        before = files.0 ∷ files.1 ∷ files.2 ∷ [];
+        after = new.base ∷ new.properties ∷ new.rules ∷ [];
         opened = c.in-Ok.ensures;
         runs = record {
           run = Ok (c.in_ok-tailored.tailored, c.in_ok-tailored.weights);
-          runs = c.in_ok-tailored.ensures.runs;
-          only = c.in_ok-tailored.ensures.only;
-          failed = c.in_ok-tailored.ensures.failed;
+          runs = c.in_ok-tailored.ensures;
           keeps = c.keep_tailored.ensures;
         };
       }),

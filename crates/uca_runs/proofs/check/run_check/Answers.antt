@@ -1,41 +1,39 @@
--- The verdict did not go out whole.
-use Rattle.std.proofs.Common.{Bool, true, false, Err, ◌++◌, ◌∷◌, [], codes, refl}
+-- The whole run, from what its two files mean and the verdict that is written.
+use Rattle.std.specs.Prelude.{⊤}
+use Rattle.std.proofs.Common.{◌≡◌, Bool, [], ◌∷◌, Err, refl, subst, sym}
 use Rattle.std.proofs.lemmas.Result.{err_from_is_err_and}
 use Rattle.uca_values.specs.Content.{properties_of}
-use Rattle.uca_check.specs.FaultText.{ill_formed_text}
 use Rattle.uca_runs.specs.CheckRun.{RunsCheck}
-use Rattle.uca_runs.proofs.Running.{ended_by_files}
-use Rattle.uca_runs.proofs.Verdicts.{verdict_written, verdict_not_written}
+use Rattle.uca_runs.specs.Files.{table_and_data, table_and_data_roles, table_with}
+use Rattle.uca_runs.proofs.FilesLemmas.{ended_by_files, failed_by_files, failed_by_no_file, runs_over_all}
+use Rattle.uca_runs.proofs.Running.{as_before, file_before, no_write_before}
 use Rattle.uca_runs.proofs.check.run_check.Goals as goal
 
-pub returns-in_err-files-clause-runs : goal.returns-in_err-files-clause-runs
-returns-in_err-files-clause-runs g c =
+pub returns-in_err-files : goal.returns-in_err-files
+returns-in_err-files g c =
     let p = err_from_is_err_and c.from_residual.result c.from_residual.ensures.1 in
-    rw (p.1, p.2) (ended_by_files {A = Bool} c.args.table.now c.read_files.new.table c.args.properties.now c.read_files.new.properties
-    (RunsCheck c.args.out.now c.args.out.now (Err c.in_err-files.field-0.0)) (Err c.in_err-files.field-0.0) c.in_err-files.ensures.refused)
+    let fault = c.in_err-files.field-0.0 in
+    let olds = c.args.table.now ∷ c.args.properties.now ∷ [] in
+    let news = c.read_files.new.table ∷ c.read_files.new.properties ∷ [] in
+    rw (p.1, p.2) (record {
+      runs = ended_by_files Bool ⊤ table_and_data olds news (RunsCheck c.args.out.now c.args.out.now (Err fault)) fault c.in_err-files.ensures.read;
+      nothing_written = λ before. refl;
+      failed = failed_by_files Bool ⊤ table_and_data_roles olds news fault c.in_err-files.ensures.failed;
+      out_failed = as_before c.args.out.now.failed _ (no_write_before Bool ⊤ fault (file_before ⊤ ⊤ fault c.in_err-files.ensures.of_files));
+    })
 
-pub returns-in_err-write_text-in-Ok-clause-runs : goal.returns-in_err-write_text-in-Ok-clause-runs
-returns-in_err-write_text-in-Ok-clause-runs g c =
-    let p = err_from_is_err_and c.from_residual-in_err-write_text-in-Ok.result c.from_residual-in_err-write_text-in-Ok.ensures.1 in
-    rw (p.1, p.2) (verdict_not_written c.args.table.now c.read_files.new.table c.args.properties.now c.read_files.new.properties c.args.out.now c.write_text.new.out
-    c.in_ok-files.files.table (properties_of c.in_ok-files.files.properties) true (codes "well-formed\n") c.in_err-write_text-in-Ok.field-0.0
-    c.in_ok-files.ensures.table c.in_ok-files.ensures.properties (c.in-Ok.ensures.well_formed, refl) c.in_err-write_text-in-Ok.ensures.failed_in)
-
-pub returns-in_err-write_ill_formed-in-Err-clause-runs : goal.returns-in_err-write_ill_formed-in-Err-clause-runs
-returns-in_err-write_ill_formed-in-Err-clause-runs g c =
-    let p = err_from_is_err_and c.from_residual-in_err-write_ill_formed-in-Err.result c.from_residual-in_err-write_ill_formed-in-Err.ensures.1 in
-    rw (p.1, p.2) (verdict_not_written c.args.table.now c.read_files.new.table c.args.properties.now c.read_files.new.properties c.args.out.now c.write_ill_formed.new.out
-    c.in_ok-files.files.table (properties_of c.in_ok-files.files.properties) false (ill_formed_text c.in-Err.fault ++ 10 ∷ []) c.in_err-write_ill_formed-in-Err.field-0.0
-    c.in_ok-files.ensures.table c.in_ok-files.ensures.properties (c.in-Err.fault, c.in-Err.ensures.ill_formed, refl) c.in_err-write_ill_formed-in-Err.ensures.failed_in)
-
-pub returns-in-Ok-clause-runs : goal.returns-in-Ok-clause-runs
-returns-in-Ok-clause-runs g c =
-    verdict_written c.args.table.now c.read_files.new.table c.args.properties.now c.read_files.new.properties c.args.out.now c.write_text.new.out
-    c.in_ok-files.files.table (properties_of c.in_ok-files.files.properties) true (codes "well-formed\n")
-    c.in_ok-files.ensures.table c.in_ok-files.ensures.properties (c.in-Ok.ensures.well_formed, refl) c.in_ok-write_text-in-Ok.ensures.written
-
-pub returns-clause-runs : goal.returns-clause-runs
-returns-clause-runs g c =
-    verdict_written c.args.table.now c.read_files.new.table c.args.properties.now c.read_files.new.properties c.args.out.now c.write_ill_formed.new.out
-    c.in_ok-files.files.table (properties_of c.in_ok-files.files.properties) false (ill_formed_text c.in-Err.fault ++ 10 ∷ [])
-    c.in_ok-files.ensures.table c.in_ok-files.ensures.properties (c.in-Err.fault, c.in-Err.ensures.ill_formed, refl) c.in_ok-write_ill_formed-in-Err.ensures.written
+pub returns : goal.returns
+returns g c =
+    let files = c.in_ok-files.files in
+    let read = table_with files.table (properties_of files.properties) in
+    let olds = c.args.table.now ∷ c.args.properties.now ∷ [] in
+    let news = c.read_files.new.table ∷ c.read_files.new.properties ∷ [] in
+    record {
+      runs = runs_over_all {B = ⊤} table_and_data olds news (λ content. read ≡ content)
+          (RunsCheck c.args.out.now c.write_verdict.new.out c.write_verdict.result) tt c.write_verdict.result c.write_verdict.ensures.no_file
+          (λ content same. subst (RunsCheck c.args.out.now c.write_verdict.new.out c.write_verdict.result) same c.write_verdict.ensures.verdict)
+          c.in_ok-files.ensures.read;
+      nothing_written = λ before. let never : ⊥ = cc in absurd never;
+      failed = failed_by_no_file {B = ⊤} table_and_data_roles olds news tt c.write_verdict.result c.in_ok-files.ensures.failed c.write_verdict.ensures.no_file;
+      out_failed = c.write_verdict.ensures.failed;
+    }

@@ -1,0 +1,66 @@
+-- What is known of files where they are read. Only private contracts cite it.
+use Rattle.std.specs.Prelude.{◌≡◌, ℕ, ◌<◌, ◌≤◌, List, Bool, true, false, Option, IfSome, Result, Ok, Err, MatchResult, length}
+use Rattle.std.specs.Io.KnownBytes.{Consumes, IsAtEnd}
+use Rattle.uca_weights.specs.Streams.{SourceState}
+use Rattle.uca_weights.specs.declared.Weighting.{Weighting}
+use Rattle.uca_match.specs.Rows.{Rows}
+use Rattle.uca_match.specs.Collations.{Collation}
+use Rattle.uca_runs.specs.declared.faults.FileFault.{FileFault}
+use Rattle.uca_runs.specs.declared.faults.FileFault.TheVariants.{RulesRead, RulesMemory}
+use Rattle.uca_runs.specs.declared.faults.RunFault.{RunFault}
+use Rattle.uca_runs.specs.declared.faults.RunFault.TheVariants.{File}
+use Rattle.uca_runs.specs.declared.faults.Role.{Role}
+use Rattle.uca_runs.specs.Files.{IsStop, Mean, Reading, TableAndData}
+use Rattle.uca_runs.specs.Keys.{collation, weighting_by}
+
+-- ---- What is read
+
+-- what was read is this, or nothing was
+abbrev pub IsRead : {A C : Type 0} → (A → C) → Result A RunFault → C → Type 0
+IsRead content_of (Ok files) content = content_of files ≡ content
+IsRead content_of (Err fault) content = ⊥
+
+-- of files that mean something this is what is read, unless the reading stops
+abbrev pub ReadsOnly : {A C : Type 0} → Reading C → List SourceState → (A → C) → Result A RunFault → Type 0
+ReadsOnly {C = C} reading sources content_of result = (content : C) → Mean reading sources content
+    → MatchResult result (λ files. content_of files ≡ content) IsStop
+
+-- of known bytes that mean a value, this is what is read, unless the reading stops
+abbrev pub ReadsThat : {V : Type 0} → Option (List ℕ) → (List ℕ → V → Type 0) → Result V RunFault → Type 0
+ReadsThat {V} known Means result = IfSome known (λ bytes. (value : V) → Means bytes value
+    → MatchResult result (λ read. read ≡ value) IsStop)
+
+-- what texts are read by, with these rows, a table's ranges and a data file's properties
+abbrev pub collation_in : Rows → TableAndData → Collation
+collation_in rows files = record { rows = rows; ranges = files.table.header.ranges; properties = files.properties }
+
+-- it is that of the files, and so is the weighting, where another may be asked for
+abbrev pub IsCollation : Option Weighting → Collation → Weighting → TableAndData → Type 0
+IsCollation asked read weighting files = (read ≡ collation files.table files.properties)
+    × (weighting ≡ weighting_by asked files.table.header.setting)
+
+-- the run ends as the file of this role is rejected
+abbrev pub IsRefused : Role → SourceState → SourceState → (List ℕ → Option (List ℕ) → FileFault → Type 0)
+    → RunFault → Type 0
+IsRefused role old new Refuses fault = (cause : FileFault) × (fault ≡ File role cause)
+    × IfSome old.remaining (λ bytes. Refuses bytes new.remaining cause)
+
+-- ---- The bytes of rules
+
+-- the known bytes of a file, or the first 1,048,577
+pub record AreRead (start now : Option (List ℕ)) (bytes : List ℕ) : Type 0 where
+  pub loses : Consumes start now bytes
+  pub few : length bytes ≤ 1048577
+  pub all : length bytes < 1048577 → IsAtEnd now
+
+-- why they were not read
+abbrev pub IsNotRead : Option (List ℕ) → Option (List ℕ) → FileFault → Type 0
+IsNotRead start now RulesRead = (part : List ℕ) × Consumes start now part × (length part ≤ 1048576)
+IsNotRead start now RulesMemory = (part : List ℕ) × Consumes start now part × (length part ≤ 1048577)
+IsNotRead start now _ = ⊥
+
+-- whether it is that a read failed
+abbrev pub is_rules_read : {A : Type 0} → Result A FileFault → Bool
+is_rules_read (Ok x) = false
+is_rules_read (Err RulesRead) = true
+is_rules_read (Err _) = false
