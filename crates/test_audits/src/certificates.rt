@@ -4,10 +4,10 @@ use crate::files::CERTIFICATE;
 use std::alloc::Global;
 use std::io::Read;
 use std::test::Fail;
+use test_kit::{Calls, FakeWriter, Pace, bytes_of, halves, holds, is_remark, repeated, same};
 use uca_audit::{
     Certificate, CertificateFault, CertificateFaultKind, read_certificate, write_certificate,
 };
-use test_kit::{Calls, FakeWriter, Pace, bytes_of, halves, holds, is_remark, repeated, same};
 use uca_weights::{Sink, Source};
 
 /// The bytes of a certificate, and what is said of them: that they are accepted, or the fault.

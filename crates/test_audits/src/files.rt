@@ -2,8 +2,8 @@
 
 use std::alloc::Global;
 use std::test::Fail;
-use uca_audit::{Certificate, audit, read_certificate, write_certificate};
 use test_kit::{DATA, TABLE, bytes_of, data_of, joined, table_of};
+use uca_audit::{Certificate, audit, read_certificate, write_certificate};
 use uca_rules::{Rules, read_rules};
 use uca_tailor::{TailorFault, TailorKind};
 use uca_values::{Data, Table};

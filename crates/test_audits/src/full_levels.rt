@@ -4,8 +4,8 @@
 use crate::files::certificate_text;
 use std::alloc::Global;
 use std::test::Fail;
-use uca_audit::{Certificate, audit};
 use test_kit::{DATA, data_of, holds, same, same_bytes, table_of, table_text};
+use uca_audit::{Certificate, audit};
 use uca_rules::{Rules, read_rules};
 use uca_tailor::{TailorFault, TailorKind, tailor};
 use uca_values::{Data, Table};

@@ -3,8 +3,8 @@
 use crate::files::{Files, certificate_text, files_of, no_plan, verdict};
 use std::alloc::Global;
 use std::test::Fail;
-use uca_audit::Certificate;
 use test_kit::{halves, is_remark, joined, same, same_bytes, table_text, thirds};
+use uca_audit::Certificate;
 use uca_tailor::tailor;
 use uca_values::Table;
 

@@ -6,8 +6,8 @@ use std::io;
 use std::io::{ErrorKind, Read, Write};
 use std::iter::once;
 use std::test::Fail;
-use uca_cli::{OpenFault, Opens, run_command};
 use test_kit::{Calls, Failure, FakeReader, FakeWriter, Pace};
+use uca_cli::{OpenFault, Opens, run_command};
 use uca_weights::{Sink, Source};
 
 /// The files of a command: their texts, or nothing where one does not open.

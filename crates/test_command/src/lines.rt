@@ -3,9 +3,9 @@
 use std::alloc::Global;
 use std::io::{ErrorKind, Write};
 use std::test::Fail;
+use test_kit::{Calls, Failure, FakeWriter, Pace, holds, same};
 use uca_certificates::{CertificateFault, CertificateFaultKind};
 use uca_cli::{FileFault, InputKind, Role, RunFault, report};
-use test_kit::{Calls, Failure, FakeWriter, Pace, holds, same};
 use uca_lines::files::{FaultKind, TableFault};
 use uca_plans::{TailorFault, TailorKind};
 use uca_rules::{RuleFault, RuleFaultKind};

@@ -5,8 +5,8 @@ use crate::counts::Counts;
 use crate::damages::{Trial, judge_all};
 use std::alloc::{AllocError, Global};
 use std::test::Fail;
-use uca_certificates::{Certificate, CertificateFaultKind, read_certificate, write_certificate};
 use test_kit::{DATA, data_of, holds, joined};
+use uca_certificates::{Certificate, CertificateFaultKind, read_certificate, write_certificate};
 use uca_weights::{Sink, Source};
 
 /// The text of a certificate, which is the file that was read.

@@ -3,8 +3,8 @@
 use crate::cases::{CERTIFICATE, DATA, RULES, TABLE, TAILORED};
 use std::alloc::{Allocator, Global};
 use std::test::Fail;
-use uca_certificates::{Certificate, read_certificate};
 use test_kit::samples;
+use uca_certificates::{Certificate, read_certificate};
 use uca_key::key;
 use uca_match::{Collator, Lookup};
 use uca_rules::{Rules, read_rules};

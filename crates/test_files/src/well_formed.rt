@@ -2,8 +2,8 @@
 
 use std::alloc::{AllocError, Global};
 use std::test::Fail;
-use uca_check::{IllFormed, check};
 use test_kit::{DATA, TABLE, data_of, is_remark, same, table_of, thirds};
+use uca_check::{IllFormed, check};
 use uca_values::{Data, Table};
 use uca_weights::Source;
 

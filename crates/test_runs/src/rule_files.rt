@@ -3,8 +3,8 @@
 use std::alloc::Global;
 use std::io::ErrorKind;
 use std::test::Fail;
-use uca_cli::{RunFault, report, run_audit};
 use test_kit::{Calls, Failure, FakeReader, Pace, holds};
+use uca_cli::{RunFault, report, run_audit};
 use uca_weights::{Sink, Source};
 
 const TABLE: &[u8] = b"@version 1\n0061 ; [.1C47.0020.0002]\n";

@@ -3,8 +3,8 @@
 use crate::files::Files;
 use std::alloc::{AllocError, Global};
 use std::io::{Read, Write};
-use uca_cli::{RunFault, run_check, run_compare, run_keys, run_sort};
 use test_kit::{Streams, joined};
+use uca_cli::{RunFault, run_check, run_compare, run_keys, run_sort};
 use uca_weights::{Depth, Sink, Source, Weighting};
 
 /// A run, the weighting that it is asked for, if any, and its depth.

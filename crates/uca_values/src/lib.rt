@@ -13,7 +13,7 @@ pub use implicit::worked_implicit_weights;
 pub use tables::{Header, Row, Table};
 
 /// The code points from `first` to `last`, both included.
-#[derive(Clone, Copy, PartialEq, Eq)]
+#[derive(Clone, Copy, Debug, PartialEq, Eq)]
 pub struct CodePointRange {
     /// The first code point.
     pub first: char,
@@ -22,7 +22,7 @@ pub struct CodePointRange {
 }
 
 /// A range of code points with one canonical combining class (UAX #44).
-#[derive(Clone, Copy, PartialEq, Eq)]
+#[derive(Clone, Copy, Debug, PartialEq, Eq)]
 pub struct ClassRange {
     /// The first code point.
     pub first: char,
@@ -34,7 +34,7 @@ pub struct ClassRange {
 
 /// A range whose code points get implicit weights under a lead of their own
 /// (`@implicitweights`, UTS #10, section 9.1).
-#[derive(Clone, Copy, PartialEq, Eq)]
+#[derive(Clone, Copy, Debug, PartialEq, Eq)]
 pub struct ImplicitRange {
     /// The first code point.
     pub first: char,

@@ -16,7 +16,7 @@ pub use streams::{ReadFault, Sink, Source, WriteFault};
 
 /// A collation element (UTS #10, section 3.1): a weight for each of three levels, each 16 bits wide,
 /// and whether the element is variable. A weight of 0 says that the element is ignored at that level.
-#[derive(Clone, Copy, PartialEq, Eq)]
+#[derive(Clone, Copy, Debug, PartialEq, Eq)]
 pub struct Element {
     /// The weight at level 1.
     pub primary: u16,
@@ -40,7 +40,7 @@ pub enum Level {
 }
 
 /// How strongly a tailored text differs from its anchor (UTS #35 Part 5, section 3.3).
-#[derive(Clone, Copy, PartialEq, Eq)]
+#[derive(Clone, Copy, Debug, PartialEq, Eq)]
 pub enum Strength {
     /// `<`: the texts differ at level 1.
     Primary,

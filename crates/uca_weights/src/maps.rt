@@ -14,7 +14,7 @@ use std::marker::Model;
 use thiserror::Error;
 
 /// Consecutive weights with consecutive images: `from + i` becomes `to + i`, for each `i` below `count`.
-#[derive(Clone, Copy, PartialEq, Eq)]
+#[derive(Clone, Copy, Debug, PartialEq, Eq)]
 pub struct Run {
     /// The least of the weights.
     pub from: u16,

@@ -102,62 +102,107 @@ returns-in_err-base-clause-failed g c =
     let p = err_from_is_err_and c.from_residual.result c.from_residual.ensures.1 in
     let fault = c.in_err-base.field-0.0 in
     let is = c.in_err-base.ensures.refused in
-    rw (p.1, p.2)
-    (read_of_own ⊤ ⊤ roles.Base c.args.base.now c.read_table_file.new.source fault c.in_err-base.ensures.failed,
-    (not_yet_read ⊤ roles.Base roles.Data c.args.base.now c.read_table_file.new.source c.args.properties.now (OfLines tables.Refuses) fault is refl,
-    (not_yet_read ⊤ roles.Base roles.Rules c.args.base.now c.read_table_file.new.source c.args.rules.now (OfLines tables.Refuses) fault is refl,
-    (not_yet_read ⊤ roles.Base roles.Tailored c.args.base.now c.read_table_file.new.source c.args.tailored.now (OfLines tables.Refuses) fault is refl,
-    (not_yet_read ⊤ roles.Base roles.Certificate c.args.base.now c.read_table_file.new.source c.args.certificate.now (OfLines tables.Refuses) fault is refl,
-    tt)))))
+    rw (p.1, p.2) (
+      read_of_own ⊤ ⊤ roles.Base c.args.base.now c.read_table_file.new.source fault c.in_err-base.ensures.failed,
+      (
+        not_yet_read ⊤ roles.Base roles.Data c.args.base.now c.read_table_file.new.source c.args.properties.now (OfLines tables.Refuses) fault is refl,
+        (
+          not_yet_read ⊤ roles.Base roles.Rules c.args.base.now c.read_table_file.new.source c.args.rules.now (OfLines tables.Refuses) fault is refl,
+          (
+            not_yet_read ⊤ roles.Base roles.Tailored c.args.base.now c.read_table_file.new.source c.args.tailored.now (OfLines tables.Refuses) fault is refl,
+            (
+              not_yet_read ⊤ roles.Base roles.Certificate c.args.base.now c.read_table_file.new.source c.args.certificate.now (OfLines tables.Refuses) fault is refl,
+              tt,
+            ),
+          ),
+        ),
+      ),
+    )
 
 pub returns-in_err-properties-clause-failed : goal.returns-in_err-properties-clause-failed
 returns-in_err-properties-clause-failed g c =
     let p = err_from_is_err_and c.from_residual-in_err-properties.result c.from_residual-in_err-properties.ensures.1 in
     let fault = c.in_err-properties.field-0.0 in
     let is = c.in_err-properties.ensures.refused in
-    rw (p.1, p.2)
-    (read_before ⊤ roles.Data roles.Base c.args.properties.now c.read_data_file.new.source c.args.base.now c.read_table_file.new.source (OfLines data_files.Refuses) fault is refl c.in_ok-base.ensures.failed,
-    (read_of_own ⊤ ⊤ roles.Data c.args.properties.now c.read_data_file.new.source fault c.in_err-properties.ensures.failed,
-    (not_yet_read ⊤ roles.Data roles.Rules c.args.properties.now c.read_data_file.new.source c.args.rules.now (OfLines data_files.Refuses) fault is refl,
-    (not_yet_read ⊤ roles.Data roles.Tailored c.args.properties.now c.read_data_file.new.source c.args.tailored.now (OfLines data_files.Refuses) fault is refl,
-    (not_yet_read ⊤ roles.Data roles.Certificate c.args.properties.now c.read_data_file.new.source c.args.certificate.now (OfLines data_files.Refuses) fault is refl,
-    tt)))))
+    rw (p.1, p.2) (
+      read_before ⊤ roles.Data roles.Base c.args.properties.now c.read_data_file.new.source c.args.base.now c.read_table_file.new.source (OfLines data_files.Refuses) fault is refl c.in_ok-base.ensures.failed,
+      (
+        read_of_own ⊤ ⊤ roles.Data c.args.properties.now c.read_data_file.new.source fault c.in_err-properties.ensures.failed,
+        (
+          not_yet_read ⊤ roles.Data roles.Rules c.args.properties.now c.read_data_file.new.source c.args.rules.now (OfLines data_files.Refuses) fault is refl,
+          (
+            not_yet_read ⊤ roles.Data roles.Tailored c.args.properties.now c.read_data_file.new.source c.args.tailored.now (OfLines data_files.Refuses) fault is refl,
+            (
+              not_yet_read ⊤ roles.Data roles.Certificate c.args.properties.now c.read_data_file.new.source c.args.certificate.now (OfLines data_files.Refuses) fault is refl,
+              tt,
+            ),
+          ),
+        ),
+      ),
+    )
 
 pub returns-in_err-rules-clause-failed : goal.returns-in_err-rules-clause-failed
 returns-in_err-rules-clause-failed g c =
     let p = err_from_is_err_and c.from_residual-in_err-rules.result c.from_residual-in_err-rules.ensures.1 in
     let fault = c.in_err-rules.field-0.0 in
     let is = c.in_err-rules.ensures.refused in
-    rw (p.1, p.2)
-    (read_before ⊤ roles.Rules roles.Base c.args.rules.now c.read_rule_file.new.source c.args.base.now c.read_table_file.new.source (RefusesRules (properties_of c.in_ok-properties.properties)) fault is refl c.in_ok-base.ensures.failed,
-    (read_before ⊤ roles.Rules roles.Data c.args.rules.now c.read_rule_file.new.source c.args.properties.now c.read_data_file.new.source (RefusesRules (properties_of c.in_ok-properties.properties)) fault is refl c.in_ok-properties.ensures.failed,
-    (read_of_own ⊤ ⊤ roles.Rules c.args.rules.now c.read_rule_file.new.source fault c.in_err-rules.ensures.failed,
-    (not_yet_read ⊤ roles.Rules roles.Tailored c.args.rules.now c.read_rule_file.new.source c.args.tailored.now (RefusesRules (properties_of c.in_ok-properties.properties)) fault is refl,
-    (not_yet_read ⊤ roles.Rules roles.Certificate c.args.rules.now c.read_rule_file.new.source c.args.certificate.now (RefusesRules (properties_of c.in_ok-properties.properties)) fault is refl,
-    tt)))))
+    rw (p.1, p.2) (
+      read_before ⊤ roles.Rules roles.Base c.args.rules.now c.read_rule_file.new.source c.args.base.now c.read_table_file.new.source (RefusesRules (properties_of c.in_ok-properties.properties)) fault is refl c.in_ok-base.ensures.failed,
+      (
+        read_before ⊤ roles.Rules roles.Data c.args.rules.now c.read_rule_file.new.source c.args.properties.now c.read_data_file.new.source (RefusesRules (properties_of c.in_ok-properties.properties)) fault is refl c.in_ok-properties.ensures.failed,
+        (
+          read_of_own ⊤ ⊤ roles.Rules c.args.rules.now c.read_rule_file.new.source fault c.in_err-rules.ensures.failed,
+          (
+            not_yet_read ⊤ roles.Rules roles.Tailored c.args.rules.now c.read_rule_file.new.source c.args.tailored.now (RefusesRules (properties_of c.in_ok-properties.properties)) fault is refl,
+            (
+              not_yet_read ⊤ roles.Rules roles.Certificate c.args.rules.now c.read_rule_file.new.source c.args.certificate.now (RefusesRules (properties_of c.in_ok-properties.properties)) fault is refl,
+              tt,
+            ),
+          ),
+        ),
+      ),
+    )
 
 pub returns-in_err-tailored-clause-failed : goal.returns-in_err-tailored-clause-failed
 returns-in_err-tailored-clause-failed g c =
     let p = err_from_is_err_and c.from_residual-in_err-tailored.result c.from_residual-in_err-tailored.ensures.1 in
     let fault = c.in_err-tailored.field-0.0 in
     let is = c.in_err-tailored.ensures.refused in
-    rw (p.1, p.2)
-    (read_before ⊤ roles.Tailored roles.Base c.args.tailored.now c.read_table_file-2.new.source c.args.base.now c.read_table_file.new.source (OfLines tables.Refuses) fault is refl c.in_ok-base.ensures.failed,
-    (read_before ⊤ roles.Tailored roles.Data c.args.tailored.now c.read_table_file-2.new.source c.args.properties.now c.read_data_file.new.source (OfLines tables.Refuses) fault is refl c.in_ok-properties.ensures.failed,
-    (read_before ⊤ roles.Tailored roles.Rules c.args.tailored.now c.read_table_file-2.new.source c.args.rules.now c.read_rule_file.new.source (OfLines tables.Refuses) fault is refl c.in_ok-rules.ensures.failed,
-    (read_of_own ⊤ ⊤ roles.Tailored c.args.tailored.now c.read_table_file-2.new.source fault c.in_err-tailored.ensures.failed,
-    (not_yet_read ⊤ roles.Tailored roles.Certificate c.args.tailored.now c.read_table_file-2.new.source c.args.certificate.now (OfLines tables.Refuses) fault is refl,
-    tt)))))
+    rw (p.1, p.2) (
+      read_before ⊤ roles.Tailored roles.Base c.args.tailored.now c.read_table_file-2.new.source c.args.base.now c.read_table_file.new.source (OfLines tables.Refuses) fault is refl c.in_ok-base.ensures.failed,
+      (
+        read_before ⊤ roles.Tailored roles.Data c.args.tailored.now c.read_table_file-2.new.source c.args.properties.now c.read_data_file.new.source (OfLines tables.Refuses) fault is refl c.in_ok-properties.ensures.failed,
+        (
+          read_before ⊤ roles.Tailored roles.Rules c.args.tailored.now c.read_table_file-2.new.source c.args.rules.now c.read_rule_file.new.source (OfLines tables.Refuses) fault is refl c.in_ok-rules.ensures.failed,
+          (
+            read_of_own ⊤ ⊤ roles.Tailored c.args.tailored.now c.read_table_file-2.new.source fault c.in_err-tailored.ensures.failed,
+            (
+              not_yet_read ⊤ roles.Tailored roles.Certificate c.args.tailored.now c.read_table_file-2.new.source c.args.certificate.now (OfLines tables.Refuses) fault is refl,
+              tt,
+            ),
+          ),
+        ),
+      ),
+    )
 
 pub returns-in_err-certificate-clause-failed : goal.returns-in_err-certificate-clause-failed
 returns-in_err-certificate-clause-failed g c =
     let p = err_from_is_err_and c.from_residual-in_err-certificate.result c.from_residual-in_err-certificate.ensures.1 in
     let fault = c.in_err-certificate.field-0.0 in
     let is = c.in_err-certificate.ensures.refused in
-    rw (p.1, p.2)
-    (read_before ⊤ roles.Certificate roles.Base c.args.certificate.now c.read_certificate_file.new.source c.args.base.now c.read_table_file.new.source RefusesCertificate fault is refl c.in_ok-base.ensures.failed,
-    (read_before ⊤ roles.Certificate roles.Data c.args.certificate.now c.read_certificate_file.new.source c.args.properties.now c.read_data_file.new.source RefusesCertificate fault is refl c.in_ok-properties.ensures.failed,
-    (read_before ⊤ roles.Certificate roles.Rules c.args.certificate.now c.read_certificate_file.new.source c.args.rules.now c.read_rule_file.new.source RefusesCertificate fault is refl c.in_ok-rules.ensures.failed,
-    (read_before ⊤ roles.Certificate roles.Tailored c.args.certificate.now c.read_certificate_file.new.source c.args.tailored.now c.read_table_file-2.new.source RefusesCertificate fault is refl c.in_ok-tailored.ensures.failed,
-    (read_of_own ⊤ ⊤ roles.Certificate c.args.certificate.now c.read_certificate_file.new.source fault c.in_err-certificate.ensures.failed,
-    tt)))))
+    rw (p.1, p.2) (
+      read_before ⊤ roles.Certificate roles.Base c.args.certificate.now c.read_certificate_file.new.source c.args.base.now c.read_table_file.new.source RefusesCertificate fault is refl c.in_ok-base.ensures.failed,
+      (
+        read_before ⊤ roles.Certificate roles.Data c.args.certificate.now c.read_certificate_file.new.source c.args.properties.now c.read_data_file.new.source RefusesCertificate fault is refl c.in_ok-properties.ensures.failed,
+        (
+          read_before ⊤ roles.Certificate roles.Rules c.args.certificate.now c.read_certificate_file.new.source c.args.rules.now c.read_rule_file.new.source RefusesCertificate fault is refl c.in_ok-rules.ensures.failed,
+          (
+            read_before ⊤ roles.Certificate roles.Tailored c.args.certificate.now c.read_certificate_file.new.source c.args.tailored.now c.read_table_file-2.new.source RefusesCertificate fault is refl c.in_ok-tailored.ensures.failed,
+            (
+              read_of_own ⊤ ⊤ roles.Certificate c.args.certificate.now c.read_certificate_file.new.source fault c.in_err-certificate.ensures.failed,
+              tt,
+            ),
+          ),
+        ),
+      ),
+    )
