@@ -49,20 +49,14 @@ same_read A B role _ = refl
 
 -- ---- One file
 
--- known bytes mean this value, and so one of which this holds
-pub known_value : {V : Type 0} (known : Option (List ℕ)) (Means : List ℕ → V → Type 0) (K : V → Type 0) (value : V)
-    → IfSome known (λ bytes. Means bytes value) → K value → IfSome known (λ bytes. MeansOne Means bytes K)
-known_value None Means K value means holds = tt
-known_value (Some bytes) Means K value means holds = record { value = value; means = means; holds = holds }
-
 -- what is returned where the file means a value
 pub over_value : {A V : Type 0} (role : Role) (old new : SourceState) (Means : List ℕ → V → Type 0)
     (Refuses : List ℕ → Option (List ℕ) → FileFault → Type 0) (K : V → Type 0) (result : Result A RunFault) (value : V)
     → fault_of role result ≡ None → IfSome old.remaining (λ bytes. Means bytes value) → K value
     → OverFile role old new Means Refuses K result
 over_value role old new Means Refuses K result value none means holds =
-    subst (λ o. IfSome old.remaining (λ bytes. MatchOption o (MeansOne Means bytes K) (λ fault. Refuses bytes new.remaining fault))) (sym none)
-    (known_value old.remaining Means K value means holds)
+    subst (λ o. MatchOption o (MeansOne Means old.remaining K) (λ fault. IfSome old.remaining (λ bytes. Refuses bytes new.remaining fault)))
+    (sym none) (record { value = value; means = means; holds = holds })
 
 -- what is returned where it is rejected
 pub over_rejected : (A : Type 0) {V : Type 0} (role : Role) (old new : SourceState) (Means : List ℕ → V → Type 0)
@@ -71,7 +65,8 @@ pub over_rejected : (A : Type 0) {V : Type 0} (role : Role) (old new : SourceSta
 over_rejected A role old new Means Refuses K fault is =
     let own : fault_of {A = A} role (Err fault) ≡ Some is.0 =
     subst (λ f. fault_of {A = A} role (Err f) ≡ Some is.0) (sym is.1) (ap (λ b. if b then Some is.0 else None) (same_role role)) in
-    subst (λ o. IfSome old.remaining (λ bytes. MatchOption o (MeansOne Means bytes K) (λ f. Refuses bytes new.remaining f))) (sym own) is.2
+    subst (λ o. MatchOption o (MeansOne Means old.remaining K) (λ f. IfSome old.remaining (λ bytes. Refuses bytes new.remaining f)))
+    (sym own) is.2
 
 -- then no file of another role is
 pub no_other_fault : (A : Type 0) (role other : Role) (old new : SourceState) (Refuses : List ℕ → Option (List ℕ) → FileFault → Type 0) (fault : RunFault)
@@ -82,11 +77,10 @@ no_other_fault A role other old new Refuses fault is apart =
 -- of a value more may hold
 pub known_weaker : {V : Type 0} (known left : Option (List ℕ)) (cause : Option FileFault) (Means : List ℕ → V → Type 0)
     (Refuses : List ℕ → Option (List ℕ) → FileFault → Type 0) (K L : V → Type 0) → ((v : V) → K v → L v)
-    → IfSome known (λ bytes. MatchOption cause (MeansOne Means bytes K) (λ fault. Refuses bytes left fault))
-    → IfSome known (λ bytes. MatchOption cause (MeansOne Means bytes L) (λ fault. Refuses bytes left fault))
-known_weaker None left cause Means Refuses K L weaker over = tt
-known_weaker (Some bytes) left None Means Refuses K L weaker over = record { value = over.value; means = over.means; holds = weaker over.value over.holds }
-known_weaker (Some bytes) left (Some fault) Means Refuses K L weaker over = over
+    → MatchOption cause (MeansOne Means known K) (λ fault. IfSome known (λ bytes. Refuses bytes left fault))
+    → MatchOption cause (MeansOne Means known L) (λ fault. IfSome known (λ bytes. Refuses bytes left fault))
+known_weaker known left None Means Refuses K L weaker over = record { value = over.value; means = over.means; holds = weaker over.value over.holds }
+known_weaker known left (Some fault) Means Refuses K L weaker over = over
 
 -- ---- All files of a run
 
@@ -100,8 +94,8 @@ over_weaker (Done content) [] (new ∷ news) K L one other same weaker over = ab
 over_weaker (Then role Means Refuses next) [] news K L one other same weaker over = absurd over
 over_weaker (Then role Means Refuses next) (old ∷ olds) [] K L one other same weaker over = absurd over
 over_weaker (Then role Means Refuses next) (old ∷ olds) (new ∷ news) K L one other same weaker over =
-    subst (λ o. IfSome old.remaining (λ bytes. MatchOption o (MeansOne Means bytes (λ value. Over (next value) olds news L other))
-    (λ fault. Refuses bytes new.remaining fault))) (same role)
+    subst (λ o. MatchOption o (MeansOne Means old.remaining (λ value. Over (next value) olds news L other))
+    (λ fault. IfSome old.remaining (λ bytes. Refuses bytes new.remaining fault))) (same role)
     (known_weaker old.remaining new.remaining (fault_of role one) Means Refuses
     (λ value. Over (next value) olds news K one) (λ value. Over (next value) olds news L other)
     (λ value. over_weaker (next value) olds news K L one other same weaker) over)

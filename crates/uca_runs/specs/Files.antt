@@ -75,19 +75,19 @@ IsStop _ = ⊥
 
 -- ---- One file
 
--- the bytes mean a value, and this holds of it
-pub record MeansOne {V : Type 0} (Means : List ℕ → V → Type 0) (bytes : List ℕ) (K : V → Type 0) : Type 0 where
+-- the file means a value, as its bytes say where they are known, and this holds of it
+pub record MeansOne {V : Type 0} (Means : List ℕ → V → Type 0) (known : Option (List ℕ)) (K : V → Type 0) : Type 0 where
   pub value : V
-  pub means : Means bytes value
+  pub means : IfSome known (λ bytes. Means bytes value)
   pub holds : K value
 
 -- What a run returns by the file of this role, whose source had some bytes and has something left: at a fault of that
--- role the bytes are rejected so; else they mean a value, and of it K holds. It speaks as soon as the bytes of this file
--- are known.
+-- role the bytes are rejected so; else the file means a value, of which K holds. Where the bytes are not known, nothing
+-- is said of which value that is, nor of why they are rejected.
 abbrev pub OverFile : {A V : Type 0} → Role → SourceState → SourceState → (List ℕ → V → Type 0)
     → (List ℕ → Option (List ℕ) → FileFault → Type 0) → (V → Type 0) → Result A RunFault → Type 0
-OverFile role old new Means Refuses K result = IfSome old.remaining (λ bytes.
-    MatchOption (fault_of role result) (MeansOne Means bytes K) (λ fault. Refuses bytes new.remaining fault))
+OverFile role old new Means Refuses K result = MatchOption (fault_of role result) (MeansOne Means old.remaining K)
+    (λ fault. IfSome old.remaining (λ bytes. Refuses bytes new.remaining fault))
 
 -- ---- The files of a run
 
