@@ -42,7 +42,7 @@ impl<'a, A: Allocator + Copy, T: Allocator> LevelImages<'a, A, T> {
     }
 }
 
-/// What a certificate says becomes of the weights of a base, with the image of each weight at hand.
+/// The weight maps of a certificate as arrays, one a level: looking up an image takes one step.
 #[derive(Drop)]
 pub(crate) struct Images<'a, A: Allocator, T: Allocator> {
     /// The images at level 1.
@@ -66,7 +66,7 @@ impl<'a, A: Allocator, T: Allocator> Model for Images<'a, A, T> {
 }
 
 impl<'a, A: Allocator + Copy, T: Allocator> Images<'a, A, T> {
-    /// The images of all weights under the maps of a certificate. An error says that no memory was left.
+    /// The images of all weights under the maps of a certificate. An error means that it ran out of memory.
     pub(crate) fn new(
         alloc: A,
         certificate: &'a Certificate<T>,
@@ -93,7 +93,7 @@ impl<'a, A: Allocator + Copy, T: Allocator> Images<'a, A, T> {
     }
 }
 
-/// The image of each weight under a map, in order. An error says that no memory was left.
+/// The image of each weight under a map, in order. An error means that it ran out of memory.
 fn images_of<A: Allocator + Copy, T: Allocator>(
     alloc: A,
     map: &WeightMap<T>,

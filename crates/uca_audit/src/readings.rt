@@ -28,7 +28,7 @@ impl<A: Allocator + Copy> Readings<A> {
         }
     }
 
-    /// Reads the texts of a relation. An error says that no memory was left.
+    /// Reads the texts of a relation. An error means that it ran out of memory.
     pub(crate) fn read<T: Allocator>(
         &mut self,
         collator: &Collator<Trie<A>, T>,
@@ -50,7 +50,7 @@ impl<A: Allocator + Copy> Readings<A> {
     }
 }
 
-/// Puts the elements of a text in the place of those that stand in the list. An error says that no memory was left.
+/// Puts the elements of a text in the place of those that stand in the list. An error means that it ran out of memory.
 pub(crate) fn read_elements<A: Allocator + Copy, T: Allocator>(
     elements: &mut Vec<Element, A>,
     collator: &Collator<Trie<A>, T>,

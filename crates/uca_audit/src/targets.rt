@@ -23,7 +23,7 @@ impl<A: Allocator> Model for Targets<A> {
 }
 
 impl<A: Allocator + Copy> Targets<A> {
-    /// The targets of these relations. An error says that no memory was left.
+    /// The targets of these relations. An error means that it ran out of memory.
     pub(crate) fn new(alloc: A, relations: &[Relation]) -> Result<Targets<A>, AllocError>
         ensures { IfOk result (AreTargetsOf relations.now) }
     {

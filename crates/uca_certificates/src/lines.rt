@@ -170,7 +170,7 @@ fn push_run<A: Allocator>(runs: &mut Vec<Run, A>, run: Run) -> Result<(), Certif
     Ok(())
 }
 
-// The map of the runs of a level, before which `below` runs stand among `all`.
+// The map of a level's runs. The file has `all` runs, `below` of them at lower levels: they give an error its line.
 fn map_of<A: Allocator>(
     level: Level,
     runs: Vec<Run, A>,
@@ -192,7 +192,7 @@ fn map_of<A: Allocator>(
     }
 }
 
-// The line of a fault in the runs of a level, before which `below` runs stand among `all`.
+// The line of an error in a level's runs. The file has `all` runs, `below` of them at lower levels.
 fn line_of(fault: MapFault, below: usize, all: usize) -> u32
     requires within { below + fault.run ≤ all }
     requires few { all ≤ 0x10_0000 }

@@ -416,10 +416,9 @@ fn run_words<O: Opens, I: Read, W: Write>(
     }
 }
 
-/// Does what the words ask for, of which the first is the program's name, and returns the status that the
-/// program ends with: the words are read, then all files that they name are opened in the order of the words,
-/// and then the run reads and writes. A fault is reported, and nothing is read or opened where the words
-/// are refused.
+/// Runs a command line, whose first word is the program's name, and returns the exit status. It reads the words, opens
+/// all files that they name, in the order of the words, and then runs over them. It reports an error. Where it rejects
+/// the words, it opens and reads nothing.
 pub fn run_command<'a, O: Opens, I: Read, W: Write, E: Write>(
     alloc: Global,
     opener: &mut O,

@@ -1,4 +1,4 @@
-//! What a text is read by.
+//! `Collator`: a table and a data file, from which texts get their collation elements.
 ghost use Rattle.std.specs.Prelude.{◌≡◌};
 ghost use Rattle.uca_match.specs.Collations.{collation_of, elements_of};
 
@@ -8,7 +8,7 @@ use std::alloc::{Allocator, Global};
 use uca_text::Normal;
 use uca_values::{Data, Header};
 
-/// What a text is read by: the rows of a table as a lookup, the table's header, and a data file.
+/// What gives a text its collation elements: the rows of a table as a lookup, the table's header, and a data file.
 #[derive_where(Clone, Copy)]
 pub struct Collator<'a, L: Lookup, A: Allocator = Global> {
     /// The rows.

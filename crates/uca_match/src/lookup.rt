@@ -1,4 +1,4 @@
-//! What a text is matched against.
+//! `Lookup`: a map from keys to collation elements, in which a key is found code point by code point.
 ghost use Rattle.std.specs.Prelude.{◌≡◌, ℕ, List, [], ◌∷◌, ◌++◌, Option, Some, None, MatchOption};
 ghost use Rattle.uca_weights.specs.declared.Element.{Element};
 ghost use Rattle.uca_match.specs.Lookups.{BeginsSomeKey, BeginsNoKey};

@@ -51,7 +51,7 @@ pub fn read_rule_file<A: Allocator + Copy, U: Read>(
     }
 }
 
-// The bytes of a source, of more than `MOST_BYTES` the first so many.
+// Reads a source to its end, but at most `MOST_BYTES` bytes.
 fn read_bytes<A: Allocator, R: Read>(
     alloc: A,
     source: &mut Source<R>,
@@ -70,7 +70,7 @@ fn read_bytes<A: Allocator, R: Read>(
     Ok(bytes)
 }
 
-// Reads bytes behind those that were read, and returns whether there were some.
+// Reads bytes after those that were read, and returns whether there were some.
 fn read_more<A: Allocator, R: Read>(
     source: &mut Source<R>,
     chunk: &mut [u8; CHUNK],

@@ -71,8 +71,8 @@ pub(crate) fn draft_weight(level: Level, element: DraftElement) -> DraftWeight
     }
 }
 
-/// Takes the last element that has a weight at one of the levels from 1 to this one off a list, and all that stand behind
-/// it. Where there is none the list is empty then.
+/// Removes and returns the last element that is not ignorable at the levels 1 to `level`, together with all elements after
+/// it. Empties the list if there is none.
 pub(crate) fn take_last<A: Allocator>(
     level: Level,
     elements: &mut Vec<DraftElement, A>,

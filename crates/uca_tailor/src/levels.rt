@@ -109,7 +109,7 @@ impl<A: Allocator + Copy> LevelNumbers<A> {
 }
 
 impl<A: Allocator> LevelNumbers<A> {
-    /// The number of a weight. No weight stays, and so do at level 1 the weights from 8000 up.
+    /// The number of a weight. The weight 0 keeps its value, and so do primary weights from 8000 up.
     pub(crate) fn number(&self, level: Level, weight: DraftWeight) -> u16
         ensures { result ≡ numbered_weight level self.now weight }
     {

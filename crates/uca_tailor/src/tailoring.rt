@@ -1,4 +1,4 @@
-//! The planner.
+//! `tailor`: a tailored table and its certificate.
 
 ghost use Rattle.std.specs.Prelude.{◌↔◌, IsTrue, IfOk, IfErr};
 ghost use Rattle.uca_values.specs.Content.{Properties, TableContent, properties_of};

@@ -31,7 +31,7 @@ pub(crate) struct Placement {
 }
 
 /// The first relation whose target was not placed, by its index. The list is empty, and gets how the targets before it were
-/// placed. An error says that no memory was left.
+/// placed. An error means that it ran out of memory.
 pub(crate) fn first_not_placed<A: Allocator + Copy, T: Allocator>(
     alloc: A,
     inputs: &Inputs<T>,

@@ -205,7 +205,7 @@ fn is_present_target<A: Allocator + Copy, T: Allocator>(
     is_key(tailored, relation.target.chars())
 }
 
-/// The first tailored row whose key is neither a base key nor a target, by its index. An error says that no memory was left.
+/// The first tailored row whose key is neither a base key nor a target, by its index. An error means that it ran out of memory.
 pub(crate) fn first_extra<A: Allocator + Copy, T: Allocator>(
     alloc: A,
     inputs: &Inputs<T>,
