@@ -103,8 +103,10 @@ pub fn read_data_file<A: Allocator + Copy, D: Read>(
 /// What keys go by: what the two files mean, the rows of the table, and a weighting.
 #[derive(Drop)]
 pub struct ReadCollation<A: Allocator = Global> {
-    files: Files<A>,
-    rows: Trie<A>,
+    /// What the two files mean.
+    pub files: Files<A>,
+    /// The rows of the table.
+    pub rows: Trie<A>,
     /// The weighting.
     pub weighting: Weighting,
 }
