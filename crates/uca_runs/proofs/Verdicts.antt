@@ -1,5 +1,5 @@
 -- What the runs of check and compare return, from what is found and what went out of its line.
-use Rattle.std.proofs.Common.{◌≡◌, ℕ, ◌||◌, List, [], ◌∷◌, ◌++◌, append_assoc, Bool, true, false, Option, IfSome, Result, Ok, Err, OnOk, IfErr, chars, refl, ap, subst, sym, ◌∙◌}
+use Rattle.std.proofs.Common.{◌≡◌, ℕ, List, [], ◌∷◌, ◌++◌, append_assoc, Bool, true, false, Option, Result, Ok, Err, OnOk, IfErr, chars, refl, ap, subst, sym, ◌∙◌}
 use Rattle.std.specs.Io.KnownBytes.{Appends}
 use Rattle.std.specs.declared.cmp.Ordering.{Ordering}
 use Rattle.uca_weights.specs.Streams.{SinkState}
