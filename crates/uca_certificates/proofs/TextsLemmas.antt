@@ -6,7 +6,7 @@ use Rattle.uca_weights.specs.declared.Level.{Level}
 use Rattle.uca_weights.specs.declared.Level.TheVariants.{One, Two, Three}
 use Rattle.uca_weights.specs.declared.maps.Run.{Run}
 use Rattle.uca_weights.specs.Levels.{level_number}
-use Rattle.uca_lines.proofs.ListLemmas.{each_more}
+use Rattle.uca_weights.proofs.Lists.{each_push}
 use Rattle.uca_certificates.specs.declared.faults.CertificateFaultKind.{CertificateFaultKind}
 use Rattle.uca_certificates.specs.declared.faults.CertificateFaultKind.TheVariants as kinds
 use Rattle.uca_certificates.specs.Certificates.{CertificateContent, runs_at}
@@ -114,6 +114,6 @@ says_more lines old line new says takes =
     rw (says.text, takes.is_line.text) (sym (map-append run_text (run_lines old) (takes.said ∷ []))) in
     subst P (sym takes.adds) (record {
       text = last ∙ ap (map run_text) (sym more);
-      fit = subst (AllByRecursion IsRunLine) (sym more) (each_more IsRunLine (run_lines old) takes.said says.fit takes.is_line.fits);
+      fit = subst (AllByRecursion IsRunLine) (sym more) ((each_push IsRunLine (run_lines old) takes.said).1 (says.fit, takes.is_line.fits));
       few = few_more old takes.said.level takes.said.run says.few takes.room;
     })

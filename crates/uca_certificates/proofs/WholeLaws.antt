@@ -1,5 +1,5 @@
 -- Whole certificates: bytes mean at most one, and none where they are refused for a cause in them.
-use Rattle.std.proofs.Common.{◌≡◌, ◌||◌, Bool, false, inl, inr, ℕ, ◌≤◌, List, [], ◌∷◌, ◌++◌, length, map, Option, Some, None, Result, Ok, Err, IfSome, IfOk, IfErr, MatchResult, refl, sym, ap, subst, ◌∙◌, arith}
+use Rattle.std.proofs.Common.{◌≡◌, ◌||◌, Bool, false, inl, inr, ℕ, ◌≤◌, List, [], ◌∷◌, length, map, Option, Some, None, Result, Ok, Err, IfSome, IfOk, IfErr, MatchResult, refl, sym, ap, subst, ◌∙◌, arith}
 use Rattle.std.specs.Prelude.{OnOk}
 use Rattle.std.specs.List.{flat_map, AllByRecursion}
 use Rattle.std.proofs.lemmas.List.Folds.{flat_map-map}
@@ -7,6 +7,7 @@ use Rattle.uca_weights.specs.declared.Level.{Level}
 use Rattle.uca_weights.specs.declared.Level.TheVariants.{One, Two, Three}
 use Rattle.uca_weights.specs.Runs.{AreProperRuns}
 use Rattle.uca_weights.proofs.RunMaps.{faulty_not_proper}
+use Rattle.uca_weights.proofs.Lists.{each_append}
 use Rattle.uca_lines.specs.Lines.{ended}
 use Rattle.uca_lines.specs.Files
 use Rattle.uca_lines.specs.Files.{IsFileLine, AreLines, ReadsLines, RefusesLine}
@@ -31,17 +32,12 @@ file_lines : (ls : List RunLine) → AllByRecursion (IsFileLine CERTIFICATE_FORM
 file_lines [] = tt
 file_lines (l ∷ ls) = (record { lacks = run_text_lacks_lf l; short = omega (arith, length-run_text l) }, file_lines ls)
 
--- what holds in two lists, one after the other
-all_append : {X : Type 0} (P : X → Type 0) (xs ys : List X) → AllByRecursion P xs → AllByRecursion P ys → AllByRecursion P (xs ++ ys)
-all_append P [] ys h k = k
-all_append P (x ∷ xs) ys h k = (h.0, all_append P xs ys h.1 k)
-
 -- the lines of a certificate are acceptable
 certificate_says : (content : CertificateContent) → IsCertificate content → Says (map run_text (run_lines content)) content
 certificate_says content h = record {
   text = refl;
-  fit = all_append IsRunLine (of_level One content.primary) _ (proper_fit One content.primary h.primary)
-      (all_append IsRunLine (of_level Two content.secondary) _ (proper_fit Two content.secondary h.secondary) (proper_fit Three content.tertiary h.tertiary));
+  fit = each_append IsRunLine (of_level One content.primary) _ (proper_fit One content.primary h.primary)
+      (each_append IsRunLine (of_level Two content.secondary) _ (proper_fit Two content.secondary h.secondary) (proper_fit Three content.tertiary h.tertiary));
   few = few;
 }
   where

@@ -1,3 +1,6 @@
+pub mod Lists
+pub mod Tests
+pub mod Numbers
 pub mod WriteLemmas
 pub mod RunMaps
 pub mod RunPlaces
