@@ -1,20 +1,18 @@
 -- The non-starters after a key from the first to the last.
 use Rattle.std.proofs.Common.{◌≡◌, ◌≢◌, ℕ, suc, ◌+◌, ◌-◌, ◌<◌, ◌≤◌, List, [], ◌∷◌, ◌++◌, length, get_or, true, false, nat_lt, sym, ap, refl, ◌∙◌}
-use Rattle.std.proofs.Common.{⊎_elim, arith, unwrap_or}
+use Rattle.std.proofs.Common.{⊎_elim, arith}
 use Rattle.std.proofs.lemmas.Bool.{cases_lt, cases_eq, both_ways}
 use Rattle.std.proofs.lemmas.Bool.Decides.{nat_tests}
-use Rattle.std.specs.Borrow.{Bor}
-use Rattle.uca_weights.specs.declared.Element.{Element}
 use Rattle.uca_text.specs.Texts.{Text, Spelled, code_points, is_starter, letters_of}
 use Rattle.uca_text.specs.Limits.{IsAccepted}
-use Rattle.uca_match.specs.Rows.{Rows}
+use Rattle.uca_match.specs.Rows.{Keys}
 use Rattle.uca_match.specs.Reading.{non_starters_at_front, after_non_starters}
 use Rattle.uca_match.specs.Places.{is_gone, left_at, IsPlace}
-use Rattle.uca_match.specs.Matches.{IsFound, IsExtended}
+use Rattle.uca_match.specs.Matches.{IsExtended}
+use Rattle.uca_match.specs.Parts.{Row}
 use Rattle.uca_match.specs.Extensions.{IsBehind, IsGoing}
 use Rattle.uca_match.specs.declared.places.Place.{Place}
-use Rattle.uca_match.specs.declared.matches.Found.{Found}
-use Rattle.uca_match.specs.declared.matches.Given.TheVariants.{Row}
+use Rattle.uca_match.specs.declared.matches.Match.TheVariants.{Key}
 use Rattle.uca_match.proofs.MatchLemmas.{marks_none, after_none}
 use Rattle.uca_match.proofs.PlaceLemmas.{length-letters, letter_at, left_kept, left_end, not_true}
 use Rattle.uca_match.proofs.ExtensionSteps.{key_at_end, rest_at_end, between_none, between_whole}
@@ -32,15 +30,14 @@ behind_at_start s place here =
       kept_beyond = λ k above below. not_true (is_gone place k) (λ gone. let before = here.gone_before k gone in omega arith);
     }
 
-pub going_at_start : {N : Type 0} (stands_for : N → List ℕ → Type 0) (rows : Rows) (s : Spelled) (place : Place) (front : Text) (found : Found N) →
-    IsFound stands_for rows (code_points front) found →
-    IsGoing stands_for rows s place front place.at (record { node = found.node; row = found.row; next = place; highest = 0 })
-going_at_start stands_for rows s place front found is_found =
+pub going_at_start : {N : Type 0} (stands_for : N → List ℕ → Type 0) (keys : Keys) (s : Spelled) (place : Place) (front : Text) (node : N) →
+    stands_for node (code_points front) →
+    IsGoing stands_for keys s place front place.at (record { node = node; next = place; highest = 0 })
+going_at_start stands_for keys s place front node stands =
     record {
       key = front;
       skipped = [];
-      node = is_found.node;
-      row = is_found.row;
+      node = stands;
       same_key = refl;
       same_rest = refl;
       skipped_is = sym (between_none s place place.at);
@@ -101,19 +98,19 @@ module _ (s : Spelled) (place next : Place) (i : ℕ) (accepted : IsAccepted s) 
             (cases_lt k i);
       }
 
-  pub extended_at_end : {N : Type 0} (stands_for : N → List ℕ → Type 0) (rows : Rows) (front : Text) (node : N) (row : Bor (List Element))
-      (highest : ℕ) → IsGoing stands_for rows s place front i (record { node = node; row = row; next = next; highest = highest }) →
-      IsExtended rows s front place (record { given = Row row; next = record next { end = i } })
-  extended_at_end stands_for rows front node row highest going =
-      let key = going.same_key ∙ key_at_end rows going.key going.skipped (left_at s next i) no_marks.0 in
+  pub extended_at_end : {N : Type 0} (stands_for : N → List ℕ → Type 0) (keys : Keys) (front : Text) (node : N) (highest : ℕ) →
+      IsGoing stands_for keys s place front i (record { node = node; next = next; highest = highest }) →
+      IsExtended stands_for keys s front place (record { given = Key node; next = record next { end = i } })
+  extended_at_end stands_for keys front node highest going =
+      let key = going.same_key ∙ key_at_end keys going.key going.skipped (left_at s next i) no_marks.0 in
       let inside : i ≤ length (letters_of s) = omega (arith, length-letters s.points s.classes accepted.same, behind.within) in
       record {
-        elements = λ implicit. sym (ap (λ k. unwrap_or (rows (code_points k)) []) key ∙ ap (λ o. unwrap_or o []) going.row);
+        given = (code_points going.key, ap (λ k. Row (code_points k)) key, going.node);
         left =
             ap (left_at s next) behind.at
             ∙ between_whole s next place.at i behind.begun inside
             ∙ ap (λ t. t ++ left_at s next i) (sym going.skipped_is)
-            ∙ sym (going.same_rest ∙ rest_at_end rows going.key going.skipped (left_at s next i) no_marks.0 no_marks.1);
+            ∙ sym (going.same_rest ∙ rest_at_end keys going.key going.skipped (left_at s next i) no_marks.0 no_marks.1);
         is_place = place_at_end;
         at = behind.at;
       }

@@ -1,11 +1,11 @@
 -- What the non-starters after a key make of it, one at a time.
 use Rattle.std.proofs.Common.{◌≡◌, ℕ, suc, ◌+◌, ◌-◌, ◌<◌, ◌≤◌, [], ◌∷◌, ◌++◌, length, take, drop, get_or, true, false, sym, ap, ap₂, ◌∙◌, append-nil}
-use Rattle.std.proofs.Common.{arith, length-drop, length-take-le, take-append-drop, ◌≢◌, List, Bool, ◌&&◌, nat_lt, None, is_some, ⊎_elim, subst, refl}
+use Rattle.std.proofs.Common.{arith, length-drop, length-take-le, take-append-drop, ◌≢◌, List, Bool, ◌&&◌, nat_lt, ⊎_elim, subst, refl}
 use Rattle.std.proofs.Common.{add-one}
 use Rattle.std.proofs.lemmas.Bool.{cond-true, cond-false, and_from, cases_lt}
 use Rattle.std.proofs.lemmas.List.{take_more, get_or-drop, drop-drop, get_or_read}
 use Rattle.uca_text.specs.Texts.{Letter, Text, Spelled, is_starter, letters_of, code_points}
-use Rattle.uca_match.specs.Rows.{Rows, is_key}
+use Rattle.uca_match.specs.Rows.{Keys}
 use Rattle.uca_match.specs.Reading.{is_taken, removed, members, others, non_starters_at_front, after_non_starters}
 use Rattle.uca_match.specs.Places.{is_gone, left_from, left_at}
 use Rattle.uca_match.specs.Extensions.{extended_key, extended_rest, left_between, IsBehind, IsGoing}
@@ -15,50 +15,47 @@ use Rattle.uca_match.proofs.MatchLemmas.{marks_more, after_more}
 use Rattle.uca_match.proofs.PlaceLemmas.{length-letters, letter_at, left_same, left-append, letters_here, left_gone, left_kept, left_beyond}
 use Rattle.std.proofs.lemmas.Bool.Decides.{nat_tests}
 use Rattle.std.specs.List.{list_all}
-use Rattle.std.specs.Borrow.{Bor}
-use Rattle.uca_weights.specs.declared.Element.{Element}
 use Rattle.uca_match.specs.Matches.{IsFound}
-use Rattle.uca_match.specs.declared.matches.Found.{Found}
 use Rattle.uca_match.specs.declared.matches.Extension.{Extension}
 
 -- ---- What the non-starters after a key make of it, one non-starter at a time
 
 -- ---- One non-starter
 
-pub key_taken : (rows : Rows) (key skipped : Text) (c : Letter) (t : Text) → is_starter c ≡ false → is_taken (is_key rows) key skipped c ≡ true →
-    extended_key rows key skipped (c ∷ t) ≡ extended_key rows (key ++ c ∷ []) skipped t
-key_taken rows key skipped c t mark taken =
-    ap (λ marks. key ++ members (removed (is_key rows) key skipped marks) marks) (marks_more c t mark)
-    ∙ members_taken (is_key rows) key skipped c (non_starters_at_front t) taken
+pub key_taken : (keys : Keys) (key skipped : Text) (c : Letter) (t : Text) → is_starter c ≡ false → is_taken keys key skipped c ≡ true →
+    extended_key keys key skipped (c ∷ t) ≡ extended_key keys (key ++ c ∷ []) skipped t
+key_taken keys key skipped c t mark taken =
+    ap (λ marks. key ++ members (removed keys key skipped marks) marks) (marks_more c t mark)
+    ∙ members_taken keys key skipped c (non_starters_at_front t) taken
 
-pub rest_taken : (rows : Rows) (key skipped : Text) (c : Letter) (t : Text) → is_starter c ≡ false → is_taken (is_key rows) key skipped c ≡ true →
-    extended_rest rows key skipped (c ∷ t) ≡ extended_rest rows (key ++ c ∷ []) skipped t
-rest_taken rows key skipped c t mark taken =
-    ap (λ marks. (skipped ++ others (removed (is_key rows) key skipped marks) marks) ++ after_non_starters (c ∷ t)) (marks_more c t mark)
-    ∙ ap₂ (λ front rest. front ++ rest) (others_taken (is_key rows) key skipped c (non_starters_at_front t) taken) (after_more c t mark)
+pub rest_taken : (keys : Keys) (key skipped : Text) (c : Letter) (t : Text) → is_starter c ≡ false → is_taken keys key skipped c ≡ true →
+    extended_rest keys key skipped (c ∷ t) ≡ extended_rest keys (key ++ c ∷ []) skipped t
+rest_taken keys key skipped c t mark taken =
+    ap (λ marks. (skipped ++ others (removed keys key skipped marks) marks) ++ after_non_starters (c ∷ t)) (marks_more c t mark)
+    ∙ ap₂ (λ front rest. front ++ rest) (others_taken keys key skipped c (non_starters_at_front t) taken) (after_more c t mark)
 
-pub key_skipped : (rows : Rows) (key skipped : Text) (c : Letter) (t : Text) → is_starter c ≡ false → is_taken (is_key rows) key skipped c ≡ false →
-    extended_key rows key skipped (c ∷ t) ≡ extended_key rows key (skipped ++ c ∷ []) t
-key_skipped rows key skipped c t mark left =
-    ap (λ marks. key ++ members (removed (is_key rows) key skipped marks) marks) (marks_more c t mark)
-    ∙ members_skipped (is_key rows) key skipped c (non_starters_at_front t) left
+pub key_skipped : (keys : Keys) (key skipped : Text) (c : Letter) (t : Text) → is_starter c ≡ false → is_taken keys key skipped c ≡ false →
+    extended_key keys key skipped (c ∷ t) ≡ extended_key keys key (skipped ++ c ∷ []) t
+key_skipped keys key skipped c t mark left =
+    ap (λ marks. key ++ members (removed keys key skipped marks) marks) (marks_more c t mark)
+    ∙ members_skipped keys key skipped c (non_starters_at_front t) left
 
-pub rest_skipped : (rows : Rows) (key skipped : Text) (c : Letter) (t : Text) → is_starter c ≡ false → is_taken (is_key rows) key skipped c ≡ false →
-    extended_rest rows key skipped (c ∷ t) ≡ extended_rest rows key (skipped ++ c ∷ []) t
-rest_skipped rows key skipped c t mark left =
-    ap (λ marks. (skipped ++ others (removed (is_key rows) key skipped marks) marks) ++ after_non_starters (c ∷ t)) (marks_more c t mark)
-    ∙ ap₂ (λ front rest. front ++ rest) (others_skipped (is_key rows) key skipped c (non_starters_at_front t) left) (after_more c t mark)
+pub rest_skipped : (keys : Keys) (key skipped : Text) (c : Letter) (t : Text) → is_starter c ≡ false → is_taken keys key skipped c ≡ false →
+    extended_rest keys key skipped (c ∷ t) ≡ extended_rest keys key (skipped ++ c ∷ []) t
+rest_skipped keys key skipped c t mark left =
+    ap (λ marks. (skipped ++ others (removed keys key skipped marks) marks) ++ after_non_starters (c ∷ t)) (marks_more c t mark)
+    ∙ ap₂ (λ front rest. front ++ rest) (others_skipped keys key skipped c (non_starters_at_front t) left) (after_more c t mark)
 
 -- ---- The end of the non-starters
 
-pub key_at_end : (rows : Rows) (key skipped t : Text) → non_starters_at_front t ≡ [] → extended_key rows key skipped t ≡ key
-key_at_end rows key skipped t none =
-    ap (λ marks. key ++ members (removed (is_key rows) key skipped marks) marks) none ∙ append-nil key
+pub key_at_end : (keys : Keys) (key skipped t : Text) → non_starters_at_front t ≡ [] → extended_key keys key skipped t ≡ key
+key_at_end keys key skipped t none =
+    ap (λ marks. key ++ members (removed keys key skipped marks) marks) none ∙ append-nil key
 
-pub rest_at_end : (rows : Rows) (key skipped t : Text) → non_starters_at_front t ≡ [] → after_non_starters t ≡ t →
-    extended_rest rows key skipped t ≡ skipped ++ t
-rest_at_end rows key skipped t none all =
-    ap₂ (λ marks rest. (skipped ++ others (removed (is_key rows) key skipped marks) marks) ++ rest) none all
+pub rest_at_end : (keys : Keys) (key skipped t : Text) → non_starters_at_front t ≡ [] → after_non_starters t ≡ t →
+    extended_rest keys key skipped t ≡ skipped ++ t
+rest_at_end keys key skipped t none all =
+    ap₂ (λ marks rest. (skipped ++ others (removed keys key skipped marks) marks) ++ rest) none all
     ∙ ap (λ front. front ++ t) (append-nil skipped)
 
 -- ---- The letters that are left between two places
@@ -123,10 +120,10 @@ all-push p (y ∷ xs) x =
 starter_not : (s : Spelled) (i : ℕ) → (get_or s.classes i 0 ≡ 0 → ⊥) → is_starter (letter_at s i) ≡ false
 starter_not s i mark = let apart : get_or s.classes i 0 ≢ 0 = mark in grind (arith, nat_tests)
 
-module _ {N : Type 0} (stands_for : N → List ℕ → Type 0) (rows : Rows) (s : Spelled) (place : Place) (front : Text) (i : ℕ)
+module _ {N : Type 0} (stands_for : N → List ℕ → Type 0) (keys : Keys) (s : Spelled) (place : Place) (front : Text) (i : ℕ)
     (same : length s.classes ≡ length s.points) (within : i < length s.points) where
   pub going_gone : (so_far : Extension N) → IsBehind s place i so_far.next → is_gone so_far.next i ≡ true →
-      IsGoing stands_for rows s place front i so_far → IsGoing stands_for rows s place front (i + 1) so_far
+      IsGoing stands_for keys s place front i so_far → IsGoing stands_for keys s place front (i + 1) so_far
   going_gone so_far behind gone going =
       let on : left_at s so_far.next i ≡ left_at s so_far.next (i + 1) = left_gone s so_far.next i same within gone
       ∙ ap (left_at s so_far.next) (sym (add-one i)) in
@@ -134,61 +131,59 @@ module _ {N : Type 0} (stands_for : N → List ℕ → Type 0) (rows : Rows) (s 
         key = going.key;
         skipped = going.skipped;
         node = going.node;
-        row = going.row;
-        same_key = going.same_key ∙ ap (extended_key rows going.key going.skipped) on;
-        same_rest = going.same_rest ∙ ap (extended_rest rows going.key going.skipped) on;
+        same_key = going.same_key ∙ ap (extended_key keys going.key going.skipped) on;
+        same_rest = going.same_rest ∙ ap (extended_rest keys going.key going.skipped) on;
         skipped_is = going.skipped_is ∙ sym (between_gone s so_far.next place.at i same behind.begun within gone)
             ∙ ap (left_between s so_far.next place.at) (sym (add-one i));
         highest = going.highest;
       }
 
-  pub going_skipped : (node : N) (row : Bor (List Element)) (next : Place) (highest new : ℕ) → IsBehind s place i next →
+  pub going_skipped : (node : N) (next : Place) (highest new : ℕ) → IsBehind s place i next →
       (get_or s.classes i 0 ≡ 0 → ⊥) → is_gone next i ≡ false →
       ((key : Text) → stands_for node (code_points key) →
-      (nat_lt highest (get_or s.classes i 0) && is_key rows (code_points (key ++ letter_at s i ∷ []))) ≡ false) →
+      (nat_lt highest (get_or s.classes i 0) && keys (code_points (key ++ letter_at s i ∷ []))) ≡ false) →
       ((class : ℕ) → (nat_lt highest class && nat_lt (get_or s.classes i 0) class) ≡ nat_lt new class) →
-      IsGoing stands_for rows s place front i (record { node = node; row = row; next = next; highest = highest }) →
-      IsGoing stands_for rows s place front (i + 1) (record { node = node; row = row; next = next; highest = new })
-  going_skipped node row next highest new behind mark kept left higher going =
+      IsGoing stands_for keys s place front i (record { node = node; next = next; highest = highest }) →
+      IsGoing stands_for keys s place front (i + 1) (record { node = node; next = next; highest = new })
+  going_skipped node next highest new behind mark kept left higher going =
       let c : Letter = letter_at s i in
       let key : Text = going.key in
       let skipped : Text = going.skipped in
       let non_starter = starter_not s i mark in
       let on : left_at s next i ≡ c ∷ left_at s next (i + 1) = left_kept s next i same within kept ∙ ap (λ n. c ∷ left_at s next n) (sym (add-one i)) in
       let positive : 0 < c.class = omega arith in
-      let not_taken : is_taken (is_key rows) key skipped c ≡ false = ap (λ b. b && is_key rows (code_points (key ++ c ∷ []))) (going.highest c.class positive)
+      let not_taken : is_taken keys key skipped c ≡ false = ap (λ b. b && keys (code_points (key ++ c ∷ []))) (going.highest c.class positive)
       ∙ left key going.node in
       record {
         key = key;
         skipped = skipped ++ c ∷ [];
         node = going.node;
-        row = going.row;
-        same_key = going.same_key ∙ ap (extended_key rows key skipped) on ∙ key_skipped rows key skipped c (left_at s next (i + 1)) non_starter not_taken;
-        same_rest = going.same_rest ∙ ap (extended_rest rows key skipped) on
-            ∙ rest_skipped rows key skipped c (left_at s next (i + 1)) non_starter not_taken;
+        same_key = going.same_key ∙ ap (extended_key keys key skipped) on ∙ key_skipped keys key skipped c (left_at s next (i + 1)) non_starter not_taken;
+        same_rest = going.same_rest ∙ ap (extended_rest keys key skipped) on
+            ∙ rest_skipped keys key skipped c (left_at s next (i + 1)) non_starter not_taken;
         skipped_is = ap (λ t. t ++ c ∷ []) going.skipped_is ∙ sym (between_kept s next place.at i same behind.begun within kept)
             ∙ ap (left_between s next place.at) (sym (add-one i));
         highest = λ class above. all-push (λ d. nat_lt d.class class) skipped c ∙ ap (λ b. b && nat_lt c.class class) (going.highest class above)
             ∙ higher class;
       }
 
-  pub going_taken : (node : N) (row : Bor (List Element)) (next new : Place) (highest : ℕ) (found : Found N) → IsBehind s place i next →
+  pub going_taken : (node : N) (next new : Place) (highest : ℕ) (found : N) → IsBehind s place i next →
       (get_or s.classes i 0 ≡ 0 → ⊥) → is_gone next i ≡ false → nat_lt highest (get_or s.classes i 0) ≡ true →
-      ((key : List ℕ) → stands_for node key → IsFound stands_for rows (key ++ get_or s.points i 0 ∷ []) found) → is_gone new i ≡ true →
+      ((key : List ℕ) → stands_for node key → IsFound stands_for keys (key ++ get_or s.points i 0 ∷ []) found) → is_gone new i ≡ true →
       ((k : ℕ) → k ≢ i → is_gone new k ≡ is_gone next k) →
-      IsGoing stands_for rows s place front i (record { node = node; row = row; next = next; highest = highest }) →
-      IsGoing stands_for rows s place front (i + 1) (record { node = found.node; row = found.row; next = new; highest = highest })
-  going_taken node row next new highest found behind mark kept free matched gone elsewhere going =
+      IsGoing stands_for keys s place front i (record { node = node; next = next; highest = highest }) →
+      IsGoing stands_for keys s place front (i + 1) (record { node = found; next = new; highest = highest })
+  going_taken node next new highest found behind mark kept free matched gone elsewhere going =
       let c : Letter = letter_at s i in
       let key : Text = going.key in
       let skipped : Text = going.skipped in
       let non_starter = starter_not s i mark in
       let positive : 0 < c.class = omega arith in
-      let is_found : IsFound stands_for rows (code_points (key ++ c ∷ [])) found =
-      subst (λ k. IsFound stands_for rows k found) (sym (code_points-push key c)) (matched (code_points key) going.node) in
-      let taken : is_taken (is_key rows) key skipped c ≡ true =
-      and_from (list_all (λ d. nat_lt d.class c.class) skipped) (is_key rows (code_points (key ++ c ∷ [])))
-      (going.highest c.class positive ∙ free) (ap is_some is_found.row) in
+      let is_found : IsFound stands_for keys (code_points (key ++ c ∷ [])) found =
+      subst (λ k. IsFound stands_for keys k found) (sym (code_points-push key c)) (matched (code_points key) going.node) in
+      let taken : is_taken keys key skipped c ≡ true =
+      and_from (list_all (λ d. nat_lt d.class c.class) skipped) (keys (code_points (key ++ c ∷ [])))
+      (going.highest c.class positive ∙ free) is_found.is_key in
       let beyond : left_at s next (suc i) ≡ left_at s new (i + 1) = left_beyond s next new (suc i) (λ k above. sym (elsewhere k (omega arith)))
       ∙ ap (left_at s new) (sym (add-one i)) in
       let on : left_at s next i ≡ c ∷ left_at s new (i + 1) = left_kept s next i same within kept ∙ ap (λ t. c ∷ t) beyond in
@@ -196,10 +191,9 @@ module _ {N : Type 0} (stands_for : N → List ℕ → Type 0) (rows : Rows) (s 
       record {
         key = key ++ c ∷ [];
         skipped = skipped;
-        node = is_found.node;
-        row = is_found.row;
-        same_key = going.same_key ∙ ap (extended_key rows key skipped) on ∙ key_taken rows key skipped c (left_at s new (i + 1)) non_starter taken;
-        same_rest = going.same_rest ∙ ap (extended_rest rows key skipped) on ∙ rest_taken rows key skipped c (left_at s new (i + 1)) non_starter taken;
+        node = is_found.stands;
+        same_key = going.same_key ∙ ap (extended_key keys key skipped) on ∙ key_taken keys key skipped c (left_at s new (i + 1)) non_starter taken;
+        same_rest = going.same_rest ∙ ap (extended_rest keys key skipped) on ∙ rest_taken keys key skipped c (left_at s new (i + 1)) non_starter taken;
         skipped_is = going.skipped_is ∙ between_same s next new place.at i behind.begun inside (λ k above below. sym (elsewhere k (omega arith)))
             ∙ sym (between_gone s new place.at i same behind.begun within gone) ∙ ap (left_between s new place.at) (sym (add-one i));
         highest = going.highest;
@@ -226,10 +220,10 @@ lt_covered a b n h =
 pub blocked : (a b : ℕ) (key : Bool) → b ≤ a → (nat_lt a b && key) ≡ false
 blocked a b key h = let test : nat_lt a b ≡ false = grind (arith, nat_tests) in ap (λ x. x && key) test
 
-pub no_key : (rows : Rows) (key : Text) (c : Letter) (free : Bool) → rows (code_points key ++ c.code ∷ []) ≡ None →
-    (free && is_key rows (code_points (key ++ c ∷ []))) ≡ false
-no_key rows key c free none =
-    let test : is_key rows (code_points (key ++ c ∷ [])) ≡ false = ap (is_key rows) (code_points-push key c) ∙ ap is_some none in
+pub no_key : (keys : Keys) (key : Text) (c : Letter) (free : Bool) → keys (code_points key ++ c.code ∷ []) ≡ false →
+    (free && keys (code_points (key ++ c ∷ []))) ≡ false
+no_key keys key c free none =
+    let test : keys (code_points (key ++ c ∷ [])) ≡ false = ap keys (code_points-push key c) ∙ none in
     ap (λ b. free && b) test ∙ elim free as (λ b. (b && false) ≡ false) [ true ↦ refl | false ↦ refl ]
 
 pub read_at : (xs ys : List ℕ) (i x : ℕ) → xs ≡ ys → i < length ys → x ≡ get_or xs i x → x ≡ get_or ys i 0

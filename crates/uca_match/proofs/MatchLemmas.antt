@@ -1,18 +1,16 @@
 -- The longest key at the front of a text, the non-starters after it, and the walk to it.
 use Rattle.std.proofs.Common.{◌≡◌, ℕ, zero, suc, ◌<◌, ◌≤◌, List, [], ◌∷◌, ◌++◌, length, take, Bool, true, false, cond, IsFalse, sym, ap, subst, refl}
-use Rattle.std.proofs.Common.{◌∙◌, append-nil, ⊎_elim, arith, ◌+◌, drop, get_or, Option, Some, None, is_some, add-one, length-drop, take-append-drop}
+use Rattle.std.proofs.Common.{◌∙◌, append-nil, ⊎_elim, arith, ◌+◌, drop, get_or, Option, Some, None, add-one, length-drop, take-append-drop}
 use Rattle.std.proofs.lemmas.Bool.{cond_both, cond-true, cond-false, cases_Bool, cases_eq, both_ways}
 use Rattle.std.specs.List.{AllByRecursion}
 use Rattle.uca_text.specs.Texts.{Letter, Text, code_points, is_starter, Spelled}
-use Rattle.uca_match.specs.Rows.{Rows, Keys, is_key}
+use Rattle.uca_match.specs.Rows.{Keys}
 use Rattle.uca_match.specs.Reading.{is_taken, removed, members, others, longest_key, non_starters_at_front, after_non_starters, IsAtStarter}
 use Rattle.uca_match.specs.Reading.{AreNonStartersBefore}
 use Rattle.uca_match.proofs.RemovedLemmas.{IsKeyOf, members_taken, members_skipped, taken_iff, code_points-append, code_points-push}
 use Rattle.std.proofs.lemmas.List.{take-take}
 use Rattle.std.proofs.Math.Seq.{take-suc, drop-cons}
-use Rattle.std.specs.Borrow.{Bor}
-use Rattle.uca_weights.specs.declared.Element.{Element}
-use Rattle.uca_match.specs.Lookups.{BeginsNoKey}
+use Rattle.uca_match.specs.Lookups.{BeginsNoKeyIn}
 use Rattle.uca_match.specs.Places.{is_gone, left_at}
 use Rattle.uca_match.specs.Matches.{IsLongest}
 use Rattle.uca_match.specs.declared.places.Place.{Place}
@@ -126,14 +124,14 @@ extended_is_key keys start skipped (c ∷ marks) key =
 -- ---- The walk to the longest key at the front of what is left
 
 -- a node stands for the letters that are left between `first` and i, and `best` is the longest key among their beginnings
-pub record IsWalked {N : Type 0} (stands_for : N → List ℕ → Type 0) (rows : Rows) (s : Spelled) (place : Place) (first i : ℕ) (node : N)
+pub record IsWalked {N : Type 0} (stands_for : N → List ℕ → Type 0) (keys : Keys) (s : Spelled) (place : Place) (first i : ℕ) (node : N)
     (best : Option (Longest N)) : Type 0 where
   pub count : ℕ
   pub begun : first ≤ i
   pub passed : count ≤ length (left_at s place first)
   pub left : left_at s place i ≡ drop count (left_at s place first)
   pub node_is : stands_for node (code_points (take count (left_at s place first)))
-  pub best_is : IsLongest stands_for rows s place first count best
+  pub best_is : IsLongest stands_for keys s place first count best
 
 -- one more letter of a list
 one_more : (t rest : Text) (count : ℕ) (c : Letter) → count ≤ length t → c ∷ rest ≡ drop count t →
@@ -144,20 +142,20 @@ one_more t rest count c within split =
     let first : c ≡ get_or t count c = cc in
     (some, (let same : rest ≡ drop (suc count) t = cc in same), take-suc t count c some ∙ ap (λ d. take count t ++ d ∷ []) (sym first))
 
-longest_same : {N : Type 0} (stands_for : N → List ℕ → Type 0) (rows : Rows) (s : Spelled) (place : Place) (first n m : ℕ)
-    (best : Option (Longest N)) → longest_key (is_key rows) (left_at s place first) n ≡ longest_key (is_key rows) (left_at s place first) m →
-    IsLongest stands_for rows s place first m best → IsLongest stands_for rows s place first n best
-longest_same stands_for rows s place first n m None same h = same ∙ h
-longest_same stands_for rows s place first n m (Some key) same h =
-    record { count = h.count; longest = same ∙ h.longest; found = h.found; left = h.left; onward = h.onward; within = h.within }
+longest_same : {N : Type 0} (stands_for : N → List ℕ → Type 0) (keys : Keys) (s : Spelled) (place : Place) (first n m : ℕ)
+    (best : Option (Longest N)) → longest_key keys (left_at s place first) n ≡ longest_key keys (left_at s place first) m →
+    IsLongest stands_for keys s place first m best → IsLongest stands_for keys s place first n best
+longest_same stands_for keys s place first n m None same h = same ∙ h
+longest_same stands_for keys s place first n m (Some key) same h =
+    record { count = h.count; longest = same ∙ h.longest; stands = h.stands; left = h.left; onward = h.onward; within = h.within }
 
-module _ {N : Type 0} (stands_for : N → List ℕ → Type 0) (rows : Rows) (s : Spelled) (place : Place) (first : ℕ) where
-  pub walked_at_start : (root : N) → stands_for root [] → IsWalked stands_for rows s place first first root None
+module _ {N : Type 0} (stands_for : N → List ℕ → Type 0) (keys : Keys) (s : Spelled) (place : Place) (first : ℕ) where
+  pub walked_at_start : (root : N) → stands_for root [] → IsWalked stands_for keys s place first first root None
   walked_at_start root stands =
       record { count = 0; begun = omega arith; passed = omega arith; left = refl; node_is = stands; best_is = refl }
 
   pub walked_gone : (i : ℕ) (node : N) (best : Option (Longest N)) → length s.classes ≡ length s.points → i < length s.points →
-      is_gone place i ≡ true → IsWalked stands_for rows s place first i node best → IsWalked stands_for rows s place first (i + 1) node best
+      is_gone place i ≡ true → IsWalked stands_for keys s place first i node best → IsWalked stands_for keys s place first (i + 1) node best
   walked_gone i node best same within gone walked =
       record {
         count = walked.count;
@@ -170,7 +168,7 @@ module _ {N : Type 0} (stands_for : N → List ℕ → Type 0) (rows : Rows) (s 
 
   -- the walk comes to a letter
   module _ (i : ℕ) (node : N) (best : Option (Longest N)) (same : length s.classes ≡ length s.points) (within : i < length s.points)
-      (kept : is_gone place i ≡ false) (walked : IsWalked stands_for rows s place first i node best) where
+      (kept : is_gone place i ≡ false) (walked : IsWalked stands_for keys s place first i node best) where
     here : (suc walked.count ≤ length (left_at s place first)) × (left_at s place (suc i) ≡ drop (suc walked.count) (left_at s place first)) ×
         (take (suc walked.count) (left_at s place first) ≡ take walked.count (left_at s place first) ++ letter_at s i ∷ [])
     here = one_more (left_at s place first) (left_at s place (suc i)) walked.count (letter_at s i) walked.passed
@@ -182,25 +180,25 @@ module _ {N : Type 0} (stands_for : N → List ℕ → Type 0) (rows : Rows) (s 
     so_far = ap code_points here.2 ∙ code_points-push (take walked.count (left_at s place first)) (letter_at s i)
 
     -- no key goes on so
-    pub walked_out : BeginsNoKey rows (code_points (take walked.count (left_at s place first)) ++ get_or s.points i 0 ∷ []) →
-        IsLongest stands_for rows s place first (length (left_at s place first)) best
+    pub walked_out : BeginsNoKeyIn keys (code_points (take walked.count (left_at s place first)) ++ get_or s.points i 0 ∷ []) →
+        IsLongest stands_for keys s place first (length (left_at s place first)) best
     walked_out none =
         let t : Text = left_at s place first in
         let n : ℕ = suc walked.count in
-        let no_key : (m : ℕ) → walked.count < m → m ≤ length t → is_key rows (code_points (take m t)) ≡ false = λ m above below.
-        not_true (is_key rows (code_points (take m t)))
+        let no_key : (m : ℕ) → walked.count < m → m ≤ length t → keys (code_points (take m t)) ≡ false = λ m above below.
+        not_true (keys (code_points (take m t)))
         (λ key.
         let front : take n (take m t) ≡ take n t = take-take n m t (omega arith) in
         let split : code_points (take m t) ≡ code_points (take n t) ++ code_points (drop n (take m t)) =
         ap code_points (sym (take-append-drop n (take m t)) ∙ ap (λ f. f ++ drop n (take m t)) front)
         ∙ code_points-append (take n t) (drop n (take m t)) in
-        none (code_points (drop n (take m t)), subst (λ k. is_key rows k ≡ true) (split ∙ ap (λ f. f ++ code_points (drop n (take m t))) so_far) key)) in
-        longest_same stands_for rows s place first (length t) walked.count best (no_longer (is_key rows) t walked.count (length t) walked.passed no_key)
+        none (code_points (drop n (take m t)), subst (λ k. keys k ≡ true) (split ∙ ap (λ f. f ++ code_points (drop n (take m t))) so_far) key)) in
+        longest_same stands_for keys s place first (length t) walked.count best (no_longer keys t walked.count (length t) walked.passed no_key)
         walked.best_is
 
     pub walked_on : (next : N) (new : Option (Longest N)) →
         stands_for next (code_points (take walked.count (left_at s place first)) ++ get_or s.points i 0 ∷ []) →
-        IsLongest stands_for rows s place first (suc walked.count) new → IsWalked stands_for rows s place first (i + 1) next new
+        IsLongest stands_for keys s place first (suc walked.count) new → IsWalked stands_for keys s place first (i + 1) next new
     walked_on next new stands longest =
         record {
           count = suc walked.count;
@@ -211,25 +209,25 @@ module _ {N : Type 0} (stands_for : N → List ℕ → Type 0) (rows : Rows) (s 
           best_is = longest;
         }
 
-    pub longest_as_before : rows (code_points (take walked.count (left_at s place first)) ++ get_or s.points i 0 ∷ []) ≡ None →
-        IsLongest stands_for rows s place first (suc walked.count) best
+    pub longest_as_before : keys (code_points (take walked.count (left_at s place first)) ++ get_or s.points i 0 ∷ []) ≡ false →
+        IsLongest stands_for keys s place first (suc walked.count) best
     longest_as_before none =
         let t : Text = left_at s place first in
-        let no_key : is_key rows (code_points (take (suc walked.count) t)) ≡ false = ap (is_key rows) so_far ∙ ap is_some none in
-        longest_same stands_for rows s place first (suc walked.count) walked.count best
-        (cond-false (is_key rows (code_points (take (suc walked.count) t))) (suc walked.count) (longest_key (is_key rows) t walked.count) no_key) walked.best_is
+        let no_key : keys (code_points (take (suc walked.count) t)) ≡ false = ap keys so_far ∙ none in
+        longest_same stands_for keys s place first (suc walked.count) walked.count best
+        (cond-false (keys (code_points (take (suc walked.count) t))) (suc walked.count) (longest_key keys t walked.count) no_key) walked.best_is
 
-    pub longest_now : (next : N) (row : Bor (List Element)) →
+    pub longest_now : (next : N) →
         stands_for next (code_points (take walked.count (left_at s place first)) ++ get_or s.points i 0 ∷ []) →
-        rows (code_points (take walked.count (left_at s place first)) ++ get_or s.points i 0 ∷ []) ≡ Some row.now →
-        IsLongest stands_for rows s place first (suc walked.count) (Some (record { found = record { node = next; row = row }; behind = i + 1 }))
-    longest_now next row stands some =
+        keys (code_points (take walked.count (left_at s place first)) ++ get_or s.points i 0 ∷ []) ≡ true →
+        IsLongest stands_for keys s place first (suc walked.count) (Some (record { node = next; behind = i + 1 }))
+    longest_now next stands some =
         let t : Text = left_at s place first in
-        let key : is_key rows (code_points (take (suc walked.count) t)) ≡ true = ap (is_key rows) so_far ∙ ap is_some some in
+        let key : keys (code_points (take (suc walked.count) t)) ≡ true = ap keys so_far ∙ some in
         record {
           count = walked.count;
-          longest = cond-true (is_key rows (code_points (take (suc walked.count) t))) (suc walked.count) (longest_key (is_key rows) t walked.count) key;
-          found = record { node = subst (λ k. stands_for next k) (sym so_far) stands; row = ap rows so_far ∙ some };
+          longest = cond-true (keys (code_points (take (suc walked.count) t))) (suc walked.count) (longest_key keys t walked.count) key;
+          stands = subst (λ k. stands_for next k) (sym so_far) stands;
           left = ap (left_at s place) (add-one i) ∙ here.1;
           onward = omega (arith, walked.begun);
           within = omega arith;
@@ -237,9 +235,9 @@ module _ {N : Type 0} (stands_for : N → List ℕ → Type 0) (rows : Rows) (s 
 
   -- the walk comes to the end of the text
   pub walked_through : (i : ℕ) (node : N) (best : Option (Longest N)) → length s.classes ≡ length s.points → length s.points ≤ i →
-      IsWalked stands_for rows s place first i node best → IsLongest stands_for rows s place first (length (left_at s place first)) best
+      IsWalked stands_for keys s place first i node best → IsLongest stands_for keys s place first (length (left_at s place first)) best
   walked_through i node best same past walked =
       let t : Text = left_at s place first in
       let none : drop walked.count t ≡ [] = sym walked.left ∙ left_end s place i same past in
       let all : length t ≡ walked.count = omega (arith, length-drop walked.count t, ap length none, walked.passed) in
-      longest_same stands_for rows s place first (length t) walked.count best (ap (longest_key (is_key rows) t) all) walked.best_is
+      longest_same stands_for keys s place first (length t) walked.count best (ap (longest_key keys t) all) walked.best_is

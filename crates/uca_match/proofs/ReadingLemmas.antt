@@ -8,7 +8,7 @@ use Rattle.std.proofs.Math.Seq.{take-append-add}
 use Rattle.uca_weights.specs.declared.Element.{Element}
 use Rattle.uca_text.specs.Texts.{Letter, Text, code_points}
 use Rattle.uca_match.specs.Rows.{Rows, Keys, is_key, IsKey}
-use Rattle.uca_match.specs.Parts.{Row, Implicit, part_elements}
+use Rattle.uca_match.specs.Parts.{Part, Row, Implicit, part_elements}
 use Rattle.uca_match.specs.Reading.{IsRowMatch, NoRowBegins, AreNonStartersBefore, AreRemoved, IsReading, removed, members, others, longest_key}
 use Rattle.uca_match.specs.Reading.{non_starters_at_front, after_non_starters, Portion, row_portion, portion_at, portion, parts_within, parts, read}
 use Rattle.uca_match.proofs.RemovedLemmas.{AreRemoved-removed, removed_unique}
@@ -223,14 +223,21 @@ read_unique implicit rows E reading t = read_unique_within implicit rows E readi
 
 -- ---- The same by what `longest_key` finds
 
-pub read_of_none : (implicit : ℕ → List Element) (rows : Rows) (c : Letter) (t : Text) → longest_key (is_key rows) (c ∷ t) (length (c ∷ t)) ≡ 0 →
-    read implicit rows (c ∷ t) ≡ implicit c.code ++ read implicit rows t
-read_of_none implicit rows c t none = read_unlisted implicit rows c t (unlisted_longest rows (c ∷ t) none)
+-- a text that no key begins: its first part is its first code point
+pub parts_of_none : (keys : Keys) (c : Letter) (t : Text) → longest_key keys (c ∷ t) (length (c ∷ t)) ≡ 0 →
+    parts keys (c ∷ t) ≡ Implicit c.code ∷ parts keys t
+parts_of_none keys c t none =
+    parts_portion keys c t ∙ ap (λ n. (portion_at keys c t n).part ∷ parts keys (portion_at keys c t n).rest) none
 
-pub read_of_longest : (implicit : ℕ → List Element) (rows : Rows) (t : Text) (k : ℕ) → longest_key (is_key rows) t (length t) ≡ suc k →
-    read implicit rows t ≡ portion_reads implicit rows (row_portion (is_key rows) (take (suc k) t) (drop (suc k) t))
-read_of_longest implicit rows [] k found = absurd (omega arith)
-read_of_longest implicit rows (c ∷ t) k found = read_portion implicit rows c t ∙ ap (λ n. portion_reads implicit rows (portion_at (is_key rows) c t n)) found
+-- the parts of a portion and what is left after it
+abbrev pub portion_parts : Keys → Portion → List Part
+portion_parts keys p = p.part ∷ parts keys p.rest
+
+-- a text that a key begins
+pub parts_of_longest : (keys : Keys) (t : Text) (k : ℕ) → longest_key keys t (length t) ≡ suc k →
+    parts keys t ≡ portion_parts keys (row_portion keys (take (suc k) t) (drop (suc k) t))
+parts_of_longest keys [] k found = absurd (omega arith)
+parts_of_longest keys (c ∷ t) k found = parts_portion keys c t ∙ ap (λ n. portion_parts keys (portion_at keys c t n)) found
 
 -- ---- A text that is a key
 

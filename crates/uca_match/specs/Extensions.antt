@@ -1,20 +1,20 @@
 -- How far the non-starters after a key have been gone through.
 -- Only clauses inside this crate cite this file.
-use Rattle.std.specs.Prelude.{◌≡◌, ℕ, ◌-◌, ◌<◌, ◌≤◌, List, [], ◌++◌, false, Some, length, take, drop, nat_lt, slice_index}
+use Rattle.std.specs.Prelude.{◌≡◌, ℕ, ◌-◌, ◌<◌, ◌≤◌, List, [], ◌++◌, false, length, take, drop, nat_lt, slice_index}
 use Rattle.std.specs.List.{list_all}
 use Rattle.uca_text.specs.Texts.{Text, Spelled, code_points, letters_of}
-use Rattle.uca_match.specs.Rows.{Rows, is_key}
+use Rattle.uca_match.specs.Rows.{Keys}
 use Rattle.uca_match.specs.Reading.{removed, members, others, non_starters_at_front, after_non_starters}
 use Rattle.uca_match.specs.Places.{is_gone, left_from, left_at, left_of}
 use Rattle.uca_match.specs.declared.places.Place.{Place}
 use Rattle.uca_match.specs.declared.matches.Extension.{Extension}
 
 -- what a key becomes, and what is left then, where some non-starters have been skipped and the text goes on so
-abbrev pub extended_key : Rows → Text → Text → Text → Text
-extended_key rows key skipped t = key ++ members (removed (is_key rows) key skipped (non_starters_at_front t)) (non_starters_at_front t)
+abbrev pub extended_key : Keys → Text → Text → Text → Text
+extended_key keys key skipped t = key ++ members (removed keys key skipped (non_starters_at_front t)) (non_starters_at_front t)
 
-abbrev pub extended_rest : Rows → Text → Text → Text → Text
-extended_rest rows key skipped t = (skipped ++ others (removed (is_key rows) key skipped (non_starters_at_front t)) (non_starters_at_front t))
+abbrev pub extended_rest : Keys → Text → Text → Text → Text
+extended_rest keys key skipped t = (skipped ++ others (removed keys key skipped (non_starters_at_front t)) (non_starters_at_front t))
     ++ after_non_starters t
 
 -- the letters that are left between two places
@@ -31,13 +31,12 @@ pub record IsBehind (s : Spelled) (place : Place) (i : ℕ) (next : Place) : Typ
   pub kept_beyond : (k : ℕ) → place.end ≤ k → i ≤ k → is_gone next k ≡ false
 
 -- the key and the skipped non-starters so far become what the key before all non-starters becomes
-pub record IsGoing {N : Type 0} (stands_for : N → List ℕ → Type 0) (rows : Rows) (s : Spelled) (place : Place) (front : Text) (i : ℕ)
+pub record IsGoing {N : Type 0} (stands_for : N → List ℕ → Type 0) (keys : Keys) (s : Spelled) (place : Place) (front : Text) (i : ℕ)
     (so_far : Extension N) : Type 0 where
   pub key : Text
   pub skipped : Text
   pub node : stands_for so_far.node (code_points key)
-  pub row : rows (code_points key) ≡ Some so_far.row.now
-  pub same_key : extended_key rows front [] (left_of s place) ≡ extended_key rows key skipped (left_at s so_far.next i)
-  pub same_rest : extended_rest rows front [] (left_of s place) ≡ extended_rest rows key skipped (left_at s so_far.next i)
+  pub same_key : extended_key keys front [] (left_of s place) ≡ extended_key keys key skipped (left_at s so_far.next i)
+  pub same_rest : extended_rest keys front [] (left_of s place) ≡ extended_rest keys key skipped (left_at s so_far.next i)
   pub skipped_is : skipped ≡ left_between s so_far.next place.at i
   pub highest : (class : ℕ) → 0 < class → list_all (λ d. nat_lt d.class class) skipped ≡ nat_lt so_far.highest class

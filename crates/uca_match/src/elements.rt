@@ -1,7 +1,8 @@
 //! The collation elements of a text, one after the other.
 ghost use Rattle.std.specs.Iterator.{YieldsFirst, item_count};
 
-use crate::matches::{Given, next_portion};
+use crate::key_sets::{LookupKeys, row_at};
+use crate::matches::{Match, next_portion};
 use crate::places::Place;
 use crate::{Collator, Lookup};
 use std::alloc::{Allocator, Global};
@@ -54,12 +55,16 @@ impl<'a, L: Lookup, A: Allocator> Iterator for Elements<'a, L, A> {
                 self.row = rest;
                 return Some(*first);
             }
-            let portion = next_portion(self.collator.lookup, self.text, self.place)?;
+            let Collator {
+                lookup,
+                header,
+                data,
+            } = self.collator;
+            let portion = next_portion(&LookupKeys { lookup }, self.text, self.place)?;
             self.place = portion.next;
             match portion.given {
-                Given::Row(row) => self.row = row,
-                Given::Unlisted(point) => {
-                    let Collator { header, data, .. } = self.collator;
+                Match::Key(node) => self.row = row_at(lookup, node),
+                Match::Unlisted(point) => {
                     let [first, second] = header.implicit(data, point);
                     self.second = Some(second);
                     return Some(first);

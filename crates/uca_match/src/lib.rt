@@ -4,6 +4,7 @@
 
 mod collator;
 mod elements;
+mod key_sets;
 pub mod laws;
 mod lookup;
 mod matches;

@@ -7,7 +7,7 @@ use Rattle.uca_match.proofs.matches.extend.Goals.{then-loop-i-test+else-classes-
 pub loop-i-init : goal.loop-i-init
 loop-i-init g c = record {
   behind = behind_at_start c.args.text.now c.args.place c.requires.place;
-  going = λ front is_found. going_at_start _ _ c.args.text.now c.args.place front c.args.found is_found;
+  going = λ front stands. going_at_start _ _ c.args.text.now c.args.place front c.args.node stands;
 }
 
 pub extended-so_far-requires : goal.extended-so_far-requires
@@ -31,11 +31,11 @@ extended-so_far-requires g c =
 pub loop-i-preserved : goal.loop-i-preserved
 loop-i-preserved g c = record {
   behind = c.extended-so_far.ensures.non_starters c.args.place c.loop-i.invariant.behind;
-  going = λ front is_found. c.extended-so_far.ensures.matched c.args.place front c.loop-i.invariant.behind (c.loop-i.invariant.going front is_found);
+  going = λ front stands. c.extended-so_far.ensures.matched c.args.place front c.loop-i.invariant.behind (c.loop-i.invariant.going front stands);
 }
 
 pub returns : goal.returns
-returns g c = λ front is_found.
+returns g c = λ front stands.
     let s = c.args.text.now in
     let i = c.loop-i.i in
     let so_far = c.loop-i.so_far in
@@ -46,5 +46,5 @@ returns g c = λ front is_found.
       | then-loop-i-test+else-classes-i-ne0 w ↦ ap (λ xs. get_or xs i 0) (sym value) ∙ w.if-classes-i-ne0.false
       | else-loop-i-test w ↦ absurd (omega (arith, ap length value, accepted.same))
     ] in
-    extended_at_end s c.args.place so_far.next i accepted c.requires.place c.loop-i.invariant.behind ended _ _ front so_far.node so_far.row
-    so_far.highest (c.loop-i.invariant.going front is_found)
+    extended_at_end s c.args.place so_far.next i accepted c.requires.place c.loop-i.invariant.behind ended _ _ front so_far.node
+    so_far.highest (c.loop-i.invariant.going front stands)

@@ -18,7 +18,7 @@ returns-in_default g c =
     let within : first.result < length s.points = omega (arith, ap length c.chars-chars.ensures.value) in
     let letter = read_at c.chars-chars.result.now s.points first.result c.index-chars-first.result c.chars-chars.ensures.value within
     c.index-chars-first.is in
-    portion_unlisted (g.L.Lookup.content c.args.lookup.now) s c.args.place first.result first.ensures.behind first.ensures.left c.moved.result
+    portion_unlisted (g.K.KeySet.stands_for c.args.keys.now) (g.K.KeySet.keys c.args.keys.now) s c.args.place first.result first.ensures.behind first.ensures.left c.moved.result
     c.index-chars-first.result c.chars-chars.ensures.accepted.same within (first.ensures.kept within) c.in_default.ensures letter
     c.moved.ensures.place c.moved.ensures.at c.moved.ensures.left
 
@@ -28,6 +28,6 @@ returns g c =
     let first = c.first_left-first in
     let longest = c.in-Some.ensures in
     let front = take (suc longest.count) (left_at s c.args.place first.result) in
-    portion_listed (g.L.Lookup.content c.args.lookup.now) s c.args.place first.result first.ensures.behind first.ensures.left
-    (g.L.Lookup.stands_for c.args.lookup.now) c.in-Some.key c.moved-behind.result c.extend.result longest c.moved-behind.ensures.at
-    c.moved-behind.ensures.left (c.extend.ensures front longest.found)
+    portion_listed (g.K.KeySet.stands_for c.args.keys.now) (g.K.KeySet.keys c.args.keys.now) s c.args.place first.result first.ensures.behind
+    first.ensures.left c.in-Some.key c.moved-behind.result c.extend.result longest c.moved-behind.ensures.at
+    c.moved-behind.ensures.left (c.extend.ensures front longest.stands)

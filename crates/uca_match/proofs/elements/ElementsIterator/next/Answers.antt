@@ -12,8 +12,8 @@ loop-first-preserved g c =
     record {
       no_second = c.loop-first.invariant.no_second;
       is_place = c.in_ok-portion.ensures.is_place;
-      same_rest = row_comes (collation_of g.L.Lookup.content now.collator) now.text.now now.place c.in_ok-portion.portion c.in_ok-portion.ensures now.row.now
-          (nil_from_length now.row.now c.in_default-split_first.ensures.cases) c.in-Row.row c.in-Row.is ∙ c.loop-first.invariant.same_rest;
+      same_rest = row_comes _ (collation_of g.L.Lookup.content now.collator) now.text.now now.place c.in_ok-portion.portion c.in_ok-portion.ensures now.row.now
+          (nil_from_length now.row.now c.in_default-split_first.ensures.cases) c.in-Key.node c.row_at-self-inside.result c.in-Key.is c.row_at-self-inside.ensures ∙ c.loop-first.invariant.same_rest;
     }
 
 pub returns-in-Unlisted-clause-steps : goal.returns-in-Unlisted-clause-steps
@@ -24,7 +24,7 @@ returns-in-Unlisted-clause-steps g c =
     ∙ ap (λ second. rest_of (collation_of g.L.Lookup.content before.collator) second before.row.now (left_of before.text.now before.place))
     (sym c.in_default.ensures.value)
     ∙ sym c.loop-first.invariant.same_rest
-    ∙ pair_comes (collation_of g.L.Lookup.content now.collator) now.text.now now.place c.in_ok-portion.portion c.in_ok-portion.ensures now.row.now
+    ∙ pair_comes _ (collation_of g.L.Lookup.content now.collator) now.text.now now.place c.in_ok-portion.portion c.in_ok-portion.ensures now.row.now
     (nil_from_length now.row.now c.in_default-split_first.ensures.cases) c.in-Unlisted.point c.implicit.result _ c.in-Unlisted.is c.implicit.ensures
 
 pub returns-in-Unlisted-clause-goes : goal.returns-in-Unlisted-clause-goes
