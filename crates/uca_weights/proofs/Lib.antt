@@ -2,6 +2,7 @@ pub mod Lists
 pub mod Tests
 pub mod Numbers
 pub mod WriteLemmas
+pub mod PerLevel
 pub mod RunMaps
 pub mod RunPlaces
 pub mod RunSteps
