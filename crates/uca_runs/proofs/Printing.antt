@@ -5,15 +5,15 @@ use Rattle.uca_weights.specs.Streams.{SourceState, SinkState}
 use Rattle.uca_weights.specs.Writes.{WentOut}
 use Rattle.uca_lines.specs.LineReader.{left_of}
 use Rattle.uca_lines.specs.Lines.{lines_of}
-use Rattle.uca_lines.specs.OutputBuffer.{BufferState, HandedOver}
+use Rattle.uca_lines.specs.OutputBuffer.{BufferState, IsBuffered}
 use Rattle.uca_runs.specs.declared.faults.InputKind.TheVariants.{Memory}
 use Rattle.uca_runs.specs.declared.faults.RunFault.{RunFault}
 use Rattle.uca_runs.specs.declared.faults.RunFault.TheVariants.{Input, Write}
 use Rattle.uca_runs.specs.Input.{clean_from}
-use Rattle.uca_runs.specs.Keys.{Keying, text_line, printed_key, key_lines, keys_output}
+use Rattle.uca_runs.specs.Keys.{KeySettings, text_line, printed_key, key_lines, keys_output}
 use Rattle.uca_runs.specs.KeysSoFar.{HasPrinted, IsStopped, PrintsText}
 use Rattle.uca_runs.specs.LinesSoFar.{IsAfter, OnKnown}
-use Rattle.uca_runs.specs.Runs.{is_write}
+use Rattle.uca_runs.specs.Runs.{ended_by_output}
 use Rattle.uca_runs.specs.Texts.{TextsState, HasText, ReadsNext}
 
 -- ---- Counts
@@ -27,11 +27,11 @@ still_small n m old new line small next short count = omega (arith, small, next,
 
 -- ---- The key of one more line
 
-key_lines-push : (c : Keying) (before : List (List ℕ)) (line : List ℕ) → key_lines c (before ++ line ∷ []) ≡ key_lines c before ++ printed_key c line
+key_lines-push : (c : KeySettings) (before : List (List ℕ)) (line : List ℕ) → key_lines c (before ++ line ∷ []) ≡ key_lines c before ++ printed_key c line
 key_lines-push c before line = flat_map-append _ before (line ∷ []) ∙ ap (λ more. key_lines c before ++ more) (append-nil (printed_key c line))
 
 -- the output goes on after these lines
-goes_on : (c : Keying) (start left : Option (List ℕ)) (before : List (List ℕ)) (is_cut : Bool)
+goes_on : (c : KeySettings) (start left : Option (List ℕ)) (before : List (List ℕ)) (is_cut : Bool)
     → OnKnown start left (λ bytes rest. IsAfter c.collation.properties bytes rest is_cut before)
     → IfSome start (λ bytes. (rest : List ℕ) × (keys_output c (lines_of bytes) ≡ key_lines c before ++ rest))
 goes_on c None left before is_cut after = tt
@@ -41,28 +41,28 @@ goes_on c (Some bytes) (Some left) before is_cut after =
     (key_lines c more, ap (key_lines c) after.clean ∙ flat_map-append _ before more)
 
 -- what is no error of the output
-pub no_write : (A B : Type 0) (fault : RunFault) → is_write {A = A} (Err fault) ≡ false → is_write {A = B} (Err fault) ≡ false
+pub no_write : (A B : Type 0) (fault : RunFault) → ended_by_output {A = A} (Err fault) ≡ false → ended_by_output {A = B} (Err fault) ≡ false
 no_write A B (Write written) h = h
 no_write A B _ h = refl
 
 -- no text was read after these lines
-pub no_text : (c : Keying) (start begun : Option (List ℕ)) (before : List (List ℕ)) (texts : TextsState) (input : SourceState) (buffer : BufferState) (out : SinkState) (fault : RunFault)
-    → HandedOver begun out.contents (key_lines c before) buffer → ReadsNext c.collation.properties start before texts input (Err fault) → IsStopped c start begun before input buffer out fault
+pub no_text : (c : KeySettings) (start begun : Option (List ℕ)) (before : List (List ℕ)) (texts : TextsState) (input : SourceState) (buffer : BufferState) (out : SinkState) (fault : RunFault)
+    → IsBuffered begun out.contents (key_lines c before) buffer → ReadsNext c.collation.properties start before texts input (Err fault) → IsStopped c start begun before input buffer out fault
 no_text c start begun before texts input buffer out (Input number kind) printed reads = (reads, printed)
 no_text c start begun before texts input buffer out _ printed reads = absurd reads
 
-module _ (c : Keying) (start begun : Option (List ℕ)) (before : List (List ℕ)) (texts : TextsState) (input : SourceState) (t : HasText c.collation.properties start before texts input) where
+module _ (c : KeySettings) (start begun : Option (List ℕ)) (before : List (List ℕ)) (texts : TextsState) (input : SourceState) (t : HasText c.collation.properties start before texts input) where
   -- the keys of the lines so far
   printed_line : key_lines c before ++ text_line c texts.text ≡ key_lines c (before ++ texts.line ∷ [])
   printed_line = ap (λ text. key_lines c before ++ text_line c text) t.text ∙ sym (key_lines-push c before texts.line)
 
   -- the key of the line was handed over
-  pub printed_more : (buffer : BufferState) (out : SinkState) → HandedOver begun out.contents (key_lines c before ++ text_line c texts.text) buffer
+  pub printed_more : (buffer : BufferState) (out : SinkState) → IsBuffered begun out.contents (key_lines c before ++ text_line c texts.text) buffer
       → HasPrinted c start begun (before ++ texts.line ∷ []) texts input buffer out
-  printed_more buffer out handed = record { read = t.read; printed = subst (λ output. HandedOver begun out.contents output buffer) printed_line handed }
+  printed_more buffer out handed = record { read = t.read; printed = subst (λ output. IsBuffered begun out.contents output buffer) printed_line handed }
 
   -- it was not, or not all of it
-  pub not_printed : (buffer held : BufferState) (out sink : SinkState) (fault : RunFault) → HandedOver begun out.contents (key_lines c before) buffer
+  pub not_printed : (buffer held : BufferState) (out sink : SinkState) (fault : RunFault) → IsBuffered begun out.contents (key_lines c before) buffer
       → PrintsText {A = Unit {0}} begun (key_lines c before) (text_line c texts.text) texts.reader.number buffer out held sink (Err fault)
       → IsStopped c start begun before input held sink fault
   not_printed buffer held out sink (Input number kind) printed stops =

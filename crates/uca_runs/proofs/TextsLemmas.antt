@@ -3,7 +3,7 @@ use Rattle.std.proofs.Common.{◌≡◌, ℕ, suc, ◌+◌, ◌<◌, ◌≤◌, 
 use Rattle.std.specs.Io.KnownBytes.{Consumes, IsAtEnd, prepend_known}
 use Rattle.uca_weights.specs.Streams.{SourceState}
 use Rattle.uca_values.specs.Content.{Properties}
-use Rattle.uca_text.specs.Texts.{Spelled, spelled}
+use Rattle.uca_text.specs.Texts.{NfdText, nfd_text}
 use Rattle.uca_lines.specs.Lines.{is_lf, Lacks, ended}
 use Rattle.uca_lines.specs.LineReader.{LineState, left_of}
 use Rattle.uca_lines.specs.NextLine.{SaysOfBytes, IsWithinLimit}
@@ -17,7 +17,7 @@ use Rattle.uca_runs.specs.Texts.{TextsState, HasRead, HasReadAll, HasLine, HasTe
 use Rattle.uca_runs.proofs.LinesSoFar.{known_start, known_ended, known_cut, known_after_cut, known_at_end, known_line_error, known_text_error, known_clean}
 
 -- no line was read
-pub nothing_read : (properties : Properties) (reader : LineState) (line : List ℕ) (text : Spelled) (input : SourceState) → reader.pending ≡ [] → reader.number ≡ 0
+pub nothing_read : (properties : Properties) (reader : LineState) (line : List ℕ) (text : NfdText) (input : SourceState) → reader.pending ≡ [] → reader.number ≡ 0
     → HasRead properties input.remaining [] (record { reader = reader; line = line; text = text; is_cut = false }) input
 nothing_read properties reader line text input pending number = record {
   after = subst (λ xs. OnKnown input.remaining (prepend_known xs input.remaining) (λ bytes left. IsAfter properties bytes left false [])) (sym pending) (known_start properties input.remaining);
@@ -38,7 +38,7 @@ module _ (properties : Properties) (start : Option (List ℕ)) (before : List (L
 
   module _ (now : LineState) (unread : SourceState) (line : List ℕ) (none : texts.is_cut ≡ false) where
     -- a line, and the LF that ends it
-    pub ended_line : (text : Spelled) → Consumes (left_of texts.reader input) (left_of now unread) (ended line) → Lacks is_lf line → now.number ≡ texts.reader.number + 1
+    pub ended_line : (text : NfdText) → Consumes (left_of texts.reader input) (left_of now unread) (ended line) → Lacks is_lf line → now.number ≡ texts.reader.number + 1
         → HasLine properties start before (record { reader = now; line = line; text = text; is_cut = texts.is_cut }) unread
     ended_line text takes lacks next = record {
       next = subst (λ is_cut. OnKnown start (left_of now unread) (λ bytes left. IsNext properties bytes left is_cut before line)) (sym none)
@@ -47,7 +47,7 @@ module _ (properties : Properties) (start : Option (List ℕ)) (before : List (L
     }
 
     -- a last line, which no LF ends
-    pub cut_line : (text : Spelled) → Consumes (left_of texts.reader input) (left_of now unread) line × IsAtEnd (left_of now unread) → 0 < length line → Lacks is_lf line
+    pub cut_line : (text : NfdText) → Consumes (left_of texts.reader input) (left_of now unread) line × IsAtEnd (left_of now unread) → 0 < length line → Lacks is_lf line
         → now.number ≡ texts.reader.number + 1 → HasLine properties start before (record { reader = now; line = line; text = text; is_cut = true }) unread
     cut_line text takes some lacks next = record {
       next = known_cut properties start (left_of texts.reader input) (left_of now unread) before line (uncut none) takes some lacks;
@@ -75,7 +75,7 @@ module _ (properties : Properties) (start : Option (List ℕ)) (before : List (L
       (known_text_error properties start (left_of texts.reader input) input.remaining before texts.line texts.is_cut kind line.next cause)
 
   -- it gives this text
-  pub has_text : (text : Spelled) → text ≡ spelled properties (chars texts.line) → cause_of properties (length before) texts.line ≡ None
+  pub has_text : (text : NfdText) → text ≡ nfd_text properties (chars texts.line) → cause_of properties (length before) texts.line ≡ None
       → HasText properties start before (record { reader = texts.reader; line = texts.line; text = text; is_cut = texts.is_cut }) input
   has_text text is clean = record {
     read = record {

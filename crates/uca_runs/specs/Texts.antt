@@ -2,7 +2,7 @@
 use Rattle.std.specs.Prelude.{◌≡◌, ℕ, suc, ◌+◌, Bool, false, MatchBool, List, [], ◌∷◌, ◌++◌, Option, Some, Result, Ok, Err, IfSome, length, chars, ⊤}
 use Rattle.uca_weights.specs.Streams.{SourceState}
 use Rattle.uca_values.specs.Content.{Properties}
-use Rattle.uca_text.specs.Texts.{Spelled, spelled}
+use Rattle.uca_text.specs.Texts.{NfdText, nfd_text}
 use Rattle.uca_text.specs.declared.normalize.TextFault.{TextFault}
 use Rattle.uca_text.specs.declared.normalize.TextFault.TheVariants as text_fault
 use Rattle.uca_lines.specs.LineReader.{LineState, left_of}
@@ -51,7 +51,7 @@ is_read (Err kind) = is_input_read_kind kind
 pub record TextsState : Type 0 where
   pub reader : LineState
   pub line : List ℕ
-  pub text : Spelled
+  pub text : NfdText
   pub is_cut : Bool
 
 -- These lines, none of them faulty, were read since the input had `start`.
@@ -80,7 +80,7 @@ ReadsLine properties start before texts input (Err kind) = HasNoText properties 
 -- The next line is not faulty, and this is its text. An allocation that fails now is an error of this line.
 pub record HasText (properties : Properties) (start : Option (List ℕ)) (before : List (List ℕ)) (texts : TextsState) (input : SourceState) : Type 0 where
   pub read : HasRead properties start (before ++ texts.line ∷ []) texts input
-  pub text : texts.text ≡ spelled properties (chars texts.line)
+  pub text : texts.text ≡ nfd_text properties (chars texts.line)
   pub memory : HasNoText properties start before input texts.reader.number Memory
 
 -- what is returned where a text is due: the text of the next line, that no line is left, or why there is no text

@@ -4,8 +4,8 @@ ghost use Rattle.std.specs.Prelude.{◌≡◌, ◌++◌, ◌∷◌, [], ◌||◌
 ghost use Rattle.std.specs.Io.KnownBytes.{Appends};
 ghost use Rattle.uca_values.specs.Content.{properties_of};
 ghost use Rattle.uca_check.specs.FaultText.{ill_formed_text};
-ghost use Rattle.uca_runs.specs.Files.{is_file, table_with};
-ghost use Rattle.uca_runs.specs.Runs.{is_before_output, is_write, FailsToWrite};
+ghost use Rattle.uca_runs.specs.Files.{ended_by_file, table_with};
+ghost use Rattle.uca_runs.specs.Runs.{ended_before_output, ended_by_output, FailsToWrite};
 ghost use Rattle.uca_runs.specs.CheckRun.{Checks, RunsCheck};
 
 use crate::faults::RunFault;
@@ -42,9 +42,9 @@ fn write_verdict<A: Allocator, W: Write>(
     out: &mut Sink<W>,
 ) -> Result<bool, RunFault>
     ensures verdict { RunsCheck out.old out.new result (table_with files.now.table (properties_of files.now.properties)) }
-    ensures of_output { is_before_output result ≡ false }
-    ensures no_file { is_file result ≡ false }
-    ensures failed { out.new.failed ≡ (out.old.failed || is_write result) }
+    ensures of_output { ended_before_output result ≡ false }
+    ensures no_file { ended_by_file result ≡ false }
+    ensures failed { out.new.failed ≡ (out.old.failed || ended_by_output result) }
 {
     match check(&files.table, &files.properties) {
         Ok(()) => {
@@ -62,9 +62,9 @@ fn write_verdict<A: Allocator, W: Write>(
 fn write_ill_formed<W: Write>(fault: IllFormed, out: &mut Sink<W>) -> Result<(), RunFault>
     ensures written { OnOk result (Appends out.old.contents out.new.contents (ill_formed_text fault ++ 10 ∷ [])) }
     ensures failed_in { IfErr result (FailsToWrite RunFault.Write out.old.contents out.new.contents (ill_formed_text fault ++ 10 ∷ [])) }
-    ensures of_output { is_before_output result ≡ false }
-    ensures no_file { is_file result ≡ false }
-    ensures failed { out.new.failed ≡ (out.old.failed || is_write result) }
+    ensures of_output { ended_before_output result ≡ false }
+    ensures no_file { ended_by_file result ≡ false }
+    ensures failed { out.new.failed ≡ (out.old.failed || ended_by_output result) }
 {
     write_text(fault.message().text("\n").as_str().as_bytes(), out)
 }

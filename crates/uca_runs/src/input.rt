@@ -4,9 +4,9 @@ ghost use Rattle.std.specs.Prelude.{◌≡◌, ℕ, List, [], Option, false, ◌
 ghost use Rattle.std.specs.Bool.{OnTrue};
 ghost use Rattle.uca_weights.specs.Streams.{SourceState};
 ghost use Rattle.uca_values.specs.Content.{Properties, properties_of};
-ghost use Rattle.uca_text.specs.Texts.{spelled};
+ghost use Rattle.uca_text.specs.Texts.{nfd_text};
 ghost use Rattle.uca_runs.specs.Input.{cause_of};
-ghost use Rattle.uca_runs.specs.Runs.{is_input_read, is_write};
+ghost use Rattle.uca_runs.specs.Runs.{is_input_read, ended_by_output};
 ghost use Rattle.uca_runs.specs.Texts.{line_kind, text_kind, HasRead, HasTextCause, ReadsLine, ReadsNext, is_read};
 
 use crate::faults::{InputKind, RunFault};
@@ -97,7 +97,7 @@ impl<A: Allocator> InputTexts<A> {
             ReadsNext (properties_of properties.now) start before self.new input.new result }
         ensures count { IfOk result (λ more. OnTrue more ((self.new.reader.number ≡ self.old.reader.number + 1)
             × (self.new.reader.number ≤ LINE_LIMIT))) }
-        ensures not_write { is_write result ≡ false }
+        ensures not_write { ended_by_output result ≡ false }
         ensures failed { input.new.failed ≡ (input.old.failed || is_input_read result) }
     {
         let line = self.number() + 1;
@@ -163,7 +163,7 @@ fn take_text<D: Allocator>(
     properties: &Data<D>,
 ) -> Result<(), InputKind>
     requires { length line.now ≤ LONGEST_INPUT_LINE }
-    ensures text { OnOk result (text.new ≡ spelled (properties_of properties.now) (chars line.now)) }
+    ensures text { OnOk result (text.new ≡ nfd_text (properties_of properties.now) (chars line.now)) }
     ensures clean { (before : ℕ) → before < LINE_LIMIT →
         OnOk result (cause_of (properties_of properties.now) before line.now ≡ None) }
     ensures fault { (before : ℕ) → before < LINE_LIMIT →

@@ -2,13 +2,13 @@
 
 ghost use Rattle.std.specs.Prelude.{◌≡◌, ◌∷◌, [], ℕ, ◌+◌, ◌-◌, ◌*◌, ◌^◌, ◌<◌, ◌≤◌, ◌||◌, true, false, List, Option, IfSome, OnOk, length};
 ghost use Rattle.uca_weights.specs.Writes.{WentOut};
-ghost use Rattle.uca_lines.specs.OutputBuffer.{HandedOver};
+ghost use Rattle.uca_lines.specs.OutputBuffer.{IsBuffered};
 ghost use Rattle.uca_match.specs.Collations.{collation_of};
 ghost use Rattle.uca_weights.specs.declared.Depth.TheVariants.{Weights};
 ghost use Rattle.uca_key.specs.Lengths.{HasShortRows};
-ghost use Rattle.uca_runs.specs.Keys.{keying_of, text_line};
-ghost use Rattle.uca_runs.specs.Runs.{is_input_read, is_write};
-ghost use Rattle.uca_runs.specs.KeysRun.{is_before_input, PrintsKeys, WritesKeys};
+ghost use Rattle.uca_runs.specs.Keys.{key_settings_of, text_line};
+ghost use Rattle.uca_runs.specs.Runs.{is_input_read, ended_by_output};
+ghost use Rattle.uca_runs.specs.KeysRun.{ended_before_input, PrintsKeys, WritesKeys};
 ghost use Rattle.uca_runs.specs.KeysSoFar.{HasPrinted, PrintsText, PrintsRest};
 
 use crate::faults::{InputKind, RunFault};
@@ -33,7 +33,7 @@ struct KeyRun<A: Allocator> {
 }
 
 impl<A: Allocator> KeyRun<A> {
-    // Hands over the key of the line that was read.
+    // WritesThrough over the key of the line that was read.
     fn print_text<L: Lookup, T: Allocator, W: Write>(
         &mut self,
         collator: &Collator<L, T>,
@@ -45,8 +45,8 @@ impl<A: Allocator> KeyRun<A> {
         requires small { self.old.output.written + length self.old.output.held
             ≤ (self.old.texts.reader.number - 1) * 2 ^ 42 }
         ensures prints { (begun : Option (List ℕ)) (before : List ℕ) →
-            let c = keying_of L.content collator.now self.old.key.weighting self.old.depth in
-            HandedOver begun out.old.contents before self.old.output →
+            let c = key_settings_of L.content collator.now self.old.key.weighting self.old.depth in
+            IsBuffered begun out.old.contents before self.old.output →
             PrintsText begun before (text_line c self.old.texts.text) self.old.texts.reader.number
             self.old.output out.old self.new.output out.new result }
         ensures small { OnOk result (self.new.output.written + length self.new.output.held
@@ -56,7 +56,7 @@ impl<A: Allocator> KeyRun<A> {
         ensures weights { self.new.key.depth ≡ self.old.key.depth }
         ensures depth { self.new.depth ≡ self.old.depth }
         ensures not_read { is_input_read result ≡ false }
-        ensures failed { out.new.failed ≡ (out.old.failed || is_write result) }
+        ensures failed { out.new.failed ≡ (out.old.failed || ended_by_output result) }
     {
         let line = self.texts.number();
         let text = self.texts.text();
@@ -75,7 +75,7 @@ impl<A: Allocator> KeyRun<A> {
         )?)
     }
 
-    // Hands over the keys of all lines that are left.
+    // WritesThrough over the keys of all lines that are left.
     fn print_rest<L: Lookup, T: Allocator, I: Read, W: Write>(
         &mut self,
         collator: &Collator<L, T>,
@@ -87,11 +87,11 @@ impl<A: Allocator> KeyRun<A> {
         requires small { self.old.output.written + length self.old.output.held
             ≤ self.old.texts.reader.number * 2 ^ 42 }
         ensures prints { (start begun : Option (List ℕ)) (before : List (List ℕ)) →
-            let c = keying_of L.content collator.now self.old.key.weighting self.old.depth in
+            let c = key_settings_of L.content collator.now self.old.key.weighting self.old.depth in
             HasPrinted c start begun before self.old.texts input.old self.old.output out.old →
             PrintsRest c start begun input.new self.new.output out.new result }
         ensures input_failed { input.new.failed ≡ (input.old.failed || is_input_read result) }
-        ensures out_failed { out.new.failed ≡ (out.old.failed || is_write result) }
+        ensures out_failed { out.new.failed ≡ (out.old.failed || ended_by_output result) }
     {
         while self.texts.next(input, collator.data)? {
             self.print_text(collator, out)?;
@@ -101,7 +101,7 @@ impl<A: Allocator> KeyRun<A> {
 }
 
 fn is_write_fault(end: &Result<(), RunFault>) -> bool
-    ensures { result ≡ is_write end.now }
+    ensures { result ≡ ended_by_output end.now }
 {
     match end {
         Err(RunFault::Write { .. }) => true,
@@ -126,12 +126,12 @@ pub fn print_keys<L: Lookup, T: Allocator, A: Allocator + Copy, I: Read, W: Writ
 ) -> Result<(), RunFault>
     requires { HasShortRows (collation_of L.content collator.now).rows }
     ensures writes { IfSome input.old.remaining (λ bytes.
-        let c = keying_of L.content collator.now weighting depth in
+        let c = key_settings_of L.content collator.now weighting depth in
         WritesKeys c bytes input.new.remaining out.old.contents out.new.contents result) }
-    ensures of_lines { is_before_input result ≡ false }
-    ensures input_failed { is_write result ≡ false →
+    ensures of_lines { ended_before_input result ≡ false }
+    ensures input_failed { ended_by_output result ≡ false →
         input.new.failed ≡ (input.old.failed || is_input_read result) }
-    ensures out_failed { out.new.failed ≡ (out.old.failed || is_write result) }
+    ensures out_failed { out.new.failed ≡ (out.old.failed || ended_by_output result) }
 {
     let mut run = KeyRun {
         texts: InputTexts::new(alloc, global),

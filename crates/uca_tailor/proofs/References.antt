@@ -11,7 +11,7 @@ use Rattle.uca_values.specs.declared.ImplicitRange.{ImplicitRange}
 use Rattle.uca_values.specs.Content.{Properties, keys_of, IsEntry, AreRows, Fits}
 use Rattle.uca_values.specs.Implicit.{implicit}
 use Rattle.uca_values.proofs.ImplicitPairs.{of_pair}
-use Rattle.uca_text.specs.Texts.{Spelled, letters_of}
+use Rattle.uca_text.specs.Texts.{NfdText, letters_of}
 use Rattle.uca_match.specs.Rows.{Rows, is_key, rows_of, same_key}
 use Rattle.uca_match.specs.Parts.{Part, Row, Implicit, part_elements}
 use Rattle.uca_match.specs.Reading.{parts, collation_elements}
@@ -127,13 +127,13 @@ module _ (places : Rows) (rows : List DraftRow) (more : List (List ℕ)) (are : 
       ∙ ap₂ (λ es fs. es ++ fs) (part_stands p) (parts_stand ps)
 
   -- what the elements of a text stand for are its draft elements, read over the keys that have places
-  pub text_stands : (text : Spelled) →
+  pub text_stands : (text : NfdText) →
       flat_map (resolved rows) (elements_of (record { rows = places; ranges = ranges; properties = properties }) text)
       ≡ read_over ranges properties (is_key places) rows text
   text_stands text = parts_stand (parts (is_key places) (letters_of text))
 
   -- the same of a collation that reads by the places
-  pub read_stands : (by : Collation) (text : Spelled) → by.rows ≡ places → by.ranges ≡ ranges → by.properties ≡ properties →
+  pub read_stands : (by : Collation) (text : NfdText) → by.rows ≡ places → by.ranges ≡ ranges → by.properties ≡ properties →
       flat_map (resolved rows) (elements_of by text) ≡ read_over ranges properties (is_key places) rows text
   read_stands by text same_rows same_ranges same_properties =
       ap (λ its. flat_map (resolved rows) (collation_elements its by.ranges by.properties (letters_of text))) same_rows

@@ -2,7 +2,7 @@
 use Rattle.std.specs.Prelude.{⊤}
 use Rattle.std.proofs.Common.{Bool, Err, ap₂, subst, ◌∙◌}
 use Rattle.std.proofs.lemmas.Result.{err_from_is_err_and}
-use Rattle.uca_runs.specs.Keys.{keying_of, key_lines, text_line}
+use Rattle.uca_runs.specs.Keys.{key_settings_of, key_lines, text_line}
 use Rattle.uca_runs.specs.KeysSoFar.{PrintsText}
 use Rattle.uca_runs.proofs.Printing.{not_printed, no_write}
 use Rattle.uca_runs.proofs.Running.{as_before}
@@ -16,15 +16,15 @@ returns-in_err-next-clause-out_failed g c =
 pub returns-in_err-print_text-clause-prints : goal.returns-in_err-print_text-clause-prints
 returns-in_err-print_text-clause-prints g c = λ start begun before p.
     let q = err_from_is_err_and c.from_residual-in_err-print_text.result c.from_residual-in_err-print_text.ensures.1 in
-    let keying = keying_of g.L.Lookup.content c.args.collator.now c.args.self.now.key.weighting c.args.self.now.depth in
-    let same = ap₂ (λ weighting depth. keying_of g.L.Lookup.content c.args.collator.now weighting depth) c.loop-self.invariant.weighting c.loop-self.invariant.depth in
+    let key_settings = key_settings_of g.L.Lookup.content c.args.collator.now c.args.self.now.key.weighting c.args.self.now.depth in
+    let same = ap₂ (λ weighting depth. key_settings_of g.L.Lookup.content c.args.collator.now weighting depth) c.loop-self.invariant.weighting c.loop-self.invariant.depth in
     let i = c.loop-self.invariant.printed start begun before p in
     let next = rw c.if-branch.true at c.in_ok-next.ensures in
-    let stops = subst (λ k. PrintsText {A = Unit {0}} begun (key_lines keying i.0) (text_line k c.next.new.self.text) c.next.new.self.reader.number
+    let stops = subst (λ k. PrintsText {A = Unit {0}} begun (key_lines key_settings i.0) (text_line k c.next.new.self.text) c.next.new.self.reader.number
     c.loop-self.self.output c.loop-self.out c.print_text.new.self.output c.print_text.new.out (Err c.in_err-print_text.field-0.0)) same
-    (c.in_err-print_text.ensures.prints begun (key_lines keying i.0) i.1.printed) in
+    (c.in_err-print_text.ensures.prints begun (key_lines key_settings i.0) i.1.printed) in
     rw (q.1, q.2) (
       i.0,
-      not_printed keying start begun i.0 c.next.new.self c.next.new.input (next.reads start i.0 i.1.read) c.loop-self.self.output c.print_text.new.self.output
+      not_printed key_settings start begun i.0 c.next.new.self c.next.new.input (next.reads start i.0 i.1.read) c.loop-self.self.output c.print_text.new.self.output
           c.loop-self.out c.print_text.new.out c.in_err-print_text.field-0.0 i.1.printed stops,
     )
