@@ -34,7 +34,7 @@ pub fn write_certificate<W: Write, A: Allocator>(
     buffer.flush(out)
 }
 
-// WritesThrough over the runs of a level, each as a line.
+// Writes the runs of a level, each as a line.
 fn write_runs<W: Write>(
     buffer: &mut OutputBuffer,
     out: &mut Sink<W>,

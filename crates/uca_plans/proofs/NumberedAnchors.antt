@@ -48,7 +48,7 @@ module _ (base : TableContent) (properties : Properties) (relations : List Relat
 
   -- ---- Elements
 
-  -- a ignorable element stays ignorable
+  -- an ignorable element stays ignorable
   pub ignorable_stays : (level : Level) (e : DraftElement) → is_ignorable_to level e ≡ true → IsIgnorableTo level (value base properties relations plan case e)
   ignorable_stays One e ignorable = kinds.zero_is base properties relations plan case One e.primary (zero_tested e.primary ignorable)
   ignorable_stays Two e ignorable =
@@ -70,7 +70,7 @@ module _ (base : TableContent) (properties : Properties) (relations : List Relat
   all_ignorable level [] all = tt
   all_ignorable level (e ∷ es) all = (ignorable_stays level e all.0, all_ignorable level es all.1)
 
-  -- an element that sounds goes on to sound
+  -- an element that is not ignorable does not become so
   pub sound_stays : (level : Level) (e : DraftElement) → IsListedIn base properties relations plan case e → is_ignorable_to level e ≡ false →
       IsIgnorableTo level (value base properties relations plan case e) → ⊥
   sound_stays One e listed not_ignorable ignorable =

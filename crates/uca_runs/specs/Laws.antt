@@ -56,7 +56,7 @@ pub record IsUntouchedLine (tailoring : Tailoring) (line : List ℕ) : Type 0 wh
   pub faultless : cause_of tailoring.properties before line ≡ None
   pub untouched : IsUntouched tailoring.relations (nfd_text tailoring.properties (chars line)).points
 
--- Two lines compare under the one keying as under the other, by order and by the level at which they differ, and so do the bytes
+-- Two lines compare alike under both settings, by order and by the level at which they differ, and so do the bytes
 -- of their keys.
 pub record StandAlike (one other : KeySettings) (left right : List ℕ) : Type 0 where
   pub compared : lines_compared one left right ≡ lines_compared other left right

@@ -33,7 +33,7 @@ struct KeyRun<A: Allocator> {
 }
 
 impl<A: Allocator> KeyRun<A> {
-    // WritesThrough over the key of the line that was read.
+    // Writes the key of the line that was read.
     fn print_text<L: Lookup, T: Allocator, W: Write>(
         &mut self,
         collator: &Collator<L, T>,
@@ -75,7 +75,7 @@ impl<A: Allocator> KeyRun<A> {
         )?)
     }
 
-    // WritesThrough over the keys of all lines that are left.
+    // Writes the keys of all lines that are left.
     fn print_rest<L: Lookup, T: Allocator, I: Read, W: Write>(
         &mut self,
         collator: &Collator<L, T>,

@@ -17,10 +17,10 @@ const PART: usize = 256;
 /// How many groups those are.
 const GROUPS: usize = PART / 2;
 
-/// WritesThrough over a key as a line: groups of two bytes as four upper-case hexadecimal digits, one space
+/// Writes a key as a line: groups of two bytes as four upper-case hexadecimal digits, one space
 /// between two groups, and LF. The key is that of the weights alone; at the depth `Identical` the code points of the
 /// text follow, after a group `0000`, as six digits each. It takes no memory. A fault says how many bytes went out of
-/// all that was handed over.
+/// all that was written to the buffer.
 pub fn print_key<W: Write>(
     buffer: &mut OutputBuffer,
     out: &mut Sink<W>,
@@ -36,7 +36,7 @@ pub fn print_key<W: Write>(
     buffer.write(out, b"\n")
 }
 
-// WritesThrough over what stands behind the weights: nothing, or the identical level.
+// Writes what stands behind the weights: nothing, or the identical level.
 fn write_level<W: Write>(
     buffer: &mut OutputBuffer,
     out: &mut Sink<W>,
@@ -52,7 +52,7 @@ fn write_level<W: Write>(
     }
 }
 
-// WritesThrough over the identical level: `0000`, and the code points.
+// Writes the identical level: `0000`, and the code points.
 fn write_identical_level<W: Write>(
     buffer: &mut OutputBuffer,
     out: &mut Sink<W>,
@@ -65,7 +65,7 @@ fn write_identical_level<W: Write>(
     write_points(buffer, out, points)
 }
 
-// WritesThrough over code points, each behind a space.
+// Writes code points, each behind a space.
 fn write_points<W: Write>(
     buffer: &mut OutputBuffer,
     out: &mut Sink<W>,
@@ -91,7 +91,7 @@ fn spaced_point(point: char) -> [u8; 7]
     [b' ', first, second, third, fourth, fifth, sixth]
 }
 
-// WritesThrough over the groups of a key.
+// Writes the groups of a key.
 fn write_groups<W: Write>(
     buffer: &mut OutputBuffer,
     out: &mut Sink<W>,

@@ -5,7 +5,7 @@ use Rattle.uca_weights.specs.declared.Level.{Level}
 use Rattle.uca_plans.specs.declared.drafts.DraftElement.{DraftElement}
 use Rattle.uca_plans.specs.Drafts.{is_ignorable_to, behind_front, anchor_part}
 
--- a ignorable element at the end counts for nothing
+-- an ignorable element at the end counts for nothing
 pub ignorable_last : (level : Level) (es : List DraftElement) (e : DraftElement) → is_ignorable_to level e ≡ true →
     anchor_part level (es ++ e ∷ []) ≡ anchor_part level es
 ignorable_last level [] e ignorable = cond-true (is_ignorable_to level e) None (Some (record { front = []; last = e })) ignorable

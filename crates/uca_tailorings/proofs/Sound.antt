@@ -104,7 +104,7 @@ old_is_some Three e sound alone not_ignorable none =
     (λ secondary. alone (sound.gap (inr (secondary, none))))
     (zero_or_not e.secondary)
 
--- a secondary weight of an element that sounds at level 1
+-- a secondary weight of an element with a primary one
 secondary_is_some : (e : Element) → IsSound e → ¬ (IsContinuation e) → e.primary ≢ 0 → e.secondary ≢ 0
 secondary_is_some e sound alone primary none = alone (sound.gap (inl (primary, none)))
 

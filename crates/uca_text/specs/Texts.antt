@@ -25,7 +25,7 @@ letters [] classes = []
 letters (c ∷ points) [] = []
 letters (c ∷ points) (k ∷ classes) = record { code = c; class = k } ∷ letters points classes
 
--- code points, and beside them the class of each
+-- what a clause sees of a `Normal`: code points, and beside them the class of each (`nfd_text` says that they are in Form D)
 pub record NfdText : Type 0 where
   pub points : List ℕ
   pub classes : List ℕ

@@ -1,4 +1,4 @@
-//! Code points that are handed over to a buffer.
+//! Code points that are written to a buffer.
 
 ghost use Rattle.std.specs.Prelude.{◌≡◌, ◌-◌, length};
 ghost use Rattle.uca_table.specs.Canonical.{point_width, point_text};
@@ -9,7 +9,7 @@ use uca_lines::OutputBuffer;
 use uca_lines::fields::six_digits;
 use uca_weights::{Sink, WriteFault};
 
-/// WritesThrough over a code point: four digits, or as many as it needs.
+/// Writes a code point: four digits, or as many as it needs.
 pub fn write_point<W: Write>(
     buffer: &mut OutputBuffer,
     out: &mut Sink<W>,

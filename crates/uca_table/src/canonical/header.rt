@@ -15,7 +15,7 @@ use uca_lines::fields::four_digits;
 use uca_values::{Header, ImplicitRange};
 use uca_weights::{Sink, Weighting, WriteFault};
 
-/// WritesThrough over the lines of a header, as the first of a text.
+/// Writes the lines of a header, as the first of a text.
 pub fn write_header<A: Allocator, W: Write>(
     buffer: &mut OutputBuffer,
     out: &mut Sink<W>,

@@ -16,7 +16,7 @@ use uca_lines::OutputBuffer;
 use uca_values::Row;
 use uca_weights::{Element, Sink, WriteFault};
 
-/// WritesThrough over rows, each as a line.
+/// Writes rows, each as a line.
 pub fn write_rows<A: Allocator, W: Write>(
     buffer: &mut OutputBuffer,
     out: &mut Sink<W>,
