@@ -11,7 +11,7 @@ use uca_weights::{Sink, WriteFault};
 /// The sizes of pieces.
 const PIECES: [usize; 9] = [1, 2, 3, 7, 4096, 16_383, 16_384, 16_385, 50_000];
 
-/// Hands over the text in pieces, and lets all of it go out.
+/// WritesThrough over the text in pieces, and lets all of it go out.
 fn write_in_pieces(
     out: &mut Sink<FakeWriter>,
     text: &[u8],

@@ -4,7 +4,7 @@ use crate::cases::{code_point, halves, holds, same, text_of};
 use crate::samples::{CLASSES, data_of};
 use std::alloc::{AllocError, Global};
 use std::test::Fail;
-use uca_text::{Normal, TextFault, canonically_equivalent_texts_are_spelled_alike, normal};
+use uca_text::{Normal, TextFault, canonically_equivalent_texts_are_normalized_alike, normal};
 use uca_values::Data;
 
 /// The code points of a text, each with its class.
@@ -53,7 +53,7 @@ fn check_spelling(
 
 #[test]
 fn spells_texts(rt: HostRuntime) -> Result<(), Fail> {
-    canonically_equivalent_texts_are_spelled_alike();
+    canonically_equivalent_texts_are_normalized_alike();
     let data = data_of(rt.alloc(), CLASSES)?;
     let mut renewed = Normal::new(rt.alloc());
     same(&spelling(rt.alloc(), &renewed)?, "", "new")?;

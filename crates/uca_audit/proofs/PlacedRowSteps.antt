@@ -32,7 +32,7 @@ module _ (level : Level) (is_before : Bool) (anchor expansion row : List Element
       (weight level (get_or anchor at d) ≡ old) × (row ≡ placed level (take at anchor) (get_or anchor at d) expansion new)
   row_by_place old new is =
       let parts = one_anchor level is.before (take at anchor) is.last found.last is.trailing (drop (at + 1) anchor)
-      (sym is.is_anchor.whole ∙ found.anchor.whole) is.is_anchor.silent found.anchor.silent is.is_anchor.sounds found.anchor.sounds in
+      (sym is.is_anchor.whole ∙ found.anchor.whole) is.is_anchor.ignorable found.anchor.ignorable is.is_anchor.not_ignorable found.anchor.not_ignorable in
       let last : is.last ≡ get_or anchor at d = parts.1 ∙ member_at anchor at found.last d found.within found.anchor.whole in (
         ap (weight level) (sym last) ∙ is.old_weight,
         is.is_row ∙ ap (λ before. placed level before is.last expansion new) parts.0 ∙ ap (λ e. placed level (take at anchor) e expansion new) last,

@@ -6,7 +6,7 @@ use Rattle.uca_weights.specs.declared.Element.{Element}
 use Rattle.uca_weights.specs.declared.Level.{Level}
 use Rattle.uca_weights.specs.Levels.{level_of}
 use Rattle.uca_check.proofs.Elements.{each_push, taken_more}
-use Rattle.uca_text.specs.Texts.{Spelled}
+use Rattle.uca_text.specs.Texts.{NfdText}
 use Rattle.uca_rules.specs.declared.relations.Relation.{Relation}
 use Rattle.uca_match.specs.Collations.{Collation, elements_of}
 use Rattle.uca_tailorings.specs.Placing.{IsAnchor}
@@ -61,7 +61,7 @@ first_here P relations at r within there earlier without =
     }
 
 -- texts are read alike by lookups that find the same
-pub read_alike : (given reading : Collation) → ReadsAs given reading → (text : Spelled) → elements_of given text ≡ elements_of reading text
+pub read_alike : (given reading : Collation) → ReadsAs given reading → (text : NfdText) → elements_of given text ≡ elements_of reading text
 read_alike given reading reads text i =
     elements_of (record { rows = λ key. reads.rows key i; ranges = reads.ranges i; properties = reads.properties i }) text
 

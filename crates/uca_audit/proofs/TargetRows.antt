@@ -3,7 +3,7 @@ use Rattle.std.proofs.Common.{◌≡◌, ℕ, List, ◌++◌, Option, Some, None
 use Rattle.uca_weights.specs.declared.Element.{Element}
 use Rattle.uca_weights.specs.declared.Level.{Level}
 use Rattle.uca_weights.specs.Levels.{level_of}
-use Rattle.uca_text.specs.Texts.{Spelled}
+use Rattle.uca_text.specs.Texts.{NfdText}
 use Rattle.uca_rules.specs.declared.relations.Relation.{Relation}
 use Rattle.uca_match.specs.Rows.{rows_of}
 use Rattle.uca_match.specs.Collations.{Collation}
@@ -15,7 +15,7 @@ use Rattle.uca_audit.specs.PlacedRows.{IsRowAt, IsFoundPlacement}
 use Rattle.uca_audit.specs.Views.{IsPlacementBy, IsPlacement}
 
 -- expansions are read alike by lookups that find the same
-pub expansion_alike : (given reading : Collation) → ReadsAs given reading → (text : Option Spelled) →
+pub expansion_alike : (given reading : Collation) → ReadsAs given reading → (text : Option NfdText) →
     elements_of_expansion given text ≡ elements_of_expansion reading text
 expansion_alike given reading reads text i =
     elements_of_expansion (record { rows = λ key. reads.rows key i; ranges = reads.ranges i; properties = reads.properties i }) text

@@ -3,15 +3,15 @@ use Rattle.std.specs.Prelude.{◌≡◌, ℕ, ◌+◌, ◌<◌, List, ◌∷◌,
 use Rattle.std.specs.List.{AllByRecursion}
 use Rattle.uca_weights.specs.declared.Element.{Element}
 use Rattle.uca_weights.specs.declared.Level.{Level}
-use Rattle.uca_tailorings.specs.Placing.{IsSilent, IsAnchor}
+use Rattle.uca_tailorings.specs.Placing.{IsIgnorableTo, IsAnchor}
 
--- the element at the place is the last that is not silent
+-- the element at the place is the last that is not ignorable
 pub record EndsAt (level : Level) (es : List Element) (at : ℕ) : Type 0 where
   pub within : at < length es
   pub last : Element
   pub whole : es ≡ take at es ++ last ∷ drop (at + 1) es
-  pub sounds : ¬ (IsSilent level last)
-  pub silent : AllByRecursion (IsSilent level) (drop (at + 1) es)
+  pub not_ignorable : ¬ (IsIgnorableTo level last)
+  pub ignorable : AllByRecursion (IsIgnorableTo level) (drop (at + 1) es)
 
 -- a new weight can be put on the element at the place
 pub record IsAnchorAt (level : Level) (es : List Element) (at : ℕ) : Type 0 where

@@ -2,7 +2,7 @@
 
 ghost use Rattle.std.specs.Prelude.{◌≡◌, ◌||◌, ◌<◌, IfErr, length, is_err};
 ghost use Rattle.uca_weights.specs.Writes.{Writes};
-ghost use Rattle.uca_lines.specs.Handing.{HasRoom, Hands};
+ghost use Rattle.uca_lines.specs.Buffered.{HasRoom, WritesThrough};
 ghost use Rattle.uca_certificates.specs.Texts.{certificate_text};
 ghost use Rattle.uca_certificates.specs.Steps.{level_text};
 
@@ -28,21 +28,21 @@ pub fn write_certificate<W: Write, A: Allocator>(
     ensures failed { out.new.failed ≡ (out.old.failed || is_err result) }
 {
     let mut buffer = OutputBuffer::new();
-    hand_runs(&mut buffer, out, Level::One, certificate.primary.runs())?;
-    hand_runs(&mut buffer, out, Level::Two, certificate.secondary.runs())?;
-    hand_runs(&mut buffer, out, Level::Three, certificate.tertiary.runs())?;
+    write_runs(&mut buffer, out, Level::One, certificate.primary.runs())?;
+    write_runs(&mut buffer, out, Level::Two, certificate.secondary.runs())?;
+    write_runs(&mut buffer, out, Level::Three, certificate.tertiary.runs())?;
     buffer.flush(out)
 }
 
-// Hands over the runs of a level, each as a line.
-fn hand_runs<W: Write>(
+// WritesThrough over the runs of a level, each as a line.
+fn write_runs<W: Write>(
     buffer: &mut OutputBuffer,
     out: &mut Sink<W>,
     level: Level,
     runs: &[Run],
 ) -> Result<(), WriteFault>
     requires { HasRoom buffer.old (length (level_text level runs.now)) }
-    ensures { Hands (level_text level runs.now) buffer.old buffer.new out.old out.new result }
+    ensures { WritesThrough (level_text level runs.now) buffer.old buffer.new out.old out.new result }
 {
     for run in runs {
         buffer.write(out, &run_line(level, *run))?;

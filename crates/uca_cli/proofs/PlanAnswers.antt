@@ -8,7 +8,7 @@ use Rattle.uca_plans.specs.declared.faults.TailorKind.{TailorKind}
 use Rattle.uca_plans.specs.declared.faults.TailorKind.TheVariants as kinds
 use Rattle.uca_plans.specs.Plans.{Plan}
 use Rattle.uca_plans.specs.Tailors.{plan_in, certificate_of, IsPlanOf, IsRefusedBy, CauseOf, TailorRefuses}
-use Rattle.uca_runs.specs.Files.{IsStop, is_file, tailor_content}
+use Rattle.uca_runs.specs.Files.{IsStop, ended_by_file, tailor_content}
 use Rattle.uca_cli.specs.TailorRun.{RunsTailor}
 use Rattle.uca_runs.specs.PlanFaults.{refused_plan}
 
@@ -19,10 +19,10 @@ fault_by kind relation = record { kind = kind; relation = relation }
 -- ---- Faults of the planner
 
 -- none is a file's
-pub no_file_of_plan : (A : Type 0) (fault : TailorFault) → is_file {A = A} (Err (refused_plan fault)) ≡ false
+pub no_file_of_plan : (A : Type 0) (fault : TailorFault) → ended_by_file {A = A} (Err (refused_plan fault)) ≡ false
 no_file_of_plan A fault = by_kind fault.kind fault.relation
   where
-    by_kind : (kind : TailorKind) (relation : ℕ) → is_file {A = A} (Err (refused_plan (fault_by kind relation))) ≡ false
+    by_kind : (kind : TailorKind) (relation : ℕ) → ended_by_file {A = A} (Err (refused_plan (fault_by kind relation))) ≡ false
     by_kind kinds.BaseIllFormed relation = refl
     by_kind kinds.Anchor relation = refl
     by_kind kinds.NeedsPrefix relation = refl

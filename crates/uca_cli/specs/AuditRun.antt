@@ -9,7 +9,7 @@ use Rattle.uca_audit.specs.FaultText.{audit_fault_text}
 use Rattle.uca_runs.specs.declared.faults.RunFault.{RunFault}
 use Rattle.uca_runs.specs.declared.faults.RunFault.TheVariants.{Memory}
 use Rattle.uca_runs.specs.Files.{HaveFailed, IsStop, Mean, Over, audit_files, audit_roles}
-use Rattle.uca_runs.specs.Runs.{is_before_output, is_write}
+use Rattle.uca_runs.specs.Runs.{ended_before_output, ended_by_output}
 use Rattle.uca_runs.specs.Verdicts.{WritesVerdict}
 
 -- the tailoring is accepted, or the run stopped
@@ -38,6 +38,6 @@ RunsAudit out out_new result tailoring = WritesVerdict (IsVerdict tailoring) out
 pub record Audits (olds news : List SourceState) (out out_new : SinkState) (result : Result Bool RunFault) : Type 0 where
   pub runs : Over audit_files olds news (RunsAudit out out_new result) result
   pub only : AcceptsAccepted olds result
-  pub nothing_written : is_before_output result ≡ true → out_new ≡ out
+  pub nothing_written : ended_before_output result ≡ true → out_new ≡ out
   pub failed : HaveFailed audit_roles olds news result
-  pub out_failed : out_new.failed ≡ (out.failed || is_write result)
+  pub out_failed : out_new.failed ≡ (out.failed || ended_by_output result)

@@ -18,7 +18,7 @@ use Rattle.uca_runs.specs.CheckRun.{Checks}
 use Rattle.uca_runs.specs.CompareRun.{Compares, Comparing, comparing}
 use Rattle.uca_runs.specs.KeysRun.{PrintsKeys}
 use Rattle.uca_runs.specs.SortRun.{SortsLines}
-use Rattle.uca_runs.specs.Runs.{is_write}
+use Rattle.uca_runs.specs.Runs.{ended_by_output}
 use Rattle.uca_cli.specs.declared.command.OpenFault.{OpenFault}
 use Rattle.uca_cli.specs.AuditRun.{Audits}
 use Rattle.uca_cli.specs.TailorRun.{TailorsFiles, WritesTailored, is_certificate_write}
@@ -177,7 +177,7 @@ pub record MakesFile {O F M : Type 0} (files : FileSystem O F M) (old new : O) (
   pub writes : WritesTailored table certificate (record { contents = files.contents file; failed = false }) file_new
       out out_new written
   pub file_failed : file_new.failed ≡ is_certificate_write written
-  pub out_failed : out_new.failed ≡ (out.failed || is_write written)
+  pub out_failed : out_new.failed ≡ (out.failed || ended_by_output written)
   pub answers : result ≡ done_result written
 
 -- the file of this name cannot be made, and nothing was written

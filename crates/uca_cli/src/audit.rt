@@ -6,8 +6,8 @@ ghost use Rattle.uca_tailorings.specs.Tailorings.{IsAccepted};
 ghost use Rattle.uca_audit.specs.FaultText.{audit_fault_text};
 ghost use Rattle.uca_tailorings.specs.Inputs.{tailoring_of};
 ghost use Rattle.uca_cli.specs.AuditRun.{AcceptsOrStops, Audits, RunsAudit};
-ghost use Rattle.uca_runs.specs.Files.{is_file};
-ghost use Rattle.uca_runs.specs.Runs.{is_before_output, is_write};
+ghost use Rattle.uca_runs.specs.Files.{ended_by_file};
+ghost use Rattle.uca_runs.specs.Runs.{ended_before_output, ended_by_output};
 
 use crate::reporting::line::{Line, push_number};
 use std::alloc::{Allocator, Global};
@@ -90,9 +90,9 @@ fn write_verdict<A: Allocator + Copy, W: Write>(
         (tailoring_of files.now.base (properties_of files.now.properties) files.now.rules files.now.tailored files.now.certificate) }
     ensures only { IsAccepted (tailoring_of files.now.base (properties_of files.now.properties) files.now.rules files.now.tailored files.now.certificate) →
         AcceptsOrStops result }
-    ensures no_file { is_file result ≡ false }
-    ensures nothing_written { is_before_output result ≡ true → out.new ≡ out.old }
-    ensures failed { out.new.failed ≡ (out.old.failed || is_write result) }
+    ensures no_file { ended_by_file result ≡ false }
+    ensures nothing_written { ended_before_output result ≡ true → out.new ≡ out.old }
+    ensures failed { out.new.failed ≡ (out.old.failed || ended_by_output result) }
 {
     let verdict = audit(
         alloc,

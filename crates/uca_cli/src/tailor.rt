@@ -1,7 +1,7 @@
 //! The run that tailors a table, and the writing of what it answers.
 
 ghost use Rattle.std.specs.Prelude.{◌≡◌, ◌||◌, ◌∷◌, []};
-ghost use Rattle.uca_runs.specs.Runs.{is_write};
+ghost use Rattle.uca_runs.specs.Runs.{ended_by_output};
 ghost use Rattle.uca_cli.specs.TailorRun.{TailorsFiles, WritesTailored, is_certificate_write};
 
 use std::alloc::{Allocator, Global};
@@ -62,7 +62,7 @@ pub fn write_tailored<A: Allocator, C: Write, W: Write>(
 ) -> Result<(), RunFault>
     ensures written { WritesTailored table.now certificate.now file.old file.new out.old out.new result }
     ensures file_failed { file.new.failed ≡ (file.old.failed || is_certificate_write result) }
-    ensures out_failed { out.new.failed ≡ (out.old.failed || is_write result) }
+    ensures out_failed { out.new.failed ≡ (out.old.failed || ended_by_output result) }
 {
     if let Err(WriteFault { written }) = write_certificate(certificate, file) {
         return Err(RunFault::CertificateWrite { written });

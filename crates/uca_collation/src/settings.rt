@@ -1,7 +1,7 @@
 //! The settings of a comparison.
 
 ghost use Rattle.std.specs.Prelude.{◌≡◌};
-ghost use Rattle.uca_key.specs.Levels.{dictionary};
+ghost use Rattle.uca_key.specs.Levels.{lexicographic};
 ghost use Rattle.uca_key.specs.Depths.{levels_at};
 ghost use Rattle.uca_key.specs.StoredKeys.{stored_level};
 
@@ -32,7 +32,7 @@ impl Settings {
     /// [`level_count`](Settings::level_count), or 0 where the keys are equal. Any bytes can be compared, as
     /// [`compare_keys`](uca_key::compare_keys) says.
     pub fn compare_keys(self, left: &[u8], right: &[u8]) -> (Ordering, u8)
-        ensures order { result.0 ≡ dictionary left.now right.now }
+        ensures order { result.0 ≡ lexicographic left.now right.now }
         ensures level { result.1 ≡ stored_level (levels_at self.depth self.weighting) left.now right.now }
     {
         uca_key::compare_keys(left, right, self.level_count())

@@ -10,8 +10,8 @@ use Rattle.uca_weights.specs.declared.Depth.{Depth}
 use Rattle.uca_weights.specs.declared.Depth.TheVariants.{Weights, Identical}
 use Rattle.uca_weights.specs.declared.Weighting.{Weighting}
 use Rattle.uca_weights.specs.declared.Weighting.TheVariants.{NonIgnorable, Shifted}
-use Rattle.uca_text.specs.Texts.{spelled}
-use Rattle.uca_key.specs.Levels.{Comparison, level_list, level_lists_from, weighted, dictionary, decided, compare_from, weight_bytes, level_bytes, levels_bytes}
+use Rattle.uca_text.specs.Texts.{nfd_text}
+use Rattle.uca_key.specs.Levels.{Comparison, level_list, level_lists_from, weighted, lexicographic, decided, compare_from, weight_bytes, level_bytes, levels_bytes}
 use Rattle.uca_key.specs.Depths.{ReadText, read_text, levels_at, lists_at, compared_at, points_bytes, key_at}
 use Rattle.uca_key.specs.StoredKeys.{shared_separators, stored_level}
 use Rattle.uca_key.specs.Laws.{KeysCompareAsTexts, StoredKeysCompareAsTexts, IdenticalKeysAreOfEquivalentTexts}
@@ -23,26 +23,26 @@ use Rattle.uca_key.proofs.StoredOrder.{same_bytes, other_bytes, is_separator, se
 
 -- the bytes of weights that are not 0, each followed by 00 00 and more, compare first by the weights and then by what follows
 bytes_zero : (vs ws xs ys : List ℕ) → AreNonZero vs → AreNonZero ws
-    → dictionary (level_bytes vs ++ (0 ∷ 0 ∷ xs)) (level_bytes ws ++ (0 ∷ 0 ∷ ys)) ≡ ordering_then (dictionary vs ws) (dictionary xs ys)
+    → lexicographic (level_bytes vs ++ (0 ∷ 0 ∷ xs)) (level_bytes ws ++ (0 ∷ 0 ∷ ys)) ≡ ordering_then (lexicographic vs ws) (lexicographic xs ys)
 bytes_zero [] [] xs ys a b = refl
 bytes_zero [] (w ∷ ws) xs ys a b =
     let above : 0 < w = let apart : w ≢ 0 = b.0 in omega arith in
-    let rest = dictionary xs (level_bytes ws ++ (0 ∷ 0 ∷ ys)) in
+    let rest = lexicographic xs (level_bytes ws ++ (0 ∷ 0 ∷ ys)) in
     sym (then_assoc (nat_cmp 0 (w / 256)) (nat_cmp 0 (w % 256)) rest) ∙ ap (λ o. ordering_then o rest) (bytes_order 0 w ∙ cmp_less 0 w above)
 bytes_zero (v ∷ vs) [] xs ys a b =
     let above : 0 < v = let apart : v ≢ 0 = a.0 in omega arith in
-    let rest = dictionary (level_bytes vs ++ (0 ∷ 0 ∷ xs)) ys in
+    let rest = lexicographic (level_bytes vs ++ (0 ∷ 0 ∷ xs)) ys in
     sym (then_assoc (nat_cmp (v / 256) 0) (nat_cmp (v % 256) 0) rest) ∙ ap (λ o. ordering_then o rest) (bytes_order v 0 ∙ cmp_greater v 0 above)
 bytes_zero (v ∷ vs) (w ∷ ws) xs ys a b =
-    let rest = dictionary (level_bytes vs ++ (0 ∷ 0 ∷ xs)) (level_bytes ws ++ (0 ∷ 0 ∷ ys)) in
+    let rest = lexicographic (level_bytes vs ++ (0 ∷ 0 ∷ xs)) (level_bytes ws ++ (0 ∷ 0 ∷ ys)) in
     sym (then_assoc (nat_cmp (v / 256) (w / 256)) (nat_cmp (v % 256) (w % 256)) rest)
     ∙ ap (λ o. ordering_then o rest) (bytes_order v w)
     ∙ ap (ordering_then (nat_cmp v w)) (bytes_zero vs ws xs ys a.1 b.1)
-    ∙ sym (then_assoc (nat_cmp v w) (dictionary vs ws) (dictionary xs ys))
+    ∙ sym (then_assoc (nat_cmp v w) (lexicographic vs ws) (lexicographic xs ys))
 
 -- one level decides by its lists
-one_level : (n : ℕ) (a b : List ℕ) → (compare_from n (a ∷ []) (b ∷ [])).order ≡ dictionary a b
-one_level n a b = order-decided (dictionary a b) n (record { order = Equal; level = 0 }) ∙ then_equal (dictionary a b)
+one_level : (n : ℕ) (a b : List ℕ) → (compare_from n (a ∷ []) (b ∷ [])).order ≡ lexicographic a b
+one_level n a b = order-decided (lexicographic a b) n (record { order = Equal; level = 0 }) ∙ then_equal (lexicographic a b)
 
 -- what follows the bytes of a level and of the levels after it
 behind_level : (a b : List ℕ) (more : List (List ℕ)) (xs : List ℕ)
@@ -51,18 +51,18 @@ behind_level a b more xs = append_assoc (level_bytes a) (0 ∷ 0 ∷ levels_byte
 
 -- levels, each followed by 00 00 and more
 levels_order : (n : ℕ) (a b : List ℕ) (left right : List (List ℕ)) (xs ys : List ℕ) → AreLevels (a ∷ left) (b ∷ right)
-    → dictionary (levels_bytes (a ∷ left) ++ (0 ∷ 0 ∷ xs)) (levels_bytes (b ∷ right) ++ (0 ∷ 0 ∷ ys))
-    ≡ ordering_then (compare_from n (a ∷ left) (b ∷ right)).order (dictionary xs ys)
-levels_order n a b [] [] xs ys h = bytes_zero a b xs ys h.0 h.1 ∙ ap (λ o. ordering_then o (dictionary xs ys)) (sym (one_level n a b))
+    → lexicographic (levels_bytes (a ∷ left) ++ (0 ∷ 0 ∷ xs)) (levels_bytes (b ∷ right) ++ (0 ∷ 0 ∷ ys))
+    ≡ ordering_then (compare_from n (a ∷ left) (b ∷ right)).order (lexicographic xs ys)
+levels_order n a b [] [] xs ys h = bytes_zero a b xs ys h.0 h.1 ∙ ap (λ o. ordering_then o (lexicographic xs ys)) (sym (one_level n a b))
 levels_order n a b [] (d ∷ right) xs ys h = absurd h.2
 levels_order n a b (c ∷ left) [] xs ys h = absurd h.2
 levels_order n a b (c ∷ left) (d ∷ right) xs ys h =
-    ap (λ l. dictionary l (levels_bytes (b ∷ d ∷ right) ++ (0 ∷ 0 ∷ ys))) (behind_level a c left xs)
-    ∙ ap (dictionary (level_bytes a ++ (0 ∷ 0 ∷ (levels_bytes (c ∷ left) ++ (0 ∷ 0 ∷ xs))))) (behind_level b d right ys)
+    ap (λ l. lexicographic l (levels_bytes (b ∷ d ∷ right) ++ (0 ∷ 0 ∷ ys))) (behind_level a c left xs)
+    ∙ ap (lexicographic (level_bytes a ++ (0 ∷ 0 ∷ (levels_bytes (c ∷ left) ++ (0 ∷ 0 ∷ xs))))) (behind_level b d right ys)
     ∙ bytes_zero a b (levels_bytes (c ∷ left) ++ (0 ∷ 0 ∷ xs)) (levels_bytes (d ∷ right) ++ (0 ∷ 0 ∷ ys)) h.0 h.1
-    ∙ ap (ordering_then (dictionary a b)) (levels_order (suc n) c d left right xs ys h.2)
-    ∙ sym (then_assoc (dictionary a b) (compare_from (suc n) (c ∷ left) (d ∷ right)).order (dictionary xs ys))
-    ∙ ap (λ o. ordering_then o (dictionary xs ys)) (sym (order-decided (dictionary a b) n (compare_from (suc n) (c ∷ left) (d ∷ right))))
+    ∙ ap (ordering_then (lexicographic a b)) (levels_order (suc n) c d left right xs ys h.2)
+    ∙ sym (then_assoc (lexicographic a b) (compare_from (suc n) (c ∷ left) (d ∷ right)).order (lexicographic xs ys))
+    ∙ ap (λ o. ordering_then o (lexicographic xs ys)) (sym (order-decided (lexicographic a b) n (compare_from (suc n) (c ∷ left) (d ∷ right))))
 
 -- three bytes compare as the code point
 high_is : (c : ℕ) → c / 65536 ≡ c / 256 / 256
@@ -81,27 +81,27 @@ point_order c d rest =
     ∙ sym (then_assoc (nat_cmp (c / 256) (d / 256)) low rest)
     ∙ ap (λ o. ordering_then o rest) (bytes_order c d)
 
-points_order : (ps qs : List ℕ) → dictionary (points_bytes ps) (points_bytes qs) ≡ dictionary ps qs
+points_order : (ps qs : List ℕ) → lexicographic (points_bytes ps) (points_bytes qs) ≡ lexicographic ps qs
 points_order [] [] = refl
 points_order [] (q ∷ qs) = refl
 points_order (p ∷ ps) [] = refl
-points_order (p ∷ ps) (q ∷ qs) = point_order p q (dictionary (points_bytes ps) (points_bytes qs)) ∙ ap (ordering_then (nat_cmp p q)) (points_order ps qs)
+points_order (p ∷ ps) (q ∷ qs) = point_order p q (lexicographic (points_bytes ps) (points_bytes qs)) ∙ ap (ordering_then (nat_cmp p q)) (points_order ps qs)
 
 -- one level more decides where all before are equal
 more_order : (n : ℕ) (left right : List (List ℕ)) (ps qs : List ℕ) → AreLevels left right
-    → (compare_from n (left ++ ps ∷ []) (right ++ qs ∷ [])).order ≡ ordering_then (compare_from n left right).order (dictionary ps qs)
+    → (compare_from n (left ++ ps ∷ []) (right ++ qs ∷ [])).order ≡ ordering_then (compare_from n left right).order (lexicographic ps qs)
 more_order n [] [] ps qs h = one_level n ps qs
 more_order n [] (b ∷ right) ps qs h = absurd h
 more_order n (a ∷ left) [] ps qs h = absurd h
 more_order n (a ∷ left) (b ∷ right) ps qs h =
-    order-decided (dictionary a b) n (compare_from (suc n) (left ++ ps ∷ []) (right ++ qs ∷ []))
-    ∙ ap (ordering_then (dictionary a b)) (more_order (suc n) left right ps qs h.2)
-    ∙ sym (then_assoc (dictionary a b) (compare_from (suc n) left right).order (dictionary ps qs))
-    ∙ ap (λ o. ordering_then o (dictionary ps qs)) (sym (order-decided (dictionary a b) n (compare_from (suc n) left right)))
+    order-decided (lexicographic a b) n (compare_from (suc n) (left ++ ps ∷ []) (right ++ qs ∷ []))
+    ∙ ap (ordering_then (lexicographic a b)) (more_order (suc n) left right ps qs h.2)
+    ∙ sym (then_assoc (lexicographic a b) (compare_from (suc n) left right).order (lexicographic ps qs))
+    ∙ ap (λ o. ordering_then o (lexicographic ps qs)) (sym (order-decided (lexicographic a b) n (compare_from (suc n) left right)))
 
 -- so keys with an identical level compare as the texts
 identical_order : (a b : List ℕ) (left right : List (List ℕ)) (ps qs : List ℕ) → AreLevels (a ∷ left) (b ∷ right)
-    → dictionary (levels_bytes (a ∷ left) ++ (0 ∷ 0 ∷ points_bytes ps)) (levels_bytes (b ∷ right) ++ (0 ∷ 0 ∷ points_bytes qs))
+    → lexicographic (levels_bytes (a ∷ left) ++ (0 ∷ 0 ∷ points_bytes ps)) (levels_bytes (b ∷ right) ++ (0 ∷ 0 ∷ points_bytes qs))
     ≡ (compare_from 1 ((a ∷ left) ++ ps ∷ []) ((b ∷ right) ++ qs ∷ [])).order
 identical_order a b left right ps qs h =
     levels_order 1 a b left right (points_bytes ps) (points_bytes qs) h
@@ -109,7 +109,7 @@ identical_order a b left right ps qs h =
     ∙ sym (more_order 1 (a ∷ left) (b ∷ right) ps qs h)
 
 pub depth_order : (depth : Depth) (weighting : Weighting) (left right : ReadText)
-    → dictionary (key_at depth weighting left) (key_at depth weighting right) ≡ (compared_at depth weighting left right).order
+    → lexicographic (key_at depth weighting left) (key_at depth weighting right) ≡ (compared_at depth weighting left right).order
 depth_order Weights weighting left right = key_order weighting left.elements right.elements
 depth_order Identical NonIgnorable left right =
     let vs = weighted NonIgnorable left.elements in
@@ -127,7 +127,7 @@ depth_equal depth weighting left right =
     let key = key_at depth weighting left in
     let first = lists_at depth weighting left in
     let second = lists_at depth weighting right in (
-      (λ same. level_zero 0 first second (sym (depth_order depth weighting left right) ∙ (ap (dictionary key) (sym same) ∙ dictionary_itself key))),
+      (λ same. level_zero 0 first second (sym (depth_order depth weighting left right) ∙ (ap (lexicographic key) (sym same) ∙ dictionary_itself key))),
       (λ none. same_from_dictionary key (key_at depth weighting right) (depth_order depth weighting left right ∙ order_equal 0 first second none)),
     )
 
@@ -196,10 +196,10 @@ nothing_told n rest = record { differs = λ d. absurd (d refl); same = λ e. ome
 
 -- a level with what follows it
 level_separators : (a b xs ys : List ℕ) → AreNonZero a → AreNonZero b
-    → ((dictionary a b ≡ Equal → ⊥) → shared_separators (level_bytes a ++ (0 ∷ 0 ∷ xs)) (level_bytes b ++ (0 ∷ 0 ∷ ys)) ≡ 0)
-    × (dictionary a b ≡ Equal → shared_separators (level_bytes a ++ (0 ∷ 0 ∷ xs)) (level_bytes b ++ (0 ∷ 0 ∷ ys)) ≡ suc (shared_separators xs ys))
+    → ((lexicographic a b ≡ Equal → ⊥) → shared_separators (level_bytes a ++ (0 ∷ 0 ∷ xs)) (level_bytes b ++ (0 ∷ 0 ∷ ys)) ≡ 0)
+    × (lexicographic a b ≡ Equal → shared_separators (level_bytes a ++ (0 ∷ 0 ∷ xs)) (level_bytes b ++ (0 ∷ 0 ∷ ys)) ≡ suc (shared_separators xs ys))
 level_separators a b xs ys first second = (
-  (λ differ. separators_differ a b xs ys first second (λ same. differ (ap (dictionary a) (sym same) ∙ dictionary_itself a))),
+  (λ differ. separators_differ a b xs ys first second (λ same. differ (ap (lexicographic a) (sym same) ∙ dictionary_itself a))),
   (λ equal. ap (λ l. shared_separators (level_bytes a ++ (0 ∷ 0 ∷ xs)) (level_bytes l ++ (0 ∷ 0 ∷ ys))) (sym (same_from_dictionary a b equal))
       ∙ separators_equal a xs ys first),
 )
@@ -208,7 +208,7 @@ levels_separators : (n : ℕ) (a b : List ℕ) (left right : List (List ℕ)) (x
     → TellsLevel n (length (a ∷ left)) (shared_separators (levels_bytes (a ∷ left) ++ (0 ∷ 0 ∷ xs)) (levels_bytes (b ∷ right) ++ (0 ∷ 0 ∷ ys))) (compare_from n (a ∷ left) (b ∷ right))
 levels_separators n a b [] [] xs ys h =
     let here = level_separators a b xs ys h.0 h.1 in
-    tells_step (dictionary a b) n 0 _ (shared_separators xs ys) (record { order = Equal; level = 0 }) here.0 here.1 (nothing_told (suc n) (shared_separators xs ys))
+    tells_step (lexicographic a b) n 0 _ (shared_separators xs ys) (record { order = Equal; level = 0 }) here.0 here.1 (nothing_told (suc n) (shared_separators xs ys))
 levels_separators n a b [] (d ∷ right) xs ys h = absurd h.2
 levels_separators n a b (c ∷ left) [] xs ys h = absurd h.2
 levels_separators n a b (c ∷ left) (d ∷ right) xs ys h =
@@ -219,7 +219,7 @@ levels_separators n a b (c ∷ left) (d ∷ right) xs ys h =
     ≡ shared_separators (level_bytes a ++ (0 ∷ 0 ∷ more)) (level_bytes b ++ (0 ∷ 0 ∷ more_right)) =
     ap (λ l. shared_separators l (levels_bytes (b ∷ d ∷ right) ++ (0 ∷ 0 ∷ ys))) (behind_level a c left xs)
     ∙ ap (shared_separators (level_bytes a ++ (0 ∷ 0 ∷ more))) (behind_level b d right ys) in
-    tells_step (dictionary a b) n (length (c ∷ left)) _ (shared_separators more more_right) (compare_from (suc n) (c ∷ left) (d ∷ right))
+    tells_step (lexicographic a b) n (length (c ∷ left)) _ (shared_separators more more_right) (compare_from (suc n) (c ∷ left) (d ∷ right))
     (λ e. all ∙ here.0 e) (λ e. all ∙ here.1 e) (levels_separators (suc n) c d left right xs ys h.2)
 
 -- a level before one level more
@@ -239,13 +239,13 @@ last_level Greater n d = omega arith
 -- the level of a comparison with one level more
 more_level : (n : ℕ) (left right : List (List ℕ)) (ps qs : List ℕ) → AreLevels left right
     → (((compare_from n left right).order ≡ Equal → ⊥) → (compare_from n (left ++ ps ∷ []) (right ++ qs ∷ [])).level ≡ (compare_from n left right).level)
-    × ((compare_from n left right).order ≡ Equal → (dictionary ps qs ≡ Equal → ⊥) → (compare_from n (left ++ ps ∷ []) (right ++ qs ∷ [])).level ≡ n + length left)
-more_level n [] [] ps qs h = ((λ d. absurd (d refl)), (λ e d. last_level (dictionary ps qs) n d))
+    × ((compare_from n left right).order ≡ Equal → (lexicographic ps qs ≡ Equal → ⊥) → (compare_from n (left ++ ps ∷ []) (right ++ qs ∷ [])).level ≡ n + length left)
+more_level n [] [] ps qs h = ((λ d. absurd (d refl)), (λ e d. last_level (lexicographic ps qs) n d))
 more_level n [] (b ∷ right) ps qs h = absurd h
 more_level n (a ∷ left) [] ps qs h = absurd h
 more_level n (a ∷ left) (b ∷ right) ps qs h =
-    more_step (dictionary a b) n (length left) (compare_from (suc n) left right) (compare_from (suc n) (left ++ ps ∷ []) (right ++ qs ∷ []))
-    (dictionary ps qs ≡ Equal → ⊥) (more_level (suc n) left right ps qs h.2)
+    more_step (lexicographic a b) n (length left) (compare_from (suc n) left right) (compare_from (suc n) (left ++ ps ∷ []) (right ++ qs ∷ []))
+    (lexicographic ps qs ≡ Equal → ⊥) (more_level (suc n) left right ps qs h.2)
 
 -- so the level at which two keys differ is that of their texts
 stored_where : (levels separators count : ℕ) (first whole : Comparison) → levels ≡ suc count → TellsLevel 1 count separators first
@@ -276,15 +276,15 @@ identical_level a b left right ps qs levels is h true same =
     let one = levels_bytes (a ∷ left) ++ (0 ∷ 0 ∷ points_bytes ps) in
     let other = levels_bytes (b ∷ right) ++ (0 ∷ 0 ∷ points_bytes qs) in
     let equal : one ≡ other = (bytes_eq-Decides one other).0 same in
-    sym (level_zero 0 ((a ∷ left) ++ ps ∷ []) ((b ∷ right) ++ qs ∷ []) (sym (identical_order a b left right ps qs h) ∙ (ap (dictionary one) (sym equal) ∙ dictionary_itself one)))
+    sym (level_zero 0 ((a ∷ left) ++ ps ∷ []) ((b ∷ right) ++ qs ∷ []) (sym (identical_order a b left right ps qs h) ∙ (ap (lexicographic one) (sym equal) ∙ dictionary_itself one)))
 identical_level a b left right ps qs levels is h false apart =
     let one = levels_bytes (a ∷ left) ++ (0 ∷ 0 ∷ points_bytes ps) in
     let other = levels_bytes (b ∷ right) ++ (0 ∷ 0 ∷ points_bytes qs) in
     let first = compare_from 1 (a ∷ left) (b ∷ right) in
     let more = more_level 1 (a ∷ left) (b ∷ right) ps qs h in
-    let points_differ : first.order ≡ Equal → dictionary ps qs ≡ Equal → ⊥ = λ e d.
-    let equal : dictionary one other ≡ Equal =
-    identical_order a b left right ps qs h ∙ more_order 1 (a ∷ left) (b ∷ right) ps qs h ∙ ap (λ o. ordering_then o (dictionary ps qs)) e ∙ d in
+    let points_differ : first.order ≡ Equal → lexicographic ps qs ≡ Equal → ⊥ = λ e d.
+    let equal : lexicographic one other ≡ Equal =
+    identical_order a b left right ps qs h ∙ more_order 1 (a ∷ left) (b ∷ right) ps qs h ∙ ap (λ o. ordering_then o (lexicographic ps qs)) e ∙ d in
     let t : bytes_eq one other ≡ true = same_bytes one other (same_from_dictionary one other equal) in cc in
     stored_where levels (shared_separators one other) (length (a ∷ left)) first (compare_from 1 ((a ∷ left) ++ ps ∷ []) ((b ∷ right) ++ qs ∷ [])) is
     (levels_separators 1 a b left right (points_bytes ps) (points_bytes qs) h) more.0 (λ e. more.1 e (points_differ e)) first.order refl
@@ -308,8 +308,8 @@ keys_compare_as_texts = record { order = depth_order; level = depth_level; equal
 
 pub stored_texts_compare : StoredKeysCompareAsTexts
 stored_texts_compare c depth weighting left right =
-    let one = read_text c (spelled c.properties left) in
-    let other = read_text c (spelled c.properties right) in
+    let one = read_text c (nfd_text c.properties left) in
+    let other = read_text c (nfd_text c.properties right) in
     (depth_order depth weighting one other, depth_level depth weighting one other)
 
 -- the last of two orders that are equal together
@@ -323,8 +323,8 @@ points_equal : (a b : List ℕ) (left right : List (List ℕ)) (ps qs : List ℕ
 points_equal a b left right ps qs h same =
     let one = levels_bytes (a ∷ left) ++ (0 ∷ 0 ∷ points_bytes ps) in
     same_from_dictionary ps qs
-    (last_equal (compare_from 1 (a ∷ left) (b ∷ right)).order (dictionary ps qs)
-    (sym (more_order 1 (a ∷ left) (b ∷ right) ps qs h) ∙ sym (identical_order a b left right ps qs h) ∙ ap (dictionary one) (sym same) ∙ dictionary_itself one))
+    (last_equal (compare_from 1 (a ∷ left) (b ∷ right)).order (lexicographic ps qs)
+    (sym (more_order 1 (a ∷ left) (b ∷ right) ps qs h) ∙ sym (identical_order a b left right ps qs h) ∙ ap (lexicographic one) (sym same) ∙ dictionary_itself one))
 
 identical_points : (weighting : Weighting) (left right : ReadText) → key_at Identical weighting left ≡ key_at Identical weighting right → left.points ≡ right.points
 identical_points NonIgnorable left right same =
@@ -337,7 +337,7 @@ identical_points Shifted left right same =
     points_equal (level_list 1 vs) (level_list 1 ws) (level_lists_from 2 3 vs) (level_lists_from 2 3 ws) left.points right.points (AreLevels-from 1 4 vs ws) same
 
 pub identical_texts : IdenticalKeysAreOfEquivalentTexts
-identical_texts c weighting left right same = identical_points weighting (read_text c (spelled c.properties left)) (read_text c (spelled c.properties right)) same
+identical_texts c weighting left right same = identical_points weighting (read_text c (nfd_text c.properties left)) (read_text c (nfd_text c.properties right)) same
 
 -- ---- How many levels a comparison can name
 
@@ -350,7 +350,7 @@ level_within : (n : ℕ) (left right : List (List ℕ)) → (compare_from (suc n
 level_within n [] right = omega arith
 level_within n (a ∷ left) [] = omega arith
 level_within n (a ∷ left) (b ∷ right) =
-    level_step (dictionary a b) n (length left) (compare_from (suc (suc n)) left right) (level_within (suc n) left right)
+    level_step (lexicographic a b) n (length left) (compare_from (suc (suc n)) left right) (level_within (suc n) left right)
 
 -- at most five
 pub five_levels : (depth : Depth) (weighting : Weighting) (left right : ReadText) → (compared_at depth weighting left right).level ≤ 5

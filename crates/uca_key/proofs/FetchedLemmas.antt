@@ -2,7 +2,7 @@
 use Rattle.std.proofs.Common.{◌≡◌, ℕ, zero, suc, ◌<◌, ◌≤◌, ◌^◌, List, [], ◌∷◌, length, Bool, true, false, nat_eq, refl, arith}
 use Rattle.std.proofs.lemmas.List.{length-map}
 use Rattle.uca_weights.specs.declared.Weighting.{Weighting}
-use Rattle.uca_text.specs.Texts.{Spelled, letters_of}
+use Rattle.uca_text.specs.Texts.{NfdText, letters_of}
 use Rattle.uca_text.specs.Limits.{IsAccepted}
 use Rattle.uca_match.specs.Collations.{Collation, elements_of}
 use Rattle.uca_key.specs.Levels.{weight_at, weighted}
@@ -23,7 +23,7 @@ few_fetched place [] = omega arith
 few_fetched place (w ∷ ws) = few_step place w ws (nat_eq w 0) refl (λ p. few_fetched p ws)
 
 -- counts of the elements of a text are exact under short rows
-few_elements : (c : Collation) (weighting : Weighting) (text : Spelled) (place : ℕ) → HasShortRows c.rows → IsAccepted text
+few_elements : (c : Collation) (weighting : Weighting) (text : NfdText) (place : ℕ) → HasShortRows c.rows → IsAccepted text
     → length_to place (primaries weighting (elements_of c text)) < 2 ^ 64
 few_elements c weighting text place short accepted =
     let es = elements_of c text in

@@ -7,7 +7,7 @@ use Rattle.std.specs.declared.cmp.Ordering.TheVariants.{Equal}
 use Rattle.std.proofs.lemmas.Cmp.{ranked, by_ranked}
 use Rattle.uca_weights.specs.declared.Element.{Element}
 use Rattle.uca_weights.specs.declared.Weighting.{Weighting}
-use Rattle.uca_key.specs.Levels.{dictionary, weight_at}
+use Rattle.uca_key.specs.Levels.{lexicographic, weight_at}
 use Rattle.uca_key.specs.Fetched.{length_to, shared_length}
 use Rattle.uca_key.specs.StreamedWeights.{weighted_after}
 use Rattle.uca_key.specs.Fronts.{FrontState, weights_left, weight_here, front_weights, first_of, counted, count_with, fetched, is_empty, is_ended, behind_one, advanced}
@@ -76,7 +76,7 @@ left_on vs ws f g order m n none on =
     let same = zero_list vs none in
     let place : place_of vs ws ≡ place_of (behind vs) ws = ap (λ l. shared_length l (non_zero ws)) same in
     record {
-      compares = ap (λ l. dictionary l (non_zero ws)) (sym same) ∙ on.compares;
+      compares = ap (λ l. lexicographic l (non_zero ws)) (sym same) ∙ on.compares;
       fetches_left = sym (zero_count (place_of (behind vs) ws) f vs none) ∙ ap (λ p. counted f (length_to p vs)) (sym place) ∙ on.fetches_left;
       fetches_right = ap (λ p. counted g (length_to p ws)) (sym place) ∙ on.fetches_right;
     }
@@ -87,7 +87,7 @@ right_on vs ws f g order m n none on =
     let same = zero_list ws none in
     let place : place_of vs ws ≡ place_of vs (behind ws) = ap (shared_length (non_zero vs)) same in
     record {
-      compares = ap (dictionary (non_zero vs)) (sym same) ∙ on.compares;
+      compares = ap (lexicographic (non_zero vs)) (sym same) ∙ on.compares;
       fetches_left = ap (λ p. counted f (length_to p vs)) (sym place) ∙ on.fetches_left;
       fetches_right = sym (zero_count (place_of vs (behind ws)) g ws none) ∙ ap (λ p. counted g (length_to p ws)) (sym place) ∙ on.fetches_right;
     }
@@ -104,9 +104,9 @@ some_on vs ws f g order m n some same on =
     let place : place_of vs ws ≡ suc rest =
     ap (λ l. shared_length l (non_zero ws)) left ∙ ap (shared_length (first_of vs ∷ non_zero (behind vs))) right ∙ rw is refl in
     record {
-      compares = sym (ap (λ l. dictionary l (non_zero ws)) left
-          ∙ ap (dictionary (first_of vs ∷ non_zero (behind vs))) right
-          ∙ ap (λ o. ordering_then o (dictionary (non_zero (behind vs)) (non_zero (behind ws)))) (cmp_equal (first_of vs) (first_of ws) same)) ∙ on.compares;
+      compares = sym (ap (λ l. lexicographic l (non_zero ws)) left
+          ∙ ap (lexicographic (first_of vs ∷ non_zero (behind vs))) right
+          ∙ ap (λ o. ordering_then o (lexicographic (non_zero (behind vs)) (non_zero (behind ws)))) (cmp_equal (first_of vs) (first_of ws) same)) ∙ on.compares;
       fetches_left = sym (some_count rest f vs some) ∙ ap (λ p. counted f (length_to p vs)) (sym place) ∙ on.fetches_left;
       fetches_right = sym (some_count rest g ws more) ∙ ap (λ p. counted g (length_to p ws)) (sym place) ∙ on.fetches_right;
     }
@@ -132,7 +132,7 @@ then_apart v w later other =
 
 -- the first weights differ, where 0 says that there is none: the order is theirs, and the lists share nothing
 record Apart (vs ws : List ℕ) : Type 0 where
-  order : dictionary (non_zero vs) (non_zero ws) ≡ nat_cmp (first_of vs) (first_of ws)
+  order : lexicographic (non_zero vs) (non_zero ws) ≡ nat_cmp (first_of vs) (first_of ws)
   place : place_of vs ws ≡ 0
 
 apart : (vs ws : List ℕ) → first_of vs ≢ first_of ws → (first_of vs ≡ 0 → vs ≡ []) → (first_of ws ≡ 0 → ws ≡ []) → Apart vs ws
@@ -140,11 +140,11 @@ apart [] [] other left right = absurd (other refl)
 apart [] (w ∷ ws) other left right =
     let some : w ≢ 0 = λ e. other (sym e) in
     let list = some_list (w ∷ ws) some in
-    record { order = ap (dictionary []) list ∙ sym (cmp_less 0 w (omega arith)); place = refl }
+    record { order = ap (lexicographic []) list ∙ sym (cmp_less 0 w (omega arith)); place = refl }
 apart (v ∷ vs) [] other left right =
     let some : v ≢ 0 = λ e. other e in
     let list = some_list (v ∷ vs) some in
-    record { order = ap (λ l. dictionary l []) list ∙ sym (cmp_greater v 0 (omega arith)); place = ap (λ l. shared_length l []) list }
+    record { order = ap (λ l. lexicographic l []) list ∙ sym (cmp_greater v 0 (omega arith)); place = ap (λ l. shared_length l []) list }
 apart (v ∷ vs) (w ∷ ws) other left right =
     let first : v ≢ 0 = λ e. let no : v ∷ vs ≡ [] = left e in cc in
     let second : w ≢ 0 = λ e. let no : w ∷ ws ≡ [] = right e in cc in
@@ -152,7 +152,7 @@ apart (v ∷ vs) (w ∷ ws) other left right =
     let list_too = some_list (w ∷ ws) second in
     let no : nat_eq v w ≡ false = ne_eqb v w other in
     record {
-      order = ap (λ l. dictionary l (non_zero (w ∷ ws))) list ∙ ap (dictionary (v ∷ non_zero vs)) list_too ∙ then_apart v w (dictionary (non_zero vs) (non_zero ws)) other;
+      order = ap (λ l. lexicographic l (non_zero (w ∷ ws))) list ∙ ap (lexicographic (v ∷ non_zero vs)) list_too ∙ then_apart v w (lexicographic (non_zero vs) (non_zero ws)) other;
       place = ap (λ l. shared_length l (non_zero (w ∷ ws))) list ∙ ap (shared_length (v ∷ non_zero vs)) list_too ∙ rw no refl;
     }
 
@@ -181,7 +181,7 @@ decides vs ws f g order m n other left right on =
 pub nothing_on : (vs ws : List ℕ) (f g : ℕ) (order : Ordering) (m n : ℕ) → vs ≡ [] → ws ≡ [] → GoOn vs ws f g order m n
     → (order ≡ Equal) × (f ≡ m) × (g ≡ n)
 nothing_on vs ws f g order m n none none_too on = (
-  sym on.compares ∙ ap (λ l. dictionary (non_zero l) (non_zero ws)) none ∙ ap (λ l. dictionary [] (non_zero l)) none_too,
+  sym on.compares ∙ ap (λ l. lexicographic (non_zero l) (non_zero ws)) none ∙ ap (λ l. lexicographic [] (non_zero l)) none_too,
   ap (λ l. counted f (length_to (shared_length (non_zero l) (non_zero ws)) l)) (sym none) ∙ on.fetches_left,
   sym (ap (λ l. counted g (length_to (shared_length (non_zero vs) (non_zero l)) l)) none_too) ∙ on.fetches_right,
 )

@@ -11,7 +11,7 @@ use Rattle.uca_weights.specs.declared.Weighting.TheVariants.{NonIgnorable, Shift
 use Rattle.uca_values.specs.declared.ImplicitRange.{ImplicitRange}
 use Rattle.uca_values.specs.Content.{Properties, Entry, IsEntry}
 use Rattle.uca_values.specs.Implicit.{implicit, lead_of, pair_by_lead, unlisted_pair}
-use Rattle.uca_text.specs.Texts.{Letter, Text, Spelled, letters, letters_of, is_starter}
+use Rattle.uca_text.specs.Texts.{Letter, Text, NfdText, letters, letters_of, is_starter}
 use Rattle.uca_text.specs.Limits.{IsAccepted}
 use Rattle.std.specs.Iterator.{Yields, YieldsFirst}
 use Rattle.std.specs.Iterator.Runs.{Run, WholeRun}
@@ -221,20 +221,20 @@ whole_is s p from whole =
     shown p.from p.items t u ran ended ∙ from
 
 -- so a key of a whole run over the elements of a text is theirs
-run_is : (key : List ℕ) (weighting : Weighting) (c : Collation) (text : Spelled) (es : List Element)
+run_is : (key : List ℕ) (weighting : Weighting) (c : Collation) (text : NfdText) (es : List Element)
     → es ≡ elements_of c text → WholeRun (YieldsFirst (λ (rest : List Element). rest)) es (λ p. key ≡ key_bytes weighting p.items)
     → key ≡ key_bytes weighting (elements_of c text)
 run_is key weighting c text es are (p, from, whole, is) = is ∙ ap (key_bytes weighting) (whole_is es p from whole ∙ are)
 
 -- and short
-pub weights_short : (key : List ℕ) (weighting : Weighting) (c : Collation) (text : Spelled) (es : List Element)
+pub weights_short : (key : List ℕ) (weighting : Weighting) (c : Collation) (text : NfdText) (es : List Element)
     → es ≡ elements_of c text → WholeRun (YieldsFirst (λ (rest : List Element). rest)) es (λ p. key ≡ key_bytes weighting p.items)
     → HasShortRows c.rows → IsAccepted text → length key < 2 ^ 40
 weights_short key weighting c text es are run short accepted =
     subst (λ (l : List ℕ). length l < 2 ^ 40) (sym (run_is key weighting c text es are run)) (keys_short c Weights weighting text short accepted)
 
 -- also with the identical level after it
-pub identical_short : {U E : Type 0} (r : Result U E) (key held points : List ℕ) (weighting : Weighting) (c : Collation) (text : Spelled) (es : List Element)
+pub identical_short : {U E : Type 0} (r : Result U E) (key held points : List ℕ) (weighting : Weighting) (c : Collation) (text : NfdText) (es : List Element)
     → es ≡ elements_of c text → WholeRun (YieldsFirst (λ (rest : List Element). rest)) es (λ p. held ≡ key_bytes weighting p.items)
     → points ≡ text.points → OnOk r (key ≡ held ++ (0 ∷ 0 ∷ points_bytes points)) → HasShortRows c.rows → IsAccepted text → OnOk r (length key < 2 ^ 40)
 identical_short (Ok v) key held points weighting c text es are run same is short accepted =

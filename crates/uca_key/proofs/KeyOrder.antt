@@ -14,7 +14,7 @@ use Rattle.std.proofs.lemmas.Slice.Eq.{bytes_eq-Decides}
 use Rattle.uca_weights.specs.declared.Element.{Element}
 use Rattle.uca_weights.specs.declared.Weighting.{Weighting}
 use Rattle.uca_key.specs.Levels.{Comparison, Weights, weight_at, level_lists, level_lists_from, level_count, weighted}
-use Rattle.uca_key.specs.Levels.{dictionary, decided, compare_from, compared, weight_bytes, level_bytes, levels_bytes}
+use Rattle.uca_key.specs.Levels.{lexicographic, decided, compare_from, compared, weight_bytes, level_bytes, levels_bytes}
 use Rattle.uca_key.specs.Levels.{key_bytes}
 use Rattle.uca_key.specs.Laws.{KeysCompareAsElements}
 
@@ -60,23 +60,23 @@ bytes_order v w =
 -- ---- Lists of numbers
 
 -- a list is equal to itself
-pub dictionary_itself : (xs : List ℕ) → dictionary xs xs ≡ Equal
+pub dictionary_itself : (xs : List ℕ) → lexicographic xs xs ≡ Equal
 dictionary_itself [] = refl
-dictionary_itself (x ∷ xs) = ap (λ o. ordering_then o (dictionary xs xs)) (cmp_equal x x refl) ∙ dictionary_itself xs
+dictionary_itself (x ∷ xs) = ap (λ o. ordering_then o (lexicographic xs xs)) (cmp_equal x x refl) ∙ dictionary_itself xs
 
 -- lists that compare as equal are equal
-pub same_from_dictionary : (xs ys : List ℕ) → dictionary xs ys ≡ Equal → xs ≡ ys
+pub same_from_dictionary : (xs ys : List ℕ) → lexicographic xs ys ≡ Equal → xs ≡ ys
 same_from_dictionary xs ys h = (bytes_eq-Decides xs ys).0 (sym (is_eq-slice_cmp xs ys) ∙ ap is_eq h)
 
 -- the bytes of weights compare as the weights
-pub dictionary-level_bytes : (vs ws : List ℕ) → dictionary (level_bytes vs) (level_bytes ws) ≡ dictionary vs ws
-dictionary-level_bytes [] [] = refl
-dictionary-level_bytes [] (w ∷ ws) = refl
-dictionary-level_bytes (v ∷ vs) [] = refl
-dictionary-level_bytes (v ∷ vs) (w ∷ ws) =
-    sym (then_assoc (nat_cmp (v / 256) (w / 256)) (nat_cmp (v % 256) (w % 256)) (dictionary (level_bytes vs) (level_bytes ws)))
-    ∙ ap (λ o. ordering_then o (dictionary (level_bytes vs) (level_bytes ws))) (bytes_order v w)
-    ∙ ap (ordering_then (nat_cmp v w)) (dictionary-level_bytes vs ws)
+pub lexicographic-level_bytes : (vs ws : List ℕ) → lexicographic (level_bytes vs) (level_bytes ws) ≡ lexicographic vs ws
+lexicographic-level_bytes [] [] = refl
+lexicographic-level_bytes [] (w ∷ ws) = refl
+lexicographic-level_bytes (v ∷ vs) [] = refl
+lexicographic-level_bytes (v ∷ vs) (w ∷ ws) =
+    sym (then_assoc (nat_cmp (v / 256) (w / 256)) (nat_cmp (v % 256) (w % 256)) (lexicographic (level_bytes vs) (level_bytes ws)))
+    ∙ ap (λ o. ordering_then o (lexicographic (level_bytes vs) (level_bytes ws))) (bytes_order v w)
+    ∙ ap (ordering_then (nat_cmp v w)) (lexicographic-level_bytes vs ws)
 
 -- no number is 0
 abbrev pub AreNonZero : List ℕ → Type 0
@@ -84,17 +84,17 @@ AreNonZero = AllByRecursion (λ w. w ≢ 0)
 
 -- lists of weights that are not 0, each followed by 0 and more, compare first by the lists and then by what follows
 pub dictionary_zero : (vs ws xs ys : List ℕ) → AreNonZero vs → AreNonZero ws
-    → dictionary (vs ++ 0 ∷ xs) (ws ++ 0 ∷ ys) ≡ ordering_then (dictionary vs ws) (dictionary xs ys)
+    → lexicographic (vs ++ 0 ∷ xs) (ws ++ 0 ∷ ys) ≡ ordering_then (lexicographic vs ws) (lexicographic xs ys)
 dictionary_zero [] [] xs ys a b = refl
 dictionary_zero [] (w ∷ ws) xs ys a b =
     let above : 0 < w = let apart : w ≢ 0 = b.0 in omega arith in
-    ap (λ o. ordering_then o (dictionary xs (ws ++ 0 ∷ ys))) (cmp_less 0 w above)
+    ap (λ o. ordering_then o (lexicographic xs (ws ++ 0 ∷ ys))) (cmp_less 0 w above)
 dictionary_zero (v ∷ vs) [] xs ys a b =
     let above : 0 < v = let apart : v ≢ 0 = a.0 in omega arith in
-    ap (λ o. ordering_then o (dictionary (vs ++ 0 ∷ xs) ys)) (cmp_greater v 0 above)
+    ap (λ o. ordering_then o (lexicographic (vs ++ 0 ∷ xs) ys)) (cmp_greater v 0 above)
 dictionary_zero (v ∷ vs) (w ∷ ws) xs ys a b =
     ap (ordering_then (nat_cmp v w)) (dictionary_zero vs ws xs ys a.1 b.1)
-    ∙ sym (then_assoc (nat_cmp v w) (dictionary vs ws) (dictionary xs ys))
+    ∙ sym (then_assoc (nat_cmp v w) (lexicographic vs ws) (lexicographic xs ys))
 
 -- ---- Levels
 
@@ -132,18 +132,18 @@ then_equal Equal = refl
 then_equal Greater = refl
 
 -- joined lists compare as the levels do
-pub joined_order : (n : ℕ) (left right : List (List ℕ)) → AreLevels left right → dictionary (joined left) (joined right) ≡ (compare_from n left right).order
+pub joined_order : (n : ℕ) (left right : List (List ℕ)) → AreLevels left right → lexicographic (joined left) (joined right) ≡ (compare_from n left right).order
 joined_order n [] [] h = refl
 joined_order n [] (b ∷ right) h = absurd h
 joined_order n (a ∷ left) [] h = absurd h
 joined_order n (a ∷ []) (b ∷ []) h =
-    sym (then_equal (dictionary a b)) ∙ sym (order-decided (dictionary a b) n (record { order = Equal; level = 0 }))
+    sym (then_equal (lexicographic a b)) ∙ sym (order-decided (lexicographic a b) n (record { order = Equal; level = 0 }))
 joined_order n (a ∷ []) (b ∷ d ∷ right) h = absurd h.2
 joined_order n (a ∷ c ∷ left) (b ∷ []) h = absurd h.2
 joined_order n (a ∷ c ∷ left) (b ∷ d ∷ right) h =
     dictionary_zero a b (joined (c ∷ left)) (joined (d ∷ right)) h.0 h.1
-    ∙ ap (ordering_then (dictionary a b)) (joined_order (suc n) (c ∷ left) (d ∷ right) h.2)
-    ∙ sym (order-decided (dictionary a b) n (compare_from (suc n) (c ∷ left) (d ∷ right)))
+    ∙ ap (ordering_then (lexicographic a b)) (joined_order (suc n) (c ∷ left) (d ∷ right) h.2)
+    ∙ sym (order-decided (lexicographic a b) n (compare_from (suc n) (c ∷ left) (d ∷ right)))
 
 -- where no level decides, the difference level is 0
 pub decided_equal : (o : Ordering) (level : ℕ) (later : Comparison) → (later.order ≡ Equal → later.level ≡ 0)
@@ -157,7 +157,7 @@ pub level_zero : (n : ℕ) (left right : List (List ℕ)) → (compare_from (suc
 level_zero n [] right h = refl
 level_zero n (a ∷ left) [] h = refl
 level_zero n (a ∷ left) (b ∷ right) h =
-    decided_equal (dictionary a b) (suc n) (compare_from (suc (suc n)) left right) (level_zero (suc n) left right) h
+    decided_equal (lexicographic a b) (suc n) (compare_from (suc (suc n)) left right) (level_zero (suc n) left right) h
 
 -- and only there
 pub decided_zero : (o : Ordering) (n : ℕ) (later : Comparison) → (later.level ≡ 0 → later.order ≡ Equal)
@@ -171,7 +171,7 @@ pub order_equal : (n : ℕ) (left right : List (List ℕ)) → (compare_from (su
 order_equal n [] right h = refl
 order_equal n (a ∷ left) [] h = refl
 order_equal n (a ∷ left) (b ∷ right) h =
-    decided_zero (dictionary a b) n (compare_from (suc (suc n)) left right) (order_equal (suc n) left right) h
+    decided_zero (lexicographic a b) n (compare_from (suc (suc n)) left right) (order_equal (suc n) left right) h
 
 -- ---- Level lists have no weight 0
 
@@ -195,13 +195,13 @@ AreLevels-from start (suc n) left right =
 
 -- keys compare as the elements do level by level
 pub key_order : (weighting : Weighting) (left right : List Element)
-    → dictionary (key_bytes weighting left) (key_bytes weighting right) ≡ (compared weighting left right).order
+    → lexicographic (key_bytes weighting left) (key_bytes weighting right) ≡ (compared weighting left right).order
 key_order weighting left right =
     let first = level_lists weighting left in
     let second = level_lists weighting right in
-    ap (λ bytes. dictionary bytes (levels_bytes second)) (levels_bytes-joined first)
-    ∙ ap (dictionary (level_bytes (joined first))) (levels_bytes-joined second)
-    ∙ dictionary-level_bytes (joined first) (joined second)
+    ap (λ bytes. lexicographic bytes (levels_bytes second)) (levels_bytes-joined first)
+    ∙ ap (lexicographic (level_bytes (joined first))) (levels_bytes-joined second)
+    ∙ lexicographic-level_bytes (joined first) (joined second)
     ∙ joined_order 1 first second (AreLevels-from 1 (level_count weighting) (weighted weighting left) (weighted weighting right))
 
 -- keys are equal exactly where no level differs
@@ -211,7 +211,7 @@ key_same weighting left right =
     let first = level_lists weighting left in
     let second = level_lists weighting right in
     let key = key_bytes weighting left in (
-      (λ same. level_zero 0 first second (sym (key_order weighting left right) ∙ (ap (dictionary key) (sym same) ∙ dictionary_itself key))),
+      (λ same. level_zero 0 first second (sym (key_order weighting left right) ∙ (ap (lexicographic key) (sym same) ∙ dictionary_itself key))),
       (λ none. same_from_dictionary key (key_bytes weighting right) (key_order weighting left right ∙ order_equal 0 first second none)),
     )
 

@@ -9,7 +9,7 @@ use Rattle.uca_weights.specs.declared.Element.{Element}
 use Rattle.uca_weights.specs.declared.Weighting.{Weighting}
 use Rattle.uca_key.specs.declared.walk.LevelsSoFar.{LevelsSoFar}
 use Rattle.uca_key.specs.declared.walk.Walked.{Walked}
-use Rattle.uca_key.specs.Levels.{Comparison, Weights as WeightsType, level_list, level_lists_from, level_count, weighted, dictionary, decided, compare_from, compared}
+use Rattle.uca_key.specs.Levels.{Comparison, Weights as WeightsType, level_list, level_lists_from, level_count, weighted, lexicographic, decided, compare_from, compared}
 use Rattle.uca_key.specs.Fronts.{FrontState, fetched, weights_left, is_ended}
 use Rattle.uca_key.specs.Walks.{Stands, Walks, decided_level, compared_levels, order_at, fetched_left_at, fetched_right_at}
 use Rattle.uca_key.specs.Comparisons.{ComparesLevels}
@@ -34,9 +34,9 @@ compare_append level (a ∷ left) [] more other same = absurd (omega (arith, sam
 compare_append level (a ∷ left) (b ∷ right) more other same =
     let fewer : length left ≡ length right = omega (arith, same) in
     let next : suc level + length left ≡ level + suc (length left) = omega arith in
-    ap (decided (dictionary a b) level) (compare_append (suc level) left right more other fewer)
-    ∙ decided_then (dictionary a b) level (compare_from (suc level) left right) (compare_from (suc level + length left) more other)
-    ∙ ap (λ n. then_levels (decided (dictionary a b) level (compare_from (suc level) left right)) (compare_from n more other)) next
+    ap (decided (lexicographic a b) level) (compare_append (suc level) left right more other fewer)
+    ∙ decided_then (lexicographic a b) level (compare_from (suc level) left right) (compare_from (suc level + length left) more other)
+    ∙ ap (λ n. then_levels (decided (lexicographic a b) level (compare_from (suc level) left right)) (compare_from n more other)) next
 
 pub length_levels : (level count : ℕ) (ws : List WeightsType) → length (level_lists_from level count ws) ≡ count
 length_levels level zero ws = refl

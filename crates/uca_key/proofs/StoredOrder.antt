@@ -9,7 +9,7 @@ use Rattle.std.proofs.lemmas.Slice.Eq.{bytes_eq-Decides}
 use Rattle.uca_weights.specs.declared.Element.{Element}
 use Rattle.uca_weights.specs.declared.Weighting.{Weighting}
 use Rattle.uca_weights.specs.declared.Weighting.TheVariants.{NonIgnorable, Shifted}
-use Rattle.uca_key.specs.Levels.{Comparison, level_lists, level_count, weighted, dictionary, decided, compare_from}
+use Rattle.uca_key.specs.Levels.{Comparison, level_lists, level_count, weighted, lexicographic, decided, compare_from}
 use Rattle.uca_key.specs.Levels.{compared, weight_bytes, level_bytes, levels_bytes, key_bytes}
 use Rattle.uca_key.specs.StoredKeys.{groups, shared_groups, shared_separators, stored_level}
 use Rattle.uca_key.specs.Laws.{StoredKeysCompareAsElements}
@@ -141,7 +141,7 @@ zeros_same (v ∷ vs) xs ys a =
 -- ---- The level at which two keys differ
 
 -- two lists that differ are Less or Greater
-pub unequal : (vs ws : List ℕ) → (vs ≡ ws → ⊥) → dictionary vs ws ≡ Equal → ⊥
+pub unequal : (vs ws : List ℕ) → (vs ≡ ws → ⊥) → lexicographic vs ws ≡ Equal → ⊥
 unequal vs ws other same = other (same_from_dictionary vs ws same)
 
 -- what a level says of its own lists and of the levels after it
@@ -159,13 +159,13 @@ abbrev pub zeros_joined : List (List ℕ) → List (List ℕ) → ℕ
 zeros_joined left right = zeros_before (joined left) (joined right)
 
 -- none where the first levels differ
-zeros_apart : (a b : List ℕ) (c d : List ℕ) (left right : List (List ℕ)) → AreNonZero a → AreNonZero b → (dictionary a b ≡ Equal → ⊥)
+zeros_apart : (a b : List ℕ) (c d : List ℕ) (left right : List (List ℕ)) → AreNonZero a → AreNonZero b → (lexicographic a b ≡ Equal → ⊥)
     → zeros_joined (a ∷ c ∷ left) (b ∷ d ∷ right) ≡ 0
 zeros_apart a b c d left right first second differ =
-    zeros_other a b (joined (c ∷ left)) (joined (d ∷ right)) first second (λ same. differ (ap (dictionary a) (sym same) ∙ dictionary_itself a))
+    zeros_other a b (joined (c ∷ left)) (joined (d ∷ right)) first second (λ same. differ (ap (lexicographic a) (sym same) ∙ dictionary_itself a))
 
 -- and one more where they are the same
-zeros_after : (a b : List ℕ) (c d : List ℕ) (left right : List (List ℕ)) → AreNonZero a → dictionary a b ≡ Equal
+zeros_after : (a b : List ℕ) (c d : List ℕ) (left right : List (List ℕ)) → AreNonZero a → lexicographic a b ≡ Equal
     → zeros_joined (a ∷ c ∷ left) (b ∷ d ∷ right) ≡ suc (zeros_joined (c ∷ left) (d ∷ right))
 zeros_after a b c d left right first same =
     ap (λ l. zeros_before (joined (a ∷ c ∷ left)) (l ++ 0 ∷ joined (d ∷ right))) (sym (same_from_dictionary a b same))
@@ -178,12 +178,12 @@ level_zeros n [] [] h differ = absurd (differ refl)
 level_zeros n [] (b ∷ right) h differ = absurd h
 level_zeros n (a ∷ left) [] h differ = absurd h
 level_zeros n (a ∷ []) (b ∷ []) h differ =
-    level_step (dictionary a b) n (zeros_joined (a ∷ []) (b ∷ [])) 0 (record { order = Equal; level = 0 })
+    level_step (lexicographic a b) n (zeros_joined (a ∷ []) (b ∷ [])) 0 (record { order = Equal; level = 0 })
     (λ e. zeros_none a b h.0) (λ e. absurd (differ (ap (λ o. (decided o n (record { order = Equal; level = 0 })).order) e))) (λ f. absurd (f refl)) differ
 level_zeros n (a ∷ []) (b ∷ d ∷ right) h differ = absurd h.2
 level_zeros n (a ∷ c ∷ left) (b ∷ []) h differ = absurd h.2
 level_zeros n (a ∷ c ∷ left) (b ∷ d ∷ right) h differ =
-    level_step (dictionary a b) n (zeros_joined (a ∷ c ∷ left) (b ∷ d ∷ right)) (zeros_joined (c ∷ left) (d ∷ right))
+    level_step (lexicographic a b) n (zeros_joined (a ∷ c ∷ left) (b ∷ d ∷ right)) (zeros_joined (c ∷ left) (d ∷ right))
     (compare_from (suc n) (c ∷ left) (d ∷ right))
     (zeros_apart a b c d left right h.0 h.1) (zeros_after a b c d left right h.0)
     (level_zeros (suc n) (c ∷ left) (d ∷ right) h.2) differ
@@ -202,7 +202,7 @@ fewer_zeros a [] (b ∷ []) h = let none : zeros_before a b ≡ 0 = zeros_none a
 fewer_zeros a [] (b ∷ d ∷ right) h = absurd h.2
 fewer_zeros a (c ∷ left) (b ∷ []) h = absurd h.2
 fewer_zeros a (c ∷ left) (b ∷ d ∷ right) h =
-    fewer_step (dictionary a b) (zeros_joined (a ∷ c ∷ left) (b ∷ d ∷ right)) (zeros_joined (c ∷ left) (d ∷ right)) (length (c ∷ left))
+    fewer_step (lexicographic a b) (zeros_joined (a ∷ c ∷ left) (b ∷ d ∷ right)) (zeros_joined (c ∷ left) (d ∷ right)) (length (c ∷ left))
     (zeros_apart a b c d left right h.0 h.1) (zeros_after a b c d left right h.0) (fewer_zeros c left (d ∷ right) h.2)
 
 -- ---- Stored keys
@@ -258,14 +258,14 @@ stored_keys_compare weighting left right = (key_order weighting left right, stor
 -- ---- What `compare_keys` returns
 
 -- equal slices have the level 0
-pub equal_level : (levels : ℕ) (left right : List ℕ) → dictionary left right ≡ Equal → 0 ≡ stored_level levels left right
+pub equal_level : (levels : ℕ) (left right : List ℕ) → lexicographic left right ≡ Equal → 0 ≡ stored_level levels left right
 equal_level levels left right same =
     let equal : bytes_eq left right ≡ true = same_bytes left right (same_from_dictionary left right same) in
     rw equal refl
 
 -- the others have the level that their separators give
-pub differing_level : (levels level : ℕ) (left right : List ℕ) → (dictionary left right ≡ Equal → ⊥) → level ≡ min levels (1 + shared_separators left right)
+pub differing_level : (levels level : ℕ) (left right : List ℕ) → (lexicographic left right ≡ Equal → ⊥) → level ≡ min levels (1 + shared_separators left right)
     → level ≡ stored_level levels left right
 differing_level levels level left right differ is =
-    let apart : bytes_eq left right ≡ false = other_bytes left right (λ same. differ (ap (dictionary left) (sym same) ∙ dictionary_itself left)) in
+    let apart : bytes_eq left right ≡ false = other_bytes left right (λ same. differ (ap (lexicographic left) (sym same) ∙ dictionary_itself left)) in
     rw apart is

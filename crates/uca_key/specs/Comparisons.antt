@@ -4,7 +4,7 @@ use Rattle.std.specs.declared.cmp.Ordering.TheVariants.{Equal}
 use Rattle.uca_weights.specs.declared.Element.{Element}
 use Rattle.uca_weights.specs.declared.Weighting.{Weighting}
 use Rattle.uca_key.specs.declared.walk.Walked.{Walked}
-use Rattle.uca_key.specs.Levels.{Comparison, level_count, dictionary, decided, compared}
+use Rattle.uca_key.specs.Levels.{Comparison, level_count, lexicographic, decided, compared}
 use Rattle.uca_key.specs.Walks.{fetched_left_at, fetched_right_at}
 
 pub record ComparesLevels (weighting : Weighting) (es fs : List Element) (w : Walked) : Type 0 where
@@ -15,4 +15,4 @@ pub record ComparesLevels (weighting : Weighting) (es fs : List Element) (w : Wa
 
 -- code points stand after all levels of the weights
 abbrev pub compared_points : Weighting → List ℕ → List ℕ → Comparison
-compared_points weighting left right = decided (dictionary left right) (suc (level_count weighting)) (record { order = Equal; level = 0 })
+compared_points weighting left right = decided (lexicographic left right) (suc (level_count weighting)) (record { order = Equal; level = 0 })

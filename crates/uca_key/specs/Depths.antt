@@ -5,7 +5,7 @@ use Rattle.uca_weights.specs.declared.Depth.{Depth}
 use Rattle.uca_weights.specs.declared.Depth.TheVariants.{Weights, Identical}
 use Rattle.uca_weights.specs.declared.Element.{Element}
 use Rattle.uca_weights.specs.declared.Weighting.{Weighting}
-use Rattle.uca_text.specs.Texts.{Spelled}
+use Rattle.uca_text.specs.Texts.{NfdText}
 use Rattle.uca_match.specs.Collations.{Collation, elements_of}
 use Rattle.uca_key.specs.Levels.{Comparison, level_lists, level_count, compare_from, key_bytes}
 
@@ -14,7 +14,7 @@ pub record ReadText : Type 0 where
   pub elements : List Element
   pub points : List ℕ
 
-abbrev pub read_text : Collation → Spelled → ReadText
+abbrev pub read_text : Collation → NfdText → ReadText
 read_text c text = record { elements = elements_of c text; points = text.points }
 
 -- how many levels there are

@@ -81,8 +81,8 @@ pub record Comparison : Type 0 where
   pub level : ℕ
 
 -- as a dictionary, where a beginning is less
-abbrev pub dictionary : List ℕ → List ℕ → Ordering
-dictionary = slice_cmp nat_cmp
+abbrev pub lexicographic : List ℕ → List ℕ → Ordering
+lexicographic = slice_cmp nat_cmp
 
 -- what a level says, or else the levels after it
 abbrev pub decided : Ordering → ℕ → Comparison → Comparison
@@ -92,7 +92,7 @@ decided Greater level later = record { order = Greater; level = level }
 
 -- by the first level whose lists differ; the first lists are those of `level`
 abbrev pub compare_from : ℕ → List (List ℕ) → List (List ℕ) → Comparison
-compare_from level (a ∷ left) (b ∷ right) = decided (dictionary a b) level (compare_from (suc level) left right)
+compare_from level (a ∷ left) (b ∷ right) = decided (lexicographic a b) level (compare_from (suc level) left right)
 compare_from level [] right = record { order = Equal; level = 0 }
 compare_from level (a ∷ left) [] = record { order = Equal; level = 0 }
 

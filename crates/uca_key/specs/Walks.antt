@@ -7,11 +7,11 @@ use Rattle.uca_weights.specs.declared.Element.{Element}
 use Rattle.uca_weights.specs.declared.Weighting.{Weighting}
 use Rattle.uca_key.specs.declared.walk.Step.{Step}
 use Rattle.uca_key.specs.declared.walk.Step.TheVariants.{Either, Both, Left, Right}
-use Rattle.uca_key.specs.declared.walk.Look.{Look}
-use Rattle.uca_key.specs.declared.walk.Look.TheVariants.{May, Differ}
+use Rattle.uca_key.specs.declared.walk.LevelStep.{LevelStep}
+use Rattle.uca_key.specs.declared.walk.LevelStep.TheVariants.{May, Differ}
 use Rattle.uca_key.specs.declared.walk.LevelsSoFar.{LevelsSoFar}
 use Rattle.uca_key.specs.declared.walk.Walked.{Walked}
-use Rattle.uca_key.specs.Levels.{Comparison, dictionary, weight_at, weighted, level_list, level_lists_from, compare_from}
+use Rattle.uca_key.specs.Levels.{Comparison, lexicographic, weight_at, weighted, level_list, level_lists_from, compare_from}
 use Rattle.uca_key.specs.Fetched.{shared_length, length_to}
 use Rattle.uca_key.specs.Fronts.{FrontState, advanced, weights_left, weight_here, is_ended, counted, fetched}
 
@@ -52,7 +52,7 @@ pub record Differs (left right : ℕ) (left_ended right_ended : Bool) (order : O
   pub ends_left : left ≡ 0 → left_ended ≡ true
   pub ends_right : right ≡ 0 → right_ended ≡ true
 
-abbrev pub Says : ℕ → ℕ → Bool → Bool → Look → Type 0
+abbrev pub Says : ℕ → ℕ → Bool → Bool → LevelStep → Type 0
 Says left right left_ended right_ended (May step) = AllowsWith step left right left_ended right_ended
 Says left right left_ended right_ended (Differ order) = Differs left right left_ended right_ended order
 
@@ -67,7 +67,7 @@ weights_of_level weighting level es = map (weight_at level) (weighted weighting 
 
 -- how two texts compare at a level
 abbrev pub order_at : Weighting → List Element → List Element → ℕ → Ordering
-order_at weighting es fs level = dictionary (level_list level (weighted weighting es)) (level_list level (weighted weighting fs))
+order_at weighting es fs level = lexicographic (level_list level (weighted weighting es)) (level_list level (weighted weighting fs))
 
 -- the first place at which the lists of a level differ
 abbrev pub difference_at : Weighting → List Element → List Element → ℕ → ℕ
@@ -75,7 +75,7 @@ difference_at weighting es fs level = shared_length (level_list level (weighted 
 
 -- the weights that are left of two texts compare in this order, and with those before so many elements are fetched
 pub record GoOn (left right : List ℕ) (passed_left passed_right : ℕ) (order : Ordering) (all_left all_right : ℕ) : Type 0 where
-  pub compares : dictionary (non_zero left) (non_zero right) ≡ order
+  pub compares : lexicographic (non_zero left) (non_zero right) ≡ order
   pub fetches_left : counted passed_left (length_to (shared_length (non_zero left) (non_zero right)) left) ≡ all_left
   pub fetches_right : counted passed_right (length_to (shared_length (non_zero left) (non_zero right)) right) ≡ all_right
 

@@ -2,12 +2,12 @@
 use Rattle.std.specs.Prelude.{◌≡◌, ℕ, List, [], ◌∷◌}
 use Rattle.std.specs.declared.cmp.Ordering.{Ordering}
 use Rattle.std.specs.declared.cmp.Ordering.TheVariants.{Less, Equal, Greater}
-use Rattle.uca_key.specs.Levels.{dictionary, level_bytes}
+use Rattle.uca_key.specs.Levels.{lexicographic, level_bytes}
 use Rattle.uca_key.specs.StoredKeys.{stored_level}
 
 -- the order and the level of two slices, which need be no keys
 abbrev pub Compares : ℕ → List ℕ → List ℕ → Ordering → ℕ → Type 0
-Compares levels left right order level = (dictionary left right ≡ order) × (stored_level levels left right ≡ level)
+Compares levels left right order level = (lexicographic left right ≡ order) × (stored_level levels left right ≡ level)
 
 -- the same of the bytes of these groups
 abbrev pub CompareGroups : ℕ → List ℕ → List ℕ → Ordering → ℕ → Type 0

@@ -1,7 +1,7 @@
 //! Stored keys, which give the order of their texts and the level at which they differ.
 
 ghost use Rattle.std.specs.Prelude.{◌≡◌, ◌+◌, min};
-ghost use Rattle.uca_key.specs.Levels.{dictionary};
+ghost use Rattle.uca_key.specs.Levels.{lexicographic};
 ghost use Rattle.uca_key.specs.Depths.{levels_at};
 ghost use Rattle.uca_key.specs.StoredKeys.{shared_separators, stored_level};
 
@@ -34,7 +34,7 @@ pub fn level_count(weighting: Weighting, depth: Depth) -> u8
 /// the level of multilevel comparison (UTS #10, section 1.1), as
 /// [`keys_compare_as_texts`](crate::laws::keys_compare_as_texts) says.
 pub fn compare_keys(left: &[u8], right: &[u8], levels: u8) -> (Ordering, u8)
-    ensures order { result.0 ≡ dictionary left.now right.now }
+    ensures order { result.0 ≡ lexicographic left.now right.now }
     ensures level { result.1 ≡ stored_level levels left.now right.now }
 {
     match left.cmp(right) {

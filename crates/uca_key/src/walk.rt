@@ -61,23 +61,23 @@ impl Step {
 
 // What the weights at one level say.
 #[derive(Drop)]
-enum Look {
+enum LevelStep {
     May(Step),
     // the lists of the level differ here, and this is their order
     Differ(Ordering),
 }
 
-fn look_at(left: u16, right: u16, left_ended: bool, right_ended: bool) -> Look
+fn look_at(left: u16, right: u16, left_ended: bool, right_ended: bool) -> LevelStep
     ensures { Says left right left_ended right_ended result }
 {
     if left == right {
-        Look::May(if left == 0 { Step::Either } else { Step::Both })
+        LevelStep::May(if left == 0 { Step::Either } else { Step::Both })
     } else if left == 0 && !left_ended {
-        Look::May(Step::Left)
+        LevelStep::May(Step::Left)
     } else if right == 0 && !right_ended {
-        Look::May(Step::Right)
+        LevelStep::May(Step::Right)
     } else {
-        Look::Differ(left.cmp(&right))
+        LevelStep::Differ(left.cmp(&right))
     }
 }
 
@@ -115,8 +115,8 @@ impl LevelsSoFar {
             let before = level - 1;
             let at = usize::from(before);
             let found = match look_at(first[at], second[at], left.is_ended(), right.is_ended()) {
-                Look::May(found) => found,
-                Look::Differ(order) => {
+                LevelStep::May(found) => found,
+                LevelStep::Differ(order) => {
                     self.through = before;
                     self.order = order;
                     return step;

@@ -3,7 +3,7 @@ pub mod LineReader
 pub mod NextLine
 pub mod Taking
 pub mod OutputBuffer
-pub mod Handing
+pub mod Buffered
 pub mod Fields
 pub mod Numbers
 pub mod CodePointRanges

@@ -8,6 +8,6 @@ pub record BufferState : Type 0 where
   pub written : ℕ
 
 -- since the writer held `start` this text was written to the buffer: its first `written` bytes went out, the others are held back
-pub record HandedOver (start now : Option (List ℕ)) (text : List ℕ) (buffer : BufferState) : Type 0 where
+pub record IsBuffered (start now : Option (List ℕ)) (text : List ℕ) (buffer : BufferState) : Type 0 where
   pub went_out : WentOut start now text buffer.written
   pub held : buffer.held ≡ drop buffer.written text

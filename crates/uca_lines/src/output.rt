@@ -3,8 +3,8 @@
 ghost use Rattle.std.specs.Prelude.{◌≡◌, ◌+◌, ◌^◌, ◌<◌, ◌≤◌, ◌++◌, ◌||◌, [], ℕ, List, Option, length, is_err, OnOk, OnErr, IfOk, IfErr, MatchResult};
 ghost use Rattle.std.specs.Io.KnownBytes.{Appends};
 ghost use Rattle.uca_weights.specs.Writes.{WentOut};
-ghost use Rattle.uca_lines.specs.OutputBuffer.{HandedOver};
-ghost use Rattle.uca_lines.specs.Handing.{count_of, HasRoom, Hands};
+ghost use Rattle.uca_lines.specs.OutputBuffer.{IsBuffered};
+ghost use Rattle.uca_lines.specs.Buffered.{count_of, HasRoom, WritesThrough};
 
 use std::io::Write;
 use std::marker::Model;
@@ -51,7 +51,7 @@ impl OutputBuffer {
     /// out of all that was written to this buffer.
     pub fn write<W: Write>(&mut self, out: &mut Sink<W>, text: &[u8]) -> Result<(), WriteFault>
         requires { HasRoom self.old (length text.now) }
-        ensures hands { Hands text.now self.old self.new out.old out.new result }
+        ensures hands { WritesThrough text.now self.old self.new out.old out.new result }
         ensures err { OnErr result (count_of self.new ≡ count_of self.old) }
     {
         if text.len() <= SIZE - self.len {
@@ -68,7 +68,7 @@ impl OutputBuffer {
     fn write_first<W: Write>(&mut self, out: &mut Sink<W>, text: &[u8]) -> Result<(), WriteFault>
         requires room { HasRoom self.old (length text.now) }
         requires empty { self.old.held ≡ [] }
-        ensures hands { Hands text.now self.old self.new out.old out.new result }
+        ensures hands { WritesThrough text.now self.old self.new out.old out.new result }
         ensures err { OnErr result (self.new ≡ self.old) }
     {
         if text.len() <= SIZE {
@@ -88,7 +88,7 @@ impl OutputBuffer {
     /// to this buffer.
     pub fn flush<W: Write>(&mut self, out: &mut Sink<W>) -> Result<(), WriteFault>
         ensures text { (start : Option (List ℕ)) (before : List ℕ) →
-            HandedOver start out.old.contents before self.old →
+            IsBuffered start out.old.contents before self.old →
             MatchResult result
             (λ _. Appends start out.new.contents before)
             (λ fault. WentOut start out.new.contents before fault.written) }

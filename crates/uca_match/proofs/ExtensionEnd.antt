@@ -3,7 +3,7 @@ use Rattle.std.proofs.Common.{◌≡◌, ◌≢◌, ℕ, suc, ◌+◌, ◌-◌, 
 use Rattle.std.proofs.Common.{⊎_elim, arith}
 use Rattle.std.proofs.lemmas.Bool.{cases_lt, cases_eq, both_ways}
 use Rattle.std.proofs.lemmas.Bool.Decides.{nat_tests}
-use Rattle.uca_text.specs.Texts.{Text, Spelled, code_points, is_starter, letters_of}
+use Rattle.uca_text.specs.Texts.{Text, NfdText, code_points, is_starter, letters_of}
 use Rattle.uca_text.specs.Limits.{IsAccepted}
 use Rattle.uca_match.specs.Rows.{Keys}
 use Rattle.uca_match.specs.Reading.{non_starters_at_front, after_non_starters}
@@ -19,7 +19,7 @@ use Rattle.uca_match.proofs.ExtensionSteps.{key_at_end, rest_at_end, between_non
 
 -- ---- The first non-starter
 
-pub behind_at_start : (s : Spelled) (place : Place) → IsPlace s place → IsBehind s place place.at place
+pub behind_at_start : (s : NfdText) (place : Place) → IsPlace s place → IsBehind s place place.at place
 behind_at_start s place here =
     record {
       begun = omega arith;
@@ -30,7 +30,7 @@ behind_at_start s place here =
       kept_beyond = λ k above below. not_true (is_gone place k) (λ gone. let before = here.gone_before k gone in omega arith);
     }
 
-pub going_at_start : {N : Type 0} (stands_for : N → List ℕ → Type 0) (keys : Keys) (s : Spelled) (place : Place) (front : Text) (node : N) →
+pub going_at_start : {N : Type 0} (stands_for : N → List ℕ → Type 0) (keys : Keys) (s : NfdText) (place : Place) (front : Text) (node : N) →
     stands_for node (code_points front) →
     IsGoing stands_for keys s place front place.at (record { node = node; next = place; highest = 0 })
 going_at_start stands_for keys s place front node stands =
@@ -45,7 +45,7 @@ going_at_start stands_for keys s place front node stands =
     }
 
 -- no run of non-starters is longer than 64
-pub near_start : (s : Spelled) (place next : Place) (i : ℕ) → IsAccepted s → IsBehind s place i next → i < length s.classes →
+pub near_start : (s : NfdText) (place next : Place) (i : ℕ) → IsAccepted s → IsBehind s place i next → i < length s.classes →
     (get_or s.classes i 0 ≡ 0 → ⊥) → i - next.run < 64
 near_start s place next i accepted behind within mark =
     ⊎_elim (λ near. near)
@@ -62,7 +62,7 @@ near_start s place next i accepted behind within mark =
 
 -- ---- The end of the non-starters
 
-module _ (s : Spelled) (place next : Place) (i : ℕ) (accepted : IsAccepted s) (here : IsPlace s place) (behind : IsBehind s place i next)
+module _ (s : NfdText) (place next : Place) (i : ℕ) (accepted : IsAccepted s) (here : IsPlace s place) (behind : IsBehind s place i next)
     (ended : i < length s.points → get_or s.classes i 0 ≡ 0) where
   past_run : i < length s.points → place.end ≤ i
   past_run within =

@@ -4,7 +4,7 @@ use Rattle.std.proofs.Common.{arith, length-drop, length-take-le, take-append-dr
 use Rattle.std.proofs.Common.{add-one}
 use Rattle.std.proofs.lemmas.Bool.{cond-true, cond-false, and_from, cases_lt}
 use Rattle.std.proofs.lemmas.List.{take_more, get_or-drop, drop-drop, get_or_read}
-use Rattle.uca_text.specs.Texts.{Letter, Text, Spelled, is_starter, letters_of, code_points}
+use Rattle.uca_text.specs.Texts.{Letter, Text, NfdText, is_starter, letters_of, code_points}
 use Rattle.uca_match.specs.Rows.{Keys}
 use Rattle.uca_match.specs.Reading.{is_taken, removed, members, others, non_starters_at_front, after_non_starters}
 use Rattle.uca_match.specs.Places.{is_gone, left_from, left_at}
@@ -60,10 +60,10 @@ rest_at_end keys key skipped t none all =
 
 -- ---- The letters that are left between two places
 
-pub between_none : (s : Spelled) (place : Place) (at : ℕ) → left_between s place at at ≡ []
+pub between_none : (s : NfdText) (place : Place) (at : ℕ) → left_between s place at at ≡ []
 between_none s place at = ap (λ n. left_from (is_gone place) at (take n (drop at (letters_of s)))) (let none : at - at ≡ 0 = omega arith in none)
 
-pub between_same : (s : Spelled) (p q : Place) (from to : ℕ) → from ≤ to → to ≤ length (letters_of s) →
+pub between_same : (s : NfdText) (p q : Place) (from to : ℕ) → from ≤ to → to ≤ length (letters_of s) →
     ((k : ℕ) → from ≤ k → k < to → is_gone p k ≡ is_gone q k) → left_between s p from to ≡ left_between s q from to
 between_same s p q from to order within same =
     let rest : Text = drop from (letters_of s) in
@@ -71,7 +71,7 @@ between_same s p q from to order within same =
     left_same (is_gone p) (is_gone q) from (take (to - from) rest) (λ k above below. same k above (omega arith))
 
 -- what is left from one place on is what is left between it and another, and then what is left from there on
-pub between_whole : (s : Spelled) (place : Place) (from to : ℕ) → from ≤ to → to ≤ length (letters_of s) →
+pub between_whole : (s : NfdText) (place : Place) (from to : ℕ) → from ≤ to → to ≤ length (letters_of s) →
     left_at s place from ≡ left_between s place from to ++ left_at s place to
 between_whole s place from to order within =
     let rest : Text = drop from (letters_of s) in
@@ -82,7 +82,7 @@ between_whole s place from to order within =
     ∙ ap (λ t. left_between s place from to ++ left_from (is_gone place) to t)
     (drop-drop (to - from) from (letters_of s) ∙ ap (λ n. drop n (letters_of s)) there)
 
-between_more : (s : Spelled) (place : Place) (from i : ℕ) → length s.classes ≡ length s.points → from ≤ i → i < length s.points →
+between_more : (s : NfdText) (place : Place) (from i : ℕ) → length s.classes ≡ length s.points → from ≤ i → i < length s.points →
     left_between s place from (suc i) ≡ left_between s place from i ++ left_from (is_gone place) i (letter_at s i ∷ [])
 between_more s place from i same order within =
     let letters_length = length-letters s.points s.classes same in
@@ -97,14 +97,14 @@ between_more s place from i same order within =
     ∙ ap (left_from (is_gone place) from) (take_more rest (i - from) (letter_at s i) inside ∙ ap (λ c. take (i - from) rest ++ c ∷ []) letter)
     ∙ left-append (is_gone place) from i (take (i - from) rest) (letter_at s i ∷ []) (omega arith)
 
-pub between_gone : (s : Spelled) (place : Place) (from i : ℕ) → length s.classes ≡ length s.points → from ≤ i → i < length s.points →
+pub between_gone : (s : NfdText) (place : Place) (from i : ℕ) → length s.classes ≡ length s.points → from ≤ i → i < length s.points →
     is_gone place i ≡ true → left_between s place from (suc i) ≡ left_between s place from i
 between_gone s place from i same order within gone =
     between_more s place from i same order within
     ∙ ap (λ rest. left_between s place from i ++ rest) (cond-true (is_gone place i) [] (letter_at s i ∷ []) gone)
     ∙ append-nil (left_between s place from i)
 
-pub between_kept : (s : Spelled) (place : Place) (from i : ℕ) → length s.classes ≡ length s.points → from ≤ i → i < length s.points →
+pub between_kept : (s : NfdText) (place : Place) (from i : ℕ) → length s.classes ≡ length s.points → from ≤ i → i < length s.points →
     is_gone place i ≡ false → left_between s place from (suc i) ≡ left_between s place from i ++ letter_at s i ∷ []
 between_kept s place from i same order within kept =
     between_more s place from i same order within
@@ -117,10 +117,10 @@ all-push p [] x = elim (p x) as (λ b. (b && true) ≡ (true && b)) [ true ↦ r
 all-push p (y ∷ xs) x =
     elim (p y) as (λ b. (b && list_all p (xs ++ x ∷ [])) ≡ ((b && list_all p xs) && p x)) [ true ↦ all-push p xs x | false ↦ refl ]
 
-starter_not : (s : Spelled) (i : ℕ) → (get_or s.classes i 0 ≡ 0 → ⊥) → is_starter (letter_at s i) ≡ false
+starter_not : (s : NfdText) (i : ℕ) → (get_or s.classes i 0 ≡ 0 → ⊥) → is_starter (letter_at s i) ≡ false
 starter_not s i mark = let apart : get_or s.classes i 0 ≢ 0 = mark in grind (arith, nat_tests)
 
-module _ {N : Type 0} (stands_for : N → List ℕ → Type 0) (keys : Keys) (s : Spelled) (place : Place) (front : Text) (i : ℕ)
+module _ {N : Type 0} (stands_for : N → List ℕ → Type 0) (keys : Keys) (s : NfdText) (place : Place) (front : Text) (i : ℕ)
     (same : length s.classes ≡ length s.points) (within : i < length s.points) where
   pub going_gone : (so_far : Extension N) → IsBehind s place i so_far.next → is_gone so_far.next i ≡ true →
       IsGoing stands_for keys s place front i so_far → IsGoing stands_for keys s place front (i + 1) so_far

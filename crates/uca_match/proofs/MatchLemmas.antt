@@ -3,7 +3,7 @@ use Rattle.std.proofs.Common.{◌≡◌, ℕ, zero, suc, ◌<◌, ◌≤◌, Lis
 use Rattle.std.proofs.Common.{◌∙◌, append-nil, ⊎_elim, arith, ◌+◌, drop, get_or, Option, Some, None, add-one, length-drop, take-append-drop}
 use Rattle.std.proofs.lemmas.Bool.{cond_both, cond-true, cond-false, cases_Bool, cases_eq, both_ways}
 use Rattle.std.specs.List.{AllByRecursion}
-use Rattle.uca_text.specs.Texts.{Letter, Text, code_points, is_starter, Spelled}
+use Rattle.uca_text.specs.Texts.{Letter, Text, code_points, is_starter, NfdText}
 use Rattle.uca_match.specs.Rows.{Keys}
 use Rattle.uca_match.specs.Reading.{is_taken, removed, members, others, longest_key, non_starters_at_front, after_non_starters, IsAtStarter}
 use Rattle.uca_match.specs.Reading.{AreNonStartersBefore}
@@ -124,7 +124,7 @@ extended_is_key keys start skipped (c ∷ marks) key =
 -- ---- The walk to the longest key at the front of what is left
 
 -- a node stands for the letters that are left between `first` and i, and `best` is the longest key among their beginnings
-pub record IsWalked {N : Type 0} (stands_for : N → List ℕ → Type 0) (keys : Keys) (s : Spelled) (place : Place) (first i : ℕ) (node : N)
+pub record IsWalked {N : Type 0} (stands_for : N → List ℕ → Type 0) (keys : Keys) (s : NfdText) (place : Place) (first i : ℕ) (node : N)
     (best : Option (Longest N)) : Type 0 where
   pub count : ℕ
   pub begun : first ≤ i
@@ -142,14 +142,14 @@ one_more t rest count c within split =
     let first : c ≡ get_or t count c = cc in
     (some, (let same : rest ≡ drop (suc count) t = cc in same), take-suc t count c some ∙ ap (λ d. take count t ++ d ∷ []) (sym first))
 
-longest_same : {N : Type 0} (stands_for : N → List ℕ → Type 0) (keys : Keys) (s : Spelled) (place : Place) (first n m : ℕ)
+longest_same : {N : Type 0} (stands_for : N → List ℕ → Type 0) (keys : Keys) (s : NfdText) (place : Place) (first n m : ℕ)
     (best : Option (Longest N)) → longest_key keys (left_at s place first) n ≡ longest_key keys (left_at s place first) m →
     IsLongest stands_for keys s place first m best → IsLongest stands_for keys s place first n best
 longest_same stands_for keys s place first n m None same h = same ∙ h
 longest_same stands_for keys s place first n m (Some key) same h =
     record { count = h.count; longest = same ∙ h.longest; stands = h.stands; left = h.left; onward = h.onward; within = h.within }
 
-module _ {N : Type 0} (stands_for : N → List ℕ → Type 0) (keys : Keys) (s : Spelled) (place : Place) (first : ℕ) where
+module _ {N : Type 0} (stands_for : N → List ℕ → Type 0) (keys : Keys) (s : NfdText) (place : Place) (first : ℕ) where
   pub walked_at_start : (root : N) → stands_for root [] → IsWalked stands_for keys s place first first root None
   walked_at_start root stands =
       record { count = 0; begun = omega arith; passed = omega arith; left = refl; node_is = stands; best_is = refl }

@@ -4,7 +4,7 @@ use Rattle.std.proofs.Common.{◌∙◌, arith, ◌≢◌, ◌-◌, ◌*◌, ◌
 use Rattle.std.proofs.lemmas.Bool.{cond_both, cond-true, cond-false, cases_lt}
 use Rattle.std.proofs.lemmas.List.{drop_all}
 use Rattle.std.proofs.Math.Seq.{drop-cons}
-use Rattle.uca_text.specs.Texts.{Letter, Text, Spelled, letters, letters_of}
+use Rattle.uca_text.specs.Texts.{Letter, Text, NfdText, letters, letters_of}
 use Rattle.uca_match.specs.Places.{is_gone, left_from, left_at, left_of, IsPlace}
 use Rattle.uca_match.specs.declared.places.Place.{Place}
 use Rattle.std.proofs.lemmas.Bool.Decides.{nat_tests}
@@ -22,7 +22,7 @@ length-letters (c ∷ points) [] same = absurd (omega arith)
 length-letters (c ∷ points) (k ∷ classes) same = ap suc (length-letters points classes (omega arith))
 
 -- the letter at a place
-abbrev pub letter_at : Spelled → ℕ → Letter
+abbrev pub letter_at : NfdText → ℕ → Letter
 letter_at s i = record { code = get_or s.points i 0; class = get_or s.classes i 0 }
 
 letters_at : (points classes : List ℕ) (i : ℕ) (d : Letter) → length classes ≡ length points → i < length points →
@@ -32,18 +32,18 @@ letters_at (c ∷ points) [] i d same within = absurd (omega arith)
 letters_at (c ∷ points) (k ∷ classes) zero d same within = refl
 letters_at (c ∷ points) (k ∷ classes) (suc i) d same within = letters_at points classes i d (omega arith) (omega arith)
 
-pub letters_here : (s : Spelled) (i : ℕ) → length s.classes ≡ length s.points → i < length s.points →
+pub letters_here : (s : NfdText) (i : ℕ) → length s.classes ≡ length s.points → i < length s.points →
     get_or (letters_of s) i (letter_at s i) ≡ letter_at s i
 letters_here s i same within = letters_at s.points s.classes i (letter_at s i) same within
 
-pub letters_more : (s : Spelled) (i : ℕ) → length s.classes ≡ length s.points → i < length s.points →
+pub letters_more : (s : NfdText) (i : ℕ) → length s.classes ≡ length s.points → i < length s.points →
     drop i (letters_of s) ≡ letter_at s i ∷ drop (suc i) (letters_of s)
 letters_more s i same within =
     let there : i < length (letters_of s) = omega (arith, length-letters s.points s.classes same) in
     drop-cons (letters_of s) i (letter_at s i) there
     ∙ ap (λ c. c ∷ drop (suc i) (letters_of s)) (letters_at s.points s.classes i (letter_at s i) same within)
 
-pub letters_end : (s : Spelled) (i : ℕ) → length s.classes ≡ length s.points → length s.points ≤ i → drop i (letters_of s) ≡ []
+pub letters_end : (s : NfdText) (i : ℕ) → length s.classes ≡ length s.points → length s.points ≤ i → drop i (letters_of s) ≡ []
 letters_end s i same past = drop_all i (letters_of s) (omega (arith, length-letters s.points s.classes same))
 
 -- ---- What is left
@@ -63,22 +63,22 @@ left-append g i k (c ∷ s) t e =
     (λ kept. ap (λ all. c ∷ all) more ∙ ap (λ front. front ++ left_from g k t)
     (sym (cond-false (g i) (left_from g (suc i) s) (c ∷ left_from g (suc i) s) kept)))
 
-pub left_gone : (s : Spelled) (place : Place) (i : ℕ) → length s.classes ≡ length s.points → i < length s.points → is_gone place i ≡ true →
+pub left_gone : (s : NfdText) (place : Place) (i : ℕ) → length s.classes ≡ length s.points → i < length s.points → is_gone place i ≡ true →
     left_at s place i ≡ left_at s place (suc i)
 left_gone s place i same within gone =
     ap (left_from (is_gone place) i) (letters_more s i same within)
     ∙ cond-true (is_gone place i) (left_at s place (suc i)) (letter_at s i ∷ left_at s place (suc i)) gone
 
-pub left_kept : (s : Spelled) (place : Place) (i : ℕ) → length s.classes ≡ length s.points → i < length s.points → is_gone place i ≡ false →
+pub left_kept : (s : NfdText) (place : Place) (i : ℕ) → length s.classes ≡ length s.points → i < length s.points → is_gone place i ≡ false →
     left_at s place i ≡ letter_at s i ∷ left_at s place (suc i)
 left_kept s place i same within kept =
     ap (left_from (is_gone place) i) (letters_more s i same within)
     ∙ cond-false (is_gone place i) (left_at s place (suc i)) (letter_at s i ∷ left_at s place (suc i)) kept
 
-pub left_end : (s : Spelled) (place : Place) (i : ℕ) → length s.classes ≡ length s.points → length s.points ≤ i → left_at s place i ≡ []
+pub left_end : (s : NfdText) (place : Place) (i : ℕ) → length s.classes ≡ length s.points → length s.points ≤ i → left_at s place i ≡ []
 left_end s place i same past = ap (left_from (is_gone place) i) (letters_end s i same past)
 
-pub left_beyond : (s : Spelled) (p q : Place) (i : ℕ) → ((k : ℕ) → i ≤ k → is_gone p k ≡ is_gone q k) → left_at s p i ≡ left_at s q i
+pub left_beyond : (s : NfdText) (p q : Place) (i : ℕ) → ((k : ℕ) → i ≤ k → is_gone p k ≡ is_gone q k) → left_at s p i ≡ left_at s q i
 left_beyond s p q i same = left_same (is_gone p) (is_gone q) i (drop i (letters_of s)) (λ k above below. same k above)
 
 pub all_left : (g : ℕ → Bool) → ((k : ℕ) → g k ≡ false) → (i : ℕ) (t : Text) → left_from g i t ≡ t
@@ -136,12 +136,12 @@ not_true true h = absurd (h refl)
 not_true false h = refl
 
 -- after its run a place may as well begin a new one
-pub left_anew : (s : Spelled) (place new : Place) (at : ℕ) → IsPlace s place → place.end ≤ at → new.removed ≡ 0 → left_at s new at ≡ left_at s place at
+pub left_anew : (s : NfdText) (place new : Place) (at : ℕ) → IsPlace s place → place.end ≤ at → new.removed ≡ 0 → left_at s new at ≡ left_at s place at
 left_anew s place new at here past none =
     left_beyond s new place at (λ k behind. none_gone new k none
     ∙ sym (not_true (is_gone place k) (λ gone. let before = here.gone_before k gone in omega arith)))
 
 -- from the beginning of a text, nothing is gone
-pub left_of_start : (s : Spelled) → left_of s (record { at = 0; run = 0; end = 0; removed = 0 }) ≡ letters_of s
+pub left_of_start : (s : NfdText) → left_of s (record { at = 0; run = 0; end = 0; removed = 0 }) ≡ letters_of s
 left_of_start s = all_left (is_gone (record { at = 0; run = 0; end = 0; removed = 0 }))
     (λ i. none_gone (record { at = 0; run = 0; end = 0; removed = 0 }) i refl) 0 (letters_of s)

@@ -4,7 +4,7 @@ use Rattle.std.proofs.Common.{subst, ◌∙◌, arith, add-one}
 use Rattle.std.specs.List.{flat_map}
 use Rattle.std.specs.Borrow.{Bor}
 use Rattle.uca_weights.specs.declared.Element.{Element}
-use Rattle.uca_text.specs.Texts.{Letter, Text, Spelled}
+use Rattle.uca_text.specs.Texts.{Letter, Text, NfdText}
 use Rattle.uca_values.specs.Implicit.{implicit}
 use Rattle.uca_values.proofs.ImplicitPairs.{of_pair}
 use Rattle.uca_match.specs.Rows.{Keys, is_key}
@@ -20,7 +20,7 @@ use Rattle.uca_match.specs.declared.matches.Match.TheVariants.{Key, Unlisted}
 use Rattle.uca_match.proofs.ReadingLemmas.{portion_parts, parts_of_none, parts_of_longest}
 use Rattle.uca_match.proofs.PlaceLemmas.{letter_at, left_kept}
 
-module _ {N : Type 0} (stands_for : N → List ℕ → Type 0) (keys : Keys) (s : Spelled) (place : Place) (first : ℕ) (behind : place.at ≤ first)
+module _ {N : Type 0} (stands_for : N → List ℕ → Type 0) (keys : Keys) (s : NfdText) (place : Place) (first : ℕ) (behind : place.at ≤ first)
     (same_left : left_at s place first ≡ left_of s place) where
   -- a code point that no key begins with
   pub portion_unlisted : (next : Place) (point : ℕ) → length s.classes ≡ length s.points → first < length s.points → is_gone place first ≡ false →
@@ -63,7 +63,7 @@ module _ {N : Type 0} (stands_for : N → List ℕ → Type 0) (keys : Keys) (s 
         onward = omega (arith, extended.at, longest.onward);
       }
 
-module _ {N : Type 0} (stands_for : N → List ℕ → Type 0) (by : Collation) (s : Spelled) (place : Place) (portion : Portion N)
+module _ {N : Type 0} (stands_for : N → List ℕ → Type 0) (by : Collation) (s : NfdText) (place : Place) (portion : Portion N)
     (is : IsPortion stands_for (is_key by.rows) s place portion) (before : List Element) (none : before ≡ []) where
   -- what a text reads as
   abbrev read_by : Text → List Element

@@ -3,7 +3,7 @@ use Rattle.std.specs.Prelude.{List}
 use Rattle.uca_weights.specs.declared.Element.{Element}
 use Rattle.uca_values.specs.declared.ImplicitRange.{ImplicitRange}
 use Rattle.uca_values.specs.Content.{Properties, properties_of}
-use Rattle.uca_text.specs.Texts.{Spelled, letters_of}
+use Rattle.uca_text.specs.Texts.{NfdText, letters_of}
 use Rattle.uca_match.specs.Rows.{Rows}
 use Rattle.uca_match.specs.Reading.{collation_elements}
 use Rattle.uca_match.specs.declared.collator.Collator.{Collator}
@@ -19,5 +19,5 @@ abbrev pub collation_of : {L N A : Type 0} → (L → Rows) → Collator L N A �
 collation_of content c = record { rows = content c.lookup.now; ranges = c.header.now.ranges; properties = properties_of c.data.now }
 
 -- the collation elements of a text
-abbrev pub elements_of : Collation → Spelled → List Element
+abbrev pub elements_of : Collation → NfdText → List Element
 elements_of c text = collation_elements c.rows c.ranges c.properties (letters_of text)

@@ -2,7 +2,7 @@
 -- Only clauses inside this crate cite this file.
 use Rattle.std.specs.Prelude.{◌≡◌, ℕ, ◌-◌, ◌<◌, ◌≤◌, List, [], ◌++◌, false, length, take, drop, nat_lt, slice_index}
 use Rattle.std.specs.List.{list_all}
-use Rattle.uca_text.specs.Texts.{Text, Spelled, code_points, letters_of}
+use Rattle.uca_text.specs.Texts.{Text, NfdText, code_points, letters_of}
 use Rattle.uca_match.specs.Rows.{Keys}
 use Rattle.uca_match.specs.Reading.{removed, members, others, non_starters_at_front, after_non_starters}
 use Rattle.uca_match.specs.Places.{is_gone, left_from, left_at, left_of}
@@ -18,11 +18,11 @@ extended_rest keys key skipped t = (skipped ++ others (removed keys key skipped 
     ++ after_non_starters t
 
 -- the letters that are left between two places
-abbrev pub left_between : Spelled → Place → ℕ → ℕ → Text
+abbrev pub left_between : NfdText → Place → ℕ → ℕ → Text
 left_between s place from to = left_from (is_gone place) from (take (to - from) (drop from (letters_of s)))
 
 -- the non-starters from a place up to i have been gone through, and some of them may be gone since
-pub record IsBehind (s : Spelled) (place : Place) (i : ℕ) (next : Place) : Type 0 where
+pub record IsBehind (s : NfdText) (place : Place) (i : ℕ) (next : Place) : Type 0 where
   pub begun : place.at ≤ i
   pub within : i ≤ length s.points
   pub at : next.at ≡ place.at
@@ -31,7 +31,7 @@ pub record IsBehind (s : Spelled) (place : Place) (i : ℕ) (next : Place) : Typ
   pub kept_beyond : (k : ℕ) → place.end ≤ k → i ≤ k → is_gone next k ≡ false
 
 -- the key and the skipped non-starters so far become what the key before all non-starters becomes
-pub record IsGoing {N : Type 0} (stands_for : N → List ℕ → Type 0) (keys : Keys) (s : Spelled) (place : Place) (front : Text) (i : ℕ)
+pub record IsGoing {N : Type 0} (stands_for : N → List ℕ → Type 0) (keys : Keys) (s : NfdText) (place : Place) (front : Text) (i : ℕ)
     (so_far : Extension N) : Type 0 where
   pub key : Text
   pub skipped : Text

@@ -1,7 +1,7 @@
 -- What is found of keys in what is left of a text.
 -- Only clauses inside this crate cite this file.
 use Rattle.std.specs.Prelude.{◌≡◌, ℕ, suc, ◌<◌, ◌≤◌, List, ◌∷◌, true, Option, Some, None, drop, take, length}
-use Rattle.uca_text.specs.Texts.{Text, Spelled, code_points}
+use Rattle.uca_text.specs.Texts.{Text, NfdText, code_points}
 use Rattle.uca_match.specs.Rows.{Keys}
 use Rattle.uca_match.specs.Parts.{Part, Row, Implicit}
 use Rattle.uca_match.specs.Reading.{longest_key, row_portion, parts}
@@ -17,11 +17,11 @@ pub record IsFound {N : Type 0} (stands_for : N → List ℕ → Type 0) (keys :
   pub stands : stands_for node key
   pub is_key : keys key ≡ true
 
-abbrev pub len_left : Spelled → Place → ℕ → ℕ
+abbrev pub len_left : NfdText → Place → ℕ → ℕ
 len_left s place first = length (left_at s place first)
 
 -- the longest key of at most n letters at the front of what is left from `first` on, and the place after it
-pub record IsLongestKey {N : Type 0} (stands_for : N → List ℕ → Type 0) (keys : Keys) (s : Spelled) (place : Place) (first n : ℕ) (key : Longest N) :
+pub record IsLongestKey {N : Type 0} (stands_for : N → List ℕ → Type 0) (keys : Keys) (s : NfdText) (place : Place) (first n : ℕ) (key : Longest N) :
     Type 0 where
   pub count : ℕ
   pub longest : longest_key keys (left_at s place first) n ≡ suc count
@@ -30,7 +30,7 @@ pub record IsLongestKey {N : Type 0} (stands_for : N → List ℕ → Type 0) (k
   pub onward : first < key.behind
   pub within : key.behind ≤ length s.points
 
-abbrev pub IsLongest : {N : Type 0} → (N → List ℕ → Type 0) → Keys → Spelled → Place → ℕ → ℕ → Option (Longest N) → Type 0
+abbrev pub IsLongest : {N : Type 0} → (N → List ℕ → Type 0) → Keys → NfdText → Place → ℕ → ℕ → Option (Longest N) → Type 0
 IsLongest stands_for keys s place first n None = longest_key keys (left_at s place first) n ≡ 0
 IsLongest stands_for keys s place first n (Some key) = IsLongestKey stands_for keys s place first n key
 
@@ -40,7 +40,7 @@ IsGiven stands_for part (Key node) = (key : List ℕ) × (part ≡ Row key) × s
 IsGiven stands_for part (Unlisted c) = part ≡ Implicit c
 
 -- what a key becomes, after which the text goes on at a place
-pub record IsExtended {N : Type 0} (stands_for : N → List ℕ → Type 0) (keys : Keys) (s : Spelled) (front : Text) (place : Place) (portion : Portion N) :
+pub record IsExtended {N : Type 0} (stands_for : N → List ℕ → Type 0) (keys : Keys) (s : NfdText) (front : Text) (place : Place) (portion : Portion N) :
     Type 0 where
   pub given : IsGiven stands_for (row_portion keys front (left_of s place)).part portion.given
   pub left : left_of s portion.next ≡ (row_portion keys front (left_of s place)).rest
@@ -48,7 +48,7 @@ pub record IsExtended {N : Type 0} (stands_for : N → List ℕ → Type 0) (key
   pub at : portion.next.at ≡ place.at
 
 -- what is left from a place on is matched as what is given, and then as what is left from the next place on
-pub record IsPortion {N : Type 0} (stands_for : N → List ℕ → Type 0) (keys : Keys) (s : Spelled) (place : Place) (portion : Portion N) : Type 0 where
+pub record IsPortion {N : Type 0} (stands_for : N → List ℕ → Type 0) (keys : Keys) (s : NfdText) (place : Place) (portion : Portion N) : Type 0 where
   pub part : Part
   pub matched : parts keys (left_of s place) ≡ part ∷ parts keys (left_of s portion.next)
   pub given : IsGiven stands_for part portion.given

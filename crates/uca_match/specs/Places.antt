@@ -2,7 +2,7 @@
 -- Only clauses inside this crate cite this file.
 use Rattle.std.specs.Prelude.{◌≡◌, ℕ, suc, ◌-◌, ◌<◌, ◌≤◌, [], ◌∷◌, Bool, true, ◌&&◌, nat_le, nat_eq, if◌then◌else◌, drop, length, slice_index}
 use Rattle.std.specs.Int.{bit_at}
-use Rattle.uca_text.specs.Texts.{Text, Spelled, letters_of}
+use Rattle.uca_text.specs.Texts.{Text, NfdText, letters_of}
 use Rattle.uca_match.specs.declared.places.Place.{Place}
 
 -- whether the letter at i has been removed
@@ -15,16 +15,16 @@ left_from gone i [] = []
 left_from gone i (c ∷ t) = if gone i then left_from gone (suc i) t else c ∷ left_from gone (suc i) t
 
 -- what is left of a text from i on
-abbrev pub left_at : Spelled → Place → ℕ → Text
+abbrev pub left_at : NfdText → Place → ℕ → Text
 left_at s place i = left_from (is_gone place) i (drop i (letters_of s))
 
 -- what is left of a text from a place on
-abbrev pub left_of : Spelled → Place → Text
+abbrev pub left_of : NfdText → Place → Text
 left_of s place = left_at s place place.at
 
 -- A place stands in a text: non-starters stand from `run` up to `end`, what is gone is among them, and `at` is there or
 -- right after them.
-pub record IsPlace (s : Spelled) (place : Place) : Type 0 where
+pub record IsPlace (s : NfdText) (place : Place) : Type 0 where
   pub begun : place.run ≤ place.at
   pub reached : place.at ≤ place.end
   pub within : place.end ≤ length s.points

@@ -10,7 +10,7 @@ use Rattle.uca_weights.specs.declared.Level.TheVariants.{One, Two, Three}
 use Rattle.uca_plans.specs.declared.drafts.DraftWeight.{DraftWeight}
 use Rattle.uca_plans.specs.declared.drafts.DraftWeight.TheVariants.{Base, New}
 use Rattle.uca_plans.specs.declared.drafts.DraftElement.{DraftElement}
-use Rattle.uca_plans.specs.Drafts.{is_zero, draft_weight, is_silent, AnchorPart, behind_front, anchor_part, is_high, is_continuation, is_refused}
+use Rattle.uca_plans.specs.Drafts.{is_zero, draft_weight, is_ignorable_to, AnchorPart, behind_front, anchor_part, is_implicit_primary, is_continuation, takes_no_weight}
 use Rattle.uca_plans.specs.Drafts.{accepted_part, reset, reweighted}
 use Rattle.uca_plans.specs.Plans.{Drafted, placed_behind, placed_if_accepted, drafted_at}
 
@@ -38,7 +38,7 @@ zero_or_not (Base w) = elim (cases_eq w 0) [
 zero_or_not (New n) = inr (refl, λ e. cc)
 
 -- the test of a weight from 8000 up
-pub high_tested : (w : DraftWeight) → is_high w ≡ false → IsHigh w → ⊥
+pub high_tested : (w : DraftWeight) → is_implicit_primary w ≡ false → IsHigh w → ⊥
 high_tested (Base w) tested high = grind (arith, nat_tests)
 high_tested (New n) tested high = high
 
@@ -63,30 +63,30 @@ continuation_tested e tested is = elim (zero_or_not e.primary) [
 abbrev pub HasDraftGap : DraftElement → Type 0
 HasDraftGap e = ((IsZero e.primary → ⊥) × IsZero e.secondary) ⊎ ((IsZero e.secondary → ⊥) × IsZero e.tertiary)
 
--- no weight up to the level is silent
-pub silent_one : (e : DraftElement) → IsZero e.primary → is_silent One e ≡ true
-silent_one e none = elim (zero_or_not e.primary) [ inl is ↦ is.0 | inr not ↦ absurd (not.1 none) ]
+-- no weight up to the level is ignorable
+pub ignorable_one : (e : DraftElement) → IsZero e.primary → is_ignorable_to One e ≡ true
+ignorable_one e none = elim (zero_or_not e.primary) [ inl is ↦ is.0 | inr not ↦ absurd (not.1 none) ]
 
-pub silent_two : (e : DraftElement) → IsZero e.primary → IsZero e.secondary → is_silent Two e ≡ true
-silent_two e first second = elim (zero_or_not e.secondary) [ inl is ↦ rw (silent_one e first, is.0) refl | inr not ↦ absurd (not.1 second) ]
+pub ignorable_two : (e : DraftElement) → IsZero e.primary → IsZero e.secondary → is_ignorable_to Two e ≡ true
+ignorable_two e first second = elim (zero_or_not e.secondary) [ inl is ↦ rw (ignorable_one e first, is.0) refl | inr not ↦ absurd (not.1 second) ]
 
-pub silent_three : (e : DraftElement) → IsZero e.primary → IsZero e.secondary → IsZero e.tertiary → is_silent Three e ≡ true
-silent_three e first second third = elim (zero_or_not e.secondary) [
-  | inl is ↦ elim (zero_or_not e.tertiary) [ inl also ↦ rw (silent_one e first, is.0, also.0) refl | inr not ↦ absurd (not.1 third) ]
+pub ignorable_three : (e : DraftElement) → IsZero e.primary → IsZero e.secondary → IsZero e.tertiary → is_ignorable_to Three e ≡ true
+ignorable_three e first second third = elim (zero_or_not e.secondary) [
+  | inl is ↦ elim (zero_or_not e.tertiary) [ inl also ↦ rw (ignorable_one e first, is.0, also.0) refl | inr not ↦ absurd (not.1 third) ]
   | inr not ↦ absurd (not.1 second)
 ]
 
--- an element that is not silent at a level, and has no gap, has a weight there
-pub sounding : (level : Level) (e : DraftElement) → is_silent level e ≡ false → (HasDraftGap e → ⊥) → IsZero (draft_weight level e) → ⊥
-sounding One e tested whole none = let silent : is_zero e.primary ≡ true = silent_one e none in cc
+-- an element that is not ignorable at a level, and has no gap, has a weight there
+pub sounding : (level : Level) (e : DraftElement) → is_ignorable_to level e ≡ false → (HasDraftGap e → ⊥) → IsZero (draft_weight level e) → ⊥
+sounding One e tested whole none = let ignorable : is_zero e.primary ≡ true = ignorable_one e none in cc
 sounding Two e tested whole none = elim (zero_or_not e.primary) [
-  | inl first ↦ let silent = silent_two e first.1 none in cc
+  | inl first ↦ let ignorable = ignorable_two e first.1 none in cc
   | inr first ↦ whole (inl (first.1, none))
 ]
 sounding Three e tested whole none = elim (zero_or_not e.secondary) [
   | inr second ↦ whole (inr (second.1, none))
   | inl second ↦ elim (zero_or_not e.primary) [
-    | inl first ↦ let silent = silent_three e first.1 second.1 none in cc
+    | inl first ↦ let ignorable = ignorable_three e first.1 second.1 none in cc
     | inr first ↦ whole (inl (first.1, second.1))
   ]
 ]
@@ -118,40 +118,40 @@ reweighted_whole Three n e whole some (inr gap) = new_not_zero n gap.1
 -- ---- Refused elements
 
 -- an accepted element is no continuation
-pub accepted_no_continuation : (level : Level) (e : DraftElement) → is_refused level e ≡ false → IsDraftContinuation e → ⊥
-accepted_no_continuation One e tested = continuation_tested e (or_parts (is_continuation e) (is_high e.primary) tested).0
+pub accepted_no_continuation : (level : Level) (e : DraftElement) → takes_no_weight level e ≡ false → IsDraftContinuation e → ⊥
+accepted_no_continuation One e tested = continuation_tested e (or_parts (is_continuation e) (is_implicit_primary e.primary) tested).0
 accepted_no_continuation Two e tested = continuation_tested e tested
 accepted_no_continuation Three e tested = continuation_tested e tested
 
 -- at level 1 an accepted element's primary is below 8000
-pub accepted_low : (e : DraftElement) → is_refused One e ≡ false → IsHigh e.primary → ⊥
-accepted_low e tested = high_tested e.primary (or_parts (is_continuation e) (is_high e.primary) tested).1
+pub accepted_low : (e : DraftElement) → takes_no_weight One e ≡ false → IsHigh e.primary → ⊥
+accepted_low e tested = high_tested e.primary (or_parts (is_continuation e) (is_implicit_primary e.primary) tested).1
 
 -- ---- An anchor's part
 
--- an anchor's elements: its part, and silent ones behind it
+-- an anchor's elements: its part, and ignorable ones behind it
 pub record IsAnchorPart (level : Level) (es : List DraftElement) (part : AnchorPart) : Type 0 where
   pub trailing : List DraftElement
   pub split : es ≡ part.front ++ part.last ∷ trailing
-  pub sounds : is_silent level part.last ≡ false
-  pub silent : AllByRecursion (λ e. is_silent level e ≡ true) trailing
+  pub not_ignorable : is_ignorable_to level part.last ≡ false
+  pub ignorable : AllByRecursion (λ e. is_ignorable_to level e ≡ true) trailing
 
--- where there is no part all elements are silent
-none_sounds : (level : Level) (es : List DraftElement) → anchor_part level es ≡ None → AllByRecursion (λ e. is_silent level e ≡ true) es
+-- where there is no part all elements are ignorable
+none_sounds : (level : Level) (es : List DraftElement) → anchor_part level es ≡ None → AllByRecursion (λ e. is_ignorable_to level e ≡ true) es
 none_sounds level [] none = tt
 none_sounds level (e ∷ es) none = go (anchor_part level es) (none_sounds level es) refl none
   where
-    -- by whether the element is silent
-    by_test : (b : Bool) → is_silent level e ≡ b
-        → (let alone : AnchorPart = record { front = []; last = e } in (if b then None else Some alone) ≡ None) → is_silent level e ≡ true
-    by_test true silent chosen = silent
-    by_test false sounds chosen = absurd (cc)
+    -- by whether the element is ignorable
+    by_test : (b : Bool) → is_ignorable_to level e ≡ b
+        → (let alone : AnchorPart = record { front = []; last = e } in (if b then None else Some alone) ≡ None) → is_ignorable_to level e ≡ true
+    by_test true ignorable chosen = ignorable
+    by_test false not_ignorable chosen = absurd (cc)
 
     -- by the part of the rest
-    go : (rest : Option AnchorPart) → (anchor_part level es ≡ None → AllByRecursion (λ f. is_silent level f ≡ true) es) → anchor_part level es ≡ rest
-        → behind_front level e rest ≡ None → AllByRecursion (λ f. is_silent level f ≡ true) (e ∷ es)
+    go : (rest : Option AnchorPart) → (anchor_part level es ≡ None → AllByRecursion (λ f. is_ignorable_to level f ≡ true) es) → anchor_part level es ≡ rest
+        → behind_front level e rest ≡ None → AllByRecursion (λ f. is_ignorable_to level f ≡ true) (e ∷ es)
     go (Some p) more is joined = absurd (cc)
-    go None more is joined = (by_test (is_silent level e) refl joined, more is)
+    go None more is joined = (by_test (is_ignorable_to level e) refl joined, more is)
 
 -- the part that is found is so
 pub part_is : (level : Level) (es : List DraftElement) (part : AnchorPart) → anchor_part level es ≡ Some part → IsAnchorPart level es part
@@ -165,36 +165,36 @@ part_is level (e ∷ es) part found = go (anchor_part level es) refl (λ p. part
         let inner = more p is in
         let same : record { front = e ∷ p.front; last = p.last } ≡ part = cc in
         subst (IsAnchorPart level (e ∷ es)) same
-        (record { trailing = inner.trailing; split = ap (λ xs. e ∷ xs) inner.split; sounds = inner.sounds; silent = inner.silent })
-    go None is more joined = by_test (is_silent level e) refl joined
+        (record { trailing = inner.trailing; split = ap (λ xs. e ∷ xs) inner.split; not_ignorable = inner.not_ignorable; ignorable = inner.ignorable })
+    go None is more joined = by_test (is_ignorable_to level e) refl joined
       where
-        -- by whether the element is silent
-        by_test : (b : Bool) → is_silent level e ≡ b → (if b then None else Some (record { front = []; last = e })) ≡ Some part
+        -- by whether the element is ignorable
+        by_test : (b : Bool) → is_ignorable_to level e ≡ b → (if b then None else Some (record { front = []; last = e })) ≡ Some part
             → IsAnchorPart level (e ∷ es) part
-        by_test true silent chosen = absurd (cc)
-        by_test false sounds chosen =
+        by_test true ignorable chosen = absurd (cc)
+        by_test false not_ignorable chosen =
             let alone : AnchorPart = record { front = []; last = e } in
             let same : alone ≡ part = cc in
-            subst (IsAnchorPart level (e ∷ es)) same (record { trailing = es; split = refl; sounds = sounds; silent = none_sounds level es is })
+            subst (IsAnchorPart level (e ∷ es)) same (record { trailing = es; split = refl; not_ignorable = not_ignorable; ignorable = none_sounds level es is })
 
 -- what is drafted at a level: an accepted part with the new weight, and the expansion
 pub record IsPlacedDraft (level : Level) (before : Bool) (n : ℕ) (anchor expansion : List DraftElement) (new : Drafted) : Type 0 where
   pub part : AnchorPart
   pub found : IsAnchorPart level anchor part
-  pub accepted : is_refused level part.last ≡ false
+  pub accepted : takes_no_weight level part.last ≡ false
   pub is : new ≡ placed_behind level before (New n) part expansion
 
 -- the part that is accepted
 pub accepted_is : (level : Level) (found : Option AnchorPart) (part : AnchorPart) → accepted_part level found ≡ Some part
-    → (found ≡ Some part) × (is_refused level part.last ≡ false)
+    → (found ≡ Some part) × (takes_no_weight level part.last ≡ false)
 accepted_is level None part accepted = absurd (cc)
-accepted_is level (Some p) part accepted = by_test (is_refused level p.last) refl accepted
+accepted_is level (Some p) part accepted = by_test (takes_no_weight level p.last) refl accepted
   where
     -- by whether it is refused
-    by_test : (b : Bool) → is_refused level p.last ≡ b → (if b then None else Some p) ≡ Some part
-        → (Some p ≡ Some part) × (is_refused level part.last ≡ false)
+    by_test : (b : Bool) → takes_no_weight level p.last ≡ b → (if b then None else Some p) ≡ Some part
+        → (Some p ≡ Some part) × (takes_no_weight level part.last ≡ false)
     by_test true refused chosen = absurd (cc)
-    by_test false is chosen = let same : p ≡ part = cc in (chosen, subst (λ q. is_refused level q.last ≡ false) same is)
+    by_test false is chosen = let same : p ≡ part = cc in (chosen, subst (λ q. takes_no_weight level q.last ≡ false) same is)
 
 -- what is drafted at a level is so
 pub placed_is : (level : Level) (before : Bool) (n : ℕ) (anchor expansion : List DraftElement) (new : Drafted)

@@ -5,7 +5,7 @@ use Rattle.std.specs.List.{AllByRecursion, flat_map}
 use Rattle.uca_values.specs.declared.ImplicitRange.{ImplicitRange}
 use Rattle.uca_values.specs.Content.{Properties}
 use Rattle.uca_values.specs.Implicit.{implicit}
-use Rattle.uca_text.specs.Texts.{Spelled, code_points, letters, letters_of}
+use Rattle.uca_text.specs.Texts.{NfdText, code_points, letters, letters_of}
 use Rattle.uca_match.specs.Rows.{same_key}
 use Rattle.uca_match.specs.Parts.{Part, Row, Implicit, IsPartOf}
 use Rattle.uca_match.specs.Reading.{parts}
@@ -32,7 +32,7 @@ module _ (P : List DraftElement → Type 0) (none : P []) (append : (es fs : Lis
       go false rest = rest
 
   -- so it holds of the draft elements of a text
-  pub read_each : (ranges : List ImplicitRange) (properties : Properties) (rows : List DraftRow) (text : Spelled)
+  pub read_each : (ranges : List ImplicitRange) (properties : Properties) (rows : List DraftRow) (text : NfdText)
       → AllByRecursion (λ row. P row.elements) rows
       → AllByRecursion (λ c. P (map (as_draft true) (implicit ranges properties c))) text.points
       → P (draft_elements ranges properties rows text)

@@ -8,7 +8,7 @@ use Rattle.uca_weights.specs.declared.Element.{Element}
 use Rattle.uca_values.specs.declared.ImplicitRange.{ImplicitRange}
 use Rattle.uca_values.specs.Content.{Properties}
 use Rattle.uca_values.specs.Implicit.{implicit}
-use Rattle.uca_text.specs.Texts.{Spelled, code_points, letters, letters_of}
+use Rattle.uca_text.specs.Texts.{NfdText, code_points, letters, letters_of}
 use Rattle.uca_text.specs.Occurring.{OccursInOrder}
 use Rattle.uca_text.proofs.Occurring.{occurs_trans}
 use Rattle.uca_match.specs.Rows.{rows_of, is_key, same_key}
@@ -29,7 +29,7 @@ points_of_letters (c ∷ points) [] same = absurd (omega arith)
 points_of_letters (c ∷ points) (k ∷ classes) same = ap (λ rest. c ∷ rest) (points_of_letters points classes (omega arith))
 
 -- a text has the code points that it is spelled by
-pub points_of : (text : Spelled) → length text.classes ≡ length text.points → code_points (letters_of text) ≡ text.points
+pub points_of : (text : NfdText) → length text.classes ≡ length text.points → code_points (letters_of text) ≡ text.points
 points_of text same = points_of_letters text.points text.classes same
 
 letters_occur : (points classes : List ℕ) → OccursInOrder (code_points (letters points classes)) points
@@ -38,11 +38,11 @@ letters_occur (c ∷ points) [] = tt
 letters_occur (c ∷ points) (k ∷ classes) = inl (refl, letters_occur points classes)
 
 -- what occurs in order in the letters of a text occurs in it
-pub occurs_in_text : (key : List ℕ) (text : Spelled) → OccursInOrder key (code_points (letters_of text)) → OccursInOrder key text.points
+pub occurs_in_text : (key : List ℕ) (text : NfdText) → OccursInOrder key (code_points (letters_of text)) → OccursInOrder key text.points
 occurs_in_text key text h = occurs_trans key (code_points (letters_of text)) text.points h (letters_occur text.points text.classes)
 
 -- a text with code points has letters
-pub letters_some : (text : Spelled) → length text.classes ≡ length text.points → text.points ≢ [] → letters_of text ≢ []
+pub letters_some : (text : NfdText) → length text.classes ≡ length text.points → text.points ≢ [] → letters_of text ≢ []
 letters_some text same some none = some (sym (points_of text same) ∙ ap code_points none)
 
 -- ---- By what occurs

@@ -8,17 +8,17 @@ use Rattle.uca_weights.specs.Levels.{weight}
 use Rattle.uca_values.specs.Content.{TableContent, Properties}
 use Rattle.uca_rules.specs.declared.relations.Relation.{Relation}
 use Rattle.uca_tailorings.specs.Placing as placing
-use Rattle.uca_tailorings.specs.Placing.{IsSilent, IsLow}
+use Rattle.uca_tailorings.specs.Placing.{IsIgnorableTo, IsLow}
 use Rattle.uca_tailorings.proofs.Sound.{reset_some}
 use Rattle.uca_plans.specs.declared.drafts.DraftWeight.{DraftWeight}
 use Rattle.uca_plans.specs.declared.drafts.DraftWeight.TheVariants.{Base, New}
 use Rattle.uca_plans.specs.declared.drafts.DraftElement.{DraftElement}
-use Rattle.uca_plans.specs.Drafts.{is_zero, is_silent, draft_weight, reset, reweighted}
+use Rattle.uca_plans.specs.Drafts.{is_zero, is_ignorable_to, draft_weight, reset, reweighted}
 use Rattle.uca_plans.specs.Lists.{fixed_weight}
 use Rattle.uca_plans.specs.ListLaws.{IsAmong}
 use Rattle.uca_plans.specs.Plans.{Plan}
 use Rattle.uca_plans.proofs.RisingNumbers.{both_true}
-use Rattle.uca_plans.proofs.DraftKinds.{IsZero, IsDraftContinuation, zero_or_not, silent_one, silent_two, silent_three, reset_cases}
+use Rattle.uca_plans.proofs.DraftKinds.{IsZero, IsDraftContinuation, zero_or_not, ignorable_one, ignorable_two, ignorable_three, reset_cases}
 use Rattle.uca_plans.proofs.PlanCase.{IsCase}
 use Rattle.uca_plans.proofs.LevelImages.{members_in, number_of, number_within, fixed_number}
 use Rattle.uca_plans.proofs.TailoredReading.{value}
@@ -48,16 +48,16 @@ module _ (base : TableContent) (properties : Properties) (relations : List Relat
 
   -- ---- Elements
 
-  -- a silent element stays silent
-  pub silent_stays : (level : Level) (e : DraftElement) → is_silent level e ≡ true → IsSilent level (value base properties relations plan case e)
-  silent_stays One e silent = kinds.zero_is base properties relations plan case One e.primary (zero_tested e.primary silent)
-  silent_stays Two e silent =
-      let both = both_true (is_zero e.primary) (is_zero e.secondary) silent in (
+  -- a ignorable element stays ignorable
+  pub ignorable_stays : (level : Level) (e : DraftElement) → is_ignorable_to level e ≡ true → IsIgnorableTo level (value base properties relations plan case e)
+  ignorable_stays One e ignorable = kinds.zero_is base properties relations plan case One e.primary (zero_tested e.primary ignorable)
+  ignorable_stays Two e ignorable =
+      let both = both_true (is_zero e.primary) (is_zero e.secondary) ignorable in (
         kinds.zero_is base properties relations plan case One e.primary (zero_tested e.primary both.0),
         kinds.zero_is base properties relations plan case Two e.secondary (zero_tested e.secondary both.1),
       )
-  silent_stays Three e silent =
-      let first = both_true (is_zero e.primary) (is_silent Three (record e { primary = Base 0 })) silent in
+  ignorable_stays Three e ignorable =
+      let first = both_true (is_zero e.primary) (is_ignorable_to Three (record e { primary = Base 0 })) ignorable in
       let rest = both_true (is_zero e.secondary) (is_zero e.tertiary) first.1 in (
         kinds.zero_is base properties relations plan case One e.primary (zero_tested e.primary first.0),
         kinds.zero_is base properties relations plan case Two e.secondary (zero_tested e.secondary rest.0),
@@ -65,25 +65,25 @@ module _ (base : TableContent) (properties : Properties) (relations : List Relat
       )
 
   -- and so do all of a list
-  pub all_silent : (level : Level) (es : List DraftElement) → AllByRecursion (λ e. is_silent level e ≡ true) es →
-      AllByRecursion (IsSilent level) (map (value base properties relations plan case) es)
-  all_silent level [] all = tt
-  all_silent level (e ∷ es) all = (silent_stays level e all.0, all_silent level es all.1)
+  pub all_ignorable : (level : Level) (es : List DraftElement) → AllByRecursion (λ e. is_ignorable_to level e ≡ true) es →
+      AllByRecursion (IsIgnorableTo level) (map (value base properties relations plan case) es)
+  all_ignorable level [] all = tt
+  all_ignorable level (e ∷ es) all = (ignorable_stays level e all.0, all_ignorable level es all.1)
 
   -- an element that sounds goes on to sound
-  pub sound_stays : (level : Level) (e : DraftElement) → IsListedIn base properties relations plan case e → is_silent level e ≡ false →
-      IsSilent level (value base properties relations plan case e) → ⊥
-  sound_stays One e listed sounds silent =
-      let test = silent_one e (kinds.no_primary base properties relations plan case e listed silent) in cc
-  sound_stays Two e listed sounds silent =
-      let first = kinds.no_primary base properties relations plan case e listed silent.0 in
-      let second = kinds.no_secondary base properties relations plan case e listed silent.1 in
-      let test = silent_two e first second in cc
-  sound_stays Three e listed sounds silent =
-      let first = kinds.no_primary base properties relations plan case e listed silent.0 in
-      let second = kinds.no_secondary base properties relations plan case e listed silent.1 in
-      let third = kinds.no_tertiary base properties relations plan case e listed silent.2 in
-      let test = silent_three e first second third in cc
+  pub sound_stays : (level : Level) (e : DraftElement) → IsListedIn base properties relations plan case e → is_ignorable_to level e ≡ false →
+      IsIgnorableTo level (value base properties relations plan case e) → ⊥
+  sound_stays One e listed not_ignorable ignorable =
+      let test = ignorable_one e (kinds.no_primary base properties relations plan case e listed ignorable) in cc
+  sound_stays Two e listed not_ignorable ignorable =
+      let first = kinds.no_primary base properties relations plan case e listed ignorable.0 in
+      let second = kinds.no_secondary base properties relations plan case e listed ignorable.1 in
+      let test = ignorable_two e first second in cc
+  sound_stays Three e listed not_ignorable ignorable =
+      let first = kinds.no_primary base properties relations plan case e listed ignorable.0 in
+      let second = kinds.no_secondary base properties relations plan case e listed ignorable.1 in
+      let third = kinds.no_tertiary base properties relations plan case e listed ignorable.2 in
+      let test = ignorable_three e first second third in cc
 
   -- what is no continuation becomes none
   pub no_continuation : (e : DraftElement) → IsListedIn base properties relations plan case e → (IsDraftContinuation e → ⊥)

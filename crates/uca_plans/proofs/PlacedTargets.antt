@@ -31,7 +31,7 @@ use Rattle.uca_plans.proofs.LevelImages.{members_in, number_of, number_less}
 use Rattle.uca_plans.proofs.TailoredReading.{value}
 use Rattle.uca_plans.proofs.RelationSteps.{IsStepAt}
 use Rattle.uca_plans.proofs.NumberedKinds.{IsListedIn}
-use Rattle.uca_plans.proofs.NumberedAnchors.{weight_number, member_low, all_silent, sound_stays, no_continuation, reweighted_number}
+use Rattle.uca_plans.proofs.NumberedAnchors.{weight_number, member_low, all_ignorable, sound_stays, no_continuation, reweighted_number}
 use Rattle.uca_plans.proofs.RelationReadings.{texts_in, step_in, holds_before, grown_since, held_listed, anchor_read, expansion_read, row_read}
 
 -- ---- The step at a level
@@ -67,7 +67,7 @@ module _ (base : TableContent) (properties : Properties) (relations : List Relat
   abbrev part : AnchorPart
   part = step_placed.placed.part
 
-  -- the anchor is this part, and silent elements behind it
+  -- the anchor is this part, and ignorable elements behind it
   abbrev found : IsAnchorPart level (anchor_at (basis_of base properties) here r) part
   found = step_placed.placed.found
 
@@ -132,15 +132,15 @@ module _ (base : TableContent) (properties : Properties) (relations : List Relat
 
   -- ---- The anchor and the row
 
-  -- the anchor's elements are its part and silent ones
+  -- the anchor's elements are its part and ignorable ones
   is_anchor : IsAnchor level (anchor_elements (tailoring_by base properties relations plan) r) (map (value base properties relations plan case) part.front)
       (value base properties relations plan case part.last) (map (value base properties relations plan case) found.trailing)
   is_anchor = record {
     whole = anchor_read base properties relations plan case before r after split
         ∙ ap (map (value base properties relations plan case)) found.split
         ∙ map-append (value base properties relations plan case) part.front (part.last ∷ found.trailing);
-    silent = all_silent base properties relations plan case level found.trailing found.silent;
-    sounds = sound_stays base properties relations plan case level part.last last_listed found.sounds;
+    ignorable = all_ignorable base properties relations plan case level found.trailing found.ignorable;
+    not_ignorable = sound_stays base properties relations plan case level part.last last_listed found.not_ignorable;
     alone = no_continuation base properties relations plan case part.last last_listed
         (accepted_no_continuation level part.last step_placed.placed.accepted);
     low = subst (IsLow level) (sym (weight_number base properties relations plan case level part.last))

@@ -10,7 +10,7 @@ use Rattle.uca_weights.specs.Levels.{level_of}
 use Rattle.uca_values.specs.Content.{AreImplicitRanges}
 use Rattle.uca_check.specs.WellFormed.{elements_of}
 use Rattle.uca_check.proofs.Elements.{each_weaker}
-use Rattle.uca_text.specs.Texts.{Spelled}
+use Rattle.uca_text.specs.Texts.{NfdText}
 use Rattle.uca_match.specs.Rows.{same_key}
 use Rattle.uca_rules.specs.declared.relations.Relation.{Relation}
 use Rattle.uca_rules.specs.Relations.{IsRuleText, HasRuleTexts}
@@ -19,7 +19,7 @@ use Rattle.uca_plans.specs.declared.drafts.DraftWeight.TheVariants.{Base, New}
 use Rattle.uca_plans.specs.declared.drafts.DraftElement.{DraftElement}
 use Rattle.uca_plans.specs.Lists.{Insertion, same_level, inserted, all_inserted}
 use Rattle.uca_plans.specs.ListLaws.{IsAmong}
-use Rattle.uca_plans.specs.Drafts.{DraftRow, with_row, draft_elements, draft_weight, is_refused, AnchorPart, reset, reweighted}
+use Rattle.uca_plans.specs.Drafts.{DraftRow, with_row, draft_elements, draft_weight, takes_no_weight, AnchorPart, reset, reweighted}
 use Rattle.uca_plans.specs.Plans.{Basis, Drafting, drafted_at, draft_expansion}
 use Rattle.uca_check.proofs.RowElements.{each_append, each_parts}
 use Rattle.uca_plans.proofs.InsertionLemmas.{inserts, inserts_new}
@@ -107,7 +107,7 @@ reweighted_fits Three n e fits = record { primary = fits.primary; secondary = fi
 
 -- the weight of a listed element that is accepted and has a weight at the level is in the level's list
 pub anchor_member : (level : Level) (basis : Basis) (a : Drafting) (e : DraftElement)
-    → IsListed (list_at One basis a) (list_at Two basis a) (list_at Three basis a) e → is_refused level e ≡ false
+    → IsListed (list_at One basis a) (list_at Two basis a) (list_at Three basis a) e → takes_no_weight level e ≡ false
     → (IsZero (draft_weight level e) → ⊥)
     → IsAmong (list_at level basis a) (draft_weight level e)
 anchor_member One basis a e listed accepted some = elim listed.primary [
@@ -133,7 +133,7 @@ pub record IsPlacedStep (basis : Basis) (n : ℕ) (rule : Relation) (a b : Draft
     (level : Level) : Type 1 where
   pub placed : IsPlacedDraft level rule.before n (anchor_at basis a rule) (draft_expansion basis a rule.expansion) step.new
   pub last_held : holds.E placed.part.last
-  pub sounds : IsZero (draft_weight level placed.part.last) → ⊥
+  pub not_ignorable : IsZero (draft_weight level placed.part.last) → ⊥
   pub anchor_there : IsAmong (list_at level basis a) (draft_weight level placed.part.last)
   pub new_there : IsAmong (list_at level basis b) (New n)
 
@@ -169,11 +169,11 @@ scalar_below : (c : ℕ) → IsScalar c → c < 0x11_0000
 scalar_below c scalar = grind arith
 
 -- a relation's text has code points
-pub text_points : (text : Spelled) → IsRuleText text → AllByRecursion (λ c. c < 0x11_0000) text.points
+pub text_points : (text : NfdText) → IsRuleText text → AllByRecursion (λ c. c < 0x11_0000) text.points
 text_points text is = each_weaker IsScalar (λ c. c < 0x11_0000) scalar_below text.points is.normal.scalars
 
 -- the elements of an expansion are held, without gaps
-expansion_held : (basis : Basis) (n : ℕ) (a : Drafting) (holds : Holds basis n a) → AreImplicitRanges basis.ranges → (expansion : Option Spelled)
+expansion_held : (basis : Basis) (n : ℕ) (a : Drafting) (holds : Holds basis n a) → AreImplicitRanges basis.ranges → (expansion : Option NfdText)
     → IfSome expansion IsRuleText
     → AllByRecursion holds.E (draft_expansion basis a expansion) × HasNoGaps None (draft_expansion basis a expansion)
 expansion_held basis n a holds ranges None texts = (tt, tt)
@@ -218,12 +218,12 @@ placed_step basis n rule a b holds ranges texts step level is =
     let placed = placed_is level rule.before n (anchor_at basis a rule) (draft_expansion basis a rule.expansion) step.new is in
     let anchors = read_held basis n a holds ranges rule.anchor (text_points rule.anchor texts.anchors) in
     let last = (part_each holds.E level (anchor_at basis a rule) placed.part placed.found anchors.0).1 in
-    let sounds = part_sounds level (anchor_at basis a rule) placed.part anchors.1 placed.found placed.accepted in
-    let there = anchor_member level basis a placed.part.last (holds.listed placed.part.last last) placed.accepted sounds in
+    let not_ignorable = part_sounds level (anchor_at basis a rule) placed.part anchors.1 placed.found placed.accepted in
+    let there = anchor_member level basis a placed.part.last (holds.listed placed.part.last last) placed.accepted not_ignorable in
     record {
       placed = placed;
       last_held = last;
-      sounds = sounds;
+      not_ignorable = not_ignorable;
       anchor_there = there;
       new_there = new_member basis n rule a b step level rule.before (anchor_at basis a rule) (draft_expansion basis a rule.expansion) placed there;
     }

@@ -13,7 +13,7 @@ use Rattle.uca_values.proofs.ImplicitPairs.{each_pair}
 use Rattle.uca_check.specs.WellFormed.{elements_of, MeetsWF1}
 use Rattle.uca_check.proofs.Elements.{each_weaker}
 use Rattle.uca_check.proofs.RowElements.{each_append, each_of_rows}
-use Rattle.uca_text.specs.Texts.{Spelled}
+use Rattle.uca_text.specs.Texts.{NfdText}
 use Rattle.uca_plans.specs.declared.drafts.DraftWeight.{DraftWeight}
 use Rattle.uca_plans.specs.declared.drafts.DraftWeight.TheVariants.{Base, New}
 use Rattle.uca_plans.specs.declared.drafts.DraftElement.{DraftElement}
@@ -84,7 +84,7 @@ pub record Carries (basis : Basis) (n m : ℕ) (a b : Drafting) (holds : Holds b
 -- ---- Texts
 
 -- the elements of a text are held, without gaps
-pub read_held : (basis : Basis) (n : ℕ) (a : Drafting) (holds : Holds basis n a) → AreImplicitRanges basis.ranges → (text : Spelled)
+pub read_held : (basis : Basis) (n : ℕ) (a : Drafting) (holds : Holds basis n a) → AreImplicitRanges basis.ranges → (text : NfdText)
     → AllByRecursion (λ c. c < 0x11_0000) text.points
     → AllByRecursion holds.E (draft_elements basis.ranges basis.properties a.rows text)
     × HasNoGaps None (draft_elements basis.ranges basis.properties a.rows text)

@@ -1,7 +1,7 @@
 -- One relation of a plan: its step, what holds of the drafts before it, and what it reads and makes under the tailored table.
 use Rattle.std.proofs.Common.{◌≡◌, ◌+◌, List, ◌∷◌, ◌++◌, length, map, Option, Some, None, option_map, inl, inr, refl, ap, ◌∙◌, subst, arith}
 use Rattle.uca_values.specs.Content.{TableContent, Properties}
-use Rattle.uca_text.specs.Texts.{Spelled}
+use Rattle.uca_text.specs.Texts.{NfdText}
 use Rattle.uca_match.specs.Rows.{rows_of}
 use Rattle.uca_rules.specs.declared.relations.Relation.{Relation}
 use Rattle.uca_rules.specs.Relations.{HasRuleTexts, AreRules}
@@ -73,7 +73,7 @@ module _ (base : TableContent) (properties : Properties) (relations : List Relat
   expansion_read = go r.expansion refl
     where
       -- by whether it is there
-      go : (expansion : Option Spelled) → r.expansion ≡ expansion →
+      go : (expansion : Option NfdText) → r.expansion ≡ expansion →
           elements_of_expansion (tailored_reading (tailoring_by base properties relations plan)) expansion
           ≡ map (value base properties relations plan case) (draft_expansion (basis_of base properties) step_in.here expansion)
       go None is = refl

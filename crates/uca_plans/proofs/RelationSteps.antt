@@ -1,6 +1,6 @@
 -- The steps of a plan before and after one relation, and what of a step is still there at the end.
 use Rattle.std.proofs.Common.{◌≡◌, ℕ, suc, ◌+◌, List, [], ◌∷◌, ◌++◌, length, Some, inl, inr, refl, sym, ap, ◌∙◌, subst, arith, append_assoc}
-use Rattle.uca_text.specs.Texts.{Spelled}
+use Rattle.uca_text.specs.Texts.{NfdText}
 use Rattle.uca_rules.specs.declared.relations.Relation.{Relation}
 use Rattle.uca_rules.specs.Relations.{IsTarget, IsRuleText, HasRuleTexts, AreDistinct, AreRules}
 use Rattle.uca_tailorings.proofs.UntouchedTexts.{no_target}
@@ -138,7 +138,7 @@ module _ (basis : Basis) where
       own (s ∷ relations) = inr (own relations)
 
   -- the texts of a relation are read at the end as they were at its step
-  pub text_kept : (before : List Relation) (r : Relation) (after : List Relation) (final : Drafting) (text : Spelled) →
+  pub text_kept : (before : List Relation) (r : Relation) (after : List Relation) (final : Drafting) (text : NfdText) →
       AreRules (before ++ r ∷ after) → (at : IsStepAt before r after (begun basis) final) → IsTextOf r text →
       draft_elements basis.ranges basis.properties final.rows text ≡ draft_elements basis.ranges basis.properties at.here.rows text
   text_kept before r after final text rules at is_text = elim (target_or_not before text.points) [

@@ -10,7 +10,7 @@ use Rattle.uca_weights.specs.Levels.{level_of}
 use Rattle.uca_values.specs.declared.ImplicitRange.{ImplicitRange}
 use Rattle.uca_values.specs.Content.{Entry, Properties, IsEntry, AreRows, Fits}
 use Rattle.uca_check.specs.WellFormed.{elements_of}
-use Rattle.uca_text.specs.Texts.{Text, Spelled, letters_of}
+use Rattle.uca_text.specs.Texts.{Text, NfdText, letters_of}
 use Rattle.uca_rules.specs.declared.relations.Relation.{Relation}
 use Rattle.uca_rules.specs.Relations.{IsRuleText, HasRuleTexts}
 use Rattle.uca_match.specs.Rows.{same_key}
@@ -57,7 +57,7 @@ module _ (ranges : List ImplicitRange) (properties : Properties) (rows : List Dr
       (omega (arith, enough, length-append (part_drafts ranges properties rows first.part) later))
 
   -- where each row has some, a text of rules has some
-  pub some_drafts : (text : Spelled) → IsRuleText text → 1 ≤ length (draft_elements ranges properties rows text)
+  pub some_drafts : (text : NfdText) → IsRuleText text → 1 ≤ length (draft_elements ranges properties rows text)
   some_drafts text is_text =
       some_read (letters_of text) (letters_some text is_text.normal.accepted.same is_text.some)
 

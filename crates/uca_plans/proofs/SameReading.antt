@@ -3,7 +3,7 @@ use Rattle.std.proofs.Common.{◌≡◌, ◌≢◌, ◌⊎◌, ℕ, List, [], �
 use Rattle.std.proofs.Common.{subst, ◌∙◌, inl, inr, ⊎_elim}
 use Rattle.std.specs.List.{AllByRecursion, flat_map}
 use Rattle.std.proofs.lemmas.Bool.{false≢true, or_left, or_right, or_cases, cases_Bool}
-use Rattle.uca_text.specs.Texts.{Spelled, code_points, letters_of}
+use Rattle.uca_text.specs.Texts.{NfdText, code_points, letters_of}
 use Rattle.uca_text.specs.Occurring.{OccursInOrder}
 use Rattle.uca_rules.specs.declared.relations.Relation.{Relation}
 use Rattle.uca_rules.specs.Relations.{IsTarget, IsUntouched, IsUsedBy, IsRuleText, HasRuleTexts}
@@ -79,12 +79,12 @@ at_front P [] ys h = tt
 at_front P (x ∷ xs) ys h = (h.0, at_front P xs ys h.1)
 
 -- a text of a relation is used by it, and is a text of rules
-pub text_used : (r : Relation) (text : Spelled) → IsTextOf r text → IsUsedBy r text.points
+pub text_used : (r : Relation) (text : NfdText) → IsTextOf r text → IsUsedBy r text.points
 text_used r text h =
     ⊎_elim (λ is_anchor. inl (ap (λ s. s.points) is_anchor))
     (λ expands. inr (subst (λ o. IsSomeAnd o (λ expansion. text.points ≡ expansion.points)) (sym expands) refl)) h
 
-pub text_of_rules : (r : Relation) (text : Spelled) → HasRuleTexts r → IsTextOf r text → IsRuleText text
+pub text_of_rules : (r : Relation) (text : NfdText) → HasRuleTexts r → IsTextOf r text → IsRuleText text
 text_of_rules r text texts h =
     ⊎_elim (λ is_anchor. subst IsRuleText (sym is_anchor) texts.anchors) (λ expands. subst (λ o. IfSome o IsRuleText) expands texts.expands) h
 
@@ -104,9 +104,9 @@ same_reading ranges properties keys before after later rest r rows all text rule
     let there : is_among (keys_in rows) text.points ≡ true = ap (λ ks. is_among ks text.points) own ∙ target_among before keys text.points target in
     let there_too : all text.points ≡ true = listed text.points ∙ ap (λ ks. is_among ks text.points) all_keys
     ∙ among_kept later (keys_in rows) text.points there in
-    let points : code_points (letters_of text) ≡ text.points = points_of text spelled in
-    key_is_part all (letters_of text) (letters_some text spelled in_rules.some) (ap all points ∙ there_too)
-    ∙ sym (key_is_part (has_key rows) (letters_of text) (letters_some text spelled in_rules.some)
+    let points : code_points (letters_of text) ≡ text.points = points_of text nfd_text in
+    key_is_part all (letters_of text) (letters_some text nfd_text in_rules.some) (ap all points ∙ there_too)
+    ∙ sym (key_is_part (has_key rows) (letters_of text) (letters_some text nfd_text in_rules.some)
     (ap (has_key rows) points ∙ has_key_is rows text.points ∙ there)))
     (λ free.
     let untouched : IsUntouched (later ++ rest) text.points =
@@ -124,8 +124,8 @@ same_reading ranges properties keys before after later rest r rows all text rule
     in_rules : IsRuleText text
     in_rules = text_of_rules r text (at_split HasRuleTexts before r after rules.texts) is_text
 
-    spelled : length text.classes ≡ length text.points
-    spelled = in_rules.normal.accepted.same
+    nfd_text : length text.classes ≡ length text.points
+    nfd_text = in_rules.normal.accepted.same
 
     all_keys : with_targets (before ++ later) keys ≡ with_targets later (keys_in rows)
     all_keys = targets_append before later keys ∙ ap (with_targets later) (sym own)

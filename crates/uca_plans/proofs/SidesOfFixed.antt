@@ -9,7 +9,7 @@ use Rattle.uca_plans.specs.Lists.{fixed_weight, Insertion, same_weight, inserted
 use Rattle.uca_plans.specs.ListLaws.{IsAmong, StandsBefore, AreApart, IsInserted, GoesLow, GoesHigh}
 use Rattle.uca_plans.proofs.ListMembers.{same_or_other, same_itself, among_same, second_among, not_before_itself}
 use Rattle.uca_plans.proofs.InsertionLemmas.{stands_nearest, takes_one_place}
-use Rattle.uca_plans.specs.Room.{is_low, goes_low}
+use Rattle.uca_plans.specs.Room.{is_below_fixed, goes_low}
 use Rattle.uca_plans.proofs.AnchoredInsertions.{IsAnchored}
 
 -- where none comes twice, two do not stand before each other
@@ -29,8 +29,8 @@ fixed level = Base (fixed_weight level)
 -- a member stands below the fixed weight and is low, or stands there or above it and is not
 abbrev pub HasSide : Level → List DraftWeight → List DraftWeight → DraftWeight → Type 0
 HasSide level ms lows w =
-    (StandsBefore ms w (fixed level) × (is_low level lows w ≡ true))
-    ⊎ (((w ≡ fixed level) ⊎ StandsBefore ms (fixed level) w) × (is_low level lows w ≡ false))
+    (StandsBefore ms w (fixed level) × (is_below_fixed level lows w ≡ true))
+    ⊎ (((w ≡ fixed level) ⊎ StandsBefore ms (fixed level) w) × (is_below_fixed level lows w ≡ false))
 
 -- What holds of a list and the new weights of it that went low: no member comes twice, the fixed weight is one, each has a side,
 -- and those that went low are members.
@@ -46,24 +46,24 @@ pub record HasSides (level : Level) (ms lows : List DraftWeight) : Type 0 where
 low_side : (level : Level) (ms lows : List DraftWeight) (i : Insertion) → HasSides level ms lows → IsAmong ms i.anchor
     → GoesLow (fixed level) i ms → goes_low level lows i ≡ true
 low_side level ms lows i has among (inl stands) = elim (has.sides i.anchor among) [
-  | inl low ↦ or_left (is_low level lows i.anchor) (same_weight i.anchor (fixed level) && i.before) low.1
+  | inl low ↦ or_left (is_below_fixed level lows i.anchor) (same_weight i.anchor (fixed level) && i.before) low.1
   | inr high ↦ elim high.0 [
     | inl same ↦ absurd (not_before_itself ms (fixed level) has.apart (subst (λ w. StandsBefore ms w (fixed level)) same stands))
     | inr above ↦ absurd (never_both ms i.anchor (fixed level) has.apart stands above)
   ]
 ]
 low_side level ms lows i has among (inr at) =
-    or_right (is_low level lows i.anchor) (same_weight i.anchor (fixed level) && i.before)
+    or_right (is_below_fixed level lows i.anchor) (same_weight i.anchor (fixed level) && i.before)
     (ap (λ b. b && i.before) (same_itself i.anchor (fixed level) at.0) ∙ at.1)
 
 -- and one that goes high is told to go there
 high_side : (level : Level) (ms lows : List DraftWeight) (i : Insertion) → HasSides level ms lows → IsAmong ms i.anchor
     → GoesHigh (fixed level) i ms → goes_low level lows i ≡ false
 high_side level ms lows i has among high =
-    or_from (is_low level lows i.anchor) (same_weight i.anchor (fixed level) && i.before) (not_low (has.sides i.anchor among) high) (not_before high)
+    or_from (is_below_fixed level lows i.anchor) (same_weight i.anchor (fixed level) && i.before) (not_low (has.sides i.anchor among) high) (not_before high)
   where
     -- the anchor's weight is not low
-    not_low : HasSide level ms lows i.anchor → GoesHigh (fixed level) i ms → is_low level lows i.anchor ≡ false
+    not_low : HasSide level ms lows i.anchor → GoesHigh (fixed level) i ms → is_below_fixed level lows i.anchor ≡ false
     not_low (inr above) goes = above.1
     not_low (inl below) (inl stands) = absurd (never_both ms i.anchor (fixed level) has.apart below.0 stands)
     not_low (inl below) (inr at) = absurd (not_before_itself ms (fixed level) has.apart (subst (λ w. StandsBefore ms w (fixed level)) at.0 below.0))
@@ -84,7 +84,7 @@ high_side level ms lows i has among high =
 -- ---- The sides behind an insertion
 
 -- a weight that went low makes no other weight low
-is_low_kept : (level : Level) (lows : List DraftWeight) (new w : DraftWeight) → (w ≡ new → ⊥) → is_low level (new ∷ lows) w ≡ is_low level lows w
+is_low_kept : (level : Level) (lows : List DraftWeight) (new w : DraftWeight) → (w ≡ new → ⊥) → is_below_fixed level (new ∷ lows) w ≡ is_below_fixed level lows w
 is_low_kept level lows new (Base v) other = refl
 is_low_kept level lows new (New n) other = elim (same_or_other (New n) new) [
   | inl same ↦ absurd (other same.1)
@@ -97,7 +97,7 @@ module _ (level : Level) (ms lows : List DraftWeight) (i : Insertion) (has : Has
   nearest = stands_nearest i ms has.apart at.anchor at.fresh
 
   -- a member that was there keeps its side, where it is as low as it was
-  side_kept : (news : List DraftWeight) (w : DraftWeight) → is_low level news w ≡ is_low level lows w → IsAmong ms w
+  side_kept : (news : List DraftWeight) (w : DraftWeight) → is_below_fixed level news w ≡ is_below_fixed level lows w → IsAmong ms w
       → HasSide level (inserted i ms) news w
   side_kept news w same among = elim (has.sides w among) [
     | inl low ↦ inl (nearest.kept w (fixed level) low.0, same ∙ low.1)
@@ -106,7 +106,7 @@ module _ (level : Level) (ms lows : List DraftWeight) (i : Insertion) (has : Has
 
   -- so all members have sides where the new one has, and as many are low
   sides_behind : (news : List DraftWeight) → HasSide level (inserted i ms) news i.new
-      → ((w : DraftWeight) → IsAmong ms w → is_low level news w ≡ is_low level lows w)
+      → ((w : DraftWeight) → IsAmong ms w → is_below_fixed level news w ≡ is_below_fixed level lows w)
       → ((n : ℕ) → list_any (same_weight (New n)) news ≡ true → IsAmong (inserted i ms) (New n)) → HasSides level (inserted i ms) news
   sides_behind news new same went = record {
     apart = nearest.apart;
@@ -144,7 +144,7 @@ module _ (level : Level) (ms lows : List DraftWeight) (i : Insertion) (has : Has
       sides_behind (i.new ∷ lows)
       (inl (
         new_below low,
-        subst (λ w. is_low level (w ∷ lows) w ≡ true) (sym at.named)
+        subst (λ w. is_below_fixed level (w ∷ lows) w ≡ true) (sym at.named)
             (or_left (same_weight (New at.name) (New at.name)) (list_any (same_weight (New at.name)) lows) (same_itself (New at.name) (New at.name) refl)),
       ))
       (λ w among. is_low_kept level lows i.new w (λ same. at.fresh (among_same ms w i.new same among)))
@@ -162,7 +162,7 @@ module _ (level : Level) (ms lows : List DraftWeight) (i : Insertion) (has : Has
       sides_behind lows
       (inr (
         inr (new_above high),
-        subst (λ w. is_low level lows w ≡ false) (sym at.named)
+        subst (λ w. is_below_fixed level lows w ≡ false) (sym at.named)
             (false_from_ne_true (list_any (same_weight (New at.name)) lows) (λ went. at.fresh (subst (IsAmong ms) (sym at.named) (has.went at.name went)))),
       ))
       (λ w among. refl)

@@ -5,7 +5,7 @@ use Rattle.uca_weights.specs.declared.Level.TheVariants.{Two, Three}
 use Rattle.uca_values.specs.Content.{Entry, TableContent, Properties}
 use Rattle.uca_values.specs.Implicit.{implicit}
 use Rattle.uca_values.proofs.ImplicitPairs.{of_pair}
-use Rattle.uca_text.specs.Texts.{Spelled}
+use Rattle.uca_text.specs.Texts.{NfdText}
 use Rattle.uca_match.specs.Collations as collations
 use Rattle.uca_match.specs.Rows.{rows_of}
 use Rattle.uca_rules.specs.declared.relations.Relation.{Relation}
@@ -43,7 +43,7 @@ module _ (base : TableContent) (properties : Properties) (relations : List Relat
   rows_valued = ap (λ (p : Plan). p.rows) case.made.is_plan
 
   -- so the elements of a text under the tailored table are the numbered drafts
-  pub tailored_read : (text : Spelled) → collations.elements_of (tailored_reading (tailoring_by base properties relations plan)) text
+  pub tailored_read : (text : NfdText) → collations.elements_of (tailored_reading (tailoring_by base properties relations plan)) text
       ≡ map (numbered (plans_in base properties relations plan case)) (draft_elements base.header.ranges properties case.made.drafting.rows text)
   tailored_read text =
       ap (λ (rows : List Entry). collations.elements_of (record { rows = rows_of rows; ranges = base.header.ranges; properties = properties }) text) rows_valued

@@ -10,13 +10,13 @@ use Rattle.uca_values.specs.Content.{AreImplicitRanges}
 use Rattle.uca_values.specs.Implicit.{implicit}
 use Rattle.uca_check.specs.WellFormed.{elements_of}
 use Rattle.uca_check.proofs.Elements.{each_weaker}
-use Rattle.uca_text.specs.Texts.{Spelled}
+use Rattle.uca_text.specs.Texts.{NfdText}
 use Rattle.uca_rules.specs.declared.relations.Relation.{Relation}
 use Rattle.uca_rules.specs.Relations.{IsRuleText, HasRuleTexts}
 use Rattle.uca_plans.specs.declared.drafts.DraftWeight.{DraftWeight}
 use Rattle.uca_plans.specs.declared.drafts.DraftWeight.TheVariants.{New}
 use Rattle.uca_plans.specs.declared.drafts.DraftElement.{DraftElement}
-use Rattle.uca_plans.specs.Drafts.{as_draft, draft_elements, is_refused, reweighted}
+use Rattle.uca_plans.specs.Drafts.{as_draft, draft_elements, takes_no_weight, reweighted}
 use Rattle.uca_plans.specs.Lists.{all_inserted}
 use Rattle.uca_plans.specs.ListLaws.{IsInserted}
 use Rattle.uca_plans.specs.Plans.{Basis, Drafting, drafted_at, draft_expansion, is_among_variables}
@@ -76,7 +76,7 @@ abbrev OrImplicit : (DraftElement → Type 0) → DraftElement → Type 0
 OrImplicit E e = E e ⊎ IsReadImplicit e
 
 -- the elements of a text are held, or implicit
-text_read : (basis : Basis) (a : Drafting) (well : HasWellWeights basis a) → AreImplicitRanges basis.ranges → (text : Spelled) → IsRuleText text
+text_read : (basis : Basis) (a : Drafting) (well : HasWellWeights basis a) → AreImplicitRanges basis.ranges → (text : NfdText) → IsRuleText text
     → AllByRecursion (OrImplicit well.E) (draft_elements basis.ranges basis.properties a.rows text)
 text_read basis a well ranges text is =
     let Q : DraftElement → Type 0 = OrImplicit well.E in
@@ -89,7 +89,7 @@ text_read basis a well ranges text is =
     basis.ranges basis.properties ranges c within) text.points (text_points text is))
 
 -- and so are those of an expansion
-expansion_read : (basis : Basis) (a : Drafting) (well : HasWellWeights basis a) → AreImplicitRanges basis.ranges → (expansion : Option Spelled)
+expansion_read : (basis : Basis) (a : Drafting) (well : HasWellWeights basis a) → AreImplicitRanges basis.ranges → (expansion : Option NfdText)
     → IfSome expansion IsRuleText → AllByRecursion (OrImplicit well.E) (draft_expansion basis a expansion)
 expansion_read basis a well ranges None is = tt
 expansion_read basis a well ranges (Some text) is = text_read basis a well ranges text is
@@ -155,7 +155,7 @@ joined_well basis n rule a b holds ranges texts well step elements =
 -- ---- A step at a level
 
 -- the last element of an accepted part is held, since an implicit one is refused at level 1, and passes the test at the others
-last_held : (level : Level) (basis : Basis) (a : Drafting) (well : HasWellWeights basis a) (n : ℕ) (last : DraftElement) → is_refused level last ≡ false
+last_held : (level : Level) (basis : Basis) (a : Drafting) (well : HasWellWeights basis a) (n : ℕ) (last : DraftElement) → takes_no_weight level last ≡ false
     → OrImplicit well.E last → IsOutside basis (reweighted level (New n) last) → well.E last
 last_held One basis a well n last accepted (inl held) outside = held
 last_held One basis a well n last accepted (inr read) outside = absurd (accepted_low last accepted (implicit_is last read).primary)
@@ -183,15 +183,15 @@ module _ (basis : Basis) (n : ℕ) (rule : Relation) (a b : Drafting) (holds : H
   stands_behind One at well held =
       rw (list_behind One One at, list_behind One Two at, list_behind One Three at)
       (new_well_one (list_at One basis a) (list_at Two basis a) (list_at Three basis a) well.E at.placed.part.last rule.before n held well.well
-      at.sounds (accepted_low at.placed.part.last at.placed.accepted) (put_in_list One at))
+      at.not_ignorable (accepted_low at.placed.part.last at.placed.accepted) (put_in_list One at))
   stands_behind Two at well held =
       rw (list_behind Two One at, list_behind Two Two at, list_behind Two Three at)
       (new_well_two (list_at One basis a) (list_at Two basis a) (list_at Three basis a) well.E at.placed.part.last rule.before n held well.well
-      at.sounds (put_in_list Two at))
+      at.not_ignorable (put_in_list Two at))
   stands_behind Three at well held =
       rw (list_behind Three One at, list_behind Three Two at, list_behind Three Three at)
       (new_well_three (list_at One basis a) (list_at Two basis a) (list_at Three basis a) well.E at.placed.part.last rule.before n held well.well
-      at.sounds (put_in_list Three at))
+      at.not_ignorable (put_in_list Three at))
 
   -- so they do behind a step at a level
   placed_well : AreImplicitRanges basis.ranges → HasRuleTexts rule → (level : Level) → IsPlacedStep basis n rule a b holds step level

@@ -7,7 +7,7 @@ use Rattle.uca_weights.specs.declared.Level.TheVariants.{One, Two, Three}
 use Rattle.uca_values.specs.declared.ImplicitRange.{ImplicitRange}
 use Rattle.uca_values.specs.Content.{Entry, Properties}
 use Rattle.uca_values.specs.Implicit.{implicit}
-use Rattle.uca_text.specs.Texts.{Spelled, letters_of}
+use Rattle.uca_text.specs.Texts.{NfdText, letters_of}
 use Rattle.uca_match.specs.Rows.{same_key}
 use Rattle.uca_match.specs.Parts.{Part, Row, Implicit}
 use Rattle.uca_match.specs.Reading.{parts}
@@ -50,7 +50,7 @@ part_drafts ranges properties rows (Row key) = unwrap_or (draft_at rows key) []
 part_drafts ranges properties rows (Implicit c) = map (as_draft true) (implicit ranges properties c)
 
 -- the draft elements of a text, which is matched against the keys of the rows
-abbrev pub draft_elements : List ImplicitRange → Properties → List DraftRow → Spelled → List DraftElement
+abbrev pub draft_elements : List ImplicitRange → Properties → List DraftRow → NfdText → List DraftElement
 draft_elements ranges properties rows text = flat_map (part_drafts ranges properties rows) (parts (has_key rows) (letters_of text))
 
 -- ---- What a rule means
@@ -65,18 +65,18 @@ draft_weight Two e = e.secondary
 draft_weight Three e = e.tertiary
 
 -- no weight at the levels from 1 to this one
-abbrev pub is_silent : Level → DraftElement → Bool
-is_silent One e = is_zero e.primary
-is_silent Two e = is_zero e.primary && is_zero e.secondary
-is_silent Three e = is_zero e.primary && (is_zero e.secondary && is_zero e.tertiary)
+abbrev pub is_ignorable_to : Level → DraftElement → Bool
+is_ignorable_to One e = is_zero e.primary
+is_ignorable_to Two e = is_zero e.primary && is_zero e.secondary
+is_ignorable_to Three e = is_zero e.primary && (is_zero e.secondary && is_zero e.tertiary)
 
--- an anchor's elements up to the last that is not silent
+-- an anchor's elements up to the last that is not ignorable
 pub record AnchorPart : Type 0 where
   pub front : List DraftElement
   pub last : DraftElement
 
 abbrev pub behind_front : Level → DraftElement → Option AnchorPart → Option AnchorPart
-behind_front level e None = if is_silent level e then None else Some (record { front = []; last = e })
+behind_front level e None = if is_ignorable_to level e then None else Some (record { front = []; last = e })
 behind_front level e (Some part) = Some (record { front = e ∷ part.front; last = part.last })
 
 abbrev pub anchor_part : Level → List DraftElement → Option AnchorPart
@@ -84,22 +84,22 @@ anchor_part level [] = None
 anchor_part level (e ∷ es) = behind_front level e (anchor_part level es)
 
 -- a weight from 8000 up, where implicit weights stand
-abbrev pub is_high : DraftWeight → Bool
-is_high (Base w) = nat_le 0x8000 w
-is_high (New _) = false
+abbrev pub is_implicit_primary : DraftWeight → Bool
+is_implicit_primary (Base w) = nat_le 0x8000 w
+is_implicit_primary (New _) = false
 
 abbrev pub is_continuation : DraftElement → Bool
 is_continuation e = not (is_zero e.primary) && (is_zero e.secondary && is_zero e.tertiary)
 
 -- an element that gets no new weight: a continuation, and at level 1 one whose primary has no place below the implicit ones
-abbrev pub is_refused : Level → DraftElement → Bool
-is_refused One e = is_continuation e || is_high e.primary
-is_refused Two e = is_continuation e
-is_refused Three e = is_continuation e
+abbrev pub takes_no_weight : Level → DraftElement → Bool
+takes_no_weight One e = is_continuation e || is_implicit_primary e.primary
+takes_no_weight Two e = is_continuation e
+takes_no_weight Three e = is_continuation e
 
 abbrev pub accepted_part : Level → Option AnchorPart → Option AnchorPart
 accepted_part level None = None
-accepted_part level (Some part) = if is_refused level part.last then None else Some part
+accepted_part level (Some part) = if takes_no_weight level part.last then None else Some part
 
 -- a weight that is not zero becomes this one
 abbrev pub reset : DraftWeight → ℕ → DraftWeight

@@ -3,7 +3,7 @@ use Rattle.std.specs.Prelude.{◌≡◌, ◌⊎◌, ℕ, Bool, false, ◌||◌, 
 use Rattle.std.specs.List.{flat_map}
 use Rattle.uca_values.specs.declared.ImplicitRange.{ImplicitRange}
 use Rattle.uca_values.specs.Content.{Properties}
-use Rattle.uca_text.specs.Texts.{Spelled, letters_of}
+use Rattle.uca_text.specs.Texts.{NfdText, letters_of}
 use Rattle.uca_rules.specs.declared.relations.Relation.{Relation}
 use Rattle.uca_rules.specs.Relations.{AreRules}
 use Rattle.uca_match.specs.Rows.{Keys, same_key}
@@ -30,18 +30,18 @@ with_targets [] keys = keys
 with_targets (r ∷ relations) keys = with_targets relations (with_key r.target.points keys)
 
 -- a text's draft elements, where it is matched against keys that may be more than those of the rows
-abbrev pub read_over : List ImplicitRange → Properties → Keys → List DraftRow → Spelled → List DraftElement
+abbrev pub read_over : List ImplicitRange → Properties → Keys → List DraftRow → NfdText → List DraftElement
 read_over ranges properties keys rows text = flat_map (part_drafts ranges properties rows) (parts keys (letters_of text))
 
 -- the text is the anchor or the expansion of the relation
-abbrev pub IsTextOf : Relation → Spelled → Type 0
+abbrev pub IsTextOf : Relation → NfdText → Type 0
 IsTextOf r text = (text ≡ r.anchor) ⊎ (r.expansion ≡ Some text)
 
 -- All keys may be listed before any relation is read, those of later targets too: each relation's texts are read over them
 -- as over the rows so far. This is so where the later targets are listed to the end, and where only some are.
 abbrev pub RelationsReadOverAllKeys : Type 0
 RelationsReadOverAllKeys = (ranges : List ImplicitRange) (properties : Properties) (keys : List (List ℕ)) (before after later rest : List Relation)
-    (r : Relation) (rows : List DraftRow) (all : Keys) (text : Spelled) →
+    (r : Relation) (rows : List DraftRow) (all : Keys) (text : NfdText) →
     AreRules (before ++ r ∷ after) → r ∷ after ≡ later ++ rest → keys_in rows ≡ with_targets before keys →
     ((key : List ℕ) → all key ≡ is_among (with_targets (before ++ later) keys) key) → IsTextOf r text →
     read_over ranges properties all rows text ≡ draft_elements ranges properties rows text

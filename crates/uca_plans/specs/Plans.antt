@@ -8,7 +8,7 @@ use Rattle.uca_weights.specs.declared.Level.TheVariants.{One, Two, Three}
 use Rattle.uca_values.specs.declared.ImplicitRange.{ImplicitRange}
 use Rattle.uca_values.specs.Content.{Entry, Properties}
 use Rattle.uca_check.specs.WellFormed.{elements_of}
-use Rattle.uca_text.specs.Texts.{Spelled}
+use Rattle.uca_text.specs.Texts.{NfdText}
 use Rattle.uca_plans.specs.declared.drafts.DraftWeight.{DraftWeight}
 use Rattle.uca_plans.specs.declared.drafts.DraftWeight.TheVariants.{Base, New}
 use Rattle.uca_plans.specs.declared.drafts.DraftElement.{DraftElement}
@@ -56,7 +56,7 @@ drafted_at None before new anchor expansion = Some (record { elements = anchor +
 drafted_at (Some level) before new anchor expansion = placed_if_accepted level before new (accepted_part level (anchor_part level anchor)) expansion
 
 -- the elements of an expansion, which has none where it is not there
-abbrev pub draft_expansion : Basis → Drafting → Option Spelled → List DraftElement
+abbrev pub draft_expansion : Basis → Drafting → Option NfdText → List DraftElement
 draft_expansion basis so_far None = []
 draft_expansion basis so_far (Some text) = draft_elements basis.ranges basis.properties so_far.rows text
 

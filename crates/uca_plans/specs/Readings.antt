@@ -5,7 +5,7 @@ use Rattle.uca_weights.specs.declared.Element.{Element}
 use Rattle.uca_values.specs.declared.ImplicitRange.{ImplicitRange}
 use Rattle.uca_values.specs.Content.{Entry, Properties}
 use Rattle.uca_values.specs.Implicit.{implicit}
-use Rattle.uca_text.specs.Texts.{Spelled}
+use Rattle.uca_text.specs.Texts.{NfdText}
 use Rattle.uca_match.specs.Rows.{rows_of}
 use Rattle.uca_match.specs.Collations.{elements_of}
 use Rattle.uca_text.specs.Occurring.{OccursInOrder}
@@ -20,26 +20,26 @@ valued_rows value rows = map (λ row. record { key = row.key; elements = map val
 
 -- whatever weights the names get, the draft elements of a text are, with these, its collation elements under the rows with these
 abbrev pub DraftsReadAsRows : Type 0
-DraftsReadAsRows = (value : DraftElement → Element) (ranges : List ImplicitRange) (properties : Properties) (rows : List DraftRow) (text : Spelled) → ((c : ℕ) → map (λ e. value (as_draft true e)) (implicit ranges properties c) ≡ implicit ranges properties c) → elements_of (record { rows = rows_of (valued_rows value rows); ranges = ranges; properties = properties }) text ≡ map value (draft_elements ranges properties rows text)
+DraftsReadAsRows = (value : DraftElement → Element) (ranges : List ImplicitRange) (properties : Properties) (rows : List DraftRow) (text : NfdText) → ((c : ℕ) → map (λ e. value (as_draft true e)) (implicit ranges properties c) ≡ implicit ranges properties c) → elements_of (record { rows = rows_of (valued_rows value rows); ranges = ranges; properties = properties }) text ≡ map value (draft_elements ranges properties rows text)
 
 -- drafts that agree at the keys that occur in order in a text read it alike: rows that come later change nothing for it,
 -- unless their target occurs in it
 abbrev pub DraftsReadByWhatOccurs : Type 0
-DraftsReadByWhatOccurs = (ranges : List ImplicitRange) (properties : Properties) (rows others : List DraftRow) (text : Spelled) → ((key : List ℕ) → OccursInOrder key (text.points) → draft_at rows key ≡ draft_at others key) → draft_elements ranges properties rows text ≡ draft_elements ranges properties others text
+DraftsReadByWhatOccurs = (ranges : List ImplicitRange) (properties : Properties) (rows others : List DraftRow) (text : NfdText) → ((key : List ℕ) → OccursInOrder key (text.points) → draft_at rows key ≡ draft_at others key) → draft_elements ranges properties rows text ≡ draft_elements ranges properties others text
 
 -- a text that is a key, with a class for each code point, reads as its row
 abbrev pub KeysReadAsTheirRows : Type 0
-KeysReadAsTheirRows = (ranges : List ImplicitRange) (properties : Properties) (rows : List DraftRow) (text : Spelled) (row : List DraftElement) → length text.classes ≡ length text.points → text.points ≢ [] → draft_at rows (text.points) ≡ Some row → draft_elements ranges properties rows text ≡ row
+KeysReadAsTheirRows = (ranges : List ImplicitRange) (properties : Properties) (rows : List DraftRow) (text : NfdText) (row : List DraftElement) → length text.classes ≡ length text.points → text.points ≢ [] → draft_at rows (text.points) ≡ Some row → draft_elements ranges properties rows text ≡ row
 
 -- an element of one of the rows, or an implicit one of a code point of the text
-abbrev pub IsReadFrom : List ImplicitRange → Properties → List DraftRow → Spelled → DraftElement → Type 0
+abbrev pub IsReadFrom : List ImplicitRange → Properties → List DraftRow → NfdText → DraftElement → Type 0
 IsReadFrom ranges properties rows text e =
     ((row : DraftRow) × Contains rows row × Contains row.elements e)
     ⊎ ((c : ℕ) × Contains text.points c × Contains (map (as_draft true) (implicit ranges properties c)) e)
 
 -- what a text is read as comes from rows, or is implicit: nothing else is among its elements
 abbrev pub DraftsComeFromRows : Type 0
-DraftsComeFromRows = (ranges : List ImplicitRange) (properties : Properties) (rows : List DraftRow) (text : Spelled) → AllByRecursion (IsReadFrom ranges properties rows text) (draft_elements ranges properties rows text)
+DraftsComeFromRows = (ranges : List ImplicitRange) (properties : Properties) (rows : List DraftRow) (text : NfdText) → AllByRecursion (IsReadFrom ranges properties rows text) (draft_elements ranges properties rows text)
 
 -- one more row: its key has its elements, all others have theirs, and the keys keep their order, with a new one at the end
 pub record IsOneMore (new : DraftRow) (rows : List DraftRow) : Type 0 where

@@ -19,13 +19,13 @@ use Rattle.uca_plans.specs.Tailors.{basis_of}
 -- ---- Sides
 
 -- whether a weight stands below the fixed one: a base weight that is less, or a new weight that went low
-abbrev pub is_low : Level → List DraftWeight → DraftWeight → Bool
-is_low level lows (Base w) = nat_lt w (fixed_weight level)
-is_low level lows (New n) = list_any (same_weight (New n)) lows
+abbrev pub is_below_fixed : Level → List DraftWeight → DraftWeight → Bool
+is_below_fixed level lows (Base w) = nat_lt w (fixed_weight level)
+is_below_fixed level lows (New n) = list_any (same_weight (New n)) lows
 
 -- a new weight goes low where its anchor's is low, or is the fixed one and the new weight goes before it
 abbrev pub goes_low : Level → List DraftWeight → Insertion → Bool
-goes_low level lows i = is_low level lows i.anchor || (same_weight i.anchor (Base (fixed_weight level)) && i.before)
+goes_low level lows i = is_below_fixed level lows i.anchor || (same_weight i.anchor (Base (fixed_weight level)) && i.before)
 
 -- how many insertions of the level go low, and how many do not, behind new weights that went low
 abbrev pub low_count : Level → List DraftWeight → List Insertion → ℕ

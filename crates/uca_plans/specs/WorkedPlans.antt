@@ -5,7 +5,7 @@ use Rattle.uca_weights.specs.declared.Strength.TheVariants.{Primary, Secondary, 
 use Rattle.uca_weights.specs.declared.Strength.{Strength}
 use Rattle.uca_weights.specs.declared.Level.TheVariants.{Two, Three}
 use Rattle.uca_values.specs.Content.{Entry}
-use Rattle.uca_text.specs.Texts.{Spelled}
+use Rattle.uca_text.specs.Texts.{NfdText}
 use Rattle.uca_match.specs.WorkedTable.{plain, variable, row, small_rows, small_ranges, small_properties}
 use Rattle.uca_weights.specs.declared.maps.Run.{Run}
 use Rattle.uca_plans.specs.declared.faults.TailorKind.TheVariants as kinds
@@ -14,8 +14,8 @@ use Rattle.uca_rules.specs.declared.relations.Relation.{Relation}
 use Rattle.uca_plans.specs.Plans.{Basis, Plan, planned}
 
 -- a text with the classes of the small data file
-abbrev pub small_spelled : List ℕ → Spelled
-small_spelled points = record { points = points; classes = map small_properties.class points }
+abbrev pub small_text : List ℕ → NfdText
+small_text points = record { points = points; classes = map small_properties.class points }
 
 -- a table of the given rows, with the header and the data file of the small table
 abbrev pub over : List Entry → Basis
@@ -26,20 +26,20 @@ small = over small_rows
 
 -- a relation without expansion: the target is behind the anchor, or before it
 abbrev pub behind : List ℕ → Strength → List ℕ → Relation
-behind anchor strength target = record { anchor = small_spelled anchor; before = false; strength = strength; target = small_spelled target; expansion = None }
+behind anchor strength target = record { anchor = small_text anchor; before = false; strength = strength; target = small_text target; expansion = None }
 
 abbrev pub ahead : List ℕ → Strength → List ℕ → Relation
-ahead anchor strength target = record { anchor = small_spelled anchor; before = true; strength = strength; target = small_spelled target; expansion = None }
+ahead anchor strength target = record { anchor = small_text anchor; before = true; strength = strength; target = small_text target; expansion = None }
 
 -- one with an expansion
 abbrev pub expanded : List ℕ → Strength → List ℕ → List ℕ → Relation
 expanded anchor strength target expansion =
     record {
-      anchor = small_spelled anchor;
+      anchor = small_text anchor;
       before = false;
       strength = strength;
-      target = small_spelled target;
-      expansion = Some (small_spelled expansion);
+      target = small_text target;
+      expansion = Some (small_text expansion);
     }
 
 abbrev pub run : ℕ → ℕ → ℕ → Run
@@ -180,7 +180,7 @@ pub record WorkedPlans : Type 0 where
   pub too_long_row : planned small (with_many 16) ≡ refused 2 kinds.Limit
   -- `&a < b U+0301 U+0300` where the rules were read with another data file: the class is that of the data handed in
   pub lacks_prefix_by_data : planned small (record {
-    anchor = small_spelled (0x61 ∷ []);
+    anchor = small_text (0x61 ∷ []);
     before = false;
     strength = Primary;
     target = record { points = 0x62 ∷ 0x301 ∷ 0x300 ∷ []; classes = 0 ∷ 0 ∷ 0 ∷ [] };

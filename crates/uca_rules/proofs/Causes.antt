@@ -7,8 +7,8 @@ use Rattle.uca_rules.specs.declared.relations.Relation.{Relation}
 use Rattle.uca_rules.specs.declared.faults.RuleFault.{RuleFault}
 use Rattle.uca_rules.specs.declared.faults.RuleFaultKind.{RuleFaultKind}
 use Rattle.uca_rules.specs.declared.faults.RuleFaultKind.TheVariants as kinds
-use Rattle.uca_rules.specs.declared.signs.Last.{Last}
-use Rattle.uca_rules.specs.declared.signs.Last.TheVariants as lasts
+use Rattle.uca_rules.specs.declared.signs.Preceding.{Preceding}
+use Rattle.uca_rules.specs.declared.signs.Preceding.TheVariants as lasts
 use Rattle.uca_rules.specs.Statements.{last_of}
 use Rattle.uca_rules.specs.Meaning.{Means, relations_of, taken}
 use Rattle.uca_rules.specs.Characters.{characters}
@@ -28,7 +28,7 @@ no_text_utf8 end false text place h = h
 -- neither a failed allocation nor bytes that are not UTF-8 are a cause in characters
 pub record IsForeign (kind : RuleFaultKind) : Type 0 where
   pub no_text : (end : ℕ) (starred : Bool) (text : List Character) (place : ℕ) → ¬ (TextCause end starred text place kind)
-  pub no_statement : (end : ℕ) (last : Last) (count : ℕ) (cs : List Character) (place : ℕ) → ¬ (StatementCause end last count cs place kind)
+  pub no_statement : (end : ℕ) (last : Preceding) (count : ℕ) (cs : List Character) (place : ℕ) → ¬ (StatementCause end last count cs place kind)
   pub no_relation : (before : List Relation) (r : Relation) → ¬ (RelationCause before r kind)
   pub no_limit : ¬ (kind ≡ kinds.Limit)
 

@@ -13,8 +13,8 @@ use Rattle.uca_values.specs.Content.{Properties}
 use Rattle.uca_text.specs.Occurring.{OccursInOrder}
 use Rattle.uca_rules.specs.declared.characters.Character.{Character}
 use Rattle.uca_rules.specs.declared.relations.Relation.{Relation}
-use Rattle.uca_rules.specs.declared.signs.Last.{Last}
-use Rattle.uca_rules.specs.declared.signs.Last.TheVariants as lasts
+use Rattle.uca_rules.specs.declared.signs.Preceding.{Preceding}
+use Rattle.uca_rules.specs.declared.signs.Preceding.TheVariants as lasts
 use Rattle.uca_rules.specs.declared.faults.RuleFaultKind.{RuleFaultKind}
 use Rattle.uca_rules.specs.declared.faults.RuleFaultKind.TheVariants as kinds
 use Rattle.uca_rules.specs.Characters.{characters, behind_gaps, ampersand, apostrophe, backslash, hyphen, bracket, less_than}
@@ -48,30 +48,30 @@ all_last P (u ∷ front) (z ∷ later) back after x y same all =
 
 -- ---- Order
 
-ordered_back : (last : Last) (statements back : List Statement) → AreInOrder last (statements ++ back) → AreInOrder (last_of last statements) back
+ordered_back : (last : Preceding) (statements back : List Statement) → AreInOrder last (statements ++ back) → AreInOrder (last_of last statements) back
 ordered_back last [] back ordered = ordered
 ordered_back last (s ∷ statements) back ordered = ordered_back (last_is s) statements back ordered.1
 
-ended_back : (last : Last) (statements back : List Statement) → MayEnd (last_of last (statements ++ back)) → MayEnd (last_of (last_of last statements) back)
+ended_back : (last : Preceding) (statements back : List Statement) → MayEnd (last_of last (statements ++ back)) → MayEnd (last_of (last_of last statements) back)
 ended_back last [] back ended = ended
 ended_back last (s ∷ statements) back ended = ended_back (last_is s) statements back ended
 
 -- ---- Where a statement begins
 
 -- a reset may begin with `&` and a relation with its sign
-reset_may_begin : (last : Last) (code : ℕ) → code ≡ ampersand → MayFollow last Resets → IsTrue (may_begin last code)
+reset_may_begin : (last : Preceding) (code : ℕ) → code ≡ ampersand → MayFollow last Resets → IsTrue (may_begin last code)
 reset_may_begin lasts.Nothing code is follows = subst (λ code. IsTrue (may_begin lasts.Nothing code)) (sym is) refl
 reset_may_begin (lasts.Reset asked) code is follows = absurd follows
 reset_may_begin lasts.Relation code is follows = subst (λ code. IsTrue (may_begin lasts.Relation code)) (sym is) refl
 
-sign_may_begin : (last : Last) (code : ℕ) (strength : Strength) → BeginsSign code → MayFollow last (Signs strength) → IsTrue (may_begin last code)
+sign_may_begin : (last : Preceding) (code : ℕ) (strength : Strength) → BeginsSign code → MayFollow last (Signs strength) → IsTrue (may_begin last code)
 sign_may_begin lasts.Nothing code strength begins follows = absurd follows
 sign_may_begin (lasts.Reset asked) code strength (inl is) follows = subst (λ code. IsTrue (may_begin (lasts.Reset asked) code)) (sym is) refl
 sign_may_begin (lasts.Reset asked) code strength (inr is) follows = subst (λ code. IsTrue (may_begin (lasts.Reset asked) code)) (sym is) refl
 sign_may_begin lasts.Relation code strength (inl is) follows = subst (λ code. IsTrue (may_begin lasts.Relation code)) (sym is) refl
 sign_may_begin lasts.Relation code strength (inr is) follows = subst (λ code. IsTrue (may_begin lasts.Relation code)) (sym is) refl
 
-statement_may_begin : (last : Last) (c : Character) (cs rest : List Character) (s : Statement) → BeginsStatement (c ∷ cs) s rest → MayFollow last (opening s) → IsTrue (may_begin last c.code)
+statement_may_begin : (last : Preceding) (c : Character) (cs rest : List Character) (s : Statement) → BeginsStatement (c ∷ cs) s rest → MayFollow last (opening s) → IsTrue (may_begin last c.code)
 statement_may_begin last c cs rest (Reset before anchor) begins follows =
     let are : ◌≡◌ {A = List Character} (c ∷ cs) (begins.due.first ∷ begins.due.behind) = begins.due.are in
     let first : c ≡ begins.due.first = cc in
@@ -81,7 +81,7 @@ statement_may_begin last c cs rest (Plain strength target expansion) begins foll
 statement_may_begin last c cs rest (Starred strength targets) begins follows =
     sign_may_begin last c.code strength (sign_begins c cs (record { strength = strength; starred = true; rest = begins.due.behind }) begins.due.sign) follows
 
-misplaced_excluded : (last : Last) (cs : List Character) (back : List Statement) → GoOn cs back → AreInOrder last back → MayEnd (last_of last back) → ¬ (IsMisplaced last cs)
+misplaced_excluded : (last : Preceding) (cs : List Character) (back : List Statement) → GoOn cs back → AreInOrder last back → MayEnd (last_of last back) → ¬ (IsMisplaced last cs)
 misplaced_excluded last [] [] on ordered ended misplaced = misplaced ended
 misplaced_excluded last (c ∷ cs) [] on ordered ended misplaced = let end : ◌≡◌ {A = List Character} (c ∷ cs) [] = on in cc
 misplaced_excluded last [] (s ∷ back) on ordered ended misplaced = none_begins s on.0 on.1
@@ -131,7 +131,7 @@ one_strength cs sign sign' asked is is' same other =
     let one : sign ≡ sign' = cc in
     other (ap (λ (sign : SignAt). sign.strength) one ∙ same)
 
-strength_at_statement : (last : Last) (cs rest : List Character) (s : Statement) → BeginsStatement cs s rest → MayFollow last (opening s) → ¬ (IsWrongStrength last cs)
+strength_at_statement : (last : Preceding) (cs rest : List Character) (s : Statement) → BeginsStatement cs s rest → MayFollow last (opening s) → ¬ (IsWrongStrength last cs)
 strength_at_statement lasts.Nothing cs rest s begins follows wrong = wrong
 strength_at_statement lasts.Relation cs rest s begins follows wrong = wrong
 strength_at_statement (lasts.Reset None) cs rest s begins follows wrong = wrong
@@ -141,13 +141,13 @@ strength_at_statement (lasts.Reset (Some asked)) cs rest (Plain strength target 
 strength_at_statement (lasts.Reset (Some asked)) cs rest (Starred strength targets) begins follows wrong =
     one_strength cs wrong.0 (record { strength = strength; starred = true; rest = begins.due.behind }) asked wrong.1 begins.due.sign follows wrong.2
 
-strength_at_end : (last : Last) → ¬ (IsWrongStrength last [])
+strength_at_end : (last : Preceding) → ¬ (IsWrongStrength last [])
 strength_at_end lasts.Nothing wrong = wrong
 strength_at_end lasts.Relation wrong = wrong
 strength_at_end (lasts.Reset None) wrong = wrong
 strength_at_end (lasts.Reset (Some asked)) wrong = let some : ◌≡◌ {A = Option SignAt} None (Some wrong.0) = wrong.1 in cc
 
-strength_excluded : (last : Last) (cs : List Character) (back : List Statement) → GoOn cs back → AreInOrder last back → ¬ (IsWrongStrength last cs)
+strength_excluded : (last : Preceding) (cs : List Character) (back : List Statement) → GoOn cs back → AreInOrder last back → ¬ (IsWrongStrength last cs)
 strength_excluded last cs [] on ordered wrong = strength_at_end last (subst (IsWrongStrength last) on wrong)
 strength_excluded last cs (s ∷ back) on ordered wrong = strength_at_statement last cs on.0 s on.1 ordered.0 wrong
 
@@ -241,7 +241,7 @@ count_excluded properties anchor count cs (s ∷ back) on few full sign =
 -- ---- The sorts of causes
 
 -- where statements stand in order no cause of a statement does
-pub statement_excluded : (properties : Properties) (anchor : Anchor) (end : ℕ) (last : Last) (count : ℕ) (cs : List Character) (place : ℕ) (kind : RuleFaultKind) (back : List Statement)
+pub statement_excluded : (properties : Properties) (anchor : Anchor) (end : ℕ) (last : Preceding) (count : ℕ) (cs : List Character) (place : ℕ) (kind : RuleFaultKind) (back : List Statement)
     → GoOn cs back → AreInOrder last back → MayEnd (last_of last back) → count + length (relations_from properties anchor back) ≤ 5000 → ¬ (StatementCause end last count cs place kind)
 statement_excluded properties anchor end last count cs place kinds.Syntax back on ordered ended few (inl (inl misplaced, at)) = misplaced_excluded last cs back on ordered ended misplaced
 statement_excluded properties anchor end last count cs place kinds.Syntax back on ordered ended few (inl (inr many, at)) = four_excluded cs back on many

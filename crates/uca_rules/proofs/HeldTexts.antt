@@ -3,7 +3,7 @@ use Rattle.std.proofs.Common.{◌≡◌, ◌↔◌, ◌⊎◌, ℕ, ◌+◌, ◌
 use Rattle.std.specs.List.{AllByRecursion}
 use Rattle.std.proofs.lemmas.List.{length-append, take_more}
 use Rattle.std.proofs.lemmas.List.Elements.{Contains-push, Contains-push_cases, Contains-append_left}
-use Rattle.uca_text.specs.Texts.{Spelled}
+use Rattle.uca_text.specs.Texts.{NfdText}
 use Rattle.uca_text.specs.Occurring.{OccursInOrder}
 use Rattle.uca_rules.specs.declared.relations.Relation.{Relation}
 use Rattle.uca_rules.specs.Relations.{IsTarget, IsUsedBy, IsUntouched, HasRuleTexts, AreRules, IsHeld}
@@ -150,14 +150,14 @@ holds_none held text P p t = ((λ h. inl h), (λ h. ⊎_elim (λ before. before)
 -- ---- The growing rules
 
 -- they hold an anchor in addition, and then an expansion
-pub both_held : (target : List ℕ → Type 0) (old middle new : List (List ℕ)) (r : Relation) (expansion : Spelled) → r.expansion ≡ Some expansion
+pub both_held : (target : List ℕ → Type 0) (old middle new : List (List ℕ)) (r : Relation) (expansion : NfdText) → r.expansion ≡ Some expansion
     → ((t : List ℕ) → Contains middle t ↔ (Contains old t ⊎ ((t ≡ r.anchor.points) × ¬ (target r.anchor.points))))
     → ((t : List ℕ) → Contains new t ↔ (Contains middle t ⊎ ((t ≡ expansion.points) × ¬ (target expansion.points))))
     → (t : List ℕ) → Contains new t ↔ (Contains old t ⊎ (IsUsedBy r t × ¬ (target t)))
 both_held target old middle new r expansion is first second t = (forth, back)
   where
     with_expansion : IsSomeAnd (Some expansion) (λ e. t ≡ e.points) → IsSomeAnd r.expansion (λ e. t ≡ e.points)
-    with_expansion h = subst (λ (o : Option Spelled). IsSomeAnd o (λ e. t ≡ e.points)) (sym is) h
+    with_expansion h = subst (λ (o : Option NfdText). IsSomeAnd o (λ e. t ≡ e.points)) (sym is) h
 
     forth : Contains new t → Contains old t ⊎ (IsUsedBy r t × ¬ (target t))
     forth h =
@@ -172,7 +172,7 @@ both_held target old middle new r expansion is first second t = (forth, back)
         (λ old_has. (second t).1 (inl ((first t).1 (inl old_has))))
         (λ own. ⊎_elim
         (λ anchor. (second t).1 (inl ((first t).1 (inr (anchor, subst (λ (s : List ℕ). ¬ (target s)) anchor own.1)))))
-        (λ it. let same : t ≡ expansion.points = subst (λ (o : Option Spelled). IsSomeAnd o (λ e. t ≡ e.points)) is it in
+        (λ it. let same : t ≡ expansion.points = subst (λ (o : Option NfdText). IsSomeAnd o (λ e. t ≡ e.points)) is it in
         (second t).1 (inr (same, subst (λ (s : List ℕ). ¬ (target s)) same own.1)))
         own.0)
         h
@@ -192,6 +192,6 @@ anchor_held target old new r none first t = (forth, back)
         (λ old_has. (first t).1 (inl old_has))
         (λ own. ⊎_elim
         (λ anchor. (first t).1 (inr (anchor, subst (λ (s : List ℕ). ¬ (target s)) anchor own.1)))
-        (λ it. absurd (subst (λ (o : Option Spelled). IsSomeAnd o (λ e. t ≡ e.points)) none it))
+        (λ it. absurd (subst (λ (o : Option NfdText). IsSomeAnd o (λ e. t ≡ e.points)) none it))
         own.0)
         h

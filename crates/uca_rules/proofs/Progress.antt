@@ -11,8 +11,8 @@ use Rattle.uca_rules.specs.declared.characters.Character.{Character}
 use Rattle.uca_rules.specs.declared.relations.Relation.{Relation}
 use Rattle.uca_rules.specs.declared.faults.RuleFault.{RuleFault}
 use Rattle.uca_rules.specs.declared.faults.RuleFaultKind.TheVariants as kinds
-use Rattle.uca_rules.specs.declared.signs.Last.{Last}
-use Rattle.uca_rules.specs.declared.signs.Last.TheVariants as lasts
+use Rattle.uca_rules.specs.declared.signs.Preceding.{Preceding}
+use Rattle.uca_rules.specs.declared.signs.Preceding.TheVariants as lasts
 use Rattle.uca_rules.specs.Characters.{behind_gaps}
 use Rattle.uca_rules.specs.Statements.{Statement, Starred, AreStatements, BeginsStatement, MayFollow, MayEnd, AreInOrder, opening, last_is, last_of}
 use Rattle.uca_rules.specs.Meaning.{Anchor, Taken, HasShortTexts, no_anchor, anchor_behind, relations_in, relations_of, taken}
@@ -41,11 +41,11 @@ pub statements_more : (cs here rest : List Character) (statements : List Stateme
 statements_more cs here rest [] s lead begins = (rest, subst (λ (l : List Character). BeginsStatement l s rest) (sym lead) begins, refl)
 statements_more cs here rest (t ∷ statements) s lead begins = (lead.0, lead.1, statements_more lead.0 here rest statements s lead.2 begins)
 
-pub ordered_more : (last : Last) (statements : List Statement) (s : Statement) → AreInOrder last statements → MayFollow (last_of last statements) (opening s) → AreInOrder last (statements ++ s ∷ [])
+pub ordered_more : (last : Preceding) (statements : List Statement) (s : Statement) → AreInOrder last statements → MayFollow (last_of last statements) (opening s) → AreInOrder last (statements ++ s ∷ [])
 ordered_more last [] s ordered follows = (follows, tt)
 ordered_more last (t ∷ statements) s ordered follows = (ordered.0, ordered_more (last_is t) statements s ordered.1 follows)
 
-last_more : (last : Last) (statements : List Statement) (s : Statement) → last_of last (statements ++ s ∷ []) ≡ last_is s
+last_more : (last : Preceding) (statements : List Statement) (s : Statement) → last_of last (statements ++ s ∷ []) ≡ last_is s
 last_more last [] s = refl
 last_more last (t ∷ statements) s = last_more (last_is t) statements s
 
@@ -58,7 +58,7 @@ pub reads_more : (properties : Properties) (cs here rest : List Character) (old 
 reads_more properties cs here rest old new read next = record {
   statements = read.statements ++ next.s ∷ [];
   lead = statements_more cs here rest read.statements next.s read.lead next.begins;
-  ordered = ordered_more lasts.Nothing read.statements next.s read.ordered (subst (λ (l : Last). MayFollow l (opening next.s)) read.last next.follows);
+  ordered = ordered_more lasts.Nothing read.statements next.s read.ordered (subst (λ (l : Preceding). MayFollow l (opening next.s)) read.last next.follows);
   short = short_more read.statements next.s read.short next.short;
   relations = ap (λ (s : State). s.relations) next.is
       ∙ ap (λ (l : List Relation). l ++ relations_of (relations_in properties old.anchor next.s)) read.relations
@@ -74,7 +74,7 @@ pub reads_all : (properties : Properties) (cs : List Character) (state : State) 
 reads_all properties cs state read ended = record {
   statements = read.statements;
   divides = read.lead;
-  chains = record { ordered = read.ordered; ended = subst (λ (l : Last). MayEnd l) read.last ended };
+  chains = record { ordered = read.ordered; ended = subst (λ (l : Preceding). MayEnd l) read.last ended };
   short = read.short;
   give = read.relations;
 }
@@ -84,7 +84,7 @@ pub none_left : (cs : List Character) → true ≡ (length cs == 0) → cs ≡ [
 none_left cs e = nil_from_length cs (grind (arith, nat_tests))
 
 -- rules may end where no reset stands last
-pub may_end : (last : Last) → ((asked : Option Strength) → last ≡ lasts.Reset asked → ⊥) → MayEnd last
+pub may_end : (last : Preceding) → ((asked : Option Strength) → last ≡ lasts.Reset asked → ⊥) → MayEnd last
 may_end lasts.Nothing other = tt
 may_end (lasts.Reset asked) other = other asked refl
 may_end lasts.Relation other = tt
@@ -118,7 +118,7 @@ fault_behind properties end cs here state fault read (In_text text) =
       rest = here;
       lead = read.lead;
       ordered = read.ordered;
-      cause = inl (subst (λ (l : Last). InText end l here fault.byte fault.kind) read.last text);
+      cause = inl (subst (λ (l : Preceding). InText end l here fault.byte fault.kind) read.last text);
     })
 fault_behind properties end cs here state fault read (At_statement cause) =
     inr (record {
@@ -127,7 +127,7 @@ fault_behind properties end cs here state fault read (At_statement cause) =
       lead = read.lead;
       ordered = read.ordered;
       cause = inr (inl (subst (λ (n : ℕ). StatementCause end (last_of lasts.Nothing read.statements) n here fault.byte fault.kind) (counted properties cs here state read)
-          (subst (λ (l : Last). StatementCause end l (length state.relations) here fault.byte fault.kind) read.last cause)));
+          (subst (λ (l : Preceding). StatementCause end l (length state.relations) here fault.byte fault.kind) read.last cause)));
     })
 fault_behind properties end cs here state fault read (In_relation next) =
     let before : List Taken = taken properties read.statements in
@@ -142,7 +142,7 @@ fault_behind properties end cs here state fault read (In_relation next) =
       statements = read.statements ++ next.s ∷ [];
       rest = behind_gaps next.rest;
       lead = statements_more cs here next.rest read.statements next.s read.lead next.begins;
-      ordered = ordered_more lasts.Nothing read.statements next.s read.ordered (subst (λ (l : Last). MayFollow l (opening next.s)) read.last next.follows);
+      ordered = ordered_more lasts.Nothing read.statements next.s read.ordered (subst (λ (l : Preceding). MayFollow l (opening next.s)) read.last next.follows);
       cause = inr (inr (inl (record {
         before = before ++ next.has.before;
         t = next.has.t;
@@ -160,7 +160,7 @@ fault_behind properties end cs here state fault read (In_target next) =
       statements = read.statements ++ s ∷ [];
       rest = behind_gaps next.rest;
       lead = statements_more cs here next.rest read.statements s read.lead next.begins;
-      ordered = ordered_more lasts.Nothing read.statements s read.ordered (subst (λ (l : Last). MayFollow l (opening s)) read.last next.follows);
+      ordered = ordered_more lasts.Nothing read.statements s read.ordered (subst (λ (l : Preceding). MayFollow l (opening s)) read.last next.follows);
       cause = inr (inr (inr (record {
         limit = next.over.limit;
         before = read.statements;

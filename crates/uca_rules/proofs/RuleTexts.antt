@@ -11,7 +11,7 @@ use Rattle.unicode_normalization.proofs.OrderLemmas.{length-canonical_order}
 use Rattle.std.specs.List.{AllByRecursion}
 use Rattle.std.specs.Char.{IsScalar}
 use Rattle.uca_values.specs.Content.{Properties}
-use Rattle.uca_text.specs.Texts.{Spelled, spelled}
+use Rattle.uca_text.specs.Texts.{NfdText, nfd_text}
 use Rattle.uca_text.specs.Limits.{IsAccepted}
 use Rattle.uca_text.specs.declared.normalize.TextFault.TheVariants.{TooLong, LongRun}
 use Rattle.uca_text.specs.Faults.{IsCause}
@@ -50,7 +50,7 @@ some_in_nfd (c ∷ points) some =
     rw length-canonical_order (omega (arith, length-append (decompose Nfd c) (flat_map (decompose Nfd) points), (length-from_decompose Nfd c (decompose Nfd c) refl).0))
 
 -- a text that is short enough is one of rules
-pub short_text : (properties : Properties) (points : List ℕ) (text : Spelled) → text ≡ spelled properties points → IsAccepted text → AllByRecursion IsScalar text.points → points ≢ [] →
+pub short_text : (properties : Properties) (points : List ℕ) (text : NfdText) → text ≡ nfd_text properties points → IsAccepted text → AllByRecursion IsScalar text.points → points ≢ [] →
     length text.points ≤ 16 → IsRuleText text
 short_text properties points text is accepted scalars some short = record {
   normal = record { accepted = accepted; scalars = scalars };
@@ -59,8 +59,8 @@ short_text properties points text is accepted scalars some short = record {
 }
 
 -- a text that is rejected for its length or for a run is longer
-pub too_long : (properties : Properties) (points : List ℕ) → IsCause (spelled properties points) TooLong → 16 < length (nfd points)
+pub too_long : (properties : Properties) (points : List ℕ) → IsCause (nfd_text properties points) TooLong → 16 < length (nfd points)
 too_long properties points cause = omega arith
 
-pub long_run : (properties : Properties) (points : List ℕ) (place : ℕ) → IsCause (spelled properties points) (LongRun place) → 16 < length (nfd points)
+pub long_run : (properties : Properties) (points : List ℕ) (place : ℕ) → IsCause (nfd_text properties points) (LongRun place) → 16 < length (nfd points)
 long_run properties points place cause = let within = cause.1.run.within in omega (arith, length-map (nfd points) properties.class)

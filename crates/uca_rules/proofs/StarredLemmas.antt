@@ -6,7 +6,7 @@ use Rattle.std.proofs.lemmas.Bool.{cases_lt}
 use Rattle.std.proofs.lemmas.List.{append-nil, drop_more, length-append, map-append, take-append-drop, take_more}
 use Rattle.std.proofs.lemmas.List.FromFn.{map-range_with_len_more}
 use Rattle.uca_weights.specs.declared.Strength.{Strength}
-use Rattle.uca_text.specs.Texts.{Spelled}
+use Rattle.uca_text.specs.Texts.{NfdText}
 use Rattle.uca_values.specs.Content.{Properties, properties_of}
 use Rattle.uca_rules.specs.declared.characters.Character.{Character}
 use Rattle.uca_rules.specs.declared.relations.Relation.{Relation}
@@ -294,20 +294,20 @@ fault_within {A} strength front mid back here fault old new adds has = ⊎_elim 
 
 -- ---- One target
 
-pub adds_one : {A T : Type 0} (strength : Strength) (c : Character) (text : Spelled) (texts : TextReader A T) (old new : Reader A T) → Keeps old.texts texts
+pub adds_one : {A T : Type 0} (strength : Strength) (c : Character) (text : NfdText) (texts : TextReader A T) (old new : Reader A T) → Keeps old.texts texts
     → IsTextOf (properties_in old.texts) (c.code ∷ []) text → AddsOne (relation_of old strength text None) (record old { texts = texts }) new → Adds (Starred strength (c ∷ [])) old new
 adds_one strength c text texts old new kept is adds = record {
   kept = record { properties = adds.kept.properties ∙ kept.properties; end = adds.kept.end ∙ kept.end };
   growing = adds.growing;
   anchored = subst IsRuleText (sym adds.anchor) is.rule;
   short = (is.short, tt);
-  relations = adds.relations ∙ ap (λ (t : Spelled). old.rules.relations.items ++ relation_of old strength t None ∷ []) is.is;
+  relations = adds.relations ∙ ap (λ (t : NfdText). old.rules.relations.items ++ relation_of old strength t None ∷ []) is.is;
   anchor = ap (λ (b : Bool). record { text = new.anchor; before = b }) adds.before ∙ ap behind_target (adds.anchor ∙ is.is);
   last = adds.last;
 }
 
 -- a relation of one target has a cause
-pub fault_of_one : {A T : Type 0} (strength : Strength) (c : Character) (text : Spelled) (here : ℕ) (fault : RuleFault) (old : Reader A T) → text ≡ one_letter (properties_in old.texts) c
+pub fault_of_one : {A T : Type 0} (strength : Strength) (c : Character) (text : NfdText) (here : ℕ) (fault : RuleFault) (old : Reader A T) → text ≡ one_letter (properties_in old.texts) c
     → IsMemoryAt here fault ⊎ ((fault.byte ≡ c.place) × RelationCause old.rules.relations.items (relation_of old strength text None) fault.kind)
     → HasTargetFault (properties_in old.texts) (state_of old) strength (c ∷ []) here fault
 fault_of_one {A} strength c text here fault old is has = ⊎_elim inl (λ cause. inr (inl (of_relation cause))) has
@@ -323,7 +323,7 @@ fault_of_one {A} strength c text here fault old is has = ⊎_elim inl (λ cause.
       are = refl;
       at = cause.0;
       cause = subst (λ (l : List Relation). RelationCause l (relation_of old strength (one_letter (properties_in old.texts) c) None) fault.kind) (sym (append-nil items))
-          (subst (λ (t : Spelled). RelationCause items (relation_of old strength t None) fault.kind) is cause.1);
+          (subst (λ (t : NfdText). RelationCause items (relation_of old strength t None) fault.kind) is cause.1);
     }
 
 -- ---- Code points between the ends of a range

@@ -4,12 +4,12 @@ use Rattle.std.specs.Prelude.{is_some, slice_get}
 use Rattle.std.proofs.lemmas.List.{append-nil}
 use Rattle.uca_weights.specs.declared.Strength.{Strength}
 use Rattle.uca_values.specs.Content.{Properties}
-use Rattle.uca_text.specs.Texts.{Spelled, spelled}
+use Rattle.uca_text.specs.Texts.{NfdText, nfd_text}
 use Rattle.uca_rules.specs.declared.characters.Character.{Character}
 use Rattle.uca_rules.specs.declared.relations.Relation.{Relation}
 use Rattle.uca_rules.specs.declared.faults.RuleFault.{RuleFault}
-use Rattle.uca_rules.specs.declared.signs.Last.{Last}
-use Rattle.uca_rules.specs.declared.signs.Last.TheVariants as lasts
+use Rattle.uca_rules.specs.declared.signs.Preceding.{Preceding}
+use Rattle.uca_rules.specs.declared.signs.Preceding.TheVariants as lasts
 use Rattle.uca_rules.specs.declared.reader.Reader.{Reader}
 use Rattle.uca_rules.specs.declared.text_reader.TextReader.{TextReader}
 use Rattle.uca_rules.specs.Growing.{AreGrowing}
@@ -35,7 +35,7 @@ reset_fault properties end state cs text before fault due follows (inl memory) =
 reset_fault properties end state cs text before fault due follows (inr cause) =
     Reading.IsNextFault.In_text (record { opens = Resets; starred = false; text = text; follows = follows; due = (before, due); cause = cause })
 
-pub reset_next : (properties : Properties) (old : State) (cs text rest : List Character) (before : Option Strength) (written : Written) (anchor : Spelled)
+pub reset_next : (properties : Properties) (old : State) (cs text rest : List Character) (before : Option Strength) (written : Written) (anchor : NfdText)
     → IsAnchorDue cs before text → MayFollow old.last Resets → BeginsWritten text written rest → IsTextOf properties written.points anchor
     → BeginsNext properties old (record { relations = old.relations; anchor = record { text = anchor; before = is_some before }; last = lasts.Reset before }) cs rest
 reset_next properties old cs text rest before written anchor due follows begins found = record {
@@ -44,13 +44,13 @@ reset_next properties old cs text rest before written anchor due follows begins 
   follows = follows;
   short = found.short;
   is =
-      (let at : List Relation → Spelled → State = λ (l : List Relation) (t : Spelled). record { relations = l; anchor = record { text = t; before = is_some before }; last = lasts.Reset before } in
-      ap (λ (l : List Relation). at l anchor) (sym (append-nil old.relations)) ∙ ap (λ (t : Spelled). at (old.relations ++ []) t) found.is);
+      (let at : List Relation → NfdText → State = λ (l : List Relation) (t : NfdText). record { relations = l; anchor = record { text = t; before = is_some before }; last = lasts.Reset before } in
+      ap (λ (l : List Relation). at l anchor) (sym (append-nil old.relations)) ∙ ap (λ (t : NfdText). at (old.relations ++ []) t) found.is);
 }
 
 -- ---- Relations
 
-pub follows_sign : (last : Last) (strength : Strength) → last ≢ lasts.Nothing → ((asked : Strength) → last ≡ lasts.Reset (Some asked) → strength ≡ asked) → MayFollow last (Signs strength)
+pub follows_sign : (last : Preceding) (strength : Strength) → last ≢ lasts.Nothing → ((asked : Strength) → last ≡ lasts.Reset (Some asked) → strength ≡ asked) → MayFollow last (Signs strength)
 follows_sign lasts.Nothing strength behind as_asked = absurd (behind refl)
 follows_sign (lasts.Reset None) strength behind as_asked = tt
 follows_sign (lasts.Reset (Some asked)) strength behind as_asked = as_asked asked refl
@@ -122,10 +122,10 @@ goes_on {A} s old new cs rest begins follows is adds = record {
     follows = follows;
     short = adds.short;
     is =
-        (let at : List Relation → Anchor → Last → State = λ (l : List Relation) (a : Anchor) (t : Last). record { relations = l; anchor = a; last = t } in
+        (let at : List Relation → Anchor → Preceding → State = λ (l : List Relation) (a : Anchor) (t : Preceding). record { relations = l; anchor = a; last = t } in
         ap (λ (l : List Relation). at l (anchor_of new) lasts.Relation) adds.relations
         ∙ ap (λ (a : Anchor). at (old.rules.relations.items ++ relations_of (relations_in (properties_in old.texts) (anchor_of old) s)) a lasts.Relation) adds.anchor
-        ∙ ap (λ (t : Last). at (old.rules.relations.items ++ relations_of (relations_in (properties_in old.texts) (anchor_of old) s)) (anchor_behind (properties_in old.texts) (anchor_of old) s) t) (sym is));
+        ∙ ap (λ (t : Preceding). at (old.rules.relations.items ++ relations_of (relations_in (properties_in old.texts) (anchor_of old) s)) (anchor_behind (properties_in old.texts) (anchor_of old) s) t) (sym is));
   };
 }
 
@@ -156,33 +156,33 @@ target_fault properties end state strength text fault (inl memory) = Reading.IsP
 target_fault properties end state strength text fault (inr cause) = Reading.IsPlainFault.In_target cause
 
 -- the texts of a relation
-expansion_is : (properties : Properties) (written : Option Written) (found : Option Spelled) → AreTextsOf properties written found → found ≡ option_map (λ (w : Written). spelled properties w.points) written
+expansion_is : (properties : Properties) (written : Option Written) (found : Option NfdText) → AreTextsOf properties written found → found ≡ option_map (λ (w : Written). nfd_text properties w.points) written
 expansion_is properties None None are = refl
 expansion_is properties None (Some text) are = absurd are
 expansion_is properties (Some w) None are = absurd are
-expansion_is properties (Some w) (Some text) are = ap (λ (t : Spelled). Some t) are.is
+expansion_is properties (Some w) (Some text) are = ap (λ (t : NfdText). Some t) are.is
 
-expansion_short : (properties : Properties) (written : Option Written) (found : Option Spelled) → AreTextsOf properties written found → IfSome written (λ w. IsShort w.points)
+expansion_short : (properties : Properties) (written : Option Written) (found : Option NfdText) → AreTextsOf properties written found → IfSome written (λ w. IsShort w.points)
 expansion_short properties None None are = tt
 expansion_short properties None (Some text) are = absurd are
 expansion_short properties (Some w) None are = absurd are
 expansion_short properties (Some w) (Some text) are = are.short
 
-pub expansion_rule : (properties : Properties) (written : Option Written) (found : Option Spelled) → AreTextsOf properties written found → IfSome found IsRuleText
+pub expansion_rule : (properties : Properties) (written : Option Written) (found : Option NfdText) → AreTextsOf properties written found → IfSome found IsRuleText
 expansion_rule properties None None are = tt
 expansion_rule properties None (Some text) are = absurd are
 expansion_rule properties (Some w) None are = absurd are
 expansion_rule properties (Some w) (Some text) are = are.rule
 
 -- the relation of a statement
-pub relation_is : (properties : Properties) (anchor : Anchor) (strength : Strength) (target : Written) (expansion : Option Written) (text : Spelled) (found : Option Spelled)
+pub relation_is : (properties : Properties) (anchor : Anchor) (strength : Strength) (target : Written) (expansion : Option Written) (text : NfdText) (found : Option NfdText)
     → IsTextOf properties target.points text → AreTextsOf properties expansion found
     → record { relation = record { anchor = anchor.text; before = anchor.before; strength = strength; target = text; expansion = found }; place = target.place } ∷ [] ≡ relations_in properties anchor (Plain strength target expansion)
 relation_is properties anchor strength target expansion text found is are =
-    let at : Spelled → Option Spelled → List Taken = λ (t : Spelled) (e : Option Spelled). record { relation = record { anchor = anchor.text; before = anchor.before; strength = strength; target = t; expansion = e }; place = target.place } ∷ [] in
-    ap (λ (t : Spelled). at t found) is.is ∙ ap (λ (e : Option Spelled). at (spelled properties target.points) e) (expansion_is properties expansion found are)
+    let at : NfdText → Option NfdText → List Taken = λ (t : NfdText) (e : Option NfdText). record { relation = record { anchor = anchor.text; before = anchor.before; strength = strength; target = t; expansion = e }; place = target.place } ∷ [] in
+    ap (λ (t : NfdText). at t found) is.is ∙ ap (λ (e : Option NfdText). at (nfd_text properties target.points) e) (expansion_is properties expansion found are)
 
-pub relation_fault : (properties : Properties) (end : ℕ) (state : State) (strength : Strength) (text more rest : List Character) (target : Written) (expansion : Option Written) (t : Spelled) (e : Option Spelled) (fault : RuleFault)
+pub relation_fault : (properties : Properties) (end : ℕ) (state : State) (strength : Strength) (text more rest : List Character) (target : Written) (expansion : Option Written) (t : NfdText) (e : Option NfdText) (fault : RuleFault)
     → BeginsWritten text target more → BeginsExpansion more expansion rest → IsTextOf properties target.points t → AreTextsOf properties expansion e
     → IsMemoryAt (place_of end rest) fault ⊎ ((fault.byte ≡ target.place) × RelationCause state.relations (record { anchor = state.anchor.text; before = state.anchor.before; strength = strength; target = t; expansion = e }) fault.kind)
     → IsPlainFault properties end state strength text fault
@@ -199,7 +199,7 @@ relation_fault properties end state strength text more rest target expansion t e
       cause = subst (λ (l : List Relation). RelationCause l (record { anchor = state.anchor.text; before = state.anchor.before; strength = strength; target = t; expansion = e }) fault.kind) (sym (append-nil state.relations)) cause.1;
     })
 
-pub plain_adds : {A T : Type 0} (old middle new : Reader A T) (strength : Strength) (text more rest : List Character) (target : Written) (expansion : Option Written) (t : Spelled) (e : Option Spelled)
+pub plain_adds : {A T : Type 0} (old middle new : Reader A T) (strength : Strength) (text more rest : List Character) (target : Written) (expansion : Option Written) (t : NfdText) (e : Option NfdText)
     → BeginsWritten text target more → BeginsExpansion more expansion rest → IsTextOf (properties_in old.texts) target.points t → AreTextsOf (properties_in old.texts) expansion e
     → Keeps old.texts middle.texts → middle.rules ≡ old.rules → anchor_of middle ≡ anchor_of old → middle.last ≡ old.last
     → AddsOne (relation_of middle strength t e) middle new → AddsPlain old new strength text rest
@@ -221,8 +221,8 @@ plain_adds {A} old middle new strength text more rest target expansion t e begin
             ∙ ap (λ (a : Anchor). old.rules.relations.items ++ of a ∷ []) anchor
             ∙ ap (λ (l : List Taken). old.rules.relations.items ++ relations_of l) (relation_is (properties_in old.texts) (anchor_of old) strength target expansion t e is are);
         anchor =
-            (let at : Spelled → Bool → Anchor = λ (s : Spelled) (b : Bool). record { text = s; before = b } in
-            ap (λ (s : Spelled). at s new.before) (adds.anchor ∙ is.is) ∙ ap (λ (b : Bool). at (spelled (properties_in old.texts) target.points) b) adds.before);
+            (let at : NfdText → Bool → Anchor = λ (s : NfdText) (b : Bool). record { text = s; before = b } in
+            ap (λ (s : NfdText). at s new.before) (adds.anchor ∙ is.is) ∙ ap (λ (b : Bool). at (nfd_text (properties_in old.texts) target.points) b) adds.before);
         last = adds.last ∙ last;
       };
     }
@@ -248,7 +248,7 @@ target_due cs strength starred is behind text sign same gap = record {
 }
 
 -- a reset has been read
-pub reset_goes_on : {A T : Type 0} (old : Reader A T) (texts : TextReader A T) (cs text rest : List Character) (asked : Option Strength) (before : Bool) (written : Written) (anchor : Spelled)
+pub reset_goes_on : {A T : Type 0} (old : Reader A T) (texts : TextReader A T) (cs text rest : List Character) (asked : Option Strength) (before : Bool) (written : Written) (anchor : NfdText)
     → before ≡ is_some asked → AreGrowing old.rules → Keeps old.texts texts → IsAnchorDue cs asked text → MayFollow old.last Resets → BeginsWritten text written rest → IsTextOf (properties_in old.texts) written.points anchor
     → GoesOn old (record { texts = texts; rules = old.rules; anchor = anchor; before = before; last = lasts.Reset asked }) cs rest
 reset_goes_on {A} old texts cs text rest asked before written anchor is growing kept due follows begins found = record {

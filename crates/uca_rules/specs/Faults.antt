@@ -6,8 +6,8 @@ use Rattle.uca_weights.specs.declared.Strength.{Strength}
 use Rattle.uca_values.specs.Content.{Properties}
 use Rattle.uca_rules.specs.declared.characters.Character.{Character}
 use Rattle.uca_rules.specs.declared.relations.Relation.{Relation}
-use Rattle.uca_rules.specs.declared.signs.Last.{Last}
-use Rattle.uca_rules.specs.declared.signs.Last.TheVariants as lasts
+use Rattle.uca_rules.specs.declared.signs.Preceding.{Preceding}
+use Rattle.uca_rules.specs.declared.signs.Preceding.TheVariants as lasts
 use Rattle.uca_rules.specs.declared.faults.RuleFaultKind.{RuleFaultKind}
 use Rattle.uca_rules.specs.declared.faults.RuleFaultKind.TheVariants as kinds
 use Rattle.uca_rules.specs.Characters.{characters, place_of, behind_gaps, ampersand, apostrophe, backslash, bracket, equals_sign, less_than, slash}
@@ -92,7 +92,7 @@ IsTextDue cs (Signs strength) true text = IsTargetDue cs strength true text
 IsTextDue cs (Signs strength) false text = IsTargetDue cs strength false text ⊎ IsSlashBehind cs strength text
 
 -- in the statement that begins there, and may follow the last one, a text is due, and it has a cause
-pub record InText (end : ℕ) (last : Last) (cs : List Character) (place : ℕ) (kind : RuleFaultKind) : Type 0 where
+pub record InText (end : ℕ) (last : Preceding) (cs : List Character) (place : ℕ) (kind : RuleFaultKind) : Type 0 where
   pub opens : Opening
   pub starred : Bool
   pub text : List Character
@@ -103,12 +103,12 @@ pub record InText (end : ℕ) (last : Last) (cs : List Character) (place : ℕ) 
 -- ---- Causes where a statement begins
 
 -- whether a statement that may follow begins with the character
-abbrev pub may_begin : Last → ℕ → Bool
+abbrev pub may_begin : Preceding → ℕ → Bool
 may_begin lasts.Nothing c = c == ampersand
 may_begin (lasts.Reset asked) c = c == less_than || c == equals_sign
 may_begin lasts.Relation c = c == ampersand || c == less_than || c == equals_sign
 
-abbrev pub IsMisplaced : Last → List Character → Type 0
+abbrev pub IsMisplaced : Preceding → List Character → Type 0
 IsMisplaced last [] = ¬ (MayEnd last)
 IsMisplaced last (c ∷ cs) = IsFalse (may_begin last c.code)
 
@@ -130,12 +130,12 @@ abbrev pub IsSign : List Character → Type 0
 IsSign cs = (sign : SignAt) × (sign_at cs ≡ Some sign)
 
 -- after a bracket, a sign of another strength
-abbrev pub IsWrongStrength : Last → List Character → Type 0
+abbrev pub IsWrongStrength : Preceding → List Character → Type 0
 IsWrongStrength (lasts.Reset (Some asked)) cs = (sign : SignAt) × (sign_at cs ≡ Some sign) × (sign.strength ≢ asked)
 IsWrongStrength last cs = ⊥
 
 -- a cause at the first character of a statement, after others that give so many relations
-abbrev pub StatementCause : ℕ → Last → ℕ → List Character → ℕ → RuleFaultKind → Type 0
+abbrev pub StatementCause : ℕ → Preceding → ℕ → List Character → ℕ → RuleFaultKind → Type 0
 StatementCause end last count cs place kinds.Syntax =
     ((IsMisplaced last cs ⊎ (4 ≤ count_less cs)) × (place ≡ place_of end cs)) ⊎ (MayFollow last Resets × IsWrongBracket cs place)
 StatementCause end last count cs place kinds.BeforeStrength = IsWrongStrength last cs × (place ≡ place_of end cs)

@@ -4,7 +4,7 @@ use Rattle.std.specs.List.{AllByRecursion}
 use Rattle.unicode_normalization.specs.Forms.{nfd}
 use Rattle.uca_weights.specs.declared.Strength.{Strength}
 use Rattle.uca_values.specs.Content.{Properties}
-use Rattle.uca_text.specs.Texts.{Spelled, spelled}
+use Rattle.uca_text.specs.Texts.{NfdText, nfd_text}
 use Rattle.uca_rules.specs.declared.characters.Character.{Character}
 use Rattle.uca_rules.specs.declared.relations.Relation.{Relation}
 use Rattle.uca_rules.specs.Characters.{characters}
@@ -18,16 +18,16 @@ pub record Taken : Type 0 where
 
 -- what the next relation of a chain is placed by, and whether before it
 pub record Anchor : Type 0 where
-  pub text : Spelled
+  pub text : NfdText
   pub before : Bool
 
 -- after a target: what the next relation is placed by, also within a starred text
-abbrev pub behind_target : Spelled → Anchor
+abbrev pub behind_target : NfdText → Anchor
 behind_target text = record { text = text; before = false }
 
 -- the text of one character
-abbrev pub one_letter : Properties → Character → Spelled
-one_letter properties c = spelled properties (c.code ∷ [])
+abbrev pub one_letter : Properties → Character → NfdText
+one_letter properties c = nfd_text properties (c.code ∷ [])
 
 -- the relations of a starred text: the first target is placed by the anchor, every other one by the target before it
 abbrev pub starred_relations : Properties → Anchor → Strength → List Character → List Taken
@@ -44,13 +44,13 @@ behind_targets properties anchor (c ∷ targets) = behind_targets properties (be
 abbrev pub relations_in : Properties → Anchor → Statement → List Taken
 relations_in properties anchor (Reset before text) = []
 relations_in properties anchor (Plain strength target expansion) =
-    record { relation = record { anchor = anchor.text; before = anchor.before; strength = strength; target = spelled properties target.points; expansion = option_map (λ text. spelled properties text.points) expansion }; place = target.place } ∷ []
+    record { relation = record { anchor = anchor.text; before = anchor.before; strength = strength; target = nfd_text properties target.points; expansion = option_map (λ text. nfd_text properties text.points) expansion }; place = target.place } ∷ []
 relations_in properties anchor (Starred strength targets) = starred_relations properties anchor strength targets
 
 -- the anchor of the relation after a statement
 abbrev pub anchor_behind : Properties → Anchor → Statement → Anchor
-anchor_behind properties anchor (Reset before text) = record { text = spelled properties text.points; before = is_some before }
-anchor_behind properties anchor (Plain strength target expansion) = behind_target (spelled properties target.points)
+anchor_behind properties anchor (Reset before text) = record { text = nfd_text properties text.points; before = is_some before }
+anchor_behind properties anchor (Plain strength target expansion) = behind_target (nfd_text properties target.points)
 anchor_behind properties anchor (Starred strength targets) = behind_targets properties anchor targets
 
 abbrev pub relations_from : Properties → Anchor → List Statement → List Taken

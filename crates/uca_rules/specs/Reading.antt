@@ -5,13 +5,13 @@ use Rattle.std.specs.List.{AllByRecursion}
 use Rattle.unicode_normalization.specs.Forms.{nfd}
 use Rattle.uca_weights.specs.declared.Strength.{Strength}
 use Rattle.uca_values.specs.Content.{Properties, properties_of}
-use Rattle.uca_text.specs.Texts.{Spelled, spelled}
+use Rattle.uca_text.specs.Texts.{NfdText, nfd_text}
 use Rattle.uca_rules.specs.declared.characters.Character.{Character}
 use Rattle.uca_rules.specs.declared.relations.Relation.{Relation}
 use Rattle.uca_rules.specs.declared.faults.RuleFault.{RuleFault}
 use Rattle.uca_rules.specs.declared.faults.RuleFaultKind.TheVariants as kinds
-use Rattle.uca_rules.specs.declared.signs.Last.{Last}
-use Rattle.uca_rules.specs.declared.signs.Last.TheVariants as lasts
+use Rattle.uca_rules.specs.declared.signs.Preceding.{Preceding}
+use Rattle.uca_rules.specs.declared.signs.Preceding.TheVariants as lasts
 use Rattle.uca_rules.specs.declared.text_reader.TextReader.{TextReader}
 use Rattle.uca_rules.specs.declared.reader.Reader.{Reader}
 use Rattle.uca_rules.specs.Characters.{place_of}
@@ -26,13 +26,13 @@ use Rattle.uca_rules.specs.Growing.{AreGrowing}
 -- ---- Texts
 
 -- a text as it is read: it has at most 16 code points
-pub record IsTextOf (properties : Properties) (points : List ℕ) (text : Spelled) : Type 0 where
-  pub is : text ≡ spelled properties points
+pub record IsTextOf (properties : Properties) (points : List ℕ) (text : NfdText) : Type 0 where
+  pub is : text ≡ nfd_text properties points
   pub short : IsShort points
   pub rule : IsRuleText text
 
 -- a text that may be there
-abbrev pub AreTextsOf : Properties → Option Written → Option Spelled → Type 0
+abbrev pub AreTextsOf : Properties → Option Written → Option NfdText → Type 0
 AreTextsOf properties None None = Unit {0}
 AreTextsOf properties (Some written) (Some text) = IsTextOf properties written.points text
 AreTextsOf properties written text = ⊥
@@ -51,7 +51,7 @@ pub record Keeps {A T : Type 0} (old new : TextReader A T) : Type 0 where
 pub record State : Type 0 where
   pub relations : List Relation
   pub anchor : Anchor
-  pub last : Last
+  pub last : Preceding
 
 -- before the first statement
 abbrev pub start : State
@@ -192,11 +192,11 @@ pub record Adds {A T : Type 0} (s : Statement) (old new : Reader A T) : Type 0 w
   pub last : new.last ≡ old.last
 
 -- the relation of a target and an expansion, with the anchor of the reader
-abbrev pub relation_of : {A T : Type 0} → Reader A T → Strength → Spelled → Option Spelled → Relation
+abbrev pub relation_of : {A T : Type 0} → Reader A T → Strength → NfdText → Option NfdText → Relation
 relation_of r strength target expansion = record { anchor = r.anchor; before = r.before; strength = strength; target = target; expansion = expansion }
 
 -- the target is the next anchor, and no relation has been added
-pub record PassesOn {A T : Type 0} (target : Spelled) (old new : Reader A T) : Type 0 where
+pub record PassesOn {A T : Type 0} (target : NfdText) (old new : Reader A T) : Type 0 where
   pub texts : new.texts ≡ old.texts
   pub rules : new.rules ≡ old.rules
   pub anchor : new.anchor ≡ target

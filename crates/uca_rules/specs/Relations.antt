@@ -1,7 +1,7 @@
 -- Relations, what holds of the relations of all rules, and the texts that rules leave as they are.
 use Rattle.std.specs.Prelude.{◌≡◌, ◌≢◌, ◌⊎◌, ℕ, ◌≤◌, List, [], ◌∷◌, ◌++◌, length, IfSome, IsSomeAnd}
 use Rattle.std.specs.List.{AllByRecursion}
-use Rattle.uca_text.specs.Texts.{Spelled}
+use Rattle.uca_text.specs.Texts.{NfdText}
 use Rattle.uca_text.specs.Limits.{IsNormal}
 use Rattle.uca_text.specs.Occurring.{OccursInOrder}
 use Rattle.uca_rules.specs.declared.relations.Relation.{Relation}
@@ -24,7 +24,7 @@ IsUntouched relations text = AllByRecursion (λ r. ¬ (OccursInOrder r.target.po
 -- ---- What holds of the relations of all rules
 
 -- a text of a relation: it has 1 to 16 code points in Normalization Form D
-pub record IsRuleText (text : Spelled) : Type 0 where
+pub record IsRuleText (text : NfdText) : Type 0 where
   pub normal : IsNormal text
   pub some : text.points ≢ []
   pub short : length text.points ≤ 16

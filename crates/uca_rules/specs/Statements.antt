@@ -5,8 +5,8 @@ use Rattle.std.specs.Str.{bytes_eq}
 use Rattle.uca_weights.specs.declared.Strength.{Strength}
 use Rattle.uca_weights.specs.declared.Strength.TheVariants.{Primary, Secondary, Tertiary, Identical}
 use Rattle.uca_rules.specs.declared.characters.Character.{Character}
-use Rattle.uca_rules.specs.declared.signs.Last.{Last}
-use Rattle.uca_rules.specs.declared.signs.Last.TheVariants as lasts
+use Rattle.uca_rules.specs.declared.signs.Preceding.{Preceding}
+use Rattle.uca_rules.specs.declared.signs.Preceding.TheVariants as lasts
 use Rattle.uca_rules.specs.Characters.{codes_of, behind_gaps, ampersand, asterisk, slash, less_than, equals_sign, bracket}
 use Rattle.uca_rules.specs.Pieces.{Symbol, Literal, Hyphen, BeginsText, Written, BeginsWritten}
 
@@ -197,14 +197,14 @@ HasStrength None strength = ⊤
 HasStrength (Some asked) strength = strength ≡ asked
 
 -- what a statement is for the one that follows it
-abbrev pub last_is : Statement → Last
+abbrev pub last_is : Statement → Preceding
 last_is (Reset before anchor) = lasts.Reset before
 last_is (Plain strength target expansion) = lasts.Relation
 last_is (Starred strength targets) = lasts.Relation
 
 -- Whether a statement that begins so may follow: a reset is first, and never follows another reset; the first
 -- relation after a bracket has its strength.
-abbrev pub MayFollow : Last → Opening → Type 0
+abbrev pub MayFollow : Preceding → Opening → Type 0
 MayFollow lasts.Nothing Resets = ⊤
 MayFollow lasts.Nothing (Signs strength) = ⊥
 MayFollow (lasts.Reset asked) Resets = ⊥
@@ -212,18 +212,18 @@ MayFollow (lasts.Reset asked) (Signs strength) = HasStrength asked strength
 MayFollow lasts.Relation opens = ⊤
 
 -- whether the rules may end there, or be empty
-abbrev pub MayEnd : Last → Type 0
+abbrev pub MayEnd : Preceding → Type 0
 MayEnd lasts.Nothing = ⊤
 MayEnd (lasts.Reset asked) = ⊥
 MayEnd lasts.Relation = ⊤
 
 -- each statement may follow the one before it
-abbrev pub AreInOrder : Last → List Statement → Type 0
+abbrev pub AreInOrder : Preceding → List Statement → Type 0
 AreInOrder last [] = ⊤
 AreInOrder last (s ∷ statements) = MayFollow last (opening s) × AreInOrder (last_is s) statements
 
 -- what the last of the statements is
-abbrev pub last_of : Last → List Statement → Last
+abbrev pub last_of : Preceding → List Statement → Preceding
 last_of last [] = last
 last_of last (s ∷ statements) = last_of (last_is s) statements
 

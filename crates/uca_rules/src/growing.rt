@@ -14,7 +14,7 @@ use std::marker::Model;
 
 /// The relations that have been read.
 #[derive(Drop)]
-pub(crate) struct GrowingRules<A: Allocator> {
+pub(crate) struct RulesBuilder<A: Allocator> {
     alloc: A,
     relations: Vec<Relation, A>,
     // The anchors and expansions that are not the target of a relation before their own. No later target may occur in
@@ -36,13 +36,13 @@ impl<A: Allocator> Model for HeldText<A> {
     ghost view = { λ h. h.text.items };
 }
 
-impl<A: Allocator + Copy> GrowingRules<A> {
+impl<A: Allocator + Copy> RulesBuilder<A> {
     /// No relations.
-    pub(crate) fn new(alloc: A) -> GrowingRules<A>
+    pub(crate) fn new(alloc: A) -> RulesBuilder<A>
         ensures none { result.relations.items ≡ [] }
         ensures growing { AreGrowing result }
     {
-        GrowingRules {
+        RulesBuilder {
             alloc,
             relations: Vec::new(alloc),
             held: Vec::new(alloc),

@@ -4,7 +4,7 @@ ghost use Rattle.std.specs.Prelude.{◌≡◌, ◌≢◌, ◌⊎◌, ◌<◌, �
 ghost use Rattle.uca_values.specs.Content.{properties_of};
 ghost use Rattle.uca_weights.specs.declared.Strength.{Strength};
 ghost use Rattle.uca_rules.specs.declared.relations.Relation.{Relation};
-ghost use Rattle.uca_rules.specs.declared.signs.Last.{Last};
+ghost use Rattle.uca_rules.specs.declared.signs.Preceding.{Preceding};
 ghost use Rattle.uca_rules.specs.declared.faults.RuleFaultKind.{RuleFaultKind};
 ghost use Rattle.uca_rules.specs.Characters;
 ghost use Rattle.uca_rules.specs.Relations.{AreRules, HasRuleTexts, IsRuleText};
@@ -18,9 +18,9 @@ ghost use Rattle.uca_rules.specs.Reading.{AddsOne, AddsPlain, GoesOn, IsNextFaul
 
 use crate::characters::{Character, behind_gaps, characters};
 use crate::faults::{RuleFault, RuleFaultKind};
-use crate::growing::GrowingRules;
+use crate::growing::RulesBuilder;
 use crate::relations::{Relation, Rules};
-use crate::signs::{BRACKET_LENGTH, Last, Sign, bracket_at, sign_at};
+use crate::signs::{BRACKET_LENGTH, Preceding, Sign, bracket_at, sign_at};
 use crate::text_reader::TextReader;
 use crate::texts::place_of;
 use std::alloc::{AllocError, Allocator, Global};
@@ -123,11 +123,11 @@ fn read_characters<A: Allocator + Copy, T: Allocator>(
 #[derive(Drop)]
 pub(crate) struct Reader<'a, A: Allocator, T: Allocator> {
     pub(crate) texts: TextReader<'a, A, T>,
-    pub(crate) rules: GrowingRules<A>,
+    pub(crate) rules: RulesBuilder<A>,
     // what the next relation is placed by, and whether before it
     anchor: Normal,
     before: bool,
-    last: Last,
+    last: Preceding,
 }
 
 impl<'a, A: Allocator + Copy, T: Allocator> Reader<'a, A, T> {
@@ -140,10 +140,10 @@ impl<'a, A: Allocator + Copy, T: Allocator> Reader<'a, A, T> {
     {
         Reader {
             texts: TextReader::new(alloc, global, properties, end),
-            rules: GrowingRules::new(alloc),
+            rules: RulesBuilder::new(alloc),
             anchor: Normal::new(global),
             before: false,
-            last: Last::Nothing,
+            last: Preceding::Nothing,
         }
     }
 
@@ -159,7 +159,7 @@ impl<'a, A: Allocator + Copy, T: Allocator> Reader<'a, A, T> {
         while !rest.is_empty() {
             rest = behind_gaps(self.read_statement(rest)?);
         }
-        if let Last::Reset(_) = self.last {
+        if let Preceding::Reset(_) = self.last {
             return Err(RuleFault {
                 byte: self.texts.end,
                 kind: RuleFaultKind::Syntax,
@@ -180,10 +180,9 @@ impl<'a, A: Allocator + Copy, T: Allocator> Reader<'a, A, T> {
     {
         let first = characters[0];
         match (first.code, self.last) {
-            ('&', Last::Nothing) | ('&', Last::Relation) => self.read_reset(characters),
-            ('<' | '=', Last::Reset(_)) | ('<' | '=', Last::Relation) => self.read_relation(
-                characters,
-            ),
+            ('&', Preceding::Nothing) | ('&', Preceding::Relation) => self.read_reset(characters),
+            ('<' | '=', Preceding::Reset(_)) | ('<' | '=', Preceding::Relation) =>
+                self.read_relation(characters),
             _ => Err(RuleFault {
                 byte: first.place,
                 kind: RuleFaultKind::Syntax,
@@ -203,7 +202,7 @@ impl<'a, A: Allocator + Copy, T: Allocator> Reader<'a, A, T> {
         let (anchor, rest) = self.texts.read_plain(text)?;
         self.anchor = anchor;
         self.before = asked.is_some();
-        self.last = Last::Reset(asked);
+        self.last = Preceding::Reset(asked);
         Ok(rest)
     }
 
@@ -214,7 +213,7 @@ impl<'a, A: Allocator + Copy, T: Allocator> Reader<'a, A, T> {
     ) -> Result<&'c [Character], RuleFault>
         requires ready { IsReady self.old }
         requires sign { (first_code characters.now ≡ Characters.less_than) ⊎ (first_code characters.now ≡ Characters.equals_sign) }
-        requires behind { self.old.last ≢ Last.Nothing }
+        requires behind { self.old.last ≢ Preceding.Nothing }
         ensures found { IfOk result (λ rest. GoesOn self.old self.new characters.now rest.now) }
         ensures fault { IfErr result (IsNextFault (properties_in self.old.texts) self.old.texts.end (state_of self.old) characters.now) }
     {
@@ -225,7 +224,7 @@ impl<'a, A: Allocator + Copy, T: Allocator> Reader<'a, A, T> {
         } else {
             self.read_target(sign.strength, text)?
         };
-        self.last = Last::Relation;
+        self.last = Preceding::Relation;
         Ok(rest)
     }
 
@@ -350,12 +349,12 @@ fn behind_ampersand<'c>(
 /// `Syntax` where four or more `<` stand in a row, then `Limit` where there are as many relations as there may be, then
 /// `BeforeStrength`.
 fn sign_of_relation<'c>(
-    last: Last,
+    last: Preceding,
     count: usize,
     characters: &'c [Character],
 ) -> Result<Sign<'c>, RuleFault>
     requires sign { (first_code characters.now ≡ Characters.less_than) ⊎ (first_code characters.now ≡ Characters.equals_sign) }
-    requires behind { last ≢ Last.Nothing }
+    requires behind { last ≢ Preceding.Nothing }
     ensures found { IfOk result (λ sign. (Statements.sign_at characters.now ≡ Some (sign_view sign)) × MayFollow last (Signs sign.strength) × (count ≢ 5000)) }
     ensures fault { IfErr result (λ fault. (end : ℕ) → StatementCause end last count characters.now fault.byte fault.kind) }
 {
@@ -382,13 +381,13 @@ fn sign_of_relation<'c>(
 }
 
 /// Whether a relation may have the strength there: after a bracket only the strength that it asks for.
-fn may_have(last: Last, strength: Strength) -> bool
-    requires { last ≢ Last.Nothing }
+fn may_have(last: Preceding, strength: Strength) -> bool
+    requires { last ≢ Preceding.Nothing }
     ensures yes { IsTrue result → MayFollow last (Signs strength) }
-    ensures no { IsFalse result → (asked : Strength) × (last ≡ Last.Reset (Some asked)) × (strength ≢ asked) }
+    ensures no { IsFalse result → (asked : Strength) × (last ≡ Preceding.Reset (Some asked)) × (strength ≢ asked) }
 {
     match last {
-        Last::Reset(Some(asked)) => strength == asked,
+        Preceding::Reset(Some(asked)) => strength == asked,
         _ => true,
     }
 }

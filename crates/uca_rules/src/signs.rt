@@ -11,7 +11,7 @@ use uca_weights::Strength;
 
 /// What comes before a statement.
 #[derive(Clone, Copy)]
-pub(crate) enum Last {
+pub(crate) enum Preceding {
     /// Nothing: the statement is the first.
     Nothing,
     /// A reset, with the strength that its bracket asks for.

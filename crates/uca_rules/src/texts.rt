@@ -3,7 +3,7 @@
 ghost use Rattle.std.specs.Prelude.{◌≡◌, ℕ, ◌<◌, ◌≤◌, ◌≢◌, ◌⊎◌, ◌∷◌, ◌++◌, [], ◌↔◌, take, IsTrue, IsFalse, Some, None, length, List, IfOk, IfErr, OnOk, MatchOption, true, false};
 ghost use Rattle.unicode_normalization.specs.Forms.{nfd};
 ghost use Rattle.uca_values.specs.Content.{properties_of};
-ghost use Rattle.uca_text.specs.Texts.{spelled};
+ghost use Rattle.uca_text.specs.Texts.{nfd_text};
 ghost use Rattle.uca_rules.specs.Characters;
 ghost use Rattle.uca_rules.specs.Pieces.{BeginsText, EndsText, piece_at, points_of};
 ghost use Rattle.uca_rules.specs.Statements.{HasRanges, HasRangesSoFar, IsRange};
@@ -218,7 +218,7 @@ pub(crate) fn rule_text<A: Allocator, T: Allocator>(
     properties: &Data<T>,
 ) -> Result<Option<Normal>, AllocError>
     requires { points_of symbols.now ≢ [] }
-    ensures { IfOk result (λ found. MatchOption found (16 < length (nfd (points_of symbols.now))) (λ text. (text ≡ spelled (properties_of properties.now) (points_of symbols.now)) × IsRuleText text)) }
+    ensures { IfOk result (λ found. MatchOption found (16 < length (nfd (points_of symbols.now))) (λ text. (text ≡ nfd_text (properties_of properties.now) (points_of symbols.now)) × IsRuleText text)) }
 {
     letters.clear();
     for symbol in symbols {

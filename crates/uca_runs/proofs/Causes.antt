@@ -4,7 +4,7 @@ use Rattle.std.specs.Str.{IsUtf8, is_utf8}
 use Rattle.std.proofs.lemmas.Bool.{lt-ltb, le-ltb, le-leb, lt-leb}
 use Rattle.std.proofs.lemmas.Str.{IsUtf8-from_is_utf8, is_utf8-from_IsUtf8}
 use Rattle.uca_values.specs.Content.{Properties}
-use Rattle.uca_text.specs.Texts.{Spelled, spelled}
+use Rattle.uca_text.specs.Texts.{NfdText, nfd_text}
 use Rattle.uca_text.specs.Limits.{IsAccepted, IsFirstLongRun}
 use Rattle.uca_runs.specs.declared.faults.InputKind.TheVariants.{Utf8, TooLong, LongRun, Limit}
 use Rattle.uca_text.specs.Faults.{IsCause}
@@ -28,24 +28,24 @@ pub not_utf8 : (properties : Properties) (before : ℕ) (line : List ℕ) → be
 not_utf8 properties before line h short none =
     rw (lt-leb 1000000 before h, le-ltb 4194304 (length line) short, fails line none _ refl) refl
 
-pub text_cause_of : (properties : Properties) (before : ℕ) (line : List ℕ) → before < 1000000 → length line ≤ 4194304 → IsUtf8 line → cause_of properties before line ≡ text_cause (spelled properties (chars line))
+pub text_cause_of : (properties : Properties) (before : ℕ) (line : List ℕ) → before < 1000000 → length line ≤ 4194304 → IsUtf8 line → cause_of properties before line ≡ text_cause (nfd_text properties (chars line))
 text_cause_of properties before line h short text =
     rw (lt-leb 1000000 before h, le-ltb 4194304 (length line) short, is_utf8-from_IsUtf8 line text) refl
 
-pub accepted_text : (text : Spelled) → IsAccepted text → text_cause text ≡ None
+pub accepted_text : (text : NfdText) → IsAccepted text → text_cause text ≡ None
 accepted_text text accepted = rw (le-ltb 1048576 (length text.points) accepted.few, no_long_run_is text.classes accepted.short_runs) refl
 
-pub too_many_points : (text : Spelled) → 1048576 < length text.points → text_cause text ≡ Some TooLong
+pub too_many_points : (text : NfdText) → 1048576 < length text.points → text_cause text ≡ Some TooLong
 too_many_points text long = rw (lt-ltb 1048576 (length text.points) long) refl
 
-pub long_run : (text : Spelled) (place : ℕ) → length text.points ≤ 1048576 → IsFirstLongRun text.classes place → text_cause text ≡ Some (LongRun place)
+pub long_run : (text : NfdText) (place : ℕ) → length text.points ≤ 1048576 → IsFirstLongRun text.classes place → text_cause text ≡ Some (LongRun place)
 long_run text place few run = rw (le-ltb 1048576 (length text.points) few, first_long_run_is text.classes place run) refl
 
 -- a text that is refused has the cause of its kind
-pub refused_text : (properties : Properties) (before : ℕ) (line : List ℕ) (fault : TextFault) → before < 1000000 → length line ≤ 4194304 → IsUtf8 line → IsCause (spelled properties (chars line)) fault → HasTextCause properties before line (text_kind fault)
-refused_text properties before line text_fault.TooLong h short text cause = text_cause_of properties before line h short text ∙ too_many_points (spelled properties (chars line)) cause
-refused_text properties before line (text_fault.LongRun place) h short text cause = text_cause_of properties before line h short text ∙ long_run (spelled properties (chars line)) place cause.0 cause.1
+pub refused_text : (properties : Properties) (before : ℕ) (line : List ℕ) (fault : TextFault) → before < 1000000 → length line ≤ 4194304 → IsUtf8 line → IsCause (nfd_text properties (chars line)) fault → HasTextCause properties before line (text_kind fault)
+refused_text properties before line text_fault.TooLong h short text cause = text_cause_of properties before line h short text ∙ too_many_points (nfd_text properties (chars line)) cause
+refused_text properties before line (text_fault.LongRun place) h short text cause = text_cause_of properties before line h short text ∙ long_run (nfd_text properties (chars line)) place cause.0 cause.1
 refused_text properties before line text_fault.Memory h short text cause = cause
 
-pub clean_text : (properties : Properties) (before : ℕ) (line : List ℕ) → before < 1000000 → length line ≤ 4194304 → IsUtf8 line → IsAccepted (spelled properties (chars line)) → cause_of properties before line ≡ None
-clean_text properties before line h short text accepted = text_cause_of properties before line h short text ∙ accepted_text (spelled properties (chars line)) accepted
+pub clean_text : (properties : Properties) (before : ℕ) (line : List ℕ) → before < 1000000 → length line ≤ 4194304 → IsUtf8 line → IsAccepted (nfd_text properties (chars line)) → cause_of properties before line ≡ None
+clean_text properties before line h short text accepted = text_cause_of properties before line h short text ∙ accepted_text (nfd_text properties (chars line)) accepted

@@ -7,7 +7,7 @@ use Rattle.uca_runs.specs.declared.faults.RunFault.{RunFault}
 use Rattle.uca_runs.specs.declared.faults.RunFault.TheVariants.{File}
 use Rattle.uca_runs.specs.declared.faults.Role.{Role}
 use Rattle.uca_runs.specs.declared.faults.Role.TheVariants as roles
-use Rattle.uca_runs.specs.Files.{MeansOne, OverFile, Reading, Done, Then, Over, HaveFailed, IsStop, fault_of, is_role, is_file, is_file_read, is_read_fault}
+use Rattle.uca_runs.specs.Files.{MeansOne, OverFile, Reading, Done, Then, Over, HaveFailed, IsStop, fault_of, is_role, ended_by_file, is_file_read, is_read_fault}
 use Rattle.uca_runs.specs.ReadFiles.{IsRefused}
 
 -- ---- Roles of faults
@@ -26,13 +26,13 @@ pub read_of_role : (role : Role) (new old reads : Bool) → new ≡ (old || read
 read_of_role role new old reads same = same ∙ ap (λ b. old || (b && reads)) (sym (same_role role))
 
 -- what is no file's fault is of no role
-pub no_fault : {A : Type 0} (role : Role) (result : Result A RunFault) → is_file result ≡ false → fault_of role result ≡ None
+pub no_fault : {A : Type 0} (role : Role) (result : Result A RunFault) → ended_by_file result ≡ false → fault_of role result ≡ None
 no_fault role (Ok x) h = refl
 no_fault role (Err (File other fault)) h = let never : ⊥ = cc in absurd never
 no_fault role (Err _) h = refl
 
 -- and no failed read of a file
-pub no_file_read : {A : Type 0} (role : Role) (result : Result A RunFault) → is_file result ≡ false → is_file_read role result ≡ false
+pub no_file_read : {A : Type 0} (role : Role) (result : Result A RunFault) → ended_by_file result ≡ false → is_file_read role result ≡ false
 no_file_read role (Ok x) h = refl
 no_file_read role (Err (File other fault)) h = let never : ⊥ = cc in absurd never
 no_file_read role (Err _) h = refl
@@ -108,7 +108,7 @@ ended_by_files A B reading olds news K fault over =
 
 -- what is returned under what all of them mean
 pub runs_over_all : {A B C : Type 0} (reading : Reading C) (olds news : List SourceState) (K L : C → Type 0) (files : B) (result : Result A RunFault)
-    → is_file result ≡ false → ((content : C) → K content → L content) → Over {A = B} reading olds news K (Ok files) → Over reading olds news L result
+    → ended_by_file result ≡ false → ((content : C) → K content → L content) → Over {A = B} reading olds news K (Ok files) → Over reading olds news L result
 runs_over_all reading olds news K L files result no_file weaker over =
     over_weaker reading olds news K L (Ok files) result (λ role. sym (no_fault role result no_file)) weaker over
 
@@ -132,7 +132,7 @@ failed_by_files A B of olds news fault failed = failed_alike of olds news (Err f
 
 -- or by none of them
 pub failed_by_no_file : {A B : Type 0} (of : List Role) (olds news : List SourceState) (files : B) (result : Result A RunFault)
-    → HaveFailed {A = B} of olds news (Ok files) → is_file result ≡ false → HaveFailed of olds news result
+    → HaveFailed {A = B} of olds news (Ok files) → ended_by_file result ≡ false → HaveFailed of olds news result
 failed_by_no_file of olds news files result failed no_file =
     failed_alike of olds news (Ok files) result (λ role. sym (no_file_read role result no_file)) failed
 

@@ -1,6 +1,6 @@
 -- The laws of key lines, from those of keys.
 use Rattle.std.proofs.Common.{◌≡◌, ℕ, List, map, chars, ap, subst}
-use Rattle.uca_text.specs.Texts.{spelled}
+use Rattle.uca_text.specs.Texts.{nfd_text}
 use Rattle.uca_key.specs.Depths.{read_text, key_at}
 use Rattle.uca_key.specs.Laws.{KeysCompareAsTexts, IdenticalKeysAreOfEquivalentTexts}
 use Rattle.uca_runs.specs.Keys.{text_line}
@@ -9,8 +9,8 @@ use Rattle.uca_runs.specs.Laws.{LineKeysCompareAsLines, CanonicallyEquivalentLin
 -- the keys of lines are those of their texts
 pub line_keys_compare : KeysCompareAsTexts → LineKeysCompareAsLines
 line_keys_compare law c left right =
-    let one = read_text c.collation (spelled c.collation.properties (chars left)) in
-    let other = read_text c.collation (spelled c.collation.properties (chars right)) in
+    let one = read_text c.collation (nfd_text c.collation.properties (chars left)) in
+    let other = read_text c.collation (nfd_text c.collation.properties (chars right)) in
     (law.order c.depth c.weighting one other, law.equal c.depth c.weighting one other)
 
 -- a line is printed by its code points in Normalization Form D alone
@@ -20,6 +20,6 @@ one_key_line c left right same = ap (λ (points : List ℕ). text_line c (record
 -- the same of keys with an identical level
 pub identical_lines : IdenticalKeysAreOfEquivalentTexts → IdenticalLineKeysAreOfEquivalentLines
 identical_lines law c left right is same =
-    let one = read_text c.collation (spelled c.collation.properties (chars left)) in
-    let other = read_text c.collation (spelled c.collation.properties (chars right)) in
+    let one = read_text c.collation (nfd_text c.collation.properties (chars left)) in
+    let other = read_text c.collation (nfd_text c.collation.properties (chars right)) in
     law c.collation c.weighting (chars left) (chars right) (subst (λ d. key_at d c.weighting one ≡ key_at d c.weighting other) is same)

@@ -6,7 +6,7 @@ use Rattle.uca_lines.specs.Lines.{is_lf, Lacks, ended, lines_of}
 use Rattle.uca_values.specs.Content.{Properties}
 use Rattle.uca_runs.specs.declared.faults.InputKind.{InputKind}
 use Rattle.uca_runs.specs.Input.{cause_of, clean_from}
-use Rattle.uca_runs.specs.Keys.{Keying, key_lines, keys_output}
+use Rattle.uca_runs.specs.Keys.{KeySettings, key_lines, keys_output}
 use Rattle.uca_runs.specs.LinesSoFar.{IsBehind, AreAll}
 use Rattle.uca_runs.specs.Runs.{FailsBehind, HasLineCause, HasCause, IsInputFault}
 use Rattle.uca_runs.proofs.LineCuts.{lines_of-ended, lines_of-last}
@@ -58,7 +58,7 @@ last_read properties bytes left before (c ∷ line) b is some lacks clean =
     }
 
 -- the key lines of the lines so far begin the whole output
-pub output_begins : (c : Keying) (bytes left : List ℕ) (before : List (List ℕ)) → IsBehind c.collation.properties bytes left before → keys_output c (lines_of bytes) ≡ key_lines c before ++ key_lines c (clean_from c.collation.properties (length before) (lines_of left))
+pub output_begins : (c : KeySettings) (bytes left : List ℕ) (before : List (List ℕ)) → IsBehind c.collation.properties bytes left before → keys_output c (lines_of bytes) ≡ key_lines c before ++ key_lines c (clean_from c.collation.properties (length before) (lines_of left))
 output_begins c bytes left before b = ap (key_lines c) b.clean ∙ flat_map-append _ before (clean_from c.collation.properties (length before) (lines_of left))
 
 -- a fault that stands in the next line

@@ -2,7 +2,7 @@
 use Rattle.std.proofs.Common.{◌≡◌, ℕ, ◌+◌, ◌<◌, ◌≤◌, List, [], ◌∷◌, ◌++◌, length, Option, Some, None, Err, ap, arith, ◌∙◌, append-nil, append_assoc, length-append}
 use Rattle.std.specs.Io.KnownBytes.{Consumes, IsAtEnd}
 use Rattle.uca_values.specs.Content.{Properties}
-use Rattle.uca_text.specs.Texts.{Spelled}
+use Rattle.uca_text.specs.Texts.{NfdText}
 use Rattle.uca_lines.specs.Lines.{is_lf, Lacks, ended, lines_of}
 use Rattle.uca_lines.specs.NextLine.{BeginsLonger, HasBytes, SaysOfBytes, IsWithinLimit}
 use Rattle.uca_lines.specs.declared.lines.LineFault.{LineFault}
@@ -30,7 +30,7 @@ one_too_many properties before (Some (b ∷ bytes)) h some =
     let f = first_line b bytes in
     (f.line, f.later, f.lines, beyond_limit properties before f.line h)
 
-pub line_refused : (properties : Properties) (before : ℕ) (old new : Option (List ℕ)) (line : List ℕ) (text : Spelled) (fault : LineFault) → SaysOfBytes old new line 4194304 (Err fault) → IsWithinLimit before (Err fault) → Lacks is_lf line → length line ≤ 4194304 → SaysNext properties before old new line text (Err (line_kind fault))
+pub line_refused : (properties : Properties) (before : ℕ) (old new : Option (List ℕ)) (line : List ℕ) (text : NfdText) (fault : LineFault) → SaysOfBytes old new line 4194304 (Err fault) → IsWithinLimit before (Err fault) → Lacks is_lf line → length line ≤ 4194304 → SaysNext properties before old new line text (Err (line_kind fault))
 line_refused properties before old new line text line_fault.TooLong says within lacks short = longer properties before old within says.1
 line_refused properties before old new line text line_fault.Limit says within lacks short = one_too_many properties before old within says.1
 line_refused properties before old new line text line_fault.Read says within lacks short = (says, lacks, short)
@@ -71,7 +71,7 @@ cut_left (Some xs) (Some ys) line takes some =
     let all : length xs ≡ length line + length ys = ap length takes ∙ length-append line ys in
     omega (arith, all, some)
 
-pub ended_refused : (properties : Properties) (before : ℕ) (old new : Option (List ℕ)) (line : List ℕ) (text : Spelled) (kind : InputKind) → HasTextCause properties before line kind → Consumes old new (ended line) → Lacks is_lf line → SaysNext properties before old new line text (Err kind)
+pub ended_refused : (properties : Properties) (before : ℕ) (old new : Option (List ℕ)) (line : List ℕ) (text : NfdText) (kind : InputKind) → HasTextCause properties before line kind → Consumes old new (ended line) → Lacks is_lf line → SaysNext properties before old new line text (Err kind)
 ended_refused properties before old new line text Utf8 cause takes lacks = ended_cause properties before old new line Utf8 takes lacks cause
 ended_refused properties before old new line text TooLong cause takes lacks = ended_cause properties before old new line TooLong takes lacks cause
 ended_refused properties before old new line text (LongRun place) cause takes lacks = ended_cause properties before old new line (LongRun place) takes lacks cause
@@ -79,7 +79,7 @@ ended_refused properties before old new line text Limit cause takes lacks = absu
 ended_refused properties before old new line text Read cause takes lacks = absurd cause
 ended_refused properties before old new line text Memory cause takes lacks = ended_left old new line takes
 
-pub cut_refused : (properties : Properties) (before : ℕ) (old new : Option (List ℕ)) (line : List ℕ) (text : Spelled) (kind : InputKind) → HasTextCause properties before line kind → Consumes old new line × IsAtEnd new → 0 < length line → Lacks is_lf line → SaysNext properties before old new line text (Err kind)
+pub cut_refused : (properties : Properties) (before : ℕ) (old new : Option (List ℕ)) (line : List ℕ) (text : NfdText) (kind : InputKind) → HasTextCause properties before line kind → Consumes old new line × IsAtEnd new → 0 < length line → Lacks is_lf line → SaysNext properties before old new line text (Err kind)
 cut_refused properties before old new line text Utf8 cause takes some lacks = cut_cause properties before old new line Utf8 takes some lacks cause
 cut_refused properties before old new line text TooLong cause takes some lacks = cut_cause properties before old new line TooLong takes some lacks cause
 cut_refused properties before old new line text (LongRun place) cause takes some lacks = cut_cause properties before old new line (LongRun place) takes some lacks cause

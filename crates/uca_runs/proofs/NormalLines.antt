@@ -19,7 +19,7 @@ use Rattle.unicode_normalization.proofs.DecomposeLemmas.{decompose-syllable}
 use Rattle.unicode_normalization.proofs.HangulLemmas.{is_syllable-true, decompose_hangul-two, decompose_hangul-three}
 use Rattle.unicode_normalization.proofs.OrderLemmas.{list_all-canonical_order}
 use Rattle.uca_values.specs.Content.{Properties}
-use Rattle.uca_text.specs.Texts.{Spelled, spelled}
+use Rattle.uca_text.specs.Texts.{NfdText, nfd_text}
 use Rattle.uca_text.specs.Limits.{IsNormal}
 use Rattle.uca_runs.specs.declared.faults.InputKind.TheVariants.{Utf8, TooLong, LongRun, Limit}
 use Rattle.uca_runs.specs.Input.{first_long_run, text_cause, cause_of}
@@ -81,14 +81,14 @@ each_scalar (c ∷ points) all = let parts = and_parts (scalar c) (list_all scal
 
 -- what its test says
 without : (properties : Properties) (before : ℕ) (line : List ℕ) (limit long text : Bool) → nat_le 1000000 before ≡ limit → nat_lt 4194304 (length line) ≡ long →
-    is_utf8 line ≡ text → cause_of properties before line ≡ None → IsUtf8 line × (text_cause (spelled properties (chars line)) ≡ None)
+    is_utf8 line ≡ text → cause_of properties before line ≡ None → IsUtf8 line × (text_cause (nfd_text properties (chars line)) ≡ None)
 without properties before line true long text a b c none = let never : Some Limit ≡ None = rw a at none in cc
 without properties before line false true text a b c none = let never : Some TooLong ≡ None = rw (a, b) at none in cc
 without properties before line false false false a b c none = let never : Some Utf8 ≡ None = rw (a, b, c) at none in cc
 without properties before line false false true a b c none = (IsUtf8-from_is_utf8 line c, rw (a, b, c) at none)
 
 -- and the test of its text
-within : (text : Spelled) (long : Bool) → nat_lt 1048576 (length text.points) ≡ long → text_cause text ≡ None →
+within : (text : NfdText) (long : Bool) → nat_lt 1048576 (length text.points) ≡ long → text_cause text ≡ None →
     (length text.points ≤ 1048576) × (first_long_run text.classes ≡ None)
 within text true a none = let never : Some TooLong ≡ None = rw a at none in cc
 within text false a none = (ltb-false 1048576 (length text.points) a, no_run (first_long_run text.classes) (rw a at none))
@@ -98,15 +98,15 @@ within text false a none = (ltb-false 1048576 (length text.points) a, no_run (fi
     no_run None none = refl
     no_run (Some place) none = let never : Some (LongRun place) ≡ None = none in cc
 
-pub normal_line : (properties : Properties) (before : ℕ) (line : List ℕ) → cause_of properties before line ≡ None → IsNormal (spelled properties (chars line))
+pub normal_line : (properties : Properties) (before : ℕ) (line : List ℕ) → cause_of properties before line ≡ None → IsNormal (nfd_text properties (chars line))
 normal_line properties before line none =
     let parts = without properties before line _ _ _ refl refl refl none in
-    let limits = within (spelled properties (chars line)) _ refl parts.1 in
+    let limits = within (nfd_text properties (chars line)) _ refl parts.1 in
     record {
       accepted = record {
         same = length-map (nfd (chars line)) properties.class;
         few = limits.0;
-        short_runs = none_is_long (spelled properties (chars line)).classes limits.1;
+        short_runs = none_is_long (nfd_text properties (chars line)).classes limits.1;
       };
       scalars = each_scalar (nfd (chars line)) (nfd_scalars (chars line) (scalars-chars line parts.0));
     }

@@ -10,9 +10,9 @@ use Rattle.uca_weights.specs.Streams.{SinkState}
 use Rattle.uca_weights.specs.declared.Depth.{Depth}
 use Rattle.uca_weights.specs.declared.Depth.TheVariants.{Weights, Identical}
 use Rattle.uca_weights.specs.Writes.{WentOut}
-use Rattle.uca_lines.specs.OutputBuffer.{BufferState, HandedOver}
-use Rattle.uca_lines.specs.Handing.{HasRoom, HasHanded as IsHanded}
-use Rattle.uca_lines.proofs.HandingLemmas.{part, handed_none as none_handed}
+use Rattle.uca_lines.specs.OutputBuffer.{BufferState, IsBuffered}
+use Rattle.uca_lines.specs.Buffered.{HasRoom, HasWrittenThrough as IsHanded}
+use Rattle.uca_lines.proofs.HandingLemmas.{part, written_none as none_written}
 use Rattle.uca_runs.specs.Print.{byte_digits, groups, printed_groups, spaced_groups, spaced_point, identical_level, printed_behind, print_line_at}
 
 -- ---- The groups
@@ -145,8 +145,8 @@ last_written groups part last digits n b len half odd within written behind is a
 -- ---- What has been handed over
 
 -- a text has been handed over
-pub record HasHanded (text : List ℕ) (out now : SinkState) (buffer held : BufferState) : Type 0 where
-  pub hands : (start : Option (List ℕ)) (before : List ℕ) → HandedOver start out.contents before buffer → HandedOver start now.contents (before ++ text) held
+pub record HasWrittenThrough (text : List ℕ) (out now : SinkState) (buffer held : BufferState) : Type 0 where
+  pub hands : (start : Option (List ℕ)) (before : List ℕ) → IsBuffered start out.contents before buffer → IsBuffered start now.contents (before ++ text) held
   pub count : held.written + length held.held ≡ buffer.written + length buffer.held + length text
   pub failed : now.failed ≡ out.failed
 
@@ -158,15 +158,15 @@ none_dropped : (n : ℕ) → n ≡ 0 → ◌≡◌ {A = List ℕ} [] (drop n [])
 none_dropped n h = rw h refl
 
 -- nothing was handed over to an empty buffer
-pub handed_nothing : (known : Option (List ℕ)) (buffer : BufferState) → buffer.held ≡ [] → buffer.written ≡ 0 → HandedOver known known [] buffer
-handed_nothing known buffer held written = record {
+pub written_nothing : (known : Option (List ℕ)) (buffer : BufferState) → buffer.held ≡ [] → buffer.written ≡ 0 → IsBuffered known known [] buffer
+written_nothing known buffer held written = record {
   went_out = (subst (λ n. Appends known known (take n [])) (sym written) (nothing_out known), rw written (omega arith));
   held = held ∙ none_dropped buffer.written written;
 }
 
-pub handed_none : (out : SinkState) (buffer : BufferState) → HasHanded [] out out buffer buffer
-handed_none out buffer = record {
-  hands = λ start before h. subst (λ (text : List ℕ). HandedOver start out.contents text buffer) (sym (append-nil before)) h;
+pub written_none : (out : SinkState) (buffer : BufferState) → HasWrittenThrough [] out out buffer buffer
+written_none out buffer = record {
+  hands = λ start before h. subst (λ (text : List ℕ). IsBuffered start out.contents text buffer) (sym (append-nil before)) h;
   count = omega arith;
   failed = refl;
 }
@@ -203,13 +203,13 @@ pub record HandedUpTo (key rest : List ℕ) (begin : ℕ) (out now : SinkState) 
   pub begins : begin ≡ 1 - length done
   pub handed : IsHanded (printed_groups done) buffer held out now
 
-pub handed_up_to_start : (key rest : List ℕ) (out : SinkState) (buffer : BufferState) → rest ≡ key → HandedUpTo key rest 1 out out buffer buffer
-handed_up_to_start key rest out buffer is = record {
+pub written_up_to_start : (key rest : List ℕ) (out : SinkState) (buffer : BufferState) → rest ≡ key → HandedUpTo key rest 1 out out buffer buffer
+written_up_to_start key rest out buffer is = record {
   done = [];
   key_is = sym is;
   whole = λ _. refl;
   begins = refl;
-  handed = subst (λ (text : List ℕ). IsHanded text buffer buffer out out) (sym groups_none) (none_handed buffer out);
+  handed = subst (λ (text : List ℕ). IsHanded text buffer buffer out out) (sym groups_none) (none_written buffer out);
 }
 
 -- the text of a part begins within it
@@ -269,9 +269,9 @@ piece_fits key done part piece out now buffer held handed on room =
     omega (arith, handed.count, room, ap length on.line, length-append (front ++ piece) on.more, length-append front piece)
 
 -- and behind it the rest is left
-pub handed_up_to_more : (key rest part left : List ℕ) (begin size : ℕ) (out now next : SinkState) (buffer held kept : BufferState) (upto : HandedUpTo key rest begin out now buffer held) → size ≡ 256
+pub written_up_to_more : (key rest part left : List ℕ) (begin size : ℕ) (out now next : SinkState) (buffer held kept : BufferState) (upto : HandedUpTo key rest begin out now buffer held) → size ≡ 256
     → (rest ≡ part ++ left) × (length part ≡ min size (length rest)) × (0 < length rest) → IsHanded (printed_groups (upto.done ++ part)) buffer kept out next → HandedUpTo key left 0 out next buffer kept
-handed_up_to_more key rest part left begin size out now next buffer held kept upto is cut handed =
+written_up_to_more key rest part left begin size out now next buffer held kept upto is cut handed =
     let both : length rest ≡ length part + length left = ap length cut.0 ∙ length-append part left in
     let ends : length (upto.done ++ part) ≡ length upto.done + length part = length-append upto.done part in
     record {
@@ -282,28 +282,28 @@ handed_up_to_more key rest part left begin size out now next buffer held kept up
       handed = handed;
     }
 
-pub handed_more : (front piece text : List ℕ) (out now next : SinkState) (buffer held kept : BufferState) → HasHanded front out now buffer held → text ≡ front ++ piece
-    → ((start : Option (List ℕ)) (before : List ℕ) → HandedOver start now.contents before held → HandedOver start next.contents (before ++ piece) kept)
+pub handed_more : (front piece text : List ℕ) (out now next : SinkState) (buffer held kept : BufferState) → HasWrittenThrough front out now buffer held → text ≡ front ++ piece
+    → ((start : Option (List ℕ)) (before : List ℕ) → IsBuffered start now.contents before held → IsBuffered start next.contents (before ++ piece) kept)
     → kept.written + length kept.held ≡ held.written + length held.held + length piece
     → next.failed ≡ now.failed
-    → HasHanded text out next buffer kept
+    → HasWrittenThrough text out next buffer kept
 handed_more front piece text out now next buffer held kept handed is hands count failed = record {
-  hands = λ start before h. subst (λ (t : List ℕ). HandedOver start next.contents t kept) (append_assoc before front piece ∙ ap (λ l. before ++ l) (sym is)) (hands start (before ++ front) (handed.hands start before h));
+  hands = λ start before h. subst (λ (t : List ℕ). IsBuffered start next.contents t kept) (append_assoc before front piece ∙ ap (λ l. before ++ l) (sym is)) (hands start (before ++ front) (handed.hands start before h));
   count = omega (arith, count, handed.count, ap length is, length-append front piece);
   failed = failed ∙ handed.failed;
 }
 
 -- a fault in a piece of a text is one in the text
-pub fault_within : (front piece text more : List ℕ) (out now next : SinkState) (buffer held : BufferState) (n : ℕ) → HasHanded front out now buffer held → text ≡ (front ++ piece) ++ more
-    → ((start : Option (List ℕ)) (before : List ℕ) → HandedOver start now.contents before held → WentOut start next.contents (before ++ piece) n)
-    → (start : Option (List ℕ)) (before : List ℕ) → HandedOver start out.contents before buffer → WentOut start next.contents (before ++ text) n
+pub fault_within : (front piece text more : List ℕ) (out now next : SinkState) (buffer held : BufferState) (n : ℕ) → HasWrittenThrough front out now buffer held → text ≡ (front ++ piece) ++ more
+    → ((start : Option (List ℕ)) (before : List ℕ) → IsBuffered start now.contents before held → WentOut start next.contents (before ++ piece) n)
+    → (start : Option (List ℕ)) (before : List ℕ) → IsBuffered start out.contents before buffer → WentOut start next.contents (before ++ text) n
 fault_within front piece text more out now next buffer held n handed is went start before h =
     let there = WentOut-more start next.contents ((before ++ front) ++ piece) more n (went start (before ++ front) (handed.hands start before h)) in
     subst (λ (t : List ℕ). WentOut start next.contents t n)
     (append_assoc (before ++ front) piece more ∙ append_assoc before front (piece ++ more) ∙ ap (λ l. before ++ l) (sym (append_assoc front piece more) ∙ sym is))
     there
 
-pub fault_before_end : (front piece text more : List ℕ) (out now : SinkState) (buffer held : BufferState) (n : ℕ) → HasHanded front out now buffer held → text ≡ (front ++ piece) ++ more
+pub fault_before_end : (front piece text more : List ℕ) (out now : SinkState) (buffer held : BufferState) (n : ℕ) → HasWrittenThrough front out now buffer held → text ≡ (front ++ piece) ++ more
     → n < held.written + length held.held + length piece → n < buffer.written + length buffer.held + length text
 fault_before_end front piece text more out now buffer held n handed is below =
     omega (arith, below, handed.count, ap length is, length-append (front ++ piece) more, length-append front piece)

@@ -7,27 +7,27 @@ use Rattle.uca_match.specs.Rows.{Rows, rows_of}
 use Rattle.uca_match.specs.Collations.{Collation}
 use Rattle.uca_runs.specs.declared.faults.RunFault.{RunFault}
 use Rattle.uca_runs.specs.declared.faults.RunFault.TheVariants.{File, Memory}
-use Rattle.uca_runs.specs.Files.{TableAndData, is_file}
-use Rattle.uca_runs.specs.Keys.{Keying, keying, collation, weighting_by}
-use Rattle.uca_runs.specs.KeysRun.{is_before_input}
+use Rattle.uca_runs.specs.Files.{TableAndData, ended_by_file}
+use Rattle.uca_runs.specs.Keys.{KeySettings, key_settings, collation, weighting_by}
+use Rattle.uca_runs.specs.KeysRun.{ended_before_input}
 use Rattle.uca_runs.specs.ReadFiles.{IsCollation, collation_in}
-use Rattle.uca_runs.specs.Runs.{is_input_read, is_write}
+use Rattle.uca_runs.specs.Runs.{is_input_read, ended_by_output}
 
 -- ---- Before the input
 
 -- a file's fault is none of the output, and none of the input
-pub no_write_before : (A B : Type 0) (fault : RunFault) → is_before_input {A = B} (Err fault) ≡ true → is_write {A = A} (Err fault) ≡ false
+pub no_write_before : (A B : Type 0) (fault : RunFault) → ended_before_input {A = B} (Err fault) ≡ true → ended_by_output {A = A} (Err fault) ≡ false
 no_write_before A B (File role cause) before = refl
 no_write_before A B Memory before = refl
 no_write_before A B _ before = let never : ⊥ = cc in absurd never
 
-pub no_input_before : (A B : Type 0) (fault : RunFault) → is_before_input {A = B} (Err fault) ≡ true → is_input_read {A = A} (Err fault) ≡ false
+pub no_input_before : (A B : Type 0) (fault : RunFault) → ended_before_input {A = B} (Err fault) ≡ true → is_input_read {A = A} (Err fault) ≡ false
 no_input_before A B (File role cause) before = refl
 no_input_before A B Memory before = refl
 no_input_before A B _ before = let never : ⊥ = cc in absurd never
 
 -- a file's fault comes before the input
-pub file_before : (A B : Type 0) (fault : RunFault) → is_file {A = A} (Err fault) ≡ true → is_before_input {A = B} (Err fault) ≡ true
+pub file_before : (A B : Type 0) (fault : RunFault) → ended_by_file {A = A} (Err fault) ≡ true → ended_before_input {A = B} (Err fault) ≡ true
 file_before A B (File role cause) file = refl
 file_before A B _ file = let never : ⊥ = cc in absurd never
 
@@ -43,12 +43,12 @@ whatever_bytes (Some bytes) = tt
 
 -- ---- What keys go by
 
-abbrev pub keying_by : Collation → Weighting → Depth → Keying
+abbrev pub keying_by : Collation → Weighting → Depth → KeySettings
 keying_by made weighting depth = record { collation = made; weighting = weighting; depth = depth }
 
 -- a collator of what was read, and the weighting that was chosen
 pub same_keying : (asked : Option Weighting) (depth : Depth) (made read : Collation) (weighting : Weighting) (files : TableAndData)
-    → made ≡ read → IsCollation asked read weighting files → keying_by made weighting depth ≡ keying asked depth files.table files.properties
+    → made ≡ read → IsCollation asked read weighting files → keying_by made weighting depth ≡ key_settings asked depth files.table files.properties
 same_keying asked depth made read weighting files same is =
     ap (λ m. keying_by m weighting depth) (same ∙ is.0) ∙ ap (λ w. keying_by (collation files.table files.properties) w depth) is.1
 

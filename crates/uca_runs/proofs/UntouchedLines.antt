@@ -4,7 +4,7 @@ use Rattle.uca_weights.specs.declared.Depth.{Depth}
 use Rattle.uca_weights.specs.declared.Depth.TheVariants.{Weights}
 use Rattle.uca_weights.specs.declared.Weighting.{Weighting}
 use Rattle.uca_values.specs.Content.{HeaderContent}
-use Rattle.uca_text.specs.Texts.{spelled}
+use Rattle.uca_text.specs.Texts.{nfd_text}
 use Rattle.uca_text.specs.Limits.{IsNormal}
 use Rattle.uca_key.specs.Depths.{read_text, compared_at, key_at}
 use Rattle.uca_tailorings.specs.Images.{KeepAllWeights}
@@ -18,7 +18,7 @@ use Rattle.uca_runs.specs.Laws.{base_keying, tailored_keying, lines_compared, Li
 use Rattle.uca_runs.proofs.NormalLines.{normal_line}
 
 -- the text of an untouched line is normal
-normal : (tailoring : Tailoring) (line : List ℕ) → IsUntouchedLine tailoring line → IsNormal (spelled tailoring.properties (chars line))
+normal : (tailoring : Tailoring) (line : List ℕ) → IsUntouchedLine tailoring line → IsNormal (nfd_text tailoring.properties (chars line))
 normal tailoring line is = normal_line tailoring.properties is.before line is.faultless
 
 -- both tables have one header, and so the same weighting
@@ -29,8 +29,8 @@ compare_alike : (tailoring : Tailoring) → IsFaithful tailoring → HaveOneHead
     IsUntouchedLine tailoring left → IsUntouchedLine tailoring right →
     lines_compared (tailored_keying asked depth tailoring) left right ≡ lines_compared (base_keying asked depth tailoring) left right
 compare_alike tailoring faithful one asked depth left right first second =
-    let l = spelled tailoring.properties (chars left) in
-    let r = spelled tailoring.properties (chars right) in
+    let l = nfd_text tailoring.properties (chars left) in
+    let r = nfd_text tailoring.properties (chars right) in
     faithful.untouched depth (weighting_by asked tailoring.tailored.header.setting) l r (normal tailoring left first) (normal tailoring right second)
     first.untouched second.untouched
     ∙ ap
@@ -42,7 +42,7 @@ keep_key : (tailoring : Tailoring) → IsFaithful tailoring → HaveOneHeader ta
     (line : List ℕ) → IsUntouchedLine tailoring line →
     line_key (tailored_keying asked depth tailoring) line ≡ line_key (base_keying asked depth tailoring) line
 keep_key tailoring faithful one keep asked depth line is =
-    let text = spelled tailoring.properties (chars line) in
+    let text = nfd_text tailoring.properties (chars line) in
     faithful.keys keep depth (weighting_by asked tailoring.tailored.header.setting) text (normal tailoring line is) is.untouched
     ∙ ap (λ (header : HeaderContent). key_at depth (weighting_by asked header.setting) (read_text (base_reading tailoring) text)) (sym one)
 
@@ -64,7 +64,7 @@ untouched_lines law keys tailoring is accepted asked depth =
           record {
             key = keep_key tailoring faithful one keep asked depth line untouched;
             printed =
-                ap (λ key. print_line_at depth key (spelled tailoring.properties (chars line)).points)
+                ap (λ key. print_line_at depth key (nfd_text tailoring.properties (chars line)).points)
                 (keep_key tailoring faithful one keep asked Weights line untouched);
           };
     }

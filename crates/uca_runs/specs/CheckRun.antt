@@ -7,7 +7,7 @@ use Rattle.uca_check.specs.WellFormed.{IsWellFormed, IsFirstFailure}
 use Rattle.uca_check.specs.FaultText.{ill_formed_text}
 use Rattle.uca_runs.specs.declared.faults.RunFault.{RunFault}
 use Rattle.uca_runs.specs.Files.{TableAndData, Over, HaveFailed, table_and_data, table_and_data_roles}
-use Rattle.uca_runs.specs.Runs.{is_before_output, is_write}
+use Rattle.uca_runs.specs.Runs.{ended_before_output, ended_by_output}
 use Rattle.uca_runs.specs.Verdicts.{WritesVerdict}
 
 -- The verdict on rows, and its line: that they are well-formed, or the first condition that fails and its first row.
@@ -23,6 +23,6 @@ RunsCheck out out_new result files = WritesVerdict (IsVerdict files.properties.c
 -- when nothing is written, and what has failed.
 pub record Checks (olds news : List SourceState) (out out_new : SinkState) (result : Result Bool RunFault) : Type 0 where
   pub runs : Over table_and_data olds news (RunsCheck out out_new result) result
-  pub nothing_written : is_before_output result ≡ true → out_new ≡ out
+  pub nothing_written : ended_before_output result ≡ true → out_new ≡ out
   pub failed : HaveFailed table_and_data_roles olds news result
-  pub out_failed : out_new.failed ≡ (out.failed || is_write result)
+  pub out_failed : out_new.failed ≡ (out.failed || ended_by_output result)

@@ -8,7 +8,7 @@ use Rattle.uca_weights.specs.declared.Weighting.{Weighting}
 use Rattle.uca_weights.specs.Streams.{SourceState, SinkState}
 use Rattle.uca_weights.specs.Writes.{WentOut}
 use Rattle.uca_values.specs.Content.{Properties}
-use Rattle.uca_text.specs.Texts.{spelled}
+use Rattle.uca_text.specs.Texts.{nfd_text}
 use Rattle.uca_text.specs.Limits.{IsAccepted}
 use Rattle.uca_text.specs.Faults.{IsCause}
 use Rattle.uca_text.specs.declared.normalize.TextFault.{TextFault}
@@ -16,8 +16,8 @@ use Rattle.uca_key.specs.Levels.{Comparison}
 use Rattle.uca_runs.specs.declared.faults.RunFault.{RunFault}
 use Rattle.uca_runs.specs.declared.faults.RunFault.TheVariants.{Write, Memory, Text}
 use Rattle.uca_runs.specs.Files.{TableAndData, Over, HaveFailed, table_and_data, table_and_data_roles}
-use Rattle.uca_runs.specs.Runs.{is_before_output, is_write}
-use Rattle.uca_runs.specs.Keys.{Keying, keying}
+use Rattle.uca_runs.specs.Runs.{ended_before_output, ended_by_output}
+use Rattle.uca_runs.specs.Keys.{KeySettings, key_settings}
 use Rattle.uca_runs.specs.Laws.{lines_compared}
 
 -- `<`, `=` or `>`
@@ -32,18 +32,18 @@ comparison_line comparison = sign_of comparison.order ∷ 32 ∷ (48 + compariso
 
 -- the text, which is UTF-8, is within the limits
 abbrev pub IsWithinLimits : Properties → List ℕ → Type 0
-IsWithinLimits properties text = IsAccepted (spelled properties (chars text))
+IsWithinLimits properties text = IsAccepted (nfd_text properties (chars text))
 
 -- the fault of a text, which is the right one of the two or the left one
 abbrev pub RefusesWord : Properties → Bool → List ℕ → RunFault → Type 0
-RefusesWord properties right text fault = (cause : TextFault) × (fault ≡ Text right cause) × IsCause (spelled properties (chars text)) cause
+RefusesWord properties right text fault = (cause : TextFault) × (fault ≡ Text right cause) × IsCause (nfd_text properties (chars text)) cause
 
 -- What is written of two texts, by a writer that held `begun` and holds `now`: how they compare level by level, or as
 -- much of it as a fault of the writer leaves; or the right text is refused, or before it the left one.
-abbrev pub WritesComparison : {A : Type 0} → Keying → List ℕ → List ℕ → Option (List ℕ) → Option (List ℕ) → Result A RunFault → Type 0
+abbrev pub WritesComparison : {A : Type 0} → KeySettings → List ℕ → List ℕ → Option (List ℕ) → Option (List ℕ) → Result A RunFault → Type 0
 WritesComparison c left right begun now (Ok x) = IsWithinLimits c.collation.properties left × IsWithinLimits c.collation.properties right × Appends begun now (comparison_line (lines_compared c left right))
-WritesComparison c left right begun now (Err (Text false fault)) = IsCause (spelled c.collation.properties (chars left)) fault
-WritesComparison c left right begun now (Err (Text true fault)) = IsWithinLimits c.collation.properties left × IsCause (spelled c.collation.properties (chars right)) fault
+WritesComparison c left right begun now (Err (Text false fault)) = IsCause (nfd_text c.collation.properties (chars left)) fault
+WritesComparison c left right begun now (Err (Text true fault)) = IsWithinLimits c.collation.properties left × IsCause (nfd_text c.collation.properties (chars right)) fault
 WritesComparison c left right begun now (Err (Write written)) = IsWithinLimits c.collation.properties left × IsWithinLimits c.collation.properties right × WentOut begun now (comparison_line (lines_compared c left right)) written
 WritesComparison c left right begun now (Err _) = ⊥
 
@@ -51,7 +51,7 @@ WritesComparison c left right begun now (Err _) = ⊥
 -- the texts, and nothing was written.
 abbrev pub RunsCompare : {A : Type 0} → Option Weighting → Depth → List ℕ → List ℕ → SinkState → SinkState → Result A RunFault → TableAndData → Type 0
 RunsCompare asked depth left right out out_new (Err Memory) files = out_new ≡ out
-RunsCompare asked depth left right out out_new result files = WritesComparison (keying asked depth files.table files.properties) left right out.contents out_new.contents result
+RunsCompare asked depth left right out out_new result files = WritesComparison (key_settings asked depth files.table files.properties) left right out.contents out_new.contents result
 
 -- what a run of compare goes by: the weighting that is asked for, the depth and the two texts
 pub record Comparing : Type 0 where
@@ -70,6 +70,6 @@ pub record Compares {A : Type 0} (asked : Comparing) (olds news : List SourceSta
     (result : Result A RunFault) : Type 0 where
   pub runs : Over table_and_data olds news
       (RunsCompare asked.weighting asked.depth asked.left asked.right out out_new result) result
-  pub nothing_written : is_before_output result ≡ true → out_new ≡ out
+  pub nothing_written : ended_before_output result ≡ true → out_new ≡ out
   pub failed : HaveFailed table_and_data_roles olds news result
-  pub out_failed : out_new.failed ≡ (out.failed || is_write result)
+  pub out_failed : out_new.failed ≡ (out.failed || ended_by_output result)

@@ -39,10 +39,10 @@ fault_of role (Err (File other fault)) = if is_role role other then Some fault e
 fault_of role (Err _) = None
 
 -- whether the fault is a file's
-abbrev pub is_file : {A : Type 0} → Result A RunFault → Bool
-is_file (Ok x) = false
-is_file (Err (File role fault)) = true
-is_file (Err _) = false
+abbrev pub ended_by_file : {A : Type 0} → Result A RunFault → Bool
+ended_by_file (Ok x) = false
+ended_by_file (Err (File role fault)) = true
+ended_by_file (Err _) = false
 
 -- whether the fault is that reading the file failed
 abbrev pub is_read_fault : FileFault → Bool

@@ -2,7 +2,7 @@
 use Rattle.std.specs.Prelude.{ℕ, zero, suc, ◌+◌, Bool, true, false, ◌&&◌, List, [], ◌∷◌, Option, Some, None, option_map, is_none, if◌then◌else◌, length, nat_lt, nat_le, chars}
 use Rattle.std.specs.Str.{is_utf8}
 use Rattle.uca_values.specs.Content.{Properties}
-use Rattle.uca_text.specs.Texts.{Spelled, spelled}
+use Rattle.uca_text.specs.Texts.{NfdText, nfd_text}
 use Rattle.uca_runs.specs.declared.faults.InputKind.{InputKind}
 use Rattle.uca_runs.specs.declared.faults.InputKind.TheVariants.{Utf8, TooLong, LongRun, Read, Limit, Memory}
 
@@ -18,7 +18,7 @@ first_long_run [] = None
 first_long_run (class ∷ classes) = if begins_with_marks 65 (class ∷ classes) then Some 0 else option_map suc (first_long_run classes)
 
 -- why a text in Normalization Form D is refused, if it is
-abbrev pub text_cause : Spelled → Option InputKind
+abbrev pub text_cause : NfdText → Option InputKind
 text_cause text = if nat_lt 1048576 (length text.points) then Some TooLong else option_map LongRun (first_long_run text.classes)
 
 -- why a line with so many before it is faulty, if it is
@@ -26,7 +26,7 @@ abbrev pub cause_of : Properties → ℕ → List ℕ → Option InputKind
 cause_of properties before line =
     if nat_le 1000000 before then Some Limit else
     if nat_lt 4194304 (length line) then Some TooLong else
-    if is_utf8 line then text_cause (spelled properties (chars line)) else
+    if is_utf8 line then text_cause (nfd_text properties (chars line)) else
     Some Utf8
 
 -- the lines before the first faulty one, where so many stand before them

@@ -59,16 +59,16 @@ is_input_read (Err _) = false
 -- has another, and what is said here of the output is not touched by it.
 
 -- whether writing the output failed
-abbrev pub is_write : {A : Type 0} → Result A RunFault → Bool
-is_write (Ok x) = false
-is_write (Err (Write written)) = true
-is_write (Err _) = false
+abbrev pub ended_by_output : {A : Type 0} → Result A RunFault → Bool
+ended_by_output (Ok x) = false
+ended_by_output (Err (Write written)) = true
+ended_by_output (Err _) = false
 
 -- whether the run ended before anything was written to the output
-abbrev pub is_before_output : {A : Type 0} → Result A RunFault → Bool
-is_before_output (Ok x) = false
-is_before_output (Err (Write written)) = false
-is_before_output (Err _) = true
+abbrev pub ended_before_output : {A : Type 0} → Result A RunFault → Bool
+ended_before_output (Ok x) = false
+ended_before_output (Err (Write written)) = false
+ended_before_output (Err _) = true
 
 -- The fault of a sink says how much of a text went out to it.
 abbrev pub FailsToWrite : (ℕ → RunFault) → Option (List ℕ) → Option (List ℕ) → List ℕ → RunFault → Type 0

@@ -2,7 +2,7 @@
 use Rattle.std.specs.Prelude.{◌≡◌, ℕ, ◌+◌, ◌<◌, ◌≤◌, ◌⊎◌, Bool, false, List, ◌∷◌, Option, Some, None, Result, Ok, Err, IfSome, length, chars, ⊤}
 use Rattle.std.specs.Io.KnownBytes.{Consumes, IsAtEnd}
 use Rattle.uca_values.specs.Content.{Properties}
-use Rattle.uca_text.specs.Texts.{Spelled, spelled}
+use Rattle.uca_text.specs.Texts.{NfdText, nfd_text}
 use Rattle.uca_text.specs.declared.normalize.TextFault.{TextFault}
 use Rattle.uca_text.specs.declared.normalize.TextFault.TheVariants as text_fault
 use Rattle.uca_lines.specs.NextLine.{HasBytes}
@@ -28,9 +28,9 @@ text_kind (text_fault.LongRun place) = LongRun place
 text_kind text_fault.Memory = Memory
 
 -- the line behind so many others is not faulty, and this is its text
-pub record IsTextOf (properties : Properties) (before : ℕ) (line : List ℕ) (text : Spelled) : Type 0 where
+pub record IsTextOf (properties : Properties) (before : ℕ) (line : List ℕ) (text : NfdText) : Type 0 where
   pub clean : cause_of properties before line ≡ None
-  pub spelling : text ≡ spelled properties (chars line)
+  pub spelling : text ≡ nfd_text properties (chars line)
   pub lacks : Lacks is_lf line
 
 -- the cause for which a line behind so many others is refused; an allocation may fail at any line
@@ -48,7 +48,7 @@ HasNextCause properties before known kind = IfSome known (λ bytes. (line : List
 
 -- What is answered where known bytes were left, and others are left now: the text of the next line, that no
 -- byte was left, or why the next line is not read.
-abbrev pub SaysNext : Properties → ℕ → Option (List ℕ) → Option (List ℕ) → List ℕ → Spelled → Result NextLine InputKind → Type 0
+abbrev pub SaysNext : Properties → ℕ → Option (List ℕ) → Option (List ℕ) → List ℕ → NfdText → Result NextLine InputKind → Type 0
 SaysNext properties before old new line text (Ok Terminated) = IsTextOf properties before line text × Consumes old new (ended line)
 SaysNext properties before old new line text (Ok Unterminated) = IsTextOf properties before line text × (0 < length line) × Consumes old new line × IsAtEnd new
 SaysNext properties before old new line text (Ok EndOfInput) = IsAtEnd old

@@ -2,7 +2,7 @@
 
 ghost use Rattle.std.specs.Prelude.{◌≡◌, ◌||◌, ◌∷◌, [], is_err, IfOk, IfErr, IfSome};
 ghost use Rattle.uca_tailorings.specs.Inputs.{tailoring_of};
-ghost use Rattle.uca_runs.specs.Files.{HaveFailed, Over, RefusesCertificate, audit_files, audit_roles, is_file, is_file_read};
+ghost use Rattle.uca_runs.specs.Files.{HaveFailed, Over, RefusesCertificate, audit_files, audit_roles, ended_by_file, is_file_read};
 ghost use Rattle.uca_runs.specs.ReadFiles.{IsRead, IsRefused, ReadsOnly, ReadsThat};
 ghost use Rattle.uca_values.specs.Content.{properties_of};
 ghost use Rattle.uca_certificates.specs.Texts as certificates;
@@ -51,7 +51,7 @@ pub fn read_audit_files<A: Allocator + Copy, B: Read, D: Read, U: Read, T: Read,
         (IsRead (λ files. tailoring_of files.base (properties_of files.properties) files.rules files.tailored files.certificate) result) result }
     ensures only { ReadsOnly audit_files (base.old ∷ properties.old ∷ rules.old ∷ tailored.old ∷ certificate.old ∷ [])
         (λ files. tailoring_of files.base (properties_of files.properties) files.rules files.tailored files.certificate) result }
-    ensures of_files { is_file result ≡ is_err result }
+    ensures of_files { ended_by_file result ≡ is_err result }
     ensures failed { HaveFailed audit_roles (base.old ∷ properties.old ∷ rules.old ∷ tailored.old ∷ certificate.old ∷ [])
         (base.new ∷ properties.new ∷ rules.new ∷ tailored.new ∷ certificate.new ∷ []) result }
 {

@@ -3,11 +3,11 @@
 ghost use Rattle.std.specs.Prelude.{◌≡◌, ◌≤◌, ◌+◌, ◌++◌, ◌∷◌, [], ◌||◌, ℕ, List, Option, true, false, is_err, length, decimal, IfErr, OnOk, MatchResult};
 ghost use Rattle.std.specs.Io.KnownBytes.{Appends};
 ghost use Rattle.uca_weights.specs.Writes.{WentOut, Writes};
-ghost use Rattle.uca_lines.specs.OutputBuffer.{HandedOver};
+ghost use Rattle.uca_lines.specs.OutputBuffer.{IsBuffered};
 ghost use Rattle.uca_values.specs.Content.{properties_of};
 ghost use Rattle.uca_check.specs.FaultText.{ill_formed_text};
-ghost use Rattle.uca_runs.specs.Files.{is_file, table_with};
-ghost use Rattle.uca_runs.specs.Runs.{is_before_output, is_write, FailsToWrite};
+ghost use Rattle.uca_runs.specs.Files.{ended_by_file, table_with};
+ghost use Rattle.uca_runs.specs.Runs.{ended_before_output, ended_by_output, FailsToWrite};
 ghost use Rattle.uca_runs.specs.CheckRun.{Checks, RunsCheck};
 
 use crate::faults::RunFault;
@@ -45,9 +45,9 @@ fn write_verdict<A: Allocator, W: Write>(
     out: &mut Sink<W>,
 ) -> Result<bool, RunFault>
     ensures verdict { RunsCheck out.old out.new result (table_with files.now.table (properties_of files.now.properties)) }
-    ensures of_output { is_before_output result ≡ false }
-    ensures no_file { is_file result ≡ false }
-    ensures failed { out.new.failed ≡ (out.old.failed || is_write result) }
+    ensures of_output { ended_before_output result ≡ false }
+    ensures no_file { ended_by_file result ≡ false }
+    ensures failed { out.new.failed ≡ (out.old.failed || ended_by_output result) }
 {
     match check(&files.table, &files.properties) {
         Ok(()) => {
@@ -65,9 +65,9 @@ fn write_verdict<A: Allocator, W: Write>(
 fn write_ill_formed<W: Write>(fault: IllFormed, out: &mut Sink<W>) -> Result<(), RunFault>
     ensures written { OnOk result (Appends out.old.contents out.new.contents (ill_formed_text fault ++ 10 ∷ [])) }
     ensures failed_in { IfErr result (FailsToWrite RunFault.Write out.old.contents out.new.contents (ill_formed_text fault ++ 10 ∷ [])) }
-    ensures of_output { is_before_output result ≡ false }
-    ensures no_file { is_file result ≡ false }
-    ensures failed { out.new.failed ≡ (out.old.failed || is_write result) }
+    ensures of_output { ended_before_output result ≡ false }
+    ensures no_file { ended_by_file result ≡ false }
+    ensures failed { out.new.failed ≡ (out.old.failed || ended_by_output result) }
 {
     Ok(hand_ill_formed(fault, out)?)
 }
@@ -77,14 +77,14 @@ fn hand_ill_formed<W: Write>(fault: IllFormed, out: &mut Sink<W>) -> Result<(), 
     ensures failed { out.new.failed ≡ (out.old.failed || is_err result) }
 {
     let mut output = OutputBuffer::new();
-    hand_number(&mut output, out, b"WF", fault.wf.into())?;
-    hand_number(&mut output, out, b" row ", fault.row)?;
+    write_number(&mut output, out, b"WF", fault.wf.into())?;
+    write_number(&mut output, out, b" row ", fault.row)?;
     output.write(out, b"\n")?;
     output.flush(out)
 }
 
-// Hands over a word and a number in decimal behind it.
-fn hand_number<W: Write>(
+// WritesThrough over a word and a number in decimal behind it.
+fn write_number<W: Write>(
     output: &mut OutputBuffer,
     out: &mut Sink<W>,
     word: &[u8],
@@ -95,9 +95,9 @@ fn hand_number<W: Write>(
 
     // Whatever the writer held at the start, and whatever was handed over since.
     ensures text { (start : Option (List ℕ)) (before : List ℕ) →
-        HandedOver start out.old.contents before output.old →
+        IsBuffered start out.old.contents before output.old →
         MatchResult result
-        (λ _. HandedOver start out.new.contents (before ++ (word.now ++ decimal number)) output.new)
+        (λ _. IsBuffered start out.new.contents (before ++ (word.now ++ decimal number)) output.new)
         (λ fault. WentOut start out.new.contents (before ++ (word.now ++ decimal number)) fault.written) }
     ensures count { OnOk result (output.new.written + length output.new.held
         ≤ output.old.written + length output.old.held + length word.now + 40) }

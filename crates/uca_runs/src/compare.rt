@@ -2,11 +2,11 @@
 
 ghost use Rattle.std.specs.Prelude.{◌≡◌, ◌∷◌, [], ◌≤◌, ◌||◌, true, false, chars, IfOk, IfErr};
 ghost use Rattle.uca_values.specs.Content.{properties_of};
-ghost use Rattle.uca_text.specs.Texts.{spelled};
+ghost use Rattle.uca_text.specs.Texts.{nfd_text};
 ghost use Rattle.uca_text.specs.Limits.{IsAccepted};
-ghost use Rattle.uca_runs.specs.Keys.{keying_of};
-ghost use Rattle.uca_runs.specs.Files.{is_file};
-ghost use Rattle.uca_runs.specs.Runs.{is_before_output, is_write};
+ghost use Rattle.uca_runs.specs.Keys.{key_settings_of};
+ghost use Rattle.uca_runs.specs.Files.{ended_by_file};
+ghost use Rattle.uca_runs.specs.Runs.{ended_before_output, ended_by_output};
 ghost use Rattle.uca_runs.specs.CompareRun.{comparison_line, RefusesWord, Compares, WritesComparison, comparing};
 
 use crate::faults::RunFault;
@@ -37,10 +37,10 @@ pub fn compare_words<L: Lookup, A: Allocator, W: Write>(
     right: &str,
     out: &mut Sink<W>,
 ) -> Result<(), RunFault>
-    ensures writes { WritesComparison (keying_of L.content collator.now weighting depth) left.now right.now out.old.contents out.new.contents result }
-    ensures of_texts { is_file result ≡ false }
-    ensures nothing_written { is_before_output result ≡ true → out.new ≡ out.old }
-    ensures out_failed { out.new.failed ≡ (out.old.failed || is_write result) }
+    ensures writes { WritesComparison (key_settings_of L.content collator.now weighting depth) left.now right.now out.old.contents out.new.contents result }
+    ensures of_texts { ended_by_file result ≡ false }
+    ensures nothing_written { ended_before_output result ≡ true → out.new ≡ out.old }
+    ensures out_failed { out.new.failed ≡ (out.old.failed || ended_by_output result) }
 {
     let left = text_of(global, left, false, collator.data)?;
     let right = text_of(global, right, true, collator.data)?;
@@ -105,7 +105,7 @@ fn text_of<D: Allocator>(
     right: bool,
     properties: &Data<D>,
 ) -> Result<Normal, RunFault>
-    ensures found { IfOk result (λ text. text ≡ spelled (properties_of properties.now) (chars word.now)) }
+    ensures found { IfOk result (λ text. text ≡ nfd_text (properties_of properties.now) (chars word.now)) }
     ensures accepted { IfOk result IsAccepted }
     ensures refused { IfErr result (RefusesWord (properties_of properties.now) right word.now) }
 {

@@ -6,9 +6,9 @@ ghost use Rattle.uca_table.specs.TableLines as tables;
 ghost use Rattle.uca_table.specs.DataSoFar as data_files;
 ghost use Rattle.uca_match.specs.Rows.{rows_of};
 ghost use Rattle.uca_key.specs.Lengths.{HasShortRows};
-ghost use Rattle.uca_runs.specs.Files.{HaveFailed, IsStop, OfLines, Over, is_file, is_file_read, table_and_data, table_and_data_roles, table_with};
+ghost use Rattle.uca_runs.specs.Files.{HaveFailed, IsStop, OfLines, Over, ended_by_file, is_file_read, table_and_data, table_and_data_roles, table_with};
 ghost use Rattle.uca_runs.specs.ReadFiles.{IsCollation, IsRead, IsRefused, ReadsThat, collation_in};
-ghost use Rattle.uca_runs.specs.KeysRun.{is_before_input};
+ghost use Rattle.uca_runs.specs.KeysRun.{ended_before_input};
 ghost use Rattle.uca_match.specs.Collations.{collation_of};
 ghost use Rattle.uca_runs.specs.Keys.{weighting_by};
 
@@ -42,7 +42,7 @@ pub fn read_files<A: Allocator + Copy, T: Read, D: Read>(
 ) -> Result<Files<A>, RunFault>
     ensures read { Over table_and_data (table.old ∷ properties.old ∷ []) (table.new ∷ properties.new ∷ [])
         (IsRead (λ files. table_with files.table (properties_of files.properties)) result) result }
-    ensures of_files { is_file result ≡ is_err result }
+    ensures of_files { ended_by_file result ≡ is_err result }
     ensures failed { HaveFailed table_and_data_roles (table.old ∷ properties.old ∷ [])
         (table.new ∷ properties.new ∷ []) result }
 {
@@ -140,7 +140,7 @@ pub fn read_collation<A: Allocator + Copy, T: Read, D: Read>(
         (table_with read.files.table (properties_of read.files.properties))) read.weighting content)
         (λ fault. fault ≡ RunFault.Memory)) result }
     ensures short { IfOk result (λ read. HasShortRows (⟦<Trie<A> as Lookup>⟧.content read.rows)) }
-    ensures before_input { IfErr result (λ _. is_before_input result ≡ true) }
+    ensures before_input { IfErr result (λ _. ended_before_input result ≡ true) }
     ensures failed { HaveFailed table_and_data_roles (table.old ∷ properties.old ∷ [])
         (table.new ∷ properties.new ∷ []) result }
 {

@@ -5,7 +5,7 @@ ghost use Rattle.uca_values.specs.Content.{properties_of};
 ghost use Rattle.uca_lines.specs.LineReader.{left_of};
 ghost use Rattle.uca_runs.specs.Texts.{line_kind, text_kind, HasTextCause, SaysNext, IsCounted, is_read};
 ghost use Rattle.uca_runs.specs.Input.{cause_of};
-ghost use Rattle.uca_text.specs.Texts.{spelled};
+ghost use Rattle.uca_text.specs.Texts.{nfd_text};
 ghost use Rattle.uca_text.specs.Limits.{IsAccepted};
 
 use crate::faults::InputKind;
@@ -47,7 +47,7 @@ fn take_text<D: Allocator>(
     properties: &Data<D>,
 ) -> Result<(), InputKind>
     requires { length line.now ≤ LONGEST_INPUT_LINE }
-    ensures text { OnOk result (text.new ≡ spelled (properties_of properties.now) (chars line.now)) }
+    ensures text { OnOk result (text.new ≡ nfd_text (properties_of properties.now) (chars line.now)) }
     ensures accepted { OnOk result (IsAccepted text.new) }
     ensures clean { (before : ℕ) → before < LINE_LIMIT →
         OnOk result (cause_of (properties_of properties.now) before line.now ≡ None) }

@@ -3,13 +3,13 @@
 ghost use Rattle.std.specs.Prelude.{◌≡◌, ◌∷◌, [], ℕ, ◌+◌, ◌-◌, ◌*◌, ◌^◌, ◌<◌, ◌≤◌, ◌||◌, true, false, List, Option, IfOk, IfSome, OnOk, length};
 ghost use Rattle.uca_weights.specs.Writes.{WentOut};
 ghost use Rattle.std.specs.Bool.{OnTrue};
-ghost use Rattle.uca_lines.specs.OutputBuffer.{HandedOver};
+ghost use Rattle.uca_lines.specs.OutputBuffer.{IsBuffered};
 ghost use Rattle.uca_match.specs.Collations.{collation_of};
 ghost use Rattle.uca_weights.specs.declared.Depth.TheVariants.{Weights};
 ghost use Rattle.uca_key.specs.Lengths.{HasShortRows};
-ghost use Rattle.uca_runs.specs.Keys.{keying_of, text_line};
-ghost use Rattle.uca_runs.specs.Runs.{is_input_read, is_write};
-ghost use Rattle.uca_runs.specs.KeysRun.{is_before_input, PrintsKeys, WritesKeys};
+ghost use Rattle.uca_runs.specs.Keys.{key_settings_of, text_line};
+ghost use Rattle.uca_runs.specs.Runs.{is_input_read, ended_by_output};
+ghost use Rattle.uca_runs.specs.KeysRun.{ended_before_input, PrintsKeys, WritesKeys};
 ghost use Rattle.uca_runs.specs.KeysSoFar.{HasPrinted, PrintsNext, PrintsText, PrintsRest};
 
 use crate::faults::{InputKind, RunFault};
@@ -37,7 +37,7 @@ struct KeyRun<A: Allocator> {
 }
 
 impl<A: Allocator> KeyRun<A> {
-    // Hands over the key of the text, which is that of the line with this number.
+    // WritesThrough over the key of the text, which is that of the line with this number.
     fn print_text<L: Lookup, T: Allocator, W: Write>(
         &mut self,
         collator: &Collator<L, T>,
@@ -50,8 +50,8 @@ impl<A: Allocator> KeyRun<A> {
         requires many { number ≤ LINE_LIMIT }
         requires small { self.old.output.written + length self.old.output.held ≤ (number - 1) * 2 ^ 42 }
         ensures prints { (begun : Option (List ℕ)) (before : List ℕ) →
-            let line = text_line (keying_of L.content collator.now self.old.key.weighting self.old.depth) self.old.text in
-            HandedOver begun out.old.contents before self.old.output →
+            let line = text_line (key_settings_of L.content collator.now self.old.key.weighting self.old.depth) self.old.text in
+            IsBuffered begun out.old.contents before self.old.output →
             PrintsText begun before line number self.old.output out.old self.new.output out.new result }
         ensures small { OnOk result (self.new.output.written + length self.new.output.held ≤ number * 2 ^ 42) }
         ensures reader { self.new.reader ≡ self.old.reader }
@@ -59,7 +59,7 @@ impl<A: Allocator> KeyRun<A> {
         ensures weights { self.new.key.depth ≡ self.old.key.depth }
         ensures depth { self.new.depth ≡ self.old.depth }
         ensures not_read { is_input_read result ≡ false }
-        ensures failed { out.new.failed ≡ (out.old.failed || is_write result) }
+        ensures failed { out.new.failed ≡ (out.old.failed || ended_by_output result) }
     {
         if self.key.write_text(collator, &self.text).is_err() {
             return Err(RunFault::Input {
@@ -76,7 +76,7 @@ impl<A: Allocator> KeyRun<A> {
         )?)
     }
 
-    // Hands over the key of the next line, and answers whether more lines may follow.
+    // WritesThrough over the key of the next line, and answers whether more lines may follow.
     fn print_next<L: Lookup, T: Allocator, I: Read, W: Write>(
         &mut self,
         collator: &Collator<L, T>,
@@ -88,7 +88,7 @@ impl<A: Allocator> KeyRun<A> {
         requires short_rows { HasShortRows (collation_of L.content collator.now).rows }
         requires small { self.old.output.written + length self.old.output.held ≤ self.old.reader.number * 2 ^ 42 }
         ensures prints { (start begun : Option (List ℕ)) (before : List (List ℕ)) →
-            let c = keying_of L.content collator.now self.old.key.weighting self.old.depth in
+            let c = key_settings_of L.content collator.now self.old.key.weighting self.old.depth in
             HasPrinted c start begun before self.old.reader input.old self.old.output out.old →
             PrintsNext c start begun before self.new.reader input.new self.new.output out.new result }
         ensures small { IfOk result (λ more. OnTrue more (self.new.output.written
@@ -100,7 +100,7 @@ impl<A: Allocator> KeyRun<A> {
         ensures weights { self.new.key.depth ≡ self.old.key.depth }
         ensures depth { self.new.depth ≡ self.old.depth }
         ensures input_failed { input.new.failed ≡ (input.old.failed || is_input_read result) }
-        ensures out_failed { out.new.failed ≡ (out.old.failed || is_write result) }
+        ensures out_failed { out.new.failed ≡ (out.old.failed || ended_by_output result) }
     {
         let number = self.reader.number() + 1;
         match next_text(
@@ -123,7 +123,7 @@ impl<A: Allocator> KeyRun<A> {
         }
     }
 
-    // Hands over the keys of all lines that are left.
+    // WritesThrough over the keys of all lines that are left.
     fn print_rest<L: Lookup, T: Allocator, I: Read, W: Write>(
         &mut self,
         collator: &Collator<L, T>,
@@ -135,11 +135,11 @@ impl<A: Allocator> KeyRun<A> {
         requires short_rows { HasShortRows (collation_of L.content collator.now).rows }
         requires small { self.old.output.written + length self.old.output.held ≤ self.old.reader.number * 2 ^ 42 }
         ensures prints { (start begun : Option (List ℕ)) (before : List (List ℕ)) →
-            let c = keying_of L.content collator.now self.old.key.weighting self.old.depth in
+            let c = key_settings_of L.content collator.now self.old.key.weighting self.old.depth in
             HasPrinted c start begun before self.old.reader input.old self.old.output out.old →
             PrintsRest c start begun input.new self.new.output out.new result }
         ensures input_failed { input.new.failed ≡ (input.old.failed || is_input_read result) }
-        ensures out_failed { out.new.failed ≡ (out.old.failed || is_write result) }
+        ensures out_failed { out.new.failed ≡ (out.old.failed || ended_by_output result) }
     {
         'lines: loop {
             match self.print_next(collator, input, out) {
@@ -152,7 +152,7 @@ impl<A: Allocator> KeyRun<A> {
 }
 
 fn is_write_fault(end: &Result<(), RunFault>) -> bool
-    ensures { result ≡ is_write end.now }
+    ensures { result ≡ ended_by_output end.now }
 {
     match end {
         Err(RunFault::Write { .. }) => true,
@@ -177,12 +177,12 @@ pub fn print_keys<L: Lookup, T: Allocator, A: Allocator + Copy, I: Read, W: Writ
 ) -> Result<(), RunFault>
     requires { HasShortRows (collation_of L.content collator.now).rows }
     ensures writes { IfSome input.old.remaining (λ bytes.
-        let c = keying_of L.content collator.now weighting depth in
+        let c = key_settings_of L.content collator.now weighting depth in
         WritesKeys c bytes input.new.remaining out.old.contents out.new.contents result) }
-    ensures of_lines { is_before_input result ≡ false }
-    ensures input_failed { is_write result ≡ false →
+    ensures of_lines { ended_before_input result ≡ false }
+    ensures input_failed { ended_by_output result ≡ false →
         input.new.failed ≡ (input.old.failed || is_input_read result) }
-    ensures out_failed { out.new.failed ≡ (out.old.failed || is_write result) }
+    ensures out_failed { out.new.failed ≡ (out.old.failed || ended_by_output result) }
 {
     let mut run = KeyRun {
         reader: LineReader::new(LONGEST_INPUT_LINE),

@@ -2,8 +2,8 @@
 
 ghost use Rattle.std.specs.Prelude.{◌≡◌, ◌||◌, false, IfErr, OnOk};
 ghost use Rattle.std.specs.Io.KnownBytes.{Appends};
-ghost use Rattle.uca_runs.specs.Files.{is_file};
-ghost use Rattle.uca_runs.specs.Runs.{is_before_output, is_write, FailsToWrite};
+ghost use Rattle.uca_runs.specs.Files.{ended_by_file};
+ghost use Rattle.uca_runs.specs.Runs.{ended_before_output, ended_by_output, FailsToWrite};
 
 use crate::faults::RunFault;
 use std::io::Write;
@@ -17,9 +17,9 @@ use uca_weights::Sink;
 pub fn write_text<W: Write>(text: &[u8], out: &mut Sink<W>) -> Result<(), RunFault>
     ensures written { OnOk result (Appends out.old.contents out.new.contents text.now) }
     ensures failed_in { IfErr result (FailsToWrite RunFault.Write out.old.contents out.new.contents text.now) }
-    ensures of_output { is_before_output result ≡ false }
-    ensures no_file { is_file result ≡ false }
-    ensures failed { out.new.failed ≡ (out.old.failed || is_write result) }
+    ensures of_output { ended_before_output result ≡ false }
+    ensures no_file { ended_by_file result ≡ false }
+    ensures failed { out.new.failed ≡ (out.old.failed || ended_by_output result) }
 {
     Ok(out.write_all(text)?)
 }

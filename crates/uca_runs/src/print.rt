@@ -2,7 +2,7 @@
 
 ghost use Rattle.std.specs.Prelude.{◌≡◌, ◌≤◌, length};
 ghost use Rattle.std.specs.List.{flat_map};
-ghost use Rattle.uca_lines.specs.Handing.{HasRoom, Hands};
+ghost use Rattle.uca_lines.specs.Buffered.{HasRoom, WritesThrough};
 ghost use Rattle.uca_runs.specs.Print;
 ghost use Rattle.uca_runs.specs.Print.{byte_digits, printed_groups, spaced_groups, identical_level, printed_behind, print_line_at};
 
@@ -17,7 +17,7 @@ const PART: usize = 256;
 /// How many groups those are.
 const GROUPS: usize = PART / 2;
 
-/// Hands over a key as a line: groups of two bytes as four upper-case hexadecimal digits, one space
+/// WritesThrough over a key as a line: groups of two bytes as four upper-case hexadecimal digits, one space
 /// between two groups, and LF. The key is that of the weights alone; at the depth `Identical` the code points of the
 /// text follow, after a group `0000`, as six digits each. It takes no memory. A fault says how many bytes went out of
 /// all that was handed over.
@@ -29,50 +29,50 @@ pub fn print_key<W: Write>(
     points: &[char],
 ) -> Result<(), WriteFault>
     requires { HasRoom buffer.old (length (print_line_at depth key.now points.now)) }
-    ensures { Hands (print_line_at depth key.now points.now) buffer.old buffer.new out.old out.new result }
+    ensures { WritesThrough (print_line_at depth key.now points.now) buffer.old buffer.new out.old out.new result }
 {
-    hand_groups(buffer, out, key)?;
-    hand_level(buffer, out, depth, points)?;
+    write_groups(buffer, out, key)?;
+    write_level(buffer, out, depth, points)?;
     buffer.write(out, b"\n")
 }
 
-// Hands over what stands behind the weights: nothing, or the identical level.
-fn hand_level<W: Write>(
+// WritesThrough over what stands behind the weights: nothing, or the identical level.
+fn write_level<W: Write>(
     buffer: &mut OutputBuffer,
     out: &mut Sink<W>,
     depth: Depth,
     points: &[char],
 ) -> Result<(), WriteFault>
     requires { HasRoom buffer.old (length (printed_behind depth points.now)) }
-    ensures { Hands (printed_behind depth points.now) buffer.old buffer.new out.old out.new result }
+    ensures { WritesThrough (printed_behind depth points.now) buffer.old buffer.new out.old out.new result }
 {
     match depth {
         Depth::Weights => Ok(()),
-        Depth::Identical => hand_identical_level(buffer, out, points),
+        Depth::Identical => write_identical_level(buffer, out, points),
     }
 }
 
-// Hands over the identical level: `0000`, and the code points.
-fn hand_identical_level<W: Write>(
+// WritesThrough over the identical level: `0000`, and the code points.
+fn write_identical_level<W: Write>(
     buffer: &mut OutputBuffer,
     out: &mut Sink<W>,
     points: &[char],
 ) -> Result<(), WriteFault>
     requires { HasRoom buffer.old (length (identical_level points.now)) }
-    ensures { Hands (identical_level points.now) buffer.old buffer.new out.old out.new result }
+    ensures { WritesThrough (identical_level points.now) buffer.old buffer.new out.old out.new result }
 {
     buffer.write(out, b" 0000")?;
-    hand_points(buffer, out, points)
+    write_points(buffer, out, points)
 }
 
-// Hands over code points, each behind a space.
-fn hand_points<W: Write>(
+// WritesThrough over code points, each behind a space.
+fn write_points<W: Write>(
     buffer: &mut OutputBuffer,
     out: &mut Sink<W>,
     points: &[char],
 ) -> Result<(), WriteFault>
     requires { HasRoom buffer.old (length (flat_map Print.spaced_point points.now)) }
-    ensures { Hands (flat_map Print.spaced_point points.now) buffer.old buffer.new out.old out.new result }
+    ensures { WritesThrough (flat_map Print.spaced_point points.now) buffer.old buffer.new out.old out.new result }
 {
     for point in points {
         buffer.write(out, &spaced_point(*point))?;
@@ -91,14 +91,14 @@ fn spaced_point(point: char) -> [u8; 7]
     [b' ', first, second, third, fourth, fifth, sixth]
 }
 
-// Hands over the groups of a key.
-fn hand_groups<W: Write>(
+// WritesThrough over the groups of a key.
+fn write_groups<W: Write>(
     buffer: &mut OutputBuffer,
     out: &mut Sink<W>,
     key: &[u8],
 ) -> Result<(), WriteFault>
     requires { HasRoom buffer.old (length (printed_groups key.now)) }
-    ensures { Hands (printed_groups key.now) buffer.old buffer.new out.old out.new result }
+    ensures { WritesThrough (printed_groups key.now) buffer.old buffer.new out.old out.new result }
 {
     let mut groups = [[0; 5]; GROUPS];
 

@@ -1,7 +1,7 @@
 //! The three files that a tailoring is made by.
 
 ghost use Rattle.std.specs.Prelude.{◌≡◌, ◌∷◌, [], is_err};
-ghost use Rattle.uca_runs.specs.Files.{HaveFailed, Over, is_file, tailor_content, tailor_files, tailor_roles};
+ghost use Rattle.uca_runs.specs.Files.{HaveFailed, Over, ended_by_file, tailor_content, tailor_files, tailor_roles};
 ghost use Rattle.uca_runs.specs.ReadFiles.{IsRead, ReadsOnly};
 ghost use Rattle.uca_values.specs.Content.{properties_of};
 
@@ -42,7 +42,7 @@ pub fn read_tailor_files<A: Allocator + Copy, B: Read, D: Read, U: Read>(
         (IsRead (λ files. tailor_content files.base (properties_of files.properties) files.rules) result) result }
     ensures only { ReadsOnly tailor_files (base.old ∷ properties.old ∷ rules.old ∷ [])
         (λ files. tailor_content files.base (properties_of files.properties) files.rules) result }
-    ensures of_files { is_file result ≡ is_err result }
+    ensures of_files { ended_by_file result ≡ is_err result }
     ensures failed { HaveFailed tailor_roles (base.old ∷ properties.old ∷ rules.old ∷ [])
         (base.new ∷ properties.new ∷ rules.new ∷ []) result }
 {

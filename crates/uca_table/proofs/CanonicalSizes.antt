@@ -16,7 +16,7 @@ use Rattle.uca_table.specs.CanonicalElements.{element_text}
 use Rattle.uca_table.specs.Canonical.{point_width, point_text, key_point_text, key_text, version_line, setting_line, range_line, row_line}
 use Rattle.uca_weights.specs.Streams.{SinkState}
 use Rattle.uca_lines.specs.OutputBuffer.{BufferState}
-use Rattle.uca_lines.specs.Handing.{count_of, HasRoom, HasHanded}
+use Rattle.uca_lines.specs.Buffered.{count_of, HasRoom, HasWrittenThrough}
 use Rattle.uca_table.specs.CanonicalLineTexts.{setting_text, range_lines, header_text, row_lines}
 use Rattle.uca_table.proofs.CanonicalTexts.{header_text_is}
 
@@ -157,5 +157,5 @@ header_fits header buffer none h = omega (arith, none, length-header_text header
 
 -- and for the rows after it
 pub rows_fit : (header : HeaderContent) (rows : List Entry) (buffer held : BufferState) (out now : SinkState) → count_of buffer ≡ 0
-    → HasHanded (header_text header) buffer held out now → length (header_text header) ≤ 10000 → AreRows rows → HasRoom held (length (row_lines rows))
+    → HasWrittenThrough (header_text header) buffer held out now → length (header_text header) ≤ 10000 → AreRows rows → HasRoom held (length (row_lines rows))
 rows_fit header rows buffer held out now none handed short h = omega (arith, none, handed.count, short, length-row_lines rows h)

@@ -7,7 +7,7 @@ use Rattle.uca_weights.specs.Levels.{level_of}
 use Rattle.uca_values.specs.Content.{keys_of}
 use Rattle.uca_check.specs.WellFormed.{elements_of}
 use Rattle.uca_rules.specs.declared.relations.Relation.{Relation}
-use Rattle.uca_text.specs.Texts.{Spelled}
+use Rattle.uca_text.specs.Texts.{NfdText}
 use Rattle.uca_match.specs.Positions.{Positions, place_at}
 use Rattle.uca_plans.specs.declared.drafts.DraftWeight.{DraftWeight}
 use Rattle.uca_plans.specs.declared.drafts.DraftWeight.TheVariants.{New}
@@ -33,7 +33,7 @@ use Rattle.uca_tailor.proofs.KeyLookups.{not_in_front, place_in_front, front_is}
 -- ---- One relation
 
 -- the elements of an expansion depend on the rows alone
-expansion_by_rows : (basis : Basis) (so_far : Drafting) (expansion : Option Spelled) →
+expansion_by_rows : (basis : Basis) (so_far : Drafting) (expansion : Option NfdText) →
     draft_expansion basis (record { rows = so_far.rows; insertions = [] }) expansion ≡ draft_expansion basis so_far expansion
 expansion_by_rows basis so_far None = refl
 expansion_by_rows basis so_far (Some text) = refl

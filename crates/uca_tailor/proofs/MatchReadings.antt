@@ -6,7 +6,7 @@ use Rattle.std.proofs.lemmas.Bool.{false≢true}
 use Rattle.std.proofs.lemmas.List.Concat.{flat_map-append}
 use Rattle.uca_values.specs.declared.ImplicitRange.{ImplicitRange}
 use Rattle.uca_values.specs.Content.{Properties}
-use Rattle.uca_text.specs.Texts.{Spelled, Text, letters_of}
+use Rattle.uca_text.specs.Texts.{NfdText, Text, letters_of}
 use Rattle.uca_match.specs.Rows.{same_key}
 use Rattle.uca_match.specs.Positions.{Positions, is_placed, place_at}
 use Rattle.uca_match.specs.Parts.{Part, Row, Implicit, IsPartOf}
@@ -91,7 +91,7 @@ module _ (places : Positions) (rows : List DraftRow) (more : List (List ℕ)) (a
   matches_stand t (p ∷ ps) all = ap₂ (λ es fs. es ++ fs) (match_stands t p all.0) (matches_stand t ps all.1)
 
   -- what the matches of a text give are its draft elements, read over the keys that have places
-  pub text_stands : (text : Spelled) →
+  pub text_stands : (text : NfdText) →
       flat_map (match_drafts ranges properties rows) (matches_of places (parts (is_placed places) (letters_of text)))
       ≡ read_over ranges properties (is_placed places) rows text
   text_stands text =

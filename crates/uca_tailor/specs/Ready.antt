@@ -1,7 +1,7 @@
 -- When one more relation can be read and its row put in its place. Only clauses inside this crate cite this file.
 use Rattle.std.specs.Prelude.{◌≡◌, ◌⊎◌, ℕ, ◌+◌, ◌≤◌, List, ◌++◌, length, false, Err}
 use Rattle.uca_values.specs.Content.{properties_of}
-use Rattle.uca_text.specs.Texts.{Spelled}
+use Rattle.uca_text.specs.Texts.{NfdText}
 use Rattle.uca_rules.specs.declared.relations.Relation.{Relation}
 use Rattle.uca_match.specs.Positions.{Positions, is_placed, place_at}
 use Rattle.uca_plans.specs.Drafts.{DraftRow, draft_elements}
@@ -17,7 +17,7 @@ basis_in reader = basis_of reader.base.now (properties_of reader.properties.now)
 
 -- the texts of the relation read over the places as over the rows
 abbrev pub ReadsAlike : Basis → Positions → List DraftRow → Relation → Type 0
-ReadsAlike basis places rows r = (text : Spelled) → IsTextOf r text →
+ReadsAlike basis places rows r = (text : NfdText) → IsTextOf r text →
     read_over basis.ranges basis.properties (is_placed places) rows text ≡ draft_elements basis.ranges basis.properties rows text
 
 -- the places are those of the rows' keys, in their order, and then of these

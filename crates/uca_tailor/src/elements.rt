@@ -57,7 +57,7 @@ pub(crate) fn take_last<A: Allocator>(
         (λ last. drafts.anchor_part level elements.old.items ≡ Some (record { front = elements.new.items; last = last })) }
 {
     while let Some(last) = elements.pop() {
-        if !is_silent(level, last) {
+        if !is_ignorable_to(level, last) {
             return Some(last);
         }
     }
@@ -66,10 +66,10 @@ pub(crate) fn take_last<A: Allocator>(
 
 /// Whether an element gets no new weight at the level: it is a continuation, or, at level 1, its primary stands among those
 /// of implicit weights.
-pub(crate) fn is_refused(level: Level, element: DraftElement) -> bool
-    ensures { result ≡ drafts.is_refused level element }
+pub(crate) fn takes_no_weight(level: Level, element: DraftElement) -> bool
+    ensures { result ≡ drafts.takes_no_weight level element }
 {
-    is_continuation(element) || (level == Level::One && is_high(element.primary))
+    is_continuation(element) || (level == Level::One && is_implicit_primary(element.primary))
 }
 
 /// The element with a new weight at a level; its other weights at weaker levels become 0020 and 0002.
@@ -96,8 +96,8 @@ pub(crate) fn reweighted(level: Level, new: DraftWeight, element: DraftElement) 
 }
 
 /// Whether an element has no weight at the levels from 1 to this one.
-fn is_silent(level: Level, element: DraftElement) -> bool
-    ensures { result ≡ drafts.is_silent level element }
+fn is_ignorable_to(level: Level, element: DraftElement) -> bool
+    ensures { result ≡ drafts.is_ignorable_to level element }
 {
     match level {
         Level::One => is_zero(element.primary),
@@ -126,8 +126,8 @@ fn is_zero(weight: DraftWeight) -> bool
 }
 
 /// Whether a weight stands where implicit primaries do.
-fn is_high(weight: DraftWeight) -> bool
-    ensures { result ≡ drafts.is_high weight }
+fn is_implicit_primary(weight: DraftWeight) -> bool
+    ensures { result ≡ drafts.is_implicit_primary weight }
 {
     match weight {
         DraftWeight::Base(weight) => weight >= FIRST_IMPLICIT,

@@ -8,7 +8,7 @@ ghost use Rattle.uca_plans.specs.Plans as plans;
 ghost use Rattle.uca_plans.specs.Plans.{placed_if_accepted, draft_expansion};
 ghost use Rattle.uca_tailor.specs.Ready.{basis_in, ArePlacesWith, ReadsAlike};
 
-use crate::elements::{draft_weight, is_refused, level_of, reweighted, take_last};
+use crate::elements::{draft_weight, level_of, reweighted, take_last, takes_no_weight};
 use crate::insertions::Insertion;
 use crate::readings::Reader;
 use crate::row_drafts::RowDraft;
@@ -89,7 +89,7 @@ fn put_weight<A: Allocator>(
     let Some(last) = take_last(level, elements) else {
         return Ok(None);
     };
-    if is_refused(level, last) {
+    if takes_no_weight(level, last) {
         return Ok(None);
     }
     elements.push(reweighted(level, new, last))?;

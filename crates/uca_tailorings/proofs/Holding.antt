@@ -14,9 +14,9 @@ use Rattle.uca_weights.specs.declared.Level.TheVariants.{One, Two, Three}
 use Rattle.uca_weights.specs.declared.Weighting.TheVariants.{NonIgnorable}
 use Rattle.uca_weights.specs.Levels.{weight, level_number}
 use Rattle.uca_check.proofs.Elements.{each_weaker}
-use Rattle.uca_key.specs.Levels.{Comparison, weighted_following, level_list, level_lists, dictionary, decided, compare_from, compared}
+use Rattle.uca_key.specs.Levels.{Comparison, weighted_following, level_list, level_lists, lexicographic, decided, compare_from, compared}
 use Rattle.uca_key.proofs.KeyOrder.{cmp_less, cmp_equal, cmp_greater, then_equal, dictionary_itself}
-use Rattle.uca_tailorings.specs.Placing.{IsSilent, placed, reweighted, IsOnSide}
+use Rattle.uca_tailorings.specs.Placing.{IsIgnorableTo, placed, reweighted, IsOnSide}
 use Rattle.uca_tailorings.specs.Meaning.{stands}
 
 -- ---- The weights of a level
@@ -56,7 +56,7 @@ by_orders first second third = decided first 1 (decided second 2 (decided third 
 
 -- how elements compare at a level
 abbrev order_at : Level → List Element → List Element → Ordering
-order_at level es fs = dictionary (sounded level es) (sounded level fs)
+order_at level es fs = lexicographic (sounded level es) (sounded level fs)
 
 -- elements compare by the three levels
 compared_by_levels : (es fs : List Element) → compared NonIgnorable es fs ≡ by_orders (order_at One es fs) (order_at Two es fs) (order_at Three es fs)
@@ -84,30 +84,30 @@ unheard level [] fs none = refl
 unheard level (e ∷ es) fs none = keep_zero (weight level e) (sounded level (es ++ fs)) none.0 ∙ unheard level es fs none.1
 
 -- lists that begin alike
-dictionary-append : (xs ys zs : List ℕ) → dictionary (xs ++ ys) (xs ++ zs) ≡ dictionary ys zs
-dictionary-append [] ys zs = refl
-dictionary-append (x ∷ xs) ys zs = ap (λ o. ordering_then o (dictionary (xs ++ ys) (xs ++ zs))) (cmp_equal x x refl) ∙ dictionary-append xs ys zs
+lexicographic-append : (xs ys zs : List ℕ) → lexicographic (xs ++ ys) (xs ++ zs) ≡ lexicographic ys zs
+lexicographic-append [] ys zs = refl
+lexicographic-append (x ∷ xs) ys zs = ap (λ o. ordering_then o (lexicographic (xs ++ ys) (xs ++ zs))) (cmp_equal x x refl) ∙ lexicographic-append xs ys zs
 
 module _ (before : List Element) (last new : Element) (trailing expansion : List Element) where
   -- at a level where the trailing elements have no weight, the two last elements decide
   last_decides : (level : Level) → AllByRecursion (λ e. weight level e ≡ 0) trailing →
       order_at level ((before ++ last ∷ trailing) ++ expansion) (before ++ new ∷ expansion)
-      ≡ dictionary (keep (weight level last) (sounded level expansion)) (keep (weight level new) (sounded level expansion))
+      ≡ lexicographic (keep (weight level last) (sounded level expansion)) (keep (weight level new) (sounded level expansion))
   last_decides level none =
       let left : sounded level ((before ++ last ∷ trailing) ++ expansion)
       ≡ sounded level before ++ keep (weight level last) (sounded level expansion) =
       ap (sounded level) (append_assoc before (last ∷ trailing) expansion)
       ∙ sounded-append level before (last ∷ (trailing ++ expansion))
       ∙ ap (λ ws. sounded level before ++ keep (weight level last) ws) (unheard level trailing expansion none) in
-      ap₂ dictionary left (sounded-append level before (new ∷ expansion))
-      ∙ dictionary-append (sounded level before) (keep (weight level last) (sounded level expansion)) (keep (weight level new) (sounded level expansion))
+      ap₂ lexicographic left (sounded-append level before (new ∷ expansion))
+      ∙ lexicographic-append (sounded level before) (keep (weight level last) (sounded level expansion)) (keep (weight level new) (sounded level expansion))
 
   -- where they have the same weight, none does
   same_level : (level : Level) → AllByRecursion (λ e. weight level e ≡ 0) trailing → weight level new ≡ weight level last →
       order_at level ((before ++ last ∷ trailing) ++ expansion) (before ++ new ∷ expansion) ≡ Equal
   same_level level none same =
       last_decides level none
-      ∙ ap (λ w. dictionary (keep (weight level last) (sounded level expansion)) (keep w (sounded level expansion))) same
+      ∙ ap (λ w. lexicographic (keep (weight level last) (sounded level expansion)) (keep w (sounded level expansion))) same
       ∙ dictionary_itself (keep (weight level last) (sounded level expansion))
 
   -- where neither weight is 0, the level compares as they do
@@ -115,7 +115,7 @@ module _ (before : List Element) (last new : Element) (trailing expansion : List
       order_at level ((before ++ last ∷ trailing) ++ expansion) (before ++ new ∷ expansion) ≡ nat_cmp (weight level last) (weight level new)
   new_level level none old_some new_some =
       last_decides level none
-      ∙ ap₂ dictionary (keep_some (weight level last) (sounded level expansion) old_some) (keep_some (weight level new) (sounded level expansion) new_some)
+      ∙ ap₂ lexicographic (keep_some (weight level last) (sounded level expansion) old_some) (keep_some (weight level new) (sounded level expansion) new_some)
       ∙ ap (ordering_then (nat_cmp (weight level last) (weight level new))) (dictionary_itself (sounded level expansion))
       ∙ then_equal (nat_cmp (weight level last) (weight level new))
 
@@ -138,34 +138,34 @@ decides true level later = refl
 
 -- the anchor's side stands where its relation says
 pub holds_placed : (is_before : Bool) (level : Level) (before : List Element) (last : Element) (trailing expansion : List Element) (w : ℕ) →
-    AllByRecursion (IsSilent level) trailing → weight level last ≢ 0 → w ≢ 0 → IsOnSide is_before (weight level last) w →
+    AllByRecursion (IsIgnorableTo level) trailing → weight level last ≢ 0 → w ≢ 0 → IsOnSide is_before (weight level last) w →
     compared NonIgnorable ((before ++ last ∷ trailing) ++ expansion) (placed level before last expansion w) ≡ stands is_before (Some level)
-holds_placed is_before One before last trailing expansion w silent old_some new_some side =
+holds_placed is_before One before last trailing expansion w ignorable old_some new_some side =
     let left : List Element = (before ++ last ∷ trailing) ++ expansion in
     let new : Element = reweighted One w last in
     let right : List Element = before ++ new ∷ expansion in
     compared_by_levels left right
     ∙ ap (λ o. by_orders o (order_at Two left right) (order_at Three left right))
-    (new_level before last new trailing expansion One silent old_some new_some ∙ on_side is_before last.primary w side)
+    (new_level before last new trailing expansion One ignorable old_some new_some ∙ on_side is_before last.primary w side)
     ∙ decides is_before One (decided (order_at Two left right) 2 (decided (order_at Three left right) 3 (record { order = Equal; level = 0 })))
-holds_placed is_before Two before last trailing expansion w silent old_some new_some side =
+holds_placed is_before Two before last trailing expansion w ignorable old_some new_some side =
     let left : List Element = (before ++ last ∷ trailing) ++ expansion in
     let new : Element = reweighted Two w last in
     let right : List Element = before ++ new ∷ expansion in
-    let first = each_weaker (IsSilent Two) (λ e. e.primary ≡ 0) (λ e none. none.0) trailing silent in
-    let second = each_weaker (IsSilent Two) (λ e. e.secondary ≡ 0) (λ e none. none.1) trailing silent in
+    let first = each_weaker (IsIgnorableTo Two) (λ e. e.primary ≡ 0) (λ e none. none.0) trailing ignorable in
+    let second = each_weaker (IsIgnorableTo Two) (λ e. e.secondary ≡ 0) (λ e none. none.1) trailing ignorable in
     compared_by_levels left right
     ∙ ap (λ o. by_orders o (order_at Two left right) (order_at Three left right)) (same_level before last new trailing expansion One first refl)
     ∙ ap (λ o. by_orders Equal o (order_at Three left right))
     (new_level before last new trailing expansion Two second old_some new_some ∙ on_side is_before last.secondary w side)
     ∙ decides is_before Two (decided (order_at Three left right) 3 (record { order = Equal; level = 0 }))
-holds_placed is_before Three before last trailing expansion w silent old_some new_some side =
+holds_placed is_before Three before last trailing expansion w ignorable old_some new_some side =
     let left : List Element = (before ++ last ∷ trailing) ++ expansion in
     let new : Element = reweighted Three w last in
     let right : List Element = before ++ new ∷ expansion in
-    let first = each_weaker (IsSilent Three) (λ e. e.primary ≡ 0) (λ e none. none.0) trailing silent in
-    let second = each_weaker (IsSilent Three) (λ e. e.secondary ≡ 0) (λ e none. none.1) trailing silent in
-    let third = each_weaker (IsSilent Three) (λ e. e.tertiary ≡ 0) (λ e none. none.2) trailing silent in
+    let first = each_weaker (IsIgnorableTo Three) (λ e. e.primary ≡ 0) (λ e none. none.0) trailing ignorable in
+    let second = each_weaker (IsIgnorableTo Three) (λ e. e.secondary ≡ 0) (λ e none. none.1) trailing ignorable in
+    let third = each_weaker (IsIgnorableTo Three) (λ e. e.tertiary ≡ 0) (λ e none. none.2) trailing ignorable in
     compared_by_levels left right
     ∙ ap (λ o. by_orders o (order_at Two left right) (order_at Three left right)) (same_level before last new trailing expansion One first refl)
     ∙ ap (λ o. by_orders Equal o (order_at Three left right)) (same_level before last new trailing expansion Two second refl)

@@ -2,7 +2,7 @@
 use Rattle.std.proofs.Common.{◌≡◌, ℕ, List, [], ◌∷◌, length, Option, Some, None, refl, ap, arith}
 use Rattle.std.specs.List.{AllByRecursion}
 use Rattle.uca_weights.specs.declared.Element.{Element}
-use Rattle.uca_text.specs.Texts.{Text, Spelled, code_points, letters, letters_of}
+use Rattle.uca_text.specs.Texts.{Text, NfdText, code_points, letters, letters_of}
 use Rattle.uca_text.specs.Limits.{IsNormal}
 use Rattle.uca_text.specs.Occurring.{OccursInOrder}
 use Rattle.uca_match.specs.Rows.{Rows}
@@ -18,7 +18,7 @@ points_of_letters (c ∷ points) [] same = absurd (omega arith)
 points_of_letters (c ∷ points) (k ∷ classes) same = ap (λ rest. c ∷ rest) (points_of_letters points classes (omega arith))
 
 -- a text has the code points that it is spelled by
-pub points_of_text : (text : Spelled) → IsNormal text → code_points (letters_of text) ≡ text.points
+pub points_of_text : (text : NfdText) → IsNormal text → code_points (letters_of text) ≡ text.points
 points_of_text text normal = points_of_letters text.points text.classes normal.accepted.same
 
 module _ (P : Element → Type 0) (implicit : ℕ → List Element) (rows : Rows) where

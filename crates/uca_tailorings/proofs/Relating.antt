@@ -8,14 +8,14 @@ use Rattle.uca_weights.specs.declared.Level.TheVariants.{One, Two, Three}
 use Rattle.uca_weights.specs.declared.Weighting.TheVariants.{NonIgnorable}
 use Rattle.uca_weights.specs.Levels.{weight, level_of}
 use Rattle.uca_values.specs.Implicit.{implicit}
-use Rattle.uca_text.specs.Texts.{Spelled, code_points, letters_of}
+use Rattle.uca_text.specs.Texts.{NfdText, code_points, letters_of}
 use Rattle.uca_rules.specs.declared.relations.Relation.{Relation}
 use Rattle.uca_rules.specs.Relations.{IsRuleText, HasRuleTexts}
 use Rattle.uca_match.specs.Rows.{rows_of}
 use Rattle.uca_match.specs.Collations.{elements_of}
 use Rattle.uca_match.proofs.ReadingLemmas.{key_reads_as_row}
 use Rattle.uca_key.specs.Levels.{compared}
-use Rattle.uca_tailorings.specs.Placing.{IsSilent, reweighted, placed, IsOnSide}
+use Rattle.uca_tailorings.specs.Placing.{IsIgnorableTo, reweighted, placed, IsOnSide}
 use Rattle.uca_tailorings.specs.Tailorings.{Tailoring, IsTailoring, tailored_reading, anchor_elements, expansion_elements, IsTargetRow, IsPlacedAt}
 use Rattle.uca_tailorings.specs.Tailorings.{IsPlacedBy, IsPlaced, IsPairWeight, IsBetween, IsAccepted}
 use Rattle.uca_tailorings.specs.Meaning.{Holds, stands}
@@ -29,7 +29,7 @@ use Rattle.uca_tailorings.proofs.Holding.{compared_itself, holds_placed}
 -- ---- Relations hold
 
 -- a text of a relation that is a key reads as its row
-pub key_reads : (tailoring : Tailoring) (text : Spelled) (row : List Element) → IsRuleText text → rows_of tailoring.tailored.rows text.points ≡ Some row →
+pub key_reads : (tailoring : Tailoring) (text : NfdText) (row : List Element) → IsRuleText text → rows_of tailoring.tailored.rows text.points ≡ Some row →
     elements_of (tailored_reading tailoring) text ≡ row
 key_reads tailoring text row is found =
     let points : code_points (letters_of text) ≡ text.points = points_of_text text is.normal in
@@ -64,13 +64,13 @@ holds_by tailoring is accepted before r after whole texts (Some level) strength 
     sound_row tailoring.properties.class tailoring.tailored.rows well r.target.points (placed level at.before at.last expansion new) at.row in
     let new_sound : IsSound changed = (each_parts IsSound at.before (changed ∷ expansion) row).1.0 in
     let nearest = accepted NotNearest before r after whole level old new at in
-    let old_some = old_is_some level at.last sound at.anchor.alone at.anchor.sounds in
-    let new_some = new_is_some level at.last new sound at.anchor.alone at.anchor.sounds new_sound
+    let old_some = old_is_some level at.last sound at.anchor.alone at.anchor.not_ignorable in
+    let new_some = new_is_some level at.last new sound at.anchor.alone at.anchor.not_ignorable new_sound
     (λ three between. nearest.known 2 (inr (subst (λ l. IsPairWeight l 2) (sym three) refl)) (subst (λ w. IsBetween w new 2) at.old_weight between)) in
     let side = subst (λ w. IsOnSide r.before w new) (sym at.old_weight) at.side in
     ap₂ (compared NonIgnorable) (ap (λ es. es ++ expansion) at.anchor.whole)
     (target_reads tailoring r (placed level at.before at.last expansion new) texts.targets at.row)
-    ∙ holds_placed r.before level at.before at.last at.trailing expansion new at.anchor.silent old_some new_some side
+    ∙ holds_placed r.before level at.before at.last at.trailing expansion new at.anchor.ignorable old_some new_some side
     ∙ sym (ap (stands r.before) strength)
 
 -- each relation of an accepted tailoring holds
@@ -83,27 +83,27 @@ all_hold tailoring is accepted =
 
 -- ---- A relation has one new weight
 
--- lists have one last element that is not silent
+-- lists have one last element that is not ignorable
 pub one_anchor : (level : Level) (before others : List Element) (last other : Element) (trailing more : List Element) →
-    before ++ last ∷ trailing ≡ others ++ other ∷ more → AllByRecursion (IsSilent level) trailing → AllByRecursion (IsSilent level) more →
-    ¬ (IsSilent level last) → ¬ (IsSilent level other) → (before ≡ others) × (last ≡ other)
-one_anchor level [] [] last other trailing more same silent quiet sounds sounding =
+    before ++ last ∷ trailing ≡ others ++ other ∷ more → AllByRecursion (IsIgnorableTo level) trailing → AllByRecursion (IsIgnorableTo level) more →
+    ¬ (IsIgnorableTo level last) → ¬ (IsIgnorableTo level other) → (before ≡ others) × (last ≡ other)
+one_anchor level [] [] last other trailing more same ignorable quiet not_ignorable sounding =
     let whole : last ∷ trailing ≡ other ∷ more = same in
     let first : last ≡ other = cc in
     (refl, first)
-one_anchor level [] (f ∷ others) last other trailing more same silent quiet sounds sounding =
+one_anchor level [] (f ∷ others) last other trailing more same ignorable quiet not_ignorable sounding =
     let whole : last ∷ trailing ≡ f ∷ (others ++ other ∷ more) = same in
     let behind : trailing ≡ others ++ other ∷ more = cc in
-    absurd (sounding (of_part (IsSilent level) trailing others other more silent behind))
-one_anchor level (e ∷ before) [] last other trailing more same silent quiet sounds sounding =
+    absurd (sounding (of_part (IsIgnorableTo level) trailing others other more ignorable behind))
+one_anchor level (e ∷ before) [] last other trailing more same ignorable quiet not_ignorable sounding =
     let whole : e ∷ (before ++ last ∷ trailing) ≡ other ∷ more = same in
     let behind : more ≡ before ++ last ∷ trailing = cc in
-    absurd (sounds (of_part (IsSilent level) more before last trailing quiet behind))
-one_anchor level (e ∷ before) (f ∷ others) last other trailing more same silent quiet sounds sounding =
+    absurd (not_ignorable (of_part (IsIgnorableTo level) more before last trailing quiet behind))
+one_anchor level (e ∷ before) (f ∷ others) last other trailing more same ignorable quiet not_ignorable sounding =
     let whole : e ∷ (before ++ last ∷ trailing) ≡ f ∷ (others ++ other ∷ more) = same in
     let first : e ≡ f = cc in
     let behind : before ++ last ∷ trailing ≡ others ++ other ∷ more = cc in
-    let rest = one_anchor level before others last other trailing more behind silent quiet sounds sounding in
+    let rest = one_anchor level before others last other trailing more behind ignorable quiet not_ignorable sounding in
     (ap₂ (λ x xs. x ∷ xs) first rest.0, rest.1)
 
 -- the new weight of an element
@@ -118,7 +118,7 @@ pub one_new : (tailoring : Tailoring) (r : Relation) (level : Level) (old new wa
 one_new tailoring r level old new was now at also =
     let expansion : List Element = expansion_elements tailoring r in
     let parts = one_anchor level at.before also.before at.last also.last at.trailing also.trailing (sym at.anchor.whole ∙ also.anchor.whole)
-    at.anchor.silent also.anchor.silent at.anchor.sounds also.anchor.sounds in
+    at.anchor.ignorable also.anchor.ignorable at.anchor.not_ignorable also.anchor.not_ignorable in
     let found : Some (placed level at.before at.last expansion new) ≡ Some (placed level also.before also.last expansion now) = sym at.row ∙ also.row in
     let rows : placed level at.before at.last expansion new ≡ placed level also.before also.last expansion now = cc in
     let same_front : at.before ++ reweighted level new at.last ∷ expansion ≡ at.before ++ reweighted level now at.last ∷ expansion =
@@ -133,5 +133,5 @@ pub one_old : (tailoring : Tailoring) (r : Relation) (level : Level) (old new wa
     IsPlacedAt tailoring r level was now → old ≡ was
 one_old tailoring r level old new was now at also =
     let parts = one_anchor level at.before also.before at.last also.last at.trailing also.trailing (sym at.anchor.whole ∙ also.anchor.whole)
-    at.anchor.silent also.anchor.silent at.anchor.sounds also.anchor.sounds in
+    at.anchor.ignorable also.anchor.ignorable at.anchor.not_ignorable also.anchor.not_ignorable in
     sym at.old_weight ∙ ap (weight level) parts.1 ∙ also.old_weight

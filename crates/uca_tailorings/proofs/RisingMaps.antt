@@ -6,7 +6,7 @@ use Rattle.std.specs.Prelude.{⊤}
 use Rattle.std.specs.Ordering.{nat_cmp, ordering_then}
 use Rattle.uca_weights.specs.declared.Level.{Level}
 use Rattle.uca_weights.specs.Maps.{WeightImages, Sends, IsRisingMap}
-use Rattle.uca_key.specs.Levels.{dictionary}
+use Rattle.uca_key.specs.Levels.{lexicographic}
 use Rattle.uca_key.proofs.KeyOrder.{same_cmp}
 
 -- the second list has the images of the first
@@ -39,7 +39,7 @@ module _ (level : Level) (images : WeightImages) (rising : IsRisingMap level ima
       by_weight (suc v) sent = let above = rising.rising 0 (suc v) 0 x rising.zero sent (omega arith) in grind (arith, nat_tests)
 
   -- lists of weights compare as the lists of their images
-  pub sent_order : (vs ws xs ys : List ℕ) → AreSent images vs xs → AreSent images ws ys → dictionary xs ys ≡ dictionary vs ws
+  pub sent_order : (vs ws xs ys : List ℕ) → AreSent images vs xs → AreSent images ws ys → lexicographic xs ys ≡ lexicographic vs ws
   sent_order [] [] [] [] first second = refl
   sent_order [] (w ∷ ws) [] [] first second = absurd second
   sent_order [] [] [] (y ∷ ys) first second = absurd second
@@ -53,7 +53,7 @@ module _ (level : Level) (images : WeightImages) (rising : IsRisingMap level ima
       ap₂ ordering_then (sent_cmp v w x y first.0 second.0) (sent_order vs ws xs ys first.1 second.1)
 
   -- one weight more, which is left out where it is 0
-  kept_step : (w x : ℕ) (ws xs : List ℕ) (silent : Bool) → Sends images w x → AreSent images ws xs → nat_eq w 0 ≡ silent → nat_eq x 0 ≡ silent →
+  kept_step : (w x : ℕ) (ws xs : List ℕ) (ignorable : Bool) → Sends images w x → AreSent images ws xs → nat_eq w 0 ≡ ignorable → nat_eq x 0 ≡ ignorable →
       AreSent images (cond (not (nat_eq w 0)) (w ∷ ws) ws) (cond (not (nat_eq x 0)) (x ∷ xs) xs)
   kept_step w x ws xs true sent rest first second = rw (first, second) rest
   kept_step w x ws xs false sent rest first second = rw (first, second) (sent, rest)

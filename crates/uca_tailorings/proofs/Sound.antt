@@ -12,11 +12,11 @@ use Rattle.uca_values.specs.Content.{Entry}
 use Rattle.uca_values.specs.Implicit.{implicit_pair, implicit}
 use Rattle.uca_check.specs.WellFormed.{HasGap, MeetsWF1, MeetsWF2, IsWellFormed}
 use Rattle.uca_check.proofs.Elements.{each_weaker}
-use Rattle.uca_text.specs.Texts.{Spelled, letters_of}
+use Rattle.uca_text.specs.Texts.{NfdText, letters_of}
 use Rattle.uca_text.specs.Limits.{IsNormal}
 use Rattle.uca_match.specs.Rows.{rows_of}
 use Rattle.uca_match.specs.Collations.{elements_of}
-use Rattle.uca_tailorings.specs.Placing.{IsSilent, reset, reweighted}
+use Rattle.uca_tailorings.specs.Placing.{IsIgnorableTo, reset, reweighted}
 use Rattle.uca_tailorings.specs.Tailorings.{Tailoring, IsTailoring, tailored_reading, IsBetween}
 use Rattle.uca_tailorings.proofs.RowConditions.{at_row}
 use Rattle.uca_values.proofs.ImplicitPairs.{each_pair}
@@ -70,7 +70,7 @@ scalar_below c scalar = grind arith
 
 -- each element that a text has under the tailored table is sound
 pub sound_elements : (tailoring : Tailoring) → IsTailoring tailoring → IsWellFormed tailoring.properties.class tailoring.tailored.rows →
-    (text : Spelled) → IsNormal text → AllByRecursion IsSound (elements_of (tailored_reading tailoring) text)
+    (text : NfdText) → IsNormal text → AllByRecursion IsSound (elements_of (tailored_reading tailoring) text)
 sound_elements tailoring is well text normal =
     let of_point = implicit tailoring.tailored.header.ranges tailoring.properties in
     let points = each_weaker IsScalar (λ c. AllByRecursion IsSound (of_point c))
@@ -93,14 +93,14 @@ pub reset_some : (w default : ℕ) → w ≢ 0 → reset w default ≡ default
 reset_some w default some = cond-false (nat_eq w 0) 0 default (ne_eqb w 0 some)
 
 -- the weight of an anchor's last element is not 0
-pub old_is_some : (level : Level) (e : Element) → IsSound e → ¬ (IsContinuation e) → ¬ (IsSilent level e) → weight level e ≢ 0
-old_is_some One e sound alone sounds none = sounds none
-old_is_some Two e sound alone sounds none =
-    ⊎_elim (λ no_primary. sounds (no_primary, none)) (λ primary. alone (sound.gap (inl (primary, none)))) (zero_or_not e.primary)
-old_is_some Three e sound alone sounds none =
+pub old_is_some : (level : Level) (e : Element) → IsSound e → ¬ (IsContinuation e) → ¬ (IsIgnorableTo level e) → weight level e ≢ 0
+old_is_some One e sound alone not_ignorable none = not_ignorable none
+old_is_some Two e sound alone not_ignorable none =
+    ⊎_elim (λ no_primary. not_ignorable (no_primary, none)) (λ primary. alone (sound.gap (inl (primary, none)))) (zero_or_not e.primary)
+old_is_some Three e sound alone not_ignorable none =
     ⊎_elim
     (λ no_secondary.
-    ⊎_elim (λ no_primary. sounds (no_primary, no_secondary, none)) (λ primary. alone (sound.gap (inl (primary, no_secondary)))) (zero_or_not e.primary))
+    ⊎_elim (λ no_primary. not_ignorable (no_primary, no_secondary, none)) (λ primary. alone (sound.gap (inl (primary, no_secondary)))) (zero_or_not e.primary))
     (λ secondary. alone (sound.gap (inr (secondary, none))))
     (zero_or_not e.secondary)
 
@@ -114,14 +114,14 @@ tertiary_is_some e sound alone secondary none = alone (sound.gap (inr (secondary
 
 -- The new weight is not 0: a sound element without it would have too low a first weight, or a gap, or no weight at all. In the last case
 -- the weight of implicit weights would lie between the old weight and the new one.
-pub new_is_some : (level : Level) (e : Element) (w : ℕ) → IsSound e → ¬ (IsContinuation e) → ¬ (IsSilent level e) → IsSound (reweighted level w e) →
+pub new_is_some : (level : Level) (e : Element) (w : ℕ) → IsSound e → ¬ (IsContinuation e) → ¬ (IsIgnorableTo level e) → IsSound (reweighted level w e) →
     ((level ≡ Three) → ¬ (IsBetween (weight level e) w 2)) → w ≢ 0
-new_is_some One e w sound alone sounds new nearest none =
-    let default : reset e.secondary 0x20 ≡ 0x20 = reset_some e.secondary 0x20 (secondary_is_some e sound alone sounds) in
+new_is_some One e w sound alone not_ignorable new nearest none =
+    let default : reset e.secondary 0x20 ≡ 0x20 = reset_some e.secondary 0x20 (secondary_is_some e sound alone not_ignorable) in
     let above = new.secondary (none, (λ zero_there. omega (arith, default, zero_there))) in
     omega (arith, above, default)
-new_is_some Two e w sound alone sounds new nearest none =
-    let secondary : e.secondary ≢ 0 = old_is_some Two e sound alone sounds in
+new_is_some Two e w sound alone not_ignorable new nearest none =
+    let secondary : e.secondary ≢ 0 = old_is_some Two e sound alone not_ignorable in
     let default : reset e.tertiary 2 ≡ 2 = reset_some e.tertiary 2 (tertiary_is_some e sound alone secondary) in
     ⊎_elim
     (λ no_primary.
@@ -131,8 +131,8 @@ new_is_some Two e w sound alone sounds new nearest none =
     let continues = new.gap (inl (primary, none)) in
     omega (arith, continues.2, default))
     (zero_or_not e.primary)
-new_is_some Three e w sound alone sounds new nearest none =
-    let tertiary : e.tertiary ≢ 0 = old_is_some Three e sound alone sounds in
+new_is_some Three e w sound alone not_ignorable new nearest none =
+    let tertiary : e.tertiary ≢ 0 = old_is_some Three e sound alone not_ignorable in
     ⊎_elim
     (λ no_secondary.
     ⊎_elim

@@ -7,7 +7,7 @@ use Rattle.std.specs.Char.{IsScalar}
 use Rattle.uca_weights.specs.declared.Element.{Element}
 use Rattle.uca_values.specs.Implicit.{implicit}
 use Rattle.uca_check.proofs.Elements.{each_weaker}
-use Rattle.uca_text.specs.Texts.{Spelled, code_points, letters_of}
+use Rattle.uca_text.specs.Texts.{NfdText, code_points, letters_of}
 use Rattle.uca_text.specs.Occurring.{OccursInOrder}
 use Rattle.uca_rules.specs.declared.relations.Relation.{Relation}
 use Rattle.uca_rules.specs.Relations.{IsTarget, IsUntouched, IsRuleText, HasRuleTexts}
@@ -62,7 +62,7 @@ module _ (P : Element → Type 0) (tailoring : Tailoring) (is : IsTailoring tail
   AreKnown relations = (key : List ℕ) (row : List Element) → IsTarget relations key → rows_of tailoring.tailored.rows key ≡ Some row → AllByRecursion P row
 
   -- a text that holds no later target, or is an earlier one
-  each_of_text : (earlier later : List Relation) → tailoring.relations ≡ earlier ++ later → AreKnown earlier → (text : Spelled) → IsRuleText text →
+  each_of_text : (earlier later : List Relation) → tailoring.relations ≡ earlier ++ later → AreKnown earlier → (text : NfdText) → IsRuleText text →
       (¬ (IsTarget earlier text.points) → IsUntouched later text.points) → AllByRecursion P (elements_of (tailored_reading tailoring) text)
   each_of_text earlier later whole known text rule_text untouched =
       let of_point = implicit tailoring.tailored.header.ranges tailoring.properties in
@@ -90,7 +90,7 @@ module _ (P : Element → Type 0) (tailoring : Tailoring) (is : IsTailoring tail
       (target_or_not earlier text.points)
 
   -- an expansion, if there is one, that holds no later target or is an earlier one
-  each_of_expansion : (earlier later : List Relation) → tailoring.relations ≡ earlier ++ later → AreKnown earlier → (expansion : Option Spelled) →
+  each_of_expansion : (earlier later : List Relation) → tailoring.relations ≡ earlier ++ later → AreKnown earlier → (expansion : Option NfdText) →
       IfSome expansion IsRuleText → ((text : List ℕ) → IsSomeAnd expansion (λ e. text ≡ e.points) → ¬ (IsTarget earlier text) → IsUntouched later text) →
       AllByRecursion P (elements_of_expansion (tailored_reading tailoring) expansion)
   each_of_expansion earlier later whole known None rule_text untouched = tt

@@ -10,7 +10,7 @@ use Rattle.uca_weights.specs.declared.Weighting.TheVariants.{NonIgnorable, Shift
 use Rattle.uca_values.specs.Content.{HeaderContent}
 use Rattle.uca_values.specs.Implicit.{implicit}
 use Rattle.uca_check.proofs.Elements.{each_weaker}
-use Rattle.uca_text.specs.Texts.{Spelled, letters, letters_of, code_points}
+use Rattle.uca_text.specs.Texts.{NfdText, letters, letters_of, code_points}
 use Rattle.uca_text.specs.Limits.{IsNormal}
 use Rattle.uca_text.specs.Occurring.{OccursInOrder}
 use Rattle.uca_text.proofs.Occurring.{occurs_trans, each_occurring}
@@ -19,7 +19,7 @@ use Rattle.uca_rules.specs.Relations.{IsTarget, IsUntouched}
 use Rattle.uca_match.specs.Rows.{rows_of}
 use Rattle.uca_match.specs.Collations.{elements_of}
 use Rattle.uca_match.proofs.RelatedReading.{read_related}
-use Rattle.uca_key.specs.Levels.{Weights as ElementWeights, level_list, level_lists_from, weighted, decided, dictionary, compare_from}
+use Rattle.uca_key.specs.Levels.{Weights as ElementWeights, level_list, level_lists_from, weighted, decided, lexicographic, compare_from}
 use Rattle.uca_key.specs.Depths.{compared_at, key_at}
 use Rattle.uca_tailorings.specs.Images.{Maps, AreRisingMaps, AreImages, KeepAllWeights}
 use Rattle.uca_tailorings.specs.Tailorings.{Tailoring, IsTailoring, IsAccepted, base_reading, tailored_reading}
@@ -52,7 +52,7 @@ scalar_bound : (c : ℕ) → IsScalar c → c < 0x11_0000
 scalar_bound c scalar = grind (arith, nat_tests)
 
 -- an untouched text reads as the images of what it read as before
-pub images_read : (tailoring : Tailoring) → IsTailoring tailoring → IsAccepted tailoring → (text : Spelled) → IsNormal text →
+pub images_read : (tailoring : Tailoring) → IsTailoring tailoring → IsAccepted tailoring → (text : NfdText) → IsNormal text →
     IsUntouched tailoring.relations text.points →
     AreImages tailoring.maps (elements_of (base_reading tailoring) text) (elements_of (tailored_reading tailoring) text)
 images_read tailoring is accepted text normal untouched =
@@ -89,7 +89,7 @@ images_read tailoring is accepted text normal untouched =
 
 -- where the lists of each level have the order that they had, so have the texts, whatever stands behind the levels
 levels_alike : (n from : ℕ) (ls rs xs ys : List ElementWeights) (left right : List (List ℕ)) →
-    ((level : ℕ) → dictionary (level_list level xs) (level_list level ys) ≡ dictionary (level_list level ls) (level_list level rs)) →
+    ((level : ℕ) → lexicographic (level_list level xs) (level_list level ys) ≡ lexicographic (level_list level ls) (level_list level rs)) →
     compare_from from (level_lists_from from n xs ++ left) (level_lists_from from n ys ++ right)
     ≡ compare_from from (level_lists_from from n ls ++ left) (level_lists_from from n rs ++ right)
 levels_alike zero from ls rs xs ys left right same = refl
@@ -116,7 +116,7 @@ images_compare maps rising Identical Shifted left right ls rs xs ys first second
 
 -- untouched texts compare as before
 pub untouched_compare : (tailoring : Tailoring) → IsTailoring tailoring → IsAccepted tailoring → (depth : Depth) (weighting : Weighting)
-    (left right : Spelled) → IsNormal left → IsNormal right → IsUntouched tailoring.relations left.points →
+    (left right : NfdText) → IsNormal left → IsNormal right → IsUntouched tailoring.relations left.points →
     IsUntouched tailoring.relations right.points → CompareAsBefore tailoring depth weighting left right
 untouched_compare tailoring is accepted depth weighting left right first second untouched_left untouched_right =
     images_compare tailoring.maps is.maps depth weighting left.points right.points
@@ -126,7 +126,7 @@ untouched_compare tailoring is accepted depth weighting left right first second 
 
 -- and keep their keys where no weight is changed
 pub untouched_keys : (tailoring : Tailoring) → IsTailoring tailoring → IsAccepted tailoring → KeepAllWeights tailoring.maps → (depth : Depth)
-    (weighting : Weighting) (text : Spelled) → IsNormal text → IsUntouched tailoring.relations text.points → KeepsKey tailoring depth weighting text
+    (weighting : Weighting) (text : NfdText) → IsNormal text → IsUntouched tailoring.relations text.points → KeepsKey tailoring depth weighting text
 untouched_keys tailoring is accepted keep depth weighting text normal untouched =
     ap (λ elements. key_at depth weighting (record { elements = elements; points = text.points }))
     (sym (kept_images tailoring.maps keep (elements_of (base_reading tailoring) text) (elements_of (tailored_reading tailoring) text)

@@ -9,7 +9,7 @@ use Rattle.uca_weights.specs.declared.Weighting.{Weighting}
 use Rattle.uca_weights.specs.declared.Weighting.TheVariants.{NonIgnorable, Shifted}
 use Rattle.uca_weights.specs.Maps.{WeightImages, Sends, IsRisingMap}
 use Rattle.uca_key.specs.Levels.{Weights, is_ignorable, is_completely_ignorable, follows_variable, weights_of, weighted_following, weighted}
-use Rattle.uca_key.specs.Levels.{weight_at, level_list, dictionary}
+use Rattle.uca_key.specs.Levels.{weight_at, level_list, lexicographic}
 use Rattle.uca_tailorings.specs.Images.{Maps, AreRisingMaps, IsImage, AreImages}
 use Rattle.uca_tailorings.proofs.RisingMaps.{AreSent, sent_zero, sent_order, sent_filter}
 
@@ -34,9 +34,9 @@ AreAllSent maps (w ∷ ws) (x ∷ xs) = AreSentWeights maps w x × AreAllSent ma
 
 -- the weights of an element by what is asked of it
 abbrev shifted_by : Bool → Bool → Bool → ℕ → ℕ → ℕ → Weights
-shifted_by variable silent empty primary secondary tertiary =
+shifted_by variable ignorable empty primary secondary tertiary =
     cond variable (0 ∷ 0 ∷ 0 ∷ primary ∷ [])
-    (cond silent (0 ∷ 0 ∷ 0 ∷ 0 ∷ []) (primary ∷ secondary ∷ tertiary ∷ cond empty 0 0xFFFF ∷ []))
+    (cond ignorable (0 ∷ 0 ∷ 0 ∷ 0 ∷ []) (primary ∷ secondary ∷ tertiary ∷ cond empty 0 0xFFFF ∷ []))
 
 -- the weights other than 0
 abbrev sounding : List ℕ → List ℕ
@@ -45,7 +45,7 @@ sounding = filter (λ w. not (nat_eq w 0))
 -- a rising map keeps the order of two lists, without the weights 0
 kept_order : (level : Level) (images : WeightImages) → IsRisingMap level images → (vs ws xs ys : List ℕ) → AreSent images vs xs →
     AreSent images ws ys →
-    dictionary (sounding xs) (sounding ys) ≡ dictionary (sounding vs) (sounding ws)
+    lexicographic (sounding xs) (sounding ys) ≡ lexicographic (sounding vs) (sounding ws)
 kept_order level images rising vs ws xs ys left right =
     sent_order level images rising (sounding vs) (sounding ws) (sounding xs) (sounding ys)
     (sent_filter level images rising vs xs left) (sent_filter level images rising ws ys right)
@@ -76,9 +76,9 @@ module _ (maps : Maps) (rising : AreRisingMaps maps) where
   last_sent false = rising.primary.fixed.0 0xFFFF (omega arith) (omega arith)
 
   -- shifted weights
-  shifted_sent : (variable silent empty : Bool) (a b c x y z : ℕ) → Sends maps.primary a x → Sends maps.secondary b y → Sends maps.tertiary c z →
-      AreSentWeights maps (shifted_by variable silent empty a b c) (shifted_by variable silent empty x y z)
-  shifted_sent true silent empty a b c x y z first second third =
+  shifted_sent : (variable ignorable empty : Bool) (a b c x y z : ℕ) → Sends maps.primary a x → Sends maps.secondary b y → Sends maps.tertiary c z →
+      AreSentWeights maps (shifted_by variable ignorable empty a b c) (shifted_by variable ignorable empty x y z)
+  shifted_sent true ignorable empty a b c x y z first second third =
       four_sent 0 0 0 a 0 0 0 x rising.primary.zero rising.secondary.zero rising.tertiary.zero first
   shifted_sent false true empty a b c x y z first second third =
       four_sent 0 0 0 0 0 0 0 0 rising.primary.zero rising.secondary.zero rising.tertiary.zero rising.primary.zero
@@ -138,7 +138,7 @@ module _ (maps : Maps) (rising : AreRisingMaps maps) where
 
   -- lists of weights put through the map of a level keep their order, without the weights 0
   sounding_order : (level : ℕ) (vs ws xs ys : List ℕ) → AreSent (level_images maps level) vs xs → AreSent (level_images maps level) ws ys →
-      dictionary (sounding xs) (sounding ys) ≡ dictionary (sounding vs) (sounding ws)
+      lexicographic (sounding xs) (sounding ys) ≡ lexicographic (sounding vs) (sounding ws)
   sounding_order zero vs ws xs ys left right = kept_order One maps.primary rising.primary vs ws xs ys left right
   sounding_order (suc zero) vs ws xs ys left right = kept_order One maps.primary rising.primary vs ws xs ys left right
   sounding_order (suc (suc zero)) vs ws xs ys left right = kept_order Two maps.secondary rising.secondary vs ws xs ys left right
@@ -147,15 +147,15 @@ module _ (maps : Maps) (rising : AreRisingMaps maps) where
 
   -- lists of a level keep their order
   list_order : (level : ℕ) (ls rs xs ys : List Weights) → AreAllSent maps ls xs → AreAllSent maps rs ys →
-      dictionary (level_list level xs) (level_list level ys) ≡ dictionary (level_list level ls) (level_list level rs)
+      lexicographic (level_list level xs) (level_list level ys) ≡ lexicographic (level_list level ls) (level_list level rs)
   list_order level ls rs xs ys left right =
       sounding_order level (map (weight_at level) ls) (map (weight_at level) rs) (map (weight_at level) xs) (map (weight_at level) ys)
       (weights_at_sent level ls xs left) (weights_at_sent level rs ys right)
 
   -- so the level lists of images compare as those of the elements
   pub images_order : (weighting : Weighting) (ls rs xs ys : List Element) → AreImages maps ls xs → AreImages maps rs ys → (level : ℕ) →
-      dictionary (level_list level (weighted weighting xs)) (level_list level (weighted weighting ys))
-      ≡ dictionary (level_list level (weighted weighting ls)) (level_list level (weighted weighting rs))
+      lexicographic (level_list level (weighted weighting xs)) (level_list level (weighted weighting ys))
+      ≡ lexicographic (level_list level (weighted weighting ls)) (level_list level (weighted weighting rs))
   images_order weighting ls rs xs ys left right level =
       list_order level (weighted weighting ls) (weighted weighting rs) (weighted weighting xs) (weighted weighting ys)
       (following_sent weighting [] [] ls xs tt left) (following_sent weighting [] [] rs ys tt right)

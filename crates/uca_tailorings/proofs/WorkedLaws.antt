@@ -87,8 +87,8 @@ a_is_anchor : IsAnchor One (plain 0x1C47 0x20 2 ∷ []) [] (plain 0x1C47 0x20 2)
 a_is_anchor =
     record {
       whole = refl;
-      silent = tt;
-      sounds = λ none. omega (arith, none);
+      ignorable = tt;
+      not_ignorable = λ none. omega (arith, none);
       alone = λ continues. omega (arith, continues.1);
       low = omega arith;
     }

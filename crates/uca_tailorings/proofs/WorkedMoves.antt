@@ -201,11 +201,11 @@ is_tailoring =
 one_anchor_element : (level : Level) (p s t : ℕ) → ¬ (p ≡ 0) → ¬ (s ≡ 0) → IsLow level (weight level (plain p s t)) →
     IsAnchor level (plain p s t ∷ []) [] (plain p s t) []
 one_anchor_element One p s t some more low =
-    record { whole = refl; silent = tt; sounds = λ none. some none; alone = λ continues. more continues.1; low = low }
+    record { whole = refl; ignorable = tt; not_ignorable = λ none. some none; alone = λ continues. more continues.1; low = low }
 one_anchor_element Two p s t some more low =
-    record { whole = refl; silent = tt; sounds = λ none. some none.0; alone = λ continues. more continues.1; low = low }
+    record { whole = refl; ignorable = tt; not_ignorable = λ none. some none.0; alone = λ continues. more continues.1; low = low }
 one_anchor_element Three p s t some more low =
-    record { whole = refl; silent = tt; sounds = λ none. some none.0; alone = λ continues. more continues.1; low = low }
+    record { whole = refl; ignorable = tt; not_ignorable = λ none. some none.0; alone = λ continues. more continues.1; low = low }
 
 -- `x` behind `a`, `z` behind `A`, and `y` before `c`
 abbrev x_place : Place

@@ -109,7 +109,7 @@ module _ (tailoring : Tailoring) where
       at_level : IsPlacedAt tailoring r p.level old new → p.level ≡ level → Q level old new
       at_level here same =
           let parts = one_anchor p.level at.before here.before at.last here.last at.trailing here.trailing
-          (sym at.anchor.whole ∙ here.anchor.whole) at.anchor.silent here.anchor.silent at.anchor.sounds here.anchor.sounds in
+          (sym at.anchor.whole ∙ here.anchor.whole) at.anchor.ignorable here.anchor.ignorable at.anchor.not_ignorable here.anchor.not_ignorable in
           let was : p.old ≡ old = sym at.old_weight ∙ ap (weight p.level) parts.1 ∙ here.old_weight in
           let now : p.new ≡ new = one_new tailoring r p.level p.old p.new old new at here in
           subst₂ (Q level) was now (subst (λ l. Q l p.old p.new) same holds)

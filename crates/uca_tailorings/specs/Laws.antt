@@ -2,11 +2,11 @@
 use Rattle.std.specs.Prelude.{◌≡◌, ℕ, List}
 use Rattle.uca_weights.specs.declared.Depth.{Depth}
 use Rattle.uca_weights.specs.declared.Weighting.{Weighting}
-use Rattle.uca_text.specs.Texts.{Spelled}
+use Rattle.uca_text.specs.Texts.{NfdText}
 use Rattle.uca_text.specs.Limits.{IsNormal}
 use Rattle.uca_rules.specs.Relations.{IsUntouched}
 use Rattle.uca_match.specs.Collations.{Collation}
-use Rattle.uca_key.specs.Levels.{dictionary}
+use Rattle.uca_key.specs.Levels.{lexicographic}
 use Rattle.uca_key.specs.Depths.{read_text, levels_at, compared_at, key_at}
 use Rattle.uca_key.specs.StoredKeys.{stored_level}
 use Rattle.uca_tailorings.specs.Images.{KeepAllWeights}
@@ -27,18 +27,18 @@ pub record ReadsAs (given reading : Collation) : Type 0 where
 -- The same for a caller who reads texts by lookups of his own, `old` of the base and `new` of the tailored table: two texts that no
 -- target touches compare as before, and so do the bytes of their keys, by order and level; where no weight is changed a text keeps its key.
 pub record UntouchedTextsStay (tailoring : Tailoring) (old new : Collation) : Type 0 where
-  pub compared : (depth : Depth) (weighting : Weighting) (left right : Spelled) → IsNormal left → IsNormal right →
+  pub compared : (depth : Depth) (weighting : Weighting) (left right : NfdText) → IsNormal left → IsNormal right →
       IsUntouched tailoring.relations left.points → IsUntouched tailoring.relations right.points →
       compared_at depth weighting (read_text new left) (read_text new right) ≡ compared_at depth weighting (read_text old left) (read_text old right)
-  pub ordered : (depth : Depth) (weighting : Weighting) (left right : Spelled) → IsNormal left → IsNormal right →
+  pub ordered : (depth : Depth) (weighting : Weighting) (left right : NfdText) → IsNormal left → IsNormal right →
       IsUntouched tailoring.relations left.points → IsUntouched tailoring.relations right.points →
-      dictionary (key_at depth weighting (read_text new left)) (key_at depth weighting (read_text new right))
-      ≡ dictionary (key_at depth weighting (read_text old left)) (key_at depth weighting (read_text old right))
-  pub levels : (depth : Depth) (weighting : Weighting) (left right : Spelled) → IsNormal left → IsNormal right →
+      lexicographic (key_at depth weighting (read_text new left)) (key_at depth weighting (read_text new right))
+      ≡ lexicographic (key_at depth weighting (read_text old left)) (key_at depth weighting (read_text old right))
+  pub levels : (depth : Depth) (weighting : Weighting) (left right : NfdText) → IsNormal left → IsNormal right →
       IsUntouched tailoring.relations left.points → IsUntouched tailoring.relations right.points →
       stored_level (levels_at depth weighting) (key_at depth weighting (read_text new left)) (key_at depth weighting (read_text new right))
       ≡ stored_level (levels_at depth weighting) (key_at depth weighting (read_text old left)) (key_at depth weighting (read_text old right))
-  pub keys : KeepAllWeights tailoring.maps → (depth : Depth) (weighting : Weighting) (text : Spelled) → IsNormal text →
+  pub keys : KeepAllWeights tailoring.maps → (depth : Depth) (weighting : Weighting) (text : NfdText) → IsNormal text →
       IsUntouched tailoring.relations text.points → key_at depth weighting (read_text new text) ≡ key_at depth weighting (read_text old text)
 
 abbrev pub FaithfulTailoringsKeepUntouchedTexts : Type 0

@@ -10,7 +10,7 @@ use Rattle.uca_weights.specs.Levels.{weight, level_of, level_number}
 use Rattle.uca_values.specs.Content.{Entry}
 use Rattle.uca_values.specs.Implicit.{implicit}
 use Rattle.uca_check.specs.WellFormed.{IsWellFormed}
-use Rattle.uca_text.specs.Texts.{Spelled}
+use Rattle.uca_text.specs.Texts.{NfdText}
 use Rattle.uca_text.specs.Limits.{IsNormal}
 use Rattle.uca_rules.specs.declared.relations.Relation.{Relation}
 use Rattle.uca_rules.specs.Relations.{IsUntouched}
@@ -65,13 +65,13 @@ StandsNearest tailoring before r after = NearestAt tailoring before r after (lev
 -- ---- Texts
 
 -- two texts compare under the tailored table as under the base, by order and difference level
-abbrev pub CompareAsBefore : Tailoring → Depth → Weighting → Spelled → Spelled → Type 0
+abbrev pub CompareAsBefore : Tailoring → Depth → Weighting → NfdText → NfdText → Type 0
 CompareAsBefore tailoring depth weighting left right =
     compared_at depth weighting (read_text (tailored_reading tailoring) left) (read_text (tailored_reading tailoring) right)
     ≡ compared_at depth weighting (read_text (base_reading tailoring) left) (read_text (base_reading tailoring) right)
 
 -- a text has the same key under both tables
-abbrev pub KeepsKey : Tailoring → Depth → Weighting → Spelled → Type 0
+abbrev pub KeepsKey : Tailoring → Depth → Weighting → NfdText → Type 0
 KeepsKey tailoring depth weighting text =
     key_at depth weighting (read_text (tailored_reading tailoring) text) ≡ key_at depth weighting (read_text (base_reading tailoring) text)
 
@@ -84,8 +84,8 @@ pub record IsFaithful (tailoring : Tailoring) : Type 0 where
   pub holds : AllByRecursion (Holds tailoring) tailoring.relations
   pub nearest : AllRelations (StandsNearest tailoring) tailoring.relations
   -- texts in which no target occurs in order compare as before, at either depth and under either weighting
-  pub untouched : (depth : Depth) (weighting : Weighting) (left right : Spelled) → IsNormal left → IsNormal right →
+  pub untouched : (depth : Depth) (weighting : Weighting) (left right : NfdText) → IsNormal left → IsNormal right →
       IsUntouched tailoring.relations left.points → IsUntouched tailoring.relations right.points → CompareAsBefore tailoring depth weighting left right
   -- and where no weight is changed, they keep their keys
-  pub keys : KeepAllWeights tailoring.maps → (depth : Depth) (weighting : Weighting) (text : Spelled) → IsNormal text →
+  pub keys : KeepAllWeights tailoring.maps → (depth : Depth) (weighting : Weighting) (text : NfdText) → IsNormal text →
       IsUntouched tailoring.relations text.points → KeepsKey tailoring depth weighting text

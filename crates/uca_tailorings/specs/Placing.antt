@@ -8,10 +8,10 @@ use Rattle.uca_weights.specs.Kinds.{IsContinuation}
 use Rattle.uca_weights.specs.Levels.{weight}
 
 -- no weight at the levels from 1 to this one
-abbrev pub IsSilent : Level → Element → Type 0
-IsSilent One e = e.primary ≡ 0
-IsSilent Two e = (e.primary ≡ 0) × (e.secondary ≡ 0)
-IsSilent Three e = (e.primary ≡ 0) × (e.secondary ≡ 0) × (e.tertiary ≡ 0)
+abbrev pub IsIgnorableTo : Level → Element → Type 0
+IsIgnorableTo One e = e.primary ≡ 0
+IsIgnorableTo Two e = (e.primary ≡ 0) × (e.secondary ≡ 0)
+IsIgnorableTo Three e = (e.primary ≡ 0) × (e.secondary ≡ 0) × (e.tertiary ≡ 0)
 
 -- new primaries stand below the primaries of implicit weights
 abbrev pub IsLow : Level → ℕ → Type 0
@@ -19,11 +19,11 @@ IsLow One w = w < 0x8000
 IsLow Two w = ⊤
 IsLow Three w = ⊤
 
--- the elements of an anchor: some, the last that is not silent, and silent ones. That last one is no continuation, and its primary, where that is to change, is low.
+-- the elements of an anchor: some, the last that is not ignorable, and ignorable ones. That last one is no continuation, and its primary, where that is to change, is low.
 pub record IsAnchor (level : Level) (anchor before : List Element) (last : Element) (trailing : List Element) : Type 0 where
   pub whole : anchor ≡ before ++ last ∷ trailing
-  pub silent : AllByRecursion (IsSilent level) trailing
-  pub sounds : ¬ (IsSilent level last)
+  pub ignorable : AllByRecursion (IsIgnorableTo level) trailing
+  pub not_ignorable : ¬ (IsIgnorableTo level last)
   pub alone : ¬ (IsContinuation last)
   pub low : IsLow level (weight level last)
 

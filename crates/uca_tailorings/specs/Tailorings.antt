@@ -8,7 +8,7 @@ use Rattle.uca_weights.specs.Levels.{weight, level_of}
 use Rattle.uca_weights.specs.Maps.{Sends}
 use Rattle.uca_values.specs.Content.{Entry, TableContent, Properties, IsTable}
 use Rattle.uca_check.specs.WellFormed.{IsWellFormed}
-use Rattle.uca_text.specs.Texts.{Spelled}
+use Rattle.uca_text.specs.Texts.{NfdText}
 use Rattle.uca_rules.specs.declared.relations.Relation.{Relation}
 use Rattle.uca_rules.specs.Relations.{IsTarget, AreRules}
 use Rattle.uca_match.specs.Rows.{IsKey, rows_of}
@@ -51,7 +51,7 @@ abbrev pub anchor_elements : Tailoring → Relation → List Element
 anchor_elements tailoring r = elements_of (tailored_reading tailoring) r.anchor
 
 -- the elements of an expansion, which has none where it is not there
-abbrev pub elements_of_expansion : Collation → Option Spelled → List Element
+abbrev pub elements_of_expansion : Collation → Option NfdText → List Element
 elements_of_expansion c None = []
 elements_of_expansion c (Some text) = elements_of c text
 

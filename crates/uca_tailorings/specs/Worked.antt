@@ -49,14 +49,14 @@ use Rattle.uca_weights.specs.declared.Strength.TheVariants.{Primary, Secondary, 
 use Rattle.uca_weights.specs.declared.maps.Run.{Run}
 use Rattle.uca_weights.specs.Runs.{weight_image, AreProperRuns}
 use Rattle.uca_values.specs.Content.{Entry}
-use Rattle.uca_text.specs.Texts.{Spelled}
+use Rattle.uca_text.specs.Texts.{NfdText}
 use Rattle.uca_rules.specs.declared.relations.Relation.{Relation}
 use Rattle.uca_match.specs.WorkedTable.{plain, row, small_header, small_properties}
 use Rattle.uca_tailorings.specs.Images.{Maps}
 use Rattle.uca_tailorings.specs.Tailorings.{Tailoring, IsTailoring, Meets, IsAccepted}
 use Rattle.uca_tailorings.specs.declared.conditions.Condition.TheVariants.{RowMissing, NotPlaced, NotFresh, NotNearest}
 
-abbrev pub letter : ℕ → Spelled
+abbrev pub letter : ℕ → NfdText
 letter point = record { points = point ∷ []; classes = 0 ∷ [] }
 
 abbrev pub run : ℕ → ℕ → ℕ → Run

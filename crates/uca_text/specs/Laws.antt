@@ -1,9 +1,9 @@
 -- Laws of texts.
 use Rattle.std.specs.Prelude.{◌≡◌, ℕ, List}
 use Rattle.uca_values.specs.Content.{Properties}
-use Rattle.uca_text.specs.Texts.{AreCanonicallyEquivalent, spelled}
+use Rattle.uca_text.specs.Texts.{AreCanonicallyEquivalent, nfd_text}
 
 -- canonically equivalent texts have the same code points in Normalization Form D, and the same classes
 abbrev pub CanonicallyEquivalentTextsAreSpelledAlike : Type 0
 CanonicallyEquivalentTextsAreSpelledAlike =
-    (properties : Properties) (s t : List ℕ) → AreCanonicallyEquivalent s t → spelled properties s ≡ spelled properties t
+    (properties : Properties) (s t : List ℕ) → AreCanonicallyEquivalent s t → nfd_text properties s ≡ nfd_text properties t

@@ -2,7 +2,7 @@
 use Rattle.std.specs.Prelude.{◌≡◌, ℕ, ◌+◌, ◌<◌, ◌≤◌, List, length, slice_index}
 use Rattle.std.specs.List.{AllByRecursion}
 use Rattle.std.specs.Char.{IsScalar}
-use Rattle.uca_text.specs.Texts.{Spelled}
+use Rattle.uca_text.specs.Texts.{NfdText}
 
 -- more than 64 non-starters in a row stand from `place` on
 pub record IsLongRun (classes : List ℕ) (place : ℕ) : Type 0 where
@@ -19,12 +19,12 @@ pub record IsFirstLongRun (classes : List ℕ) (place : ℕ) : Type 0 where
 
 -- what holds of every text that is accepted: each code point has its class, there are at most
 -- 1,048,576 of them, and at most 64 non-starters stand in a row
-pub record IsAccepted (s : Spelled) : Type 0 where
+pub record IsAccepted (s : NfdText) : Type 0 where
   pub same : length s.classes ≡ length s.points
   pub few : length s.points ≤ 1048576
   pub short_runs : HasNoLongRun s.classes
 
 -- what holds of every text in Normalization Form D: it is accepted, and its code points are Unicode scalar values
-pub record IsNormal (s : Spelled) : Type 0 where
+pub record IsNormal (s : NfdText) : Type 0 where
   pub accepted : IsAccepted s
   pub scalars : AllByRecursion IsScalar s.points

@@ -26,17 +26,17 @@ letters (c ∷ points) [] = []
 letters (c ∷ points) (k ∷ classes) = record { code = c; class = k } ∷ letters points classes
 
 -- code points, and beside them the class of each
-pub record Spelled : Type 0 where
+pub record NfdText : Type 0 where
   pub points : List ℕ
   pub classes : List ℕ
 
 -- a text in Normalization Form D (UAX #15), with the classes of a data file
-abbrev pub spelled : Properties → List ℕ → Spelled
-spelled properties points = record { points = nfd points; classes = map properties.class (nfd points) }
+abbrev pub nfd_text : Properties → List ℕ → NfdText
+nfd_text properties points = record { points = nfd points; classes = map properties.class (nfd points) }
 
 -- two texts are canonically equivalent if their canonical decompositions are the same (The Unicode Standard, section 3.7)
 abbrev pub AreCanonicallyEquivalent : List ℕ → List ℕ → Type 0
 AreCanonicallyEquivalent s t = nfd s ≡ nfd t
 
-abbrev pub letters_of : Spelled → Text
+abbrev pub letters_of : NfdText → Text
 letters_of s = letters s.points s.classes

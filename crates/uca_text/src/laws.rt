@@ -4,6 +4,6 @@ ghost use Rattle.uca_text.specs.Laws.{CanonicallyEquivalentTextsAreSpelledAlike}
 /// Canonically equivalent texts (The Unicode Standard, section 3.7) have the same code points in Normalization
 /// Form D and the same classes, and so the same letters. The function does nothing: its contract is
 /// the law.
-pub fn canonically_equivalent_texts_are_spelled_alike()
+pub fn canonically_equivalent_texts_are_normalized_alike()
     ensures { CanonicallyEquivalentTextsAreSpelledAlike }
 {}

@@ -6,6 +6,6 @@ mod laws;
 mod normal_text;
 mod normalize;
 
-pub use laws::canonically_equivalent_texts_are_spelled_alike;
+pub use laws::canonically_equivalent_texts_are_normalized_alike;
 pub use normal_text::Normal;
 pub use normalize::{TextFault, normal};

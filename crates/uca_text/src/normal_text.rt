@@ -16,10 +16,10 @@ pub struct Normal {
 }
 
 impl Model for Normal {
-    ghost use Rattle.uca_text.specs.Texts.{Spelled};
+    ghost use Rattle.uca_text.specs.Texts.{NfdText};
     ghost use Rattle.uca_text.specs.Limits.{IsNormal};
 
-    ghost Value = { Spelled };
+    ghost Value = { NfdText };
 
     ghost view = { λ n. record { points = n.chars.items; classes = n.classes.items } };
 

@@ -5,7 +5,7 @@ ghost use Rattle.std.specs.Char.{IsScalar};
 ghost use Rattle.unicode_normalization.specs.Forms.{nfd};
 ghost use Rattle.uca_values.specs.Content.{properties_of};
 ghost use Rattle.uca_values.specs.Ranges.{class_in};
-ghost use Rattle.uca_text.specs.Texts.{spelled};
+ghost use Rattle.uca_text.specs.Texts.{nfd_text};
 ghost use Rattle.uca_text.specs.Limits.{IsAccepted, IsNormal, HasNoLongRun};
 ghost use Rattle.uca_text.specs.Faults.{IsCause};
 
@@ -82,9 +82,9 @@ pub fn normal<A: Allocator>(
     text: &str,
     properties: &Data<A>,
 ) -> Result<Normal, TextFault>
-    ensures found { IfOk result (λ n. n ≡ spelled (properties_of properties.now) (chars text.now)) }
+    ensures found { IfOk result (λ n. n ≡ nfd_text (properties_of properties.now) (chars text.now)) }
     ensures accepted { IfOk result IsAccepted }
-    ensures fault { IfErr result (IsCause (spelled (properties_of properties.now) (chars text.now))) }
+    ensures fault { IfErr result (IsCause (nfd_text (properties_of properties.now) (chars text.now))) }
 {
     let mut normal = Normal::new(alloc);
     normal.renew(text, properties)?;
@@ -98,12 +98,12 @@ impl Normal {
     ///
     /// Those of [`normal`]. This text is then the empty one.
     pub fn renew<A: Allocator>(&mut self, text: &str, properties: &Data<A>) -> Result<(), TextFault>
-        ensures found { OnOk result (self.new ≡ spelled (properties_of properties.now) (chars text.now)) }
+        ensures found { OnOk result (self.new ≡ nfd_text (properties_of properties.now) (chars text.now)) }
         ensures accepted { IsAccepted self.new }
-        ensures fault { IfErr result (IsCause (spelled (properties_of properties.now) (chars text.now))) }
+        ensures fault { IfErr result (IsCause (nfd_text (properties_of properties.now) (chars text.now))) }
         ensures emptied { OnErr result (self.new ≡ record { points = []; classes = [] }) }
     {
-        if let Err(fault) = spell(
+        if let Err(fault) = normalize_into(
             &mut self.chars,
             &mut self.spare,
             &mut self.classes,
@@ -119,7 +119,7 @@ impl Normal {
 }
 
 /// Replaces the contents of the two lists by the normalized text and its classes. `spare` only lends its memory.
-fn spell<A: Allocator>(
+fn normalize_into<A: Allocator>(
     points: &mut Vec<char>,
     spare: &mut Vec<char>,
     classes: &mut Vec<u8>,
@@ -129,7 +129,7 @@ fn spell<A: Allocator>(
     ensures points { OnOk result (points.new.items ≡ nfd (chars text.now)) }
     ensures classes { OnOk result (classes.new.items ≡ map (class_in properties.now.classes) (nfd (chars text.now))) }
     ensures normal { OnOk result (IsNormal (record { points = points.new.items; classes = classes.new.items })) }
-    ensures fault { IfErr result (IsCause (spelled (properties_of properties.now) (chars text.now))) }
+    ensures fault { IfErr result (IsCause (nfd_text (properties_of properties.now) (chars text.now))) }
 {
     decompose(points, spare, text)?;
     if points.len() > LONGEST_TEXT {

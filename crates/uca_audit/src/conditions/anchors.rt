@@ -6,7 +6,7 @@ ghost use Rattle.uca_weights.specs.Kinds.{IsContinuation};
 ghost use Rattle.uca_weights.specs.Levels as weights;
 ghost use Rattle.uca_match.specs.Collations.{collation_of};
 ghost use Rattle.uca_tailorings.specs.Laws.{ReadsAs};
-ghost use Rattle.uca_tailorings.specs.Placing.{IsSilent, IsLow};
+ghost use Rattle.uca_tailorings.specs.Placing.{IsIgnorableTo, IsLow};
 ghost use Rattle.uca_tailorings.specs.Tailorings.{HasAnchor, Meets, tailored_reading};
 ghost use Rattle.uca_audit.specs.Anchors.{EndsAt, IsAnchorAt, HasNoAnchor};
 ghost use Rattle.uca_audit.specs.Views.{FindsFirstRelation, tailoring_in};
@@ -82,7 +82,7 @@ pub(crate) fn anchor_place(level: Level, elements: &[Element]) -> Option<usize>
 
 /// The place of the last element that is not ignorable to the level: it has a weight at one of the levels from 1 to it.
 fn last_not_ignorable(level: Level, elements: &[Element]) -> Option<usize>
-    ensures { MatchOption result (AllByRecursion (IsSilent level) elements.now) (EndsAt level elements.now) }
+    ensures { MatchOption result (AllByRecursion (IsIgnorableTo level) elements.now) (EndsAt level elements.now) }
 {
     for at in (0..elements.len()).rev() {
         if !is_ignorable_to(level, elements[at]) {
@@ -94,7 +94,7 @@ fn last_not_ignorable(level: Level, elements: &[Element]) -> Option<usize>
 
 /// Whether an element is ignorable to the level: it has no weight at the levels from 1 to it.
 fn is_ignorable_to(level: Level, element: Element) -> bool
-    ensures { IsTrue result ↔ IsSilent level element }
+    ensures { IsTrue result ↔ IsIgnorableTo level element }
 {
     match level {
         Level::One => element.primary == 0,

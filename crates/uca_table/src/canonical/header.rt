@@ -4,10 +4,10 @@ ghost use Rattle.std.specs.Prelude.{◌≡◌, [], ◌∷◌, ◌++◌, ◌≤�
 ghost use Rattle.uca_lines.specs.Lines.{ended};
 ghost use Rattle.uca_lines.specs.Numbers.{digits};
 ghost use Rattle.uca_table.specs.Canonical.{version_line, setting_line, range_line};
-ghost use Rattle.uca_lines.specs.Handing.{count_of, HasRoom, Hands};
+ghost use Rattle.uca_lines.specs.Buffered.{count_of, HasRoom, WritesThrough};
 ghost use Rattle.uca_table.specs.CanonicalLineTexts.{setting_text, range_lines, header_text};
 
-use crate::canonical::handing::hand_point;
+use crate::canonical::buffered::write_point;
 use std::alloc::Allocator;
 use std::io::Write;
 use uca_lines::OutputBuffer;
@@ -15,41 +15,41 @@ use uca_lines::fields::four_digits;
 use uca_values::{Header, ImplicitRange};
 use uca_weights::{Sink, Weighting, WriteFault};
 
-/// Hands over the lines of a header, as the first of a text.
-pub fn hand_header<A: Allocator, W: Write>(
+/// WritesThrough over the lines of a header, as the first of a text.
+pub fn write_header<A: Allocator, W: Write>(
     buffer: &mut OutputBuffer,
     out: &mut Sink<W>,
     header: &Header<A>,
 ) -> Result<(), WriteFault>
     requires { count_of buffer.old ≡ 0 }
-    ensures text { Hands (header_text header.now) buffer.old buffer.new out.old out.new result }
+    ensures text { WritesThrough (header_text header.now) buffer.old buffer.new out.old out.new result }
     ensures short { length (header_text header.now) ≤ 10000 }
 {
-    hand_version(buffer, out, header.version.as_bytes())?;
-    hand_setting(buffer, out, header.setting)?;
-    hand_ranges(buffer, out, &header.ranges)
+    write_version(buffer, out, header.version.as_bytes())?;
+    write_setting(buffer, out, header.setting)?;
+    write_ranges(buffer, out, &header.ranges)
 }
 
-fn hand_version<W: Write>(
+fn write_version<W: Write>(
     buffer: &mut OutputBuffer,
     out: &mut Sink<W>,
     name: &[u8],
 ) -> Result<(), WriteFault>
     requires { HasRoom buffer.old (length (ended (version_line name.now))) }
-    ensures { Hands (ended (version_line name.now)) buffer.old buffer.new out.old out.new result }
+    ensures { WritesThrough (ended (version_line name.now)) buffer.old buffer.new out.old out.new result }
 {
     buffer.write(out, b"@version ")?;
     buffer.write(out, name)?;
     buffer.write(out, b"\n")
 }
 
-fn hand_setting<W: Write>(
+fn write_setting<W: Write>(
     buffer: &mut OutputBuffer,
     out: &mut Sink<W>,
     setting: Option<Weighting>,
 ) -> Result<(), WriteFault>
     requires { HasRoom buffer.old (length (setting_text setting)) }
-    ensures { Hands (setting_text setting) buffer.old buffer.new out.old out.new result }
+    ensures { WritesThrough (setting_text setting) buffer.old buffer.new out.old out.new result }
 {
     match setting {
         Some(setting) => buffer.write(out, setting_line(setting)),
@@ -68,32 +68,32 @@ fn setting_line(setting: Weighting) -> &'static [u8]
     }
 }
 
-fn hand_ranges<W: Write>(
+fn write_ranges<W: Write>(
     buffer: &mut OutputBuffer,
     out: &mut Sink<W>,
     ranges: &[ImplicitRange],
 ) -> Result<(), WriteFault>
     requires { HasRoom buffer.old (length (range_lines ranges.now)) }
-    ensures { Hands (range_lines ranges.now) buffer.old buffer.new out.old out.new result }
+    ensures { WritesThrough (range_lines ranges.now) buffer.old buffer.new out.old out.new result }
 {
     for range in ranges {
-        hand_range(buffer, out, *range)?;
+        write_range(buffer, out, *range)?;
     }
     Ok(())
 }
 
-fn hand_range<W: Write>(
+fn write_range<W: Write>(
     buffer: &mut OutputBuffer,
     out: &mut Sink<W>,
     range: ImplicitRange,
 ) -> Result<(), WriteFault>
     requires { HasRoom buffer.old (length (ended (range_line range))) }
-    ensures { Hands (ended (range_line range)) buffer.old buffer.new out.old out.new result }
+    ensures { WritesThrough (ended (range_line range)) buffer.old buffer.new out.old out.new result }
 {
     buffer.write(out, b"@implicitweights ")?;
-    hand_point(buffer, out, range.first)?;
+    write_point(buffer, out, range.first)?;
     buffer.write(out, b"..")?;
-    hand_point(buffer, out, range.last)?;
+    write_point(buffer, out, range.last)?;
     buffer.write(out, &lead_end(range.lead))
 }
 

@@ -4,8 +4,8 @@ ghost use Rattle.std.specs.Prelude.{◌≡◌, ◌<◌, ◌||◌, length, is_err
 ghost use Rattle.uca_weights.specs.Writes.{Writes};
 ghost use Rattle.uca_table.specs.Canonical.{canonical};
 
-use crate::canonical::header::hand_header;
-use crate::canonical::rows::hand_rows;
+use crate::canonical::header::write_header;
+use crate::canonical::rows::write_rows;
 use std::alloc::Allocator;
 use std::io::Write;
 use uca_lines::OutputBuffer;
@@ -36,7 +36,7 @@ pub fn write_table<A: Allocator, W: Write>(
     ensures failed { out.new.failed ≡ (out.old.failed || is_err result) }
 {
     let mut buffer = OutputBuffer::new();
-    hand_header(&mut buffer, out, &table.header)?;
-    hand_rows(&mut buffer, out, &table.rows)?;
+    write_header(&mut buffer, out, &table.header)?;
+    write_rows(&mut buffer, out, &table.rows)?;
     buffer.flush(out)
 }

@@ -1,114 +1,114 @@
 -- The texts of the three levels are handed over one after the other.
 use Rattle.std.proofs.Common.{[], ap, subst, ◌∙◌, arith}
 use Rattle.uca_weights.specs.declared.Level.TheVariants.{One, Two, Three}
-use Rattle.uca_lines.proofs.HandingLemmas.{part, handed_none, part_fits, part_handed, part_fails, all_handed, nothing_handed, nothing_counted, fault_writes, fault_leaves_some, flush_leaves_some}
+use Rattle.uca_lines.proofs.HandingLemmas.{part, written_none, part_fits, part_written, part_fails, all_handed, nothing_handed, nothing_counted, fault_writes, fault_leaves_some, flush_leaves_some}
 use Rattle.uca_certificates.specs.Certificates.{CertificateContent, IsCertificate}
 use Rattle.uca_certificates.specs.Texts.{certificate_text}
 use Rattle.uca_certificates.specs.Steps.{level_text}
 use Rattle.uca_certificates.proofs.WriteLaws.{certificate_parts, certificate_text_is, certificate_fits}
 use Rattle.uca_certificates.proofs.write.write_certificate.Goals as goal
 
-pub hand_runs-requires : goal.hand_runs-requires
-hand_runs-requires g c =
+pub write_runs-requires : goal.write_runs-requires
+write_runs-requires g c =
     let parts = certificate_parts c.args.certificate.now in
     let whole = certificate_text_is c.args.certificate.now in
     let first = ap (level_text One) (c.runs.ensures.value ∙ ap (λ (t : CertificateContent). t.primary) c.certificate.view_is) in
-    let none = handed_none c.new-buffer.result c.args.out.now in
+    let none = written_none c.new-buffer.result c.args.out.now in
     let empty = nothing_counted c.new-buffer.result c.new-buffer.ensures.held c.new-buffer.ensures.written in
     let maps = subst IsCertificate c.certificate.view_is c.certificate.invariant.3 in
     part_fits part parts 0 [] _ _ whole first (omega arith) none (certificate_fits c.args.certificate.now c.new-buffer.result empty maps)
 
-pub returns-in_err-hand_runs-clause-text : goal.returns-in_err-hand_runs-clause-text
-returns-in_err-hand_runs-clause-text g c =
+pub returns-in_err-write_runs-clause-text : goal.returns-in_err-write_runs-clause-text
+returns-in_err-write_runs-clause-text g c =
     let parts = certificate_parts c.args.certificate.now in
     let whole = certificate_text_is c.args.certificate.now in
     let first = ap (level_text One) (c.runs.ensures.value ∙ ap (λ (t : CertificateContent). t.primary) c.certificate.view_is) in
-    let none = handed_none c.new-buffer.result c.args.out.now in
+    let none = written_none c.new-buffer.result c.args.out.now in
     fault_writes c.from_residual.result c.new-buffer.ensures.held c.new-buffer.ensures.written
-    (part_fails part parts 0 [] _ whole first (omega arith) none c.in_err-hand_runs.ensures) c.from_residual.ensures.1
+    (part_fails part parts 0 [] _ whole first (omega arith) none c.in_err-write_runs.ensures) c.from_residual.ensures.1
 
-pub returns-in_err-hand_runs-clause-not_all : goal.returns-in_err-hand_runs-clause-not_all
-returns-in_err-hand_runs-clause-not_all g c =
+pub returns-in_err-write_runs-clause-not_all : goal.returns-in_err-write_runs-clause-not_all
+returns-in_err-write_runs-clause-not_all g c =
     let parts = certificate_parts c.args.certificate.now in
     let whole = certificate_text_is c.args.certificate.now in
     let first = ap (level_text One) (c.runs.ensures.value ∙ ap (λ (t : CertificateContent). t.primary) c.certificate.view_is) in
-    let none = handed_none c.new-buffer.result c.args.out.now in
+    let none = written_none c.new-buffer.result c.args.out.now in
     fault_leaves_some c.from_residual.result c.new-buffer.ensures.held c.new-buffer.ensures.written
-    (part_fails part parts 0 [] _ whole first (omega arith) none c.in_err-hand_runs.ensures) c.from_residual.ensures.1
+    (part_fails part parts 0 [] _ whole first (omega arith) none c.in_err-write_runs.ensures) c.from_residual.ensures.1
 
-pub hand_runs-requires-2 : goal.hand_runs-requires-2
-hand_runs-requires-2 g c =
+pub write_runs-requires-2 : goal.write_runs-requires-2
+write_runs-requires-2 g c =
     let parts = certificate_parts c.args.certificate.now in
     let whole = certificate_text_is c.args.certificate.now in
     let first = ap (level_text One) (c.runs.ensures.value ∙ ap (λ (t : CertificateContent). t.primary) c.certificate.view_is) in
     let second = ap (level_text Two) (c.runs-2.ensures.value ∙ ap (λ (t : CertificateContent). t.secondary) c.certificate.view_is) in
-    let none = handed_none c.new-buffer.result c.args.out.now in
-    let one = part_handed part parts 0 [] first (omega arith) none c.in_ok-hand_runs.ensures in
+    let none = written_none c.new-buffer.result c.args.out.now in
+    let one = part_written part parts 0 [] first (omega arith) none c.in_ok-write_runs.ensures in
     let empty = nothing_counted c.new-buffer.result c.new-buffer.ensures.held c.new-buffer.ensures.written in
     let maps = subst IsCertificate c.certificate.view_is c.certificate.invariant.3 in
     part_fits part parts 1 [] _ _ whole second (omega arith) one (certificate_fits c.args.certificate.now c.new-buffer.result empty maps)
 
-pub returns-in_err-hand_runs-2-clause-text : goal.returns-in_err-hand_runs-2-clause-text
-returns-in_err-hand_runs-2-clause-text g c =
+pub returns-in_err-write_runs-2-clause-text : goal.returns-in_err-write_runs-2-clause-text
+returns-in_err-write_runs-2-clause-text g c =
     let parts = certificate_parts c.args.certificate.now in
     let whole = certificate_text_is c.args.certificate.now in
     let first = ap (level_text One) (c.runs.ensures.value ∙ ap (λ (t : CertificateContent). t.primary) c.certificate.view_is) in
     let second = ap (level_text Two) (c.runs-2.ensures.value ∙ ap (λ (t : CertificateContent). t.secondary) c.certificate.view_is) in
-    let none = handed_none c.new-buffer.result c.args.out.now in
-    let one = part_handed part parts 0 [] first (omega arith) none c.in_ok-hand_runs.ensures in
-    fault_writes c.from_residual-in_err-hand_runs-2.result c.new-buffer.ensures.held c.new-buffer.ensures.written
-    (part_fails part parts 1 [] _ whole second (omega arith) one c.in_err-hand_runs-2.ensures) c.from_residual-in_err-hand_runs-2.ensures.1
+    let none = written_none c.new-buffer.result c.args.out.now in
+    let one = part_written part parts 0 [] first (omega arith) none c.in_ok-write_runs.ensures in
+    fault_writes c.from_residual-in_err-write_runs-2.result c.new-buffer.ensures.held c.new-buffer.ensures.written
+    (part_fails part parts 1 [] _ whole second (omega arith) one c.in_err-write_runs-2.ensures) c.from_residual-in_err-write_runs-2.ensures.1
 
-pub returns-in_err-hand_runs-2-clause-not_all : goal.returns-in_err-hand_runs-2-clause-not_all
-returns-in_err-hand_runs-2-clause-not_all g c =
+pub returns-in_err-write_runs-2-clause-not_all : goal.returns-in_err-write_runs-2-clause-not_all
+returns-in_err-write_runs-2-clause-not_all g c =
     let parts = certificate_parts c.args.certificate.now in
     let whole = certificate_text_is c.args.certificate.now in
     let first = ap (level_text One) (c.runs.ensures.value ∙ ap (λ (t : CertificateContent). t.primary) c.certificate.view_is) in
     let second = ap (level_text Two) (c.runs-2.ensures.value ∙ ap (λ (t : CertificateContent). t.secondary) c.certificate.view_is) in
-    let none = handed_none c.new-buffer.result c.args.out.now in
-    let one = part_handed part parts 0 [] first (omega arith) none c.in_ok-hand_runs.ensures in
-    fault_leaves_some c.from_residual-in_err-hand_runs-2.result c.new-buffer.ensures.held c.new-buffer.ensures.written
-    (part_fails part parts 1 [] _ whole second (omega arith) one c.in_err-hand_runs-2.ensures) c.from_residual-in_err-hand_runs-2.ensures.1
+    let none = written_none c.new-buffer.result c.args.out.now in
+    let one = part_written part parts 0 [] first (omega arith) none c.in_ok-write_runs.ensures in
+    fault_leaves_some c.from_residual-in_err-write_runs-2.result c.new-buffer.ensures.held c.new-buffer.ensures.written
+    (part_fails part parts 1 [] _ whole second (omega arith) one c.in_err-write_runs-2.ensures) c.from_residual-in_err-write_runs-2.ensures.1
 
-pub hand_runs-requires-3 : goal.hand_runs-requires-3
-hand_runs-requires-3 g c =
+pub write_runs-requires-3 : goal.write_runs-requires-3
+write_runs-requires-3 g c =
     let parts = certificate_parts c.args.certificate.now in
     let whole = certificate_text_is c.args.certificate.now in
     let first = ap (level_text One) (c.runs.ensures.value ∙ ap (λ (t : CertificateContent). t.primary) c.certificate.view_is) in
     let second = ap (level_text Two) (c.runs-2.ensures.value ∙ ap (λ (t : CertificateContent). t.secondary) c.certificate.view_is) in
     let third = ap (level_text Three) (c.runs-3.ensures.value ∙ ap (λ (t : CertificateContent). t.tertiary) c.certificate.view_is) in
-    let none = handed_none c.new-buffer.result c.args.out.now in
-    let one = part_handed part parts 0 [] first (omega arith) none c.in_ok-hand_runs.ensures in
-    let two = part_handed part parts 1 [] second (omega arith) one c.in_ok-hand_runs-2.ensures in
+    let none = written_none c.new-buffer.result c.args.out.now in
+    let one = part_written part parts 0 [] first (omega arith) none c.in_ok-write_runs.ensures in
+    let two = part_written part parts 1 [] second (omega arith) one c.in_ok-write_runs-2.ensures in
     let empty = nothing_counted c.new-buffer.result c.new-buffer.ensures.held c.new-buffer.ensures.written in
     let maps = subst IsCertificate c.certificate.view_is c.certificate.invariant.3 in
     part_fits part parts 2 [] _ _ whole third (omega arith) two (certificate_fits c.args.certificate.now c.new-buffer.result empty maps)
 
-pub returns-in_err-hand_runs-3-clause-text : goal.returns-in_err-hand_runs-3-clause-text
-returns-in_err-hand_runs-3-clause-text g c =
+pub returns-in_err-write_runs-3-clause-text : goal.returns-in_err-write_runs-3-clause-text
+returns-in_err-write_runs-3-clause-text g c =
     let parts = certificate_parts c.args.certificate.now in
     let whole = certificate_text_is c.args.certificate.now in
     let first = ap (level_text One) (c.runs.ensures.value ∙ ap (λ (t : CertificateContent). t.primary) c.certificate.view_is) in
     let second = ap (level_text Two) (c.runs-2.ensures.value ∙ ap (λ (t : CertificateContent). t.secondary) c.certificate.view_is) in
     let third = ap (level_text Three) (c.runs-3.ensures.value ∙ ap (λ (t : CertificateContent). t.tertiary) c.certificate.view_is) in
-    let none = handed_none c.new-buffer.result c.args.out.now in
-    let one = part_handed part parts 0 [] first (omega arith) none c.in_ok-hand_runs.ensures in
-    let two = part_handed part parts 1 [] second (omega arith) one c.in_ok-hand_runs-2.ensures in
-    fault_writes c.from_residual-in_err-hand_runs-3.result c.new-buffer.ensures.held c.new-buffer.ensures.written
-    (part_fails part parts 2 [] _ whole third (omega arith) two c.in_err-hand_runs-3.ensures) c.from_residual-in_err-hand_runs-3.ensures.1
+    let none = written_none c.new-buffer.result c.args.out.now in
+    let one = part_written part parts 0 [] first (omega arith) none c.in_ok-write_runs.ensures in
+    let two = part_written part parts 1 [] second (omega arith) one c.in_ok-write_runs-2.ensures in
+    fault_writes c.from_residual-in_err-write_runs-3.result c.new-buffer.ensures.held c.new-buffer.ensures.written
+    (part_fails part parts 2 [] _ whole third (omega arith) two c.in_err-write_runs-3.ensures) c.from_residual-in_err-write_runs-3.ensures.1
 
-pub returns-in_err-hand_runs-3-clause-not_all : goal.returns-in_err-hand_runs-3-clause-not_all
-returns-in_err-hand_runs-3-clause-not_all g c =
+pub returns-in_err-write_runs-3-clause-not_all : goal.returns-in_err-write_runs-3-clause-not_all
+returns-in_err-write_runs-3-clause-not_all g c =
     let parts = certificate_parts c.args.certificate.now in
     let whole = certificate_text_is c.args.certificate.now in
     let first = ap (level_text One) (c.runs.ensures.value ∙ ap (λ (t : CertificateContent). t.primary) c.certificate.view_is) in
     let second = ap (level_text Two) (c.runs-2.ensures.value ∙ ap (λ (t : CertificateContent). t.secondary) c.certificate.view_is) in
     let third = ap (level_text Three) (c.runs-3.ensures.value ∙ ap (λ (t : CertificateContent). t.tertiary) c.certificate.view_is) in
-    let none = handed_none c.new-buffer.result c.args.out.now in
-    let one = part_handed part parts 0 [] first (omega arith) none c.in_ok-hand_runs.ensures in
-    let two = part_handed part parts 1 [] second (omega arith) one c.in_ok-hand_runs-2.ensures in
-    fault_leaves_some c.from_residual-in_err-hand_runs-3.result c.new-buffer.ensures.held c.new-buffer.ensures.written
-    (part_fails part parts 2 [] _ whole third (omega arith) two c.in_err-hand_runs-3.ensures) c.from_residual-in_err-hand_runs-3.ensures.1
+    let none = written_none c.new-buffer.result c.args.out.now in
+    let one = part_written part parts 0 [] first (omega arith) none c.in_ok-write_runs.ensures in
+    let two = part_written part parts 1 [] second (omega arith) one c.in_ok-write_runs-2.ensures in
+    fault_leaves_some c.from_residual-in_err-write_runs-3.result c.new-buffer.ensures.held c.new-buffer.ensures.written
+    (part_fails part parts 2 [] _ whole third (omega arith) two c.in_err-write_runs-3.ensures) c.from_residual-in_err-write_runs-3.ensures.1
 
 pub returns-clause-text : goal.returns-clause-text
 returns-clause-text g c =
@@ -117,10 +117,10 @@ returns-clause-text g c =
     let first = ap (level_text One) (c.runs.ensures.value ∙ ap (λ (t : CertificateContent). t.primary) c.certificate.view_is) in
     let second = ap (level_text Two) (c.runs-2.ensures.value ∙ ap (λ (t : CertificateContent). t.secondary) c.certificate.view_is) in
     let third = ap (level_text Three) (c.runs-3.ensures.value ∙ ap (λ (t : CertificateContent). t.tertiary) c.certificate.view_is) in
-    let none = handed_none c.new-buffer.result c.args.out.now in
-    let one = part_handed part parts 0 [] first (omega arith) none c.in_ok-hand_runs.ensures in
-    let two = part_handed part parts 1 [] second (omega arith) one c.in_ok-hand_runs-2.ensures in
-    let three = part_handed part parts 2 [] third (omega arith) two c.in_ok-hand_runs-3.ensures in
+    let none = written_none c.new-buffer.result c.args.out.now in
+    let one = part_written part parts 0 [] first (omega arith) none c.in_ok-write_runs.ensures in
+    let two = part_written part parts 1 [] second (omega arith) one c.in_ok-write_runs-2.ensures in
+    let three = part_written part parts 2 [] third (omega arith) two c.in_ok-write_runs-3.ensures in
     let all = all_handed part parts 3 _ whole (omega arith) three in
     c.flush.ensures.text c.args.out.now.contents (certificate_text c.args.certificate.now)
     (all.hands c.args.out.now.contents [] (nothing_handed c.args.out.now.contents c.new-buffer.result c.new-buffer.ensures.held c.new-buffer.ensures.written))
@@ -132,9 +132,9 @@ returns-clause-not_all g c =
     let first = ap (level_text One) (c.runs.ensures.value ∙ ap (λ (t : CertificateContent). t.primary) c.certificate.view_is) in
     let second = ap (level_text Two) (c.runs-2.ensures.value ∙ ap (λ (t : CertificateContent). t.secondary) c.certificate.view_is) in
     let third = ap (level_text Three) (c.runs-3.ensures.value ∙ ap (λ (t : CertificateContent). t.tertiary) c.certificate.view_is) in
-    let none = handed_none c.new-buffer.result c.args.out.now in
-    let one = part_handed part parts 0 [] first (omega arith) none c.in_ok-hand_runs.ensures in
-    let two = part_handed part parts 1 [] second (omega arith) one c.in_ok-hand_runs-2.ensures in
-    let three = part_handed part parts 2 [] third (omega arith) two c.in_ok-hand_runs-3.ensures in
+    let none = written_none c.new-buffer.result c.args.out.now in
+    let one = part_written part parts 0 [] first (omega arith) none c.in_ok-write_runs.ensures in
+    let two = part_written part parts 1 [] second (omega arith) one c.in_ok-write_runs-2.ensures in
+    let three = part_written part parts 2 [] third (omega arith) two c.in_ok-write_runs-3.ensures in
     flush_leaves_some c.flush.result c.new-buffer.ensures.held c.new-buffer.ensures.written
     (all_handed part parts 3 _ whole (omega arith) three) c.flush.ensures.not_all

@@ -3,7 +3,7 @@ use Rattle.std.proofs.lemmas.Result.{err_from_is_err_and}
 use Rattle.uca_rules.specs.Characters.{behind_gaps}
 use Rattle.uca_rules.specs.declared.characters.Character.{Character}
 use Rattle.uca_rules.specs.declared.faults.RuleFaultKind.TheVariants as kinds
-use Rattle.uca_rules.specs.declared.signs.Last.{Last}
+use Rattle.uca_rules.specs.declared.signs.Preceding.{Preceding}
 use Rattle.uca_rules.specs.Statements.{MayEnd}
 use Rattle.uca_rules.specs.Reading.{IsReadingFault, State, properties_in, state_of}
 use Rattle.uca_rules.proofs.Progress.{HasRead, ends_behind_reset, fault_behind, fewer_left, keeps_both, kept_fault, kept_next, may_end, none_left, reading_starts, reads_all, reads_more}
@@ -58,7 +58,7 @@ returns-in-Reset-clause-fault g c =
     let cs = c.args.characters.now in
     let read = subst (λ (l : List Character). HasRead (properties_in old.texts) cs (state_of here) l) (none_left c.loop-rest.rest.now c.loop-rest-test.ensures) c.loop-rest.invariant.2 in
     subst (λ (n : ℕ). IsReadingFault (properties_in old.texts) old.texts.end cs (record { byte = n; kind = kinds.Syntax })) (sym c.loop-rest.invariant.1.end)
-    (ends_behind_reset (properties_in old.texts) old.texts.end cs (state_of here) read (λ ended. subst (λ (l : Last). MayEnd l) c.in-Reset.is ended))
+    (ends_behind_reset (properties_in old.texts) old.texts.end cs (state_of here) read (λ ended. subst (λ (l : Preceding). MayEnd l) c.in-Reset.is ended))
 
 pub returns : goal.returns
 returns g c =

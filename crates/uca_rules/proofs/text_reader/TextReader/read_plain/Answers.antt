@@ -1,6 +1,6 @@
 use Rattle.std.proofs.Common.{◌≡◌, ◌≢◌, ◌<◌, ◌≤◌, List, [], length, Option, Some, MatchOption, ap, ◌∙◌, sym, subst, refl}
 use Rattle.unicode_normalization.specs.Forms.{nfd}
-use Rattle.uca_text.specs.Texts.{Spelled, spelled}
+use Rattle.uca_text.specs.Texts.{NfdText, nfd_text}
 use Rattle.uca_rules.specs.Characters.{place_of}
 use Rattle.uca_rules.specs.Relations.{IsRuleText}
 use Rattle.uca_rules.specs.Reading.{properties_in}
@@ -15,12 +15,12 @@ rule_text-requires g c =
 pub returns-in-Ok-Some-clause-found : goal.returns-in-Ok-Some-clause-found
 returns-in-Ok-Some-clause-found g c =
     let symbols : List Symbol = c.read_text.new.symbols.items in
-    let said : MatchOption (Some c.in-Ok-Some.normal) (16 < length (nfd (points_of c.deref.result.now))) (λ text. (text ≡ spelled (properties_in c.args.self.now) (points_of c.deref.result.now)) × IsRuleText text) =
-    subst (λ (o : Option Spelled). MatchOption o (16 < length (nfd (points_of c.deref.result.now))) (λ text. (text ≡ spelled (properties_in c.args.self.now) (points_of c.deref.result.now)) × IsRuleText text))
+    let said : MatchOption (Some c.in-Ok-Some.normal) (16 < length (nfd (points_of c.deref.result.now))) (λ text. (text ≡ nfd_text (properties_in c.args.self.now) (points_of c.deref.result.now)) × IsRuleText text) =
+    subst (λ (o : Option NfdText). MatchOption o (16 < length (nfd (points_of c.deref.result.now))) (λ text. (text ≡ nfd_text (properties_in c.args.self.now) (points_of c.deref.result.now)) × IsRuleText text))
     c.in-Ok-Some.field-0-is c.in-Ok-Some.ensures in
-    let is : c.in-Ok-Some.normal ≡ spelled (properties_in c.args.self.now) (points_of symbols) =
-    said.0 ∙ ap (λ (l : List Symbol). spelled (properties_in c.args.self.now) (points_of l)) c.deref.ensures.value in (
+    let is : c.in-Ok-Some.normal ≡ nfd_text (properties_in c.args.self.now) (points_of symbols) =
+    said.0 ∙ ap (λ (l : List Symbol). nfd_text (properties_in c.args.self.now) (points_of l)) c.deref.ensures.value in (
       record { place = place_of 0 c.args.text.now; points = points_of symbols },
       record { symbols = symbols; begins = c.in_ok-rest.ensures.found; is = refl },
-      record { is = is; short = subst (λ (t : Spelled). length t.points ≤ 16) is said.1.short; rule = said.1 },
+      record { is = is; short = subst (λ (t : NfdText). length t.points ≤ 16) is said.1.short; rule = said.1 },
     )

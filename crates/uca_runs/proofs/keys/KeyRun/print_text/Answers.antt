@@ -1,6 +1,6 @@
 -- The counts of what is handed over fit.
 use Rattle.std.proofs.Common.{◌≡◌, ◌+◌, ◌-◌, ◌^◌, ◌<◌, length, arith, sym, ◌∙◌}
-use Rattle.uca_lines.specs.Handing.{count_of}
+use Rattle.uca_lines.specs.Buffered.{count_of}
 use Rattle.uca_runs.specs.Print.{print_line_at}
 use Rattle.uca_runs.proofs.PrintLemmas.{line_is_short}
 use Rattle.uca_runs.proofs.Printing.{small_enough, still_small}

@@ -1,8 +1,0 @@
--- The lines of the runs so far were handed over.
-use Rattle.std.proofs.Common.{take}
-use Rattle.uca_lines.specs.Handing.{HasHanded}
-use Rattle.uca_certificates.specs.Steps.{level_text}
-use Rattle.uca_certificates.proofs.write.hand_runs.Given as goal
-
-abbrev pub invariant-loop-run : goal.invariant-loop-run
-invariant-loop-run g l = HasHanded (level_text l.level (take l.run-index l.runs)) l.initial.buffer l.buffer l.initial.out l.out

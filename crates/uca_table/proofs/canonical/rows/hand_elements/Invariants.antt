@@ -1,8 +1,0 @@
-use Rattle.std.proofs.Common.{take}
-use Rattle.std.specs.List.{flat_map}
-use Rattle.uca_table.specs.CanonicalElements.{element_text}
-use Rattle.uca_lines.specs.Handing.{HasHanded}
-use Rattle.uca_table.proofs.canonical.rows.hand_elements.Given as goal
-
-abbrev pub invariant-loop-element : goal.invariant-loop-element
-invariant-loop-element g l = HasHanded (flat_map element_text (take l.element-index l.elements)) l.initial.buffer l.buffer l.initial.out l.out

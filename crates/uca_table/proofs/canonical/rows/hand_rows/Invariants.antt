@@ -1,9 +1,0 @@
-use Rattle.std.proofs.Common.{take}
-use Rattle.std.specs.List.{flat_map}
-use Rattle.uca_lines.specs.Lines.{ended}
-use Rattle.uca_table.specs.Canonical.{row_line}
-use Rattle.uca_lines.specs.Handing.{HasHanded}
-use Rattle.uca_table.proofs.canonical.rows.hand_rows.Given as goal
-
-abbrev pub invariant-loop-row : goal.invariant-loop-row
-invariant-loop-row g l = HasHanded (flat_map (λ row. ended (row_line row)) (take l.row-index l.rows)) l.initial.buffer l.buffer l.initial.out l.out
