@@ -23,6 +23,9 @@ IDLE = ""
 # Each further processor at one crate shortens its check less, and costs more processor time.
 MOST_JOBS = 2
 
+# A crate of so many lines of code gets all of these at once: it is proved for so long that others end meanwhile.
+LARGE = 1_000
+
 
 def digest(folder):
     """A sum of all files of a folder."""
@@ -114,7 +117,8 @@ def build(rt, crates):
     held = rt.rtlib.lock(crates)
 
     def task(crate):
-        work = lambda given, jobs: builder.work(crate, given, min(jobs, MOST_JOBS))
+        is_large = crate.count(rb"\n") >= LARGE
+        work = lambda given, jobs: builder.work(crate, given, MOST_JOBS if is_large else min(jobs, MOST_JOBS))
         return [(it.name, "proof") for it in crate.below()], crate.count(rb"\n"), rt.need(crate), builder.times.task(crate.name, IDLE, work)
 
     proved = rt.in_lanes({(it.name, "proof"): task(it) for it in sorted(crates, key=lambda it: len(it.below()))})

@@ -14,7 +14,8 @@ use Rattle.uca_values.specs.Content.{Entry}
 use Rattle.uca_check.specs.WellFormed.{elements_of}
 use Rattle.uca_check.proofs.Elements.{taken_more}
 use Rattle.uca_check.proofs.RowElements.{none_contained, row_of_element, element_of_row}
-use Rattle.uca_tailorings.specs.Images.{Maps, map_of}
+use Rattle.uca_weights.specs.PerLevel.{at_level}
+use Rattle.uca_tailorings.specs.Images.{Maps}
 use Rattle.uca_tailorings.specs.Tailorings.{Tailoring, IsPairWeight}
 use Rattle.uca_audit.specs.WeightSets.{Flags, HasWeight}
 use Rattle.uca_audit.specs.KnownWeights.{IsImageOf, HoldsImages}
@@ -86,7 +87,7 @@ same_there old new level images v adds l other w = (
 module _ (maps : Maps) (e : Element) (old one two three : Flags) (primary : AddsImage old one One maps.primary e.primary)
     (secondary : AddsImage one two Two maps.secondary e.secondary) (tertiary : AddsImage two three Three maps.tertiary e.tertiary) where
   -- the images of the element, and what was there
-  added : (l : Level) (w : ℕ) → HasWeight three l w ↔ (IsImageOf (map_of l maps) (weight l e) w ⊎ HasWeight old l w)
+  added : (l : Level) (w : ℕ) → HasWeight three l w ↔ (IsImageOf (at_level l maps) (weight l e) w ⊎ HasWeight old l w)
   added One w =
       let here = added_here old one One maps.primary e.primary primary w in
       let second = same_there one two Two maps.secondary e.secondary secondary One (λ e. omega arith) w in
@@ -119,7 +120,7 @@ module _ (maps : Maps) (e : Element) (old one two three : Flags) (primary : Adds
     λ is_one. (added l w).1 (⊎_elim
         (λ image. let (f, is, sent) = image in ⊎_elim
         (λ before. inr ((holds l w).1 (inl (f, before, sent))))
-        (λ last. inl (subst (λ g. IsImageOf (map_of l maps) (weight l g) w) (sym last) sent))
+        (λ last. inl (subst (λ g. IsImageOf (at_level l maps) (weight l g) w) (sym last) sent))
         (Contains-push_cases elements e f is))
         (λ pair. inr ((holds l w).1 (inr pair)))
         is_one),

@@ -1,23 +1,16 @@
 -- What sets of weights have. Only clauses inside this crate cite this file.
 use Rattle.std.specs.Prelude.{◌≡◌, ◌↔◌, ◌⊎◌, ℕ, List, Bool, true, false, slice_index_or}
 use Rattle.uca_weights.specs.declared.Level.{Level}
-use Rattle.uca_weights.specs.declared.Level.TheVariants.{One, Two, Three}
+use Rattle.uca_weights.specs.PerLevel.{PerLevel, at_level}
 use Rattle.uca_tailorings.specs.Tailorings.{IsBetween}
 
 -- a set of weights for each level: whether each weight is in it
-pub record Flags : Type 0 where
-  pub primary : List Bool
-  pub secondary : List Bool
-  pub tertiary : List Bool
-
-abbrev pub flags_at : Level → Flags → List Bool
-flags_at One set = set.primary
-flags_at Two set = set.secondary
-flags_at Three set = set.tertiary
+abbrev pub Flags : Type 0
+Flags = PerLevel (List Bool)
 
 -- the set has the weight at the level
 abbrev pub HasWeight : Flags → Level → ℕ → Type 0
-HasWeight set level w = slice_index_or (flags_at level set) w false ≡ true
+HasWeight set level w = slice_index_or (at_level level set) w false ≡ true
 
 -- the set has a weight of the level strictly between the two
 abbrev pub HasBetween : Flags → Level → ℕ → ℕ → Type 0

@@ -1,11 +1,12 @@
 //! Why an audit refuses a tailoring.
 
-ghost use Rattle.std.specs.Prelude.{◌≡◌, Some};
+ghost use Rattle.std.specs.Prelude.{◌≡◌, ◌≤◌, length, Some};
 ghost use Rattle.uca_audit.specs.FaultText.{audit_fault_text, name_of, place_text};
 
 use std::alloc::AllocError;
 use std::fmt;
 use thiserror::Error;
+use uca_weights::Message;
 
 /// Where a condition fails.
 #[derive(Clone, Copy, PartialEq, Eq)]
@@ -20,16 +21,26 @@ pub enum Place {
     Relation(u32),
 }
 
+impl Place {
+    // Its text: ` base row 3`; nothing for `Nowhere`.
+    fn message(&self) -> Message
+        ensures text { result ≡ place_text self.now }
+        ensures short { length result ≤ 40 }
+    {
+        match self {
+            Place::Nowhere => Message::of(""),
+            Place::BaseRow(row) => Message::of(" base row ").number((*row).into()),
+            Place::TailoredRow(row) => Message::of(" tailored row ").number((*row).into()),
+            Place::Relation(number) => Message::of(" relation ").number((*number).into()),
+        }
+    }
+}
+
 impl fmt::Display for Place {
     ghost output = { λ place. Some (place_text place) };
 
     fn fmt<W: fmt::Write>(&self, f: &mut fmt::Formatter<W>) -> fmt::Result {
-        match self {
-            Place::Nowhere => Ok(()),
-            Place::BaseRow(row) => write!(f, " base row {row}"),
-            Place::TailoredRow(row) => write!(f, " tailored row {row}"),
-            Place::Relation(number) => write!(f, " relation {number}"),
-        }
+        f.write_str(self.message().as_str())
     }
 }
 
@@ -69,13 +80,25 @@ impl AuditFault {
             _ => "Memory",
         }
     }
+
+    /// Its text: `refused 10 NotFresh relation 1`.
+    pub fn message(&self) -> Message
+        ensures text { result ≡ audit_fault_text self.now }
+        ensures short { length result ≤ 100 }
+    {
+        Message::of("refused ")
+            .number(self.number.into())
+            .text(" ")
+            .text(self.name())
+            .text(self.place.message().as_str())
+    }
 }
 
 impl fmt::Display for AuditFault {
     ghost output = { λ fault. Some (audit_fault_text fault) };
 
     fn fmt<W: fmt::Write>(&self, f: &mut fmt::Formatter<W>) -> fmt::Result {
-        write!(f, "refused {} {}{}", self.number, self.name(), self.place)
+        f.write_str(self.message().as_str())
     }
 }
 

@@ -2,7 +2,8 @@
 
 ghost use Rattle.std.specs.Prelude.{◌≡◌, ◌↔◌, ◌⊎◌, ℕ, length, vec_len, IfOk, IsTrue, false, slice_index_or};
 ghost use Rattle.uca_weights.specs.declared.Level.{Level};
-ghost use Rattle.uca_audit.specs.WeightSets.{flags_at, HasWeight, HasBetween, AddsWeight};
+ghost use Rattle.uca_weights.specs.PerLevel.{at_level};
+ghost use Rattle.uca_audit.specs.WeightSets.{HasWeight, HasBetween, AddsWeight};
 
 use std::alloc::{AllocError, Allocator};
 use std::marker::Model;
@@ -81,7 +82,7 @@ impl<A: Allocator + Copy> WeightSet<A> {
 
     /// Whether each weight of a level is in it.
     fn flags(&self, level: Level) -> &[bool]
-        ensures value { result.now ≡ flags_at level self.now }
+        ensures value { result.now ≡ at_level level self.now }
         ensures length { length result.now ≡ 0x1_0000 }
     {
         match level {

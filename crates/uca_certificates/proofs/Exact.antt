@@ -11,7 +11,8 @@ use Rattle.uca_weights.specs.Levels.{level_number}
 use Rattle.uca_lines.specs.FileMeanings.{IsExact}
 use Rattle.uca_certificates.specs.declared.faults.CertificateFaultKind.{CertificateFaultKind}
 use Rattle.uca_certificates.specs.declared.faults.CertificateFaultKind.TheVariants as kinds
-use Rattle.uca_certificates.specs.Certificates.{CertificateContent, runs_at}
+use Rattle.uca_weights.specs.PerLevel.{at_level}
+use Rattle.uca_certificates.specs.Certificates.{CertificateContent}
 use Rattle.uca_certificates.specs.Texts.{RunLine, run_text, of_level, run_lines, IsRunLine, IsLine, Says, Cause}
 use Rattle.uca_certificates.proofs.LineLaws.{line_same}
 
@@ -51,7 +52,7 @@ runs_of-three level content = runs_of-append level (of_level One content.primary
     ∙ ap (λ rs. runs_of level (of_level One content.primary) ++ rs) (runs_of-append level (of_level Two content.secondary) (of_level Three content.tertiary))
 
 -- of the lines of a certificate they are its runs
-pub runs_of-lines : (level : Level) (content : CertificateContent) → runs_of level (run_lines content) ≡ runs_at level content
+pub runs_of-lines : (level : Level) (content : CertificateContent) → runs_of level (run_lines content) ≡ at_level level content
 runs_of-lines One content = runs_of-three One content
     ∙ rw (runs_of-same One content.primary, runs_of-other One Two content.secondary refl, runs_of-other One Three content.tertiary refl)
     (append-nil content.primary)
@@ -194,7 +195,7 @@ excluded before s line kind more t h cause k =
         omega (arith, low, above, behind)
     by_kind kinds.Limit c cause =
         let same : cause.0 ≡ c.next = line_same line cause.0 c.next cause.1 c.is_line in
-        let full : length (runs_at c.next.level s) ≡ 0xFFFF = subst (λ (l : RunLine). length (runs_at l.level s) ≡ 0xFFFF) same cause.2 in
+        let full : length (at_level c.next.level s) ≡ 0xFFFF = subst (λ (l : RunLine). length (at_level l.level s) ≡ 0xFFFF) same cause.2 in
         let more_runs = one_more (run_lines s) c.next c.rest in
         omega (
           arith,

@@ -1,39 +1,24 @@
 -- What is read of a line is what it says, and what it says is read.
 use Rattle.std.proofs.Common.{◌≡◌, ℕ, ◌+◌, ◌/◌, ◌%◌, ◌<◌, Bool, true, false, ◌==◌, List, [], ◌∷◌, ◌++◌, length, take, drop, get_or, Option, Some, None, refl, ap, sym, subst, ◌∙◌, arith, append-nil, length-append}
 use Rattle.std.specs.Option.{option_map}
-use Rattle.std.proofs.lemmas.Option.{same_Some}
-use Rattle.std.proofs.lemmas.List.{take-append-drop}
-use Rattle.std.proofs.Math.Seq.{take-append_seam, drop-append_seam}
+use Rattle.std.proofs.lemmas.Option.{same_Some, some_pair_parts}
+use Rattle.std.proofs.lemmas.List.{take-append-drop, take_at, drop_at}
 use borrow.Author.Tests.{eqb-true}
 use Rattle.std.proofs.lemmas.Bool.Decides.{nat_tests}
 use Rattle.uca_weights.specs.declared.Level.{Level}
 use Rattle.uca_weights.specs.declared.Level.TheVariants.{One, Two, Three}
 use Rattle.uca_weights.specs.declared.maps.Run.{Run}
 use Rattle.uca_weights.specs.Levels.{level_number}
+use Rattle.uca_weights.proofs.Tests.{then_some, map_some}
 use Rattle.uca_lines.specs.Lines.{is_lf, Lacks, ended}
 use Rattle.uca_lines.specs.Numbers.{weight_of, upper_digit, digits}
 use Rattle.uca_lines.proofs.DigitLemmas.{weight_takes, weight_of-digits, length-digits}
 use Rattle.uca_lines.proofs.ManyDigits.{four_digits_are, last_digit}
+use Rattle.uca_lines.proofs.LineLemmas.{Lacks-append}
 use Rattle.uca_certificates.specs.Texts.{RunLine, run_text, IsLine}
-use Rattle.uca_certificates.specs.Steps.{◌>>=◌, level_at, number_at, if_empty, line_of}
+use Rattle.uca_certificates.specs.Steps.{level_at, number_at, if_empty, line_of}
 
 -- ---- What is read stands there
-
--- both steps of two gave something
-then_some : {A B : Type 0} (o : Option A) (f : A → Option B) (r : B) → o >>= f ≡ Some r → (x : A) × (o ≡ Some x) × (f x ≡ Some r)
-then_some (Some x) f r h = (x, refl, h)
-then_some None f r h = cc
-
--- what is equal in some pairs
-some_pair : {A B : Type 0} (x y : A) (a b : B) → ◌≡◌ {A = Option (A × B)} (Some (x, a)) (Some (y, b)) → (x ≡ y) × (a ≡ b)
-some_pair {A = A} {B = B} x y a b h =
-    let k : ◌≡◌ {A = A × B} (x, a) (y, b) = same_Some {A = A × B} (x, a) (y, b) h in
-    (ap (λ (r : A × B). r.0) k, ap (λ (r : A × B). r.1) k)
-
--- what a map of an option gives, it makes of something
-map_some : {A B : Type 0} (f : A → B) (o : Option A) (r : B) → option_map f o ≡ Some r → (x : A) × (o ≡ Some x) × (f x ≡ r)
-map_some f (Some x) r h = (x, refl, (let k : Some (f x) ≡ Some r = h in cc))
-map_some f None r h = cc
 
 -- the digit of the level that is read
 level_at_takes : (text : List ℕ) (level : Level) (rest : List ℕ) → level_at text ≡ Some (level, rest) → text ≡ (48 + level_number level) ∷ rest
@@ -43,7 +28,7 @@ level_at_takes (b ∷ bs) level rest h = cases (b == 49) refl (b == 50) refl (b 
   where
     found : (digit : ℕ) (l : Level) → b ≡ digit → 48 + level_number l ≡ digit → ◌≡◌ {A = Option (Level × List ℕ)} (Some (l, bs)) (Some (level, rest))
         → b ∷ bs ≡ (48 + level_number level) ∷ rest
-    found digit l e d k = let same = some_pair l level bs rest k in rw (← same.0, ← same.1, e, d) refl
+    found digit l e d k = let same = some_pair_parts l level bs rest k in rw (← same.0, ← same.1, e, d) refl
 
     cases : (u : Bool) → (b == 49) ≡ u → (v : Bool) → (b == 50) ≡ v → (w : Bool) → (b == 51) ≡ w → b ∷ bs ≡ (48 + level_number level) ∷ rest
     cases true e v f w k = found 49 One (eqb-true b 49 e) refl (rw e at h)
@@ -99,12 +84,6 @@ line_takes text l h =
 
 -- ---- What stands there is read
 
--- the front of two texts, and what follows it
-take_front : (xs ys : List ℕ) (k : ℕ) → length xs ≡ k → (take k (xs ++ ys) ≡ xs) × (drop k (xs ++ ys) ≡ ys)
-take_front xs ys k h =
-    let P : ℕ → Type 0 = λ n. (take n (xs ++ ys) ≡ xs) × (drop n (xs ++ ys) ≡ ys) in
-    subst P h (take-append_seam xs ys, drop-append_seam xs ys)
-
 -- a digit of a level is read
 level_at-digit : (level : Level) (rest : List ℕ) → level_at ((48 + level_number level) ∷ rest) ≡ Some (level, rest)
 unfolding level_at
@@ -116,8 +95,8 @@ level_at-digit Three rest = refl
 number_at-digits : (n : ℕ) (rest : List ℕ) → n < 0x1_0000 → number_at (32 ∷ (digits 4 n ++ rest)) ≡ Some (n, rest)
 unfolding number_at
 number_at-digits n rest h =
-    let cut = take_front (digits 4 n) rest 4 (length-digits 4 n) in
-    rw (cut.0, cut.1, weight_of-digits n h) refl
+    let four = length-digits 4 n in
+    rw (take_at (digits 4 n) rest 4 four, drop_at (digits 4 n) rest 4 four, weight_of-digits n h) refl
 
 -- what a line says is read
 pub line_again : (text : List ℕ) (l : RunLine) → IsLine text l → line_of text ≡ Some l
@@ -163,11 +142,6 @@ length-run_text l =
       length-digits 4 l.run.count,
     )
 
--- what two texts lack, both together lack
-lacks_append : (p : ℕ → Bool) (xs ys : List ℕ) → Lacks p xs → Lacks p ys → Lacks p (xs ++ ys)
-lacks_append p [] ys h k = k
-lacks_append p (x ∷ xs) ys h k = (h.0, lacks_append p xs ys h.1 k)
-
 -- a byte above LF is none
 not_lf : (b : ℕ) → 10 < b → is_lf b ≡ false
 not_lf b h = grind (arith, nat_tests)
@@ -195,7 +169,7 @@ run_text_lacks_lf l = (
   level_lacks_lf l.level,
   (
     refl,
-    lacks_append is_lf (digits 4 l.run.from) _ (digits_lack_lf l.run.from)
-        (refl, lacks_append is_lf (digits 4 l.run.to) _ (digits_lack_lf l.run.to) (refl, digits_lack_lf l.run.count)),
+    Lacks-append is_lf (digits 4 l.run.from) _ (digits_lack_lf l.run.from)
+        (refl, Lacks-append is_lf (digits 4 l.run.to) _ (digits_lack_lf l.run.to) (refl, digits_lack_lf l.run.count)),
   ),
 )

@@ -9,7 +9,8 @@ use Rattle.uca_weights.specs.declared.maps.MapFaultKind.TheVariants as map_kinds
 use Rattle.uca_weights.specs.Levels.{level_number}
 use Rattle.uca_weights.specs.Runs.{AreProperRuns, IsFirstRefused, IsMapFault}
 use Rattle.uca_certificates.specs.declared.faults.CertificateFault.{CertificateFault}
-use Rattle.uca_certificates.specs.Certificates.{CertificateContent, runs_at}
+use Rattle.uca_weights.specs.PerLevel.{at_level}
+use Rattle.uca_certificates.specs.Certificates.{CertificateContent}
 use Rattle.uca_certificates.specs.Texts.{run_lines, lines_below, map_line}
 use Rattle.uca_certificates.specs.Steps.{fault_line, RefusesRuns, RefusesContent}
 use Rattle.uca_certificates.proofs.TextsLemmas.{length-run_lines}
@@ -36,7 +37,7 @@ place_is content level below all run map_kinds.Fixed b a = rw a refl
 
 -- the runs of the lowest level that make no map
 refuses_content : (content : CertificateContent) (level : Level) (runs : List Run) (below all : ℕ) (fault : CertificateFault)
-    → ((other : Level) → level_number other < level_number level → AreProperRuns other (runs_at other content)) → runs ≡ runs_at level content
+    → ((other : Level) → level_number other < level_number level → AreProperRuns other (at_level other content)) → runs ≡ at_level level content
     → below ≡ lines_below level content → all ≡ length (run_lines content) → RefusesRuns level runs below all fault → RefusesContent content fault
 refuses_content content level runs below all fault lower is b a h = record {
   level = level;
@@ -53,7 +54,7 @@ pub refuses_primary : (content : CertificateContent) (runs : List Run) (all : �
 refuses_primary content runs all fault is a h =
     refuses_content content One runs 0 all fault lower is refl (omega (arith, a, length-run_lines content)) h
   where
-    lower : (other : Level) → level_number other < 1 → AreProperRuns other (runs_at other content)
+    lower : (other : Level) → level_number other < 1 → AreProperRuns other (at_level other content)
     lower One l = absurd (omega arith)
     lower Two l = absurd (omega arith)
     lower Three l = absurd (omega arith)
@@ -65,7 +66,7 @@ pub refuses_secondary : (content : CertificateContent) (runs : List Run) (below 
 refuses_secondary content runs below all fault first is b a h =
     refuses_content content Two runs below all fault lower is b (omega (arith, a, length-run_lines content)) h
   where
-    lower : (other : Level) → level_number other < 2 → AreProperRuns other (runs_at other content)
+    lower : (other : Level) → level_number other < 2 → AreProperRuns other (at_level other content)
     lower One l = first
     lower Two l = absurd (omega arith)
     lower Three l = absurd (omega arith)
@@ -78,7 +79,7 @@ pub refuses_tertiary : (content : CertificateContent) (runs : List Run) (below a
 refuses_tertiary content runs below all fault first second is b a h =
     refuses_content content Three runs below all fault lower is b (omega (arith, a, length-run_lines content)) h
   where
-    lower : (other : Level) → level_number other < 3 → AreProperRuns other (runs_at other content)
+    lower : (other : Level) → level_number other < 3 → AreProperRuns other (at_level other content)
     lower One l = first
     lower Two l = second
     lower Three l = absurd (omega arith)

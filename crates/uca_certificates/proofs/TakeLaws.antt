@@ -5,7 +5,8 @@ use Rattle.uca_weights.specs.declared.Level.{Level}
 use Rattle.uca_weights.specs.declared.maps.Run.{Run}
 use Rattle.uca_certificates.specs.declared.faults.CertificateFaultKind.{CertificateFaultKind}
 use Rattle.uca_certificates.specs.declared.faults.CertificateFaultKind.TheVariants as kinds
-use Rattle.uca_certificates.specs.Certificates.{CertificateContent, runs_at}
+use Rattle.uca_weights.specs.PerLevel.{at_level}
+use Rattle.uca_certificates.specs.Certificates.{CertificateContent}
 use Rattle.uca_certificates.specs.Texts.{RunLine, IsPassed, Cause}
 use Rattle.uca_certificates.specs.Steps.{line_of, put_last, Takes}
 use Rattle.uca_certificates.proofs.LineLaws.{line_takes, no_line}
@@ -27,7 +28,7 @@ denied b h e p = let t : b ≡ true = h p in cc
 -- a line whose run is added is taken
 pub added_takes : {X : Type 0} (old new : CertificateContent) (line : List ℕ) (level : Level) (run : Run) (r : Result X CertificateFaultKind)
     → ◌≡◌ {A = Option RunLine} (Some (record { level = level; run = run })) (line_of line) → ¬ (IsPassed old level)
-    → OnOk r (length (runs_at level old) < 0xFFFF) → OnOk r (new ≡ put_last level run old) → OnOk r (Takes old line new)
+    → OnOk r (length (at_level level old) < 0xFFFF) → OnOk r (new ≡ put_last level run old) → OnOk r (Takes old line new)
 added_takes old new line level run (Err kind) h due room adds = tt
 added_takes old new line level run (Ok x) h due room adds = record {
   said = record { level = level; run = run };
@@ -40,7 +41,7 @@ added_takes old new line level run (Ok x) h due room adds = record {
 -- a run that is not added leaves a cause in its line
 pub add_fault : {X : Type 0} (old : CertificateContent) (line : List ℕ) (level : Level) (run : Run) (r : Result X CertificateFaultKind)
     → ◌≡◌ {A = Option RunLine} (Some (record { level = level; run = run })) (line_of line)
-    → IfErr r (λ kind. (kind ≡ kinds.Memory) ⊎ ((kind ≡ kinds.Limit) × (length (runs_at level old) ≡ 0xFFFF)))
+    → IfErr r (λ kind. (kind ≡ kinds.Memory) ⊎ ((kind ≡ kinds.Limit) × (length (at_level level old) ≡ 0xFFFF)))
     → IfErr r (λ kind. (kind ≡ kinds.Memory) ⊎ Cause old line kind)
 add_fault old line level run (Ok x) h fault = tt
 add_fault old line level run (Err kind) h (inl memory) = inl memory

@@ -6,10 +6,11 @@ use Rattle.uca_weights.specs.declared.Level.{Level}
 use Rattle.uca_weights.specs.declared.Level.TheVariants.{One, Two, Three}
 use Rattle.uca_weights.specs.declared.maps.Run.{Run}
 use Rattle.uca_weights.specs.Levels.{level_number}
-use Rattle.uca_lines.proofs.ListLemmas.{each_more}
+use Rattle.uca_weights.proofs.Lists.{each_push}
 use Rattle.uca_certificates.specs.declared.faults.CertificateFaultKind.{CertificateFaultKind}
 use Rattle.uca_certificates.specs.declared.faults.CertificateFaultKind.TheVariants as kinds
-use Rattle.uca_certificates.specs.Certificates.{CertificateContent, runs_at}
+use Rattle.uca_weights.specs.PerLevel.{at_level}
+use Rattle.uca_certificates.specs.Certificates.{CertificateContent}
 use Rattle.uca_certificates.specs.Texts.{RunLine, run_text, of_level, run_lines, IsRunLine, IsPassed, Says, Cause, is_read_kind}
 use Rattle.uca_certificates.specs.Steps.{put_last, Takes}
 
@@ -38,8 +39,8 @@ none_unless (x ∷ xs) h = absurd (h (λ e. cc))
 
 -- above a level that is not passed no runs stand
 pub none_above : (content : CertificateContent) (level higher : Level) → ¬ (IsPassed content level) → level_number level < level_number higher
-    → runs_at higher content ≡ []
-none_above content level higher due h = none_unless (runs_at higher content) (λ some. due (higher, h, some))
+    → at_level higher content ≡ []
+none_above content level higher due h = none_unless (at_level higher content) (λ some. due (higher, h, some))
 
 -- one run more is one line more
 level_more : (level : Level) (runs : List Run) (run : Run) → of_level level (runs ++ run ∷ []) ≡ of_level level runs ++ record { level = level; run = run } ∷ []
@@ -89,9 +90,9 @@ few_lines lines said says = omega (
 )
 
 -- with room for it a run may be added
-few_more : (old : CertificateContent) (level : Level) (run : Run) → ((other : Level) → length (runs_at other old) ≤ 0xFFFF)
-    → length (runs_at level old) < 0xFFFF
-    → (other : Level) → length (runs_at other (put_last level run old)) ≤ 0xFFFF
+few_more : (old : CertificateContent) (level : Level) (run : Run) → ((other : Level) → length (at_level other old) ≤ 0xFFFF)
+    → length (at_level level old) < 0xFFFF
+    → (other : Level) → length (at_level other (put_last level run old)) ≤ 0xFFFF
 few_more old One run few room One = omega (arith, length-append old.primary (run ∷ []))
 few_more old One run few room Two = few Two
 few_more old One run few room Three = few Three
@@ -114,6 +115,6 @@ says_more lines old line new says takes =
     rw (says.text, takes.is_line.text) (sym (map-append run_text (run_lines old) (takes.said ∷ []))) in
     subst P (sym takes.adds) (record {
       text = last ∙ ap (map run_text) (sym more);
-      fit = subst (AllByRecursion IsRunLine) (sym more) (each_more IsRunLine (run_lines old) takes.said says.fit takes.is_line.fits);
+      fit = subst (AllByRecursion IsRunLine) (sym more) ((each_push IsRunLine (run_lines old) takes.said).1 (says.fit, takes.is_line.fits));
       few = few_more old takes.said.level takes.said.run says.few takes.room;
     })

@@ -1,19 +1,22 @@
 -- Whole certificates: bytes mean at most one, and none where they are refused for a cause in them.
-use Rattle.std.proofs.Common.{◌≡◌, ◌||◌, Bool, false, inl, inr, ℕ, ◌≤◌, List, [], ◌∷◌, ◌++◌, length, map, Option, Some, None, Result, Ok, Err, IfSome, IfOk, IfErr, MatchResult, refl, sym, ap, subst, ◌∙◌, arith}
+use Rattle.std.proofs.Common.{◌≡◌, ◌||◌, Bool, false, inl, inr, ℕ, ◌≤◌, List, [], ◌∷◌, length, map, Option, Some, None, Result, Ok, Err, IfSome, IfOk, IfErr, MatchResult, refl, sym, ap, subst, ◌∙◌, arith}
 use Rattle.std.specs.Prelude.{OnOk}
 use Rattle.std.specs.List.{flat_map, AllByRecursion}
 use Rattle.std.proofs.lemmas.List.Folds.{flat_map-map}
 use Rattle.uca_weights.specs.declared.Level.{Level}
 use Rattle.uca_weights.specs.declared.Level.TheVariants.{One, Two, Three}
 use Rattle.uca_weights.specs.Runs.{AreProperRuns}
+use Rattle.uca_weights.proofs.PerLevel.{holds_at}
 use Rattle.uca_weights.proofs.RunMaps.{faulty_not_proper}
+use Rattle.uca_weights.proofs.Lists.{each_append}
 use Rattle.uca_lines.specs.Lines.{ended}
 use Rattle.uca_lines.specs.Files
 use Rattle.uca_lines.specs.Files.{IsFileLine, AreLines, ReadsLines, RefusesLine}
 use Rattle.uca_lines.proofs.FileLemmas.{one_meaning, no_meaning}
 use Rattle.uca_certificates.specs.declared.TheConstants.{CERTIFICATE_FORM}
 use Rattle.uca_certificates.specs.declared.faults.CertificateFault.{CertificateFault}
-use Rattle.uca_certificates.specs.Certificates.{CertificateContent, runs_at, IsCertificate}
+use Rattle.uca_weights.specs.PerLevel.{at_level}
+use Rattle.uca_certificates.specs.Certificates.{CertificateContent, IsCertificate}
 use Rattle.uca_certificates.specs.Texts.{RunLine, run_text, of_level, run_lines, Means, IsRunLine, Says, Cause, FaultOfMap, Refuses, IsStop, is_read, is_read_kind}
 use Rattle.uca_certificates.specs.Steps.{RefusesContent}
 use Rattle.uca_certificates.proofs.LineLaws.{length-run_text, run_text_lacks_lf}
@@ -31,21 +34,16 @@ file_lines : (ls : List RunLine) → AllByRecursion (IsFileLine CERTIFICATE_FORM
 file_lines [] = tt
 file_lines (l ∷ ls) = (record { lacks = run_text_lacks_lf l; short = omega (arith, length-run_text l) }, file_lines ls)
 
--- what holds in two lists, one after the other
-all_append : {X : Type 0} (P : X → Type 0) (xs ys : List X) → AllByRecursion P xs → AllByRecursion P ys → AllByRecursion P (xs ++ ys)
-all_append P [] ys h k = k
-all_append P (x ∷ xs) ys h k = (h.0, all_append P xs ys h.1 k)
-
 -- the lines of a certificate are acceptable
 certificate_says : (content : CertificateContent) → IsCertificate content → Says (map run_text (run_lines content)) content
 certificate_says content h = record {
   text = refl;
-  fit = all_append IsRunLine (of_level One content.primary) _ (proper_fit One content.primary h.primary)
-      (all_append IsRunLine (of_level Two content.secondary) _ (proper_fit Two content.secondary h.secondary) (proper_fit Three content.tertiary h.tertiary));
+  fit = each_append IsRunLine (of_level One content.primary) _ (proper_fit One content.primary h.primary)
+      (each_append IsRunLine (of_level Two content.secondary) _ (proper_fit Two content.secondary h.secondary) (proper_fit Three content.tertiary h.tertiary));
   few = few;
 }
   where
-    few : (level : Level) → length (runs_at level content) ≤ 0xFFFF
+    few : (level : Level) → length (at_level level content) ≤ 0xFFFF
     few One = few_proper One content.primary h.primary
     few Two = few_proper Two content.secondary h.secondary
     few Three = few_proper Three content.tertiary h.tertiary
@@ -74,18 +72,12 @@ reads_means bytes count content h maps =
 pub means_same : (bytes : List ℕ) (c d : CertificateContent) → Means bytes c → Means bytes d → c ≡ d
 means_same bytes c d h k = one_meaning CERTIFICATE_FORM Says says_same bytes c d (means_reads bytes c h) (means_reads bytes d k)
 
--- the runs of each level of a certificate make a map
-proper_at : (level : Level) (content : CertificateContent) → IsCertificate content → AreProperRuns level (runs_at level content)
-proper_at One content h = h.primary
-proper_at Two content h = h.secondary
-proper_at Three content h = h.tertiary
-
 -- so where runs make no map the bytes mean no certificate
 no_fault_of_map : (bytes : List ℕ) (fault : CertificateFault) (content : CertificateContent) → FaultOfMap bytes fault → Means bytes content → ⊥
 no_fault_of_map bytes fault content h means =
     let same : content ≡ h.content = one_meaning CERTIFICATE_FORM Says says_same bytes content h.content (means_reads bytes content means) h.reads in
     let maps : IsCertificate h.content = subst IsCertificate same means.maps in
-    faulty_not_proper h.level (runs_at h.level h.content) h.cause h.is_fault (proper_at h.level h.content maps)
+    faulty_not_proper h.level (at_level h.level h.content) h.cause h.is_fault (holds_at AreProperRuns h.level h.content maps)
 
 -- bytes that mean a certificate are refused by a stop alone
 pub stops : (bytes : List ℕ) (left : Option (List ℕ)) (fault : CertificateFault) (content : CertificateContent) → Refuses bytes left fault → Means bytes content

@@ -14,7 +14,8 @@ use Rattle.uca_lines.specs.Lines.{ended}
 use Rattle.uca_lines.specs.Numbers.{weight_of}
 use Rattle.uca_certificates.specs.declared.faults.CertificateFault.{CertificateFault}
 use Rattle.uca_certificates.specs.declared.faults.CertificateFaultKind.TheVariants as kinds
-use Rattle.uca_certificates.specs.Certificates.{CertificateContent, runs_at}
+use Rattle.uca_weights.specs.PerLevel.{at_level}
+use Rattle.uca_certificates.specs.Certificates.{CertificateContent}
 use Rattle.uca_certificates.specs.Texts.{RunLine, run_text, IsLine, IsPassed, map_line}
 
 -- ---- A line
@@ -60,7 +61,7 @@ pub record Takes (old : CertificateContent) (line : List ℕ) (new : Certificate
   pub said : RunLine
   pub is_line : IsLine line said
   pub due : ¬ (IsPassed old said.level)
-  pub room : length (runs_at said.level old) < 0xFFFF
+  pub room : length (at_level said.level old) < 0xFFFF
   pub adds : new ≡ put_last said.level said.run old
 
 -- ---- All runs
@@ -80,9 +81,9 @@ pub record RefusesRuns (level : Level) (runs : List Run) (below all : ℕ) (faul
 -- the runs of this level are the first that make no map
 pub record RefusesContent (content : CertificateContent) (fault : CertificateFault) : Type 0 where
   pub level : Level
-  pub lower : (other : Level) → level_number other < level_number level → AreProperRuns other (runs_at other content)
+  pub lower : (other : Level) → level_number other < level_number level → AreProperRuns other (at_level other content)
   pub cause : MapFault
-  pub is_fault : IsMapFault level (runs_at level content) cause
+  pub is_fault : IsMapFault level (at_level level content) cause
   pub kind : fault.kind ≡ kinds.Map cause
   pub place : fault.line ≡ map_line content level cause.run cause.kind
 

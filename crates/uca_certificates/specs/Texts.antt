@@ -18,7 +18,8 @@ use Rattle.uca_certificates.specs.declared.TheConstants.{CERTIFICATE_FORM}
 use Rattle.uca_certificates.specs.declared.faults.CertificateFault.{CertificateFault}
 use Rattle.uca_certificates.specs.declared.faults.CertificateFaultKind.{CertificateFaultKind}
 use Rattle.uca_certificates.specs.declared.faults.CertificateFaultKind.TheVariants as kinds
-use Rattle.uca_certificates.specs.Certificates.{CertificateContent, runs_at, IsCertificate}
+use Rattle.uca_weights.specs.PerLevel.{at_level}
+use Rattle.uca_certificates.specs.Certificates.{CertificateContent, IsCertificate}
 
 -- ---- The text
 
@@ -59,7 +60,7 @@ pub record IsRunLine (l : RunLine) : Type 0 where
 pub record Says (lines : List (List ℕ)) (content : CertificateContent) : Type 0 where
   pub text : lines ≡ map run_text (run_lines content)
   pub fit : AllByRecursion IsRunLine (run_lines content)
-  pub few : (level : Level) → length (runs_at level content) ≤ 0xFFFF
+  pub few : (level : Level) → length (at_level level content) ≤ 0xFFFF
 
 -- ---- Why bytes are refused
 
@@ -70,13 +71,13 @@ pub record IsLine (line : List ℕ) (l : RunLine) : Type 0 where
 
 -- the level is lower than that of some run
 abbrev pub IsPassed : CertificateContent → Level → Type 0
-IsPassed content level = (higher : Level) × (level_number level < level_number higher) × (runs_at higher content ≢ [])
+IsPassed content level = (higher : Level) × (level_number level < level_number higher) × (at_level higher content ≢ [])
 
 -- why a line after lines that say these runs is refused
 abbrev pub Cause : CertificateContent → List ℕ → CertificateFaultKind → Type 0
 Cause content line kinds.Line = (l : RunLine) → ¬ (IsLine line l)
 Cause content line kinds.Order = (l : RunLine) × IsLine line l × IsPassed content l.level
-Cause content line kinds.Limit = (l : RunLine) × IsLine line l × (length (runs_at l.level content) ≡ 0xFFFF)
+Cause content line kinds.Limit = (l : RunLine) × IsLine line l × (length (at_level l.level content) ≡ 0xFFFF)
 Cause content line _ = ⊥
 
 -- how many lines stand before those of a level
@@ -95,9 +96,9 @@ pub record FaultOfMap (bytes : List ℕ) (fault : CertificateFault) : Type 0 whe
   pub content : CertificateContent
   pub reads : Files.Reads CERTIFICATE_FORM Says bytes content
   pub level : Level
-  pub lower : (other : Level) → level_number other < level_number level → AreProperRuns other (runs_at other content)
+  pub lower : (other : Level) → level_number other < level_number level → AreProperRuns other (at_level other content)
   pub cause : MapFault
-  pub is_fault : IsMapFault level (runs_at level content) cause
+  pub is_fault : IsMapFault level (at_level level content) cause
   pub kind : fault.kind ≡ kinds.Map cause
   pub place : fault.line ≡ map_line content level cause.run cause.kind
 

@@ -1,6 +1,6 @@
 //! Why a certificate is refused.
 
-ghost use Rattle.std.specs.Prelude.{◌≡◌, Some};
+ghost use Rattle.std.specs.Prelude.{◌≡◌, ◌≤◌, length, Some};
 ghost use Rattle.uca_certificates.specs.declared.faults.CertificateFaultKind.{CertificateFaultKind};
 ghost use Rattle.uca_certificates.specs.FaultText.{kind_text, certificate_fault_text};
 
@@ -8,7 +8,7 @@ use std::alloc::{AllocError, AllocFailed};
 use std::fmt;
 use thiserror::Error;
 use uca_lines::files::FileFault;
-use uca_weights::MapFault;
+use uca_weights::{MapFault, Message};
 
 /// Why a certificate is refused.
 #[derive(Clone, Copy, PartialEq, Eq)]
@@ -27,18 +27,28 @@ pub enum CertificateFaultKind {
     Memory,
 }
 
+impl CertificateFaultKind {
+    /// Its text: `Order`, `Map NotRising`.
+    pub fn message(&self) -> Message
+        ensures text { result ≡ kind_text self.now }
+        ensures short { length result ≤ 20 }
+    {
+        match self {
+            CertificateFaultKind::Line => Message::of("Line"),
+            CertificateFaultKind::Order => Message::of("Order"),
+            CertificateFaultKind::Map(fault) => Message::of("Map ").text(fault.kind.name()),
+            CertificateFaultKind::Limit => Message::of("Limit"),
+            CertificateFaultKind::Read => Message::of("Read"),
+            CertificateFaultKind::Memory => Message::of("Memory"),
+        }
+    }
+}
+
 impl fmt::Display for CertificateFaultKind {
     ghost output = { λ kind. Some (kind_text kind) };
 
     fn fmt<W: fmt::Write>(&self, f: &mut fmt::Formatter<W>) -> fmt::Result {
-        match self {
-            CertificateFaultKind::Line => f.write_str("Line"),
-            CertificateFaultKind::Order => f.write_str("Order"),
-            CertificateFaultKind::Map(fault) => write!(f, "Map {}", fault),
-            CertificateFaultKind::Limit => f.write_str("Limit"),
-            CertificateFaultKind::Read => f.write_str("Read"),
-            CertificateFaultKind::Memory => f.write_str("Memory"),
-        }
+        f.write_str(self.message().as_str())
     }
 }
 
@@ -58,11 +68,24 @@ pub struct CertificateFault {
     pub kind: CertificateFaultKind,
 }
 
+impl CertificateFault {
+    /// Its text: `line 3: Order`.
+    pub fn message(&self) -> Message
+        ensures text { result ≡ certificate_fault_text self.now }
+        ensures short { length result ≤ 60 }
+    {
+        Message::of("line ")
+            .number(self.line.into())
+            .text(": ")
+            .text(self.kind.message().as_str())
+    }
+}
+
 impl fmt::Display for CertificateFault {
     ghost output = { λ fault. Some (certificate_fault_text fault) };
 
     fn fmt<W: fmt::Write>(&self, f: &mut fmt::Formatter<W>) -> fmt::Result {
-        write!(f, "line {}: {}", self.line, self.kind)
+        f.write_str(self.message().as_str())
     }
 }
 

@@ -42,7 +42,8 @@ impl<A: Allocator> Model for Lines<A> {
 impl<A: Allocator + Copy> Lines<A> {
     ghost use Rattle.std.specs.Prelude.{◌≡◌, ◌⊎◌, ◌<◌, ◌↔◌, [], length, IsTrue, OnOk, IfOk, IfErr};
     ghost use Rattle.uca_certificates.specs.declared.faults.CertificateFaultKind.{CertificateFaultKind};
-    ghost use Rattle.uca_certificates.specs.Certificates.{IsCertificate, runs_at};
+    ghost use Rattle.uca_weights.specs.PerLevel.{at_level};
+    ghost use Rattle.uca_certificates.specs.Certificates.{IsCertificate};
     ghost use Rattle.uca_certificates.specs.Texts.{IsPassed};
     ghost use Rattle.uca_certificates.specs.Steps.{put_last, RefusesContent};
 
@@ -70,10 +71,10 @@ impl<A: Allocator + Copy> Lines<A> {
 
     // Adds a run behind the others of its level.
     fn add(&mut self, level: Level, run: Run) -> Result<(), CertificateFaultKind>
-        ensures room { OnOk result (length (runs_at level self.old) < 0xFFFF) }
+        ensures room { OnOk result (length (at_level level self.old) < 0xFFFF) }
         ensures ok { OnOk result (self.new ≡ put_last level run self.old) }
         ensures fault { IfErr result (λ kind. (kind ≡ CertificateFaultKind.Memory)
-            ⊎ ((kind ≡ CertificateFaultKind.Limit) × (length (runs_at level self.old) ≡ 0xFFFF))) }
+            ⊎ ((kind ≡ CertificateFaultKind.Limit) × (length (at_level level self.old) ≡ 0xFFFF))) }
     {
         match level {
             Level::One => push_run(&mut self.primary, run),

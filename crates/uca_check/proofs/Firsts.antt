@@ -4,10 +4,10 @@ use Rattle.std.specs.List.{AllByRecursion, AllWithin, HoldsAt}
 use Rattle.std.proofs.lemmas.Bool.{cases_lt, false≢true}
 use Rattle.std.proofs.lemmas.List.Elements.{recursion_from_All, All-from_all_within, at_read}
 use Rattle.uca_weights.specs.declared.Element.{Element}
+use Rattle.uca_weights.proofs.Lists.{each_weaker}
 use Rattle.uca_values.specs.Content.{Entry}
 use Rattle.uca_check.specs.WellFormed.{IsFirstWithout}
 use Rattle.uca_check.specs.Searches.{FindsFirstWithout}
-use Rattle.uca_check.proofs.Elements.{each_weaker}
 
 pub first_at : (P : Entry → Type 0) (rows : List Entry) (i : ℕ) → i < length rows → HoldsAt (λ row. P row → ⊥) rows i → AllWithin P rows 0 i → IsFirstWithout P rows (i + 1)
 first_at P [] i within fails earlier = absurd (omega arith)

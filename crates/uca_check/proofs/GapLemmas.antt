@@ -1,22 +1,14 @@
 -- Gaps, element by element.
-use Rattle.std.proofs.Common.{◌≡◌, ℕ, ◌+◌, ◌<◌, ◌⊎◌, inl, inr, ⊎_elim, List, [], ◌∷◌, ◌++◌, length, take, drop, get_or, ap, sym, ◌∙◌, refl, subst, ◌↔◌, arith, append_assoc, length-append, Bool, true, false, IsTrue}
+use Rattle.std.proofs.Common.{◌≡◌, ℕ, ◌+◌, ◌<◌, ◌⊎◌, ⊎_elim, List, [], ◌∷◌, ◌++◌, length, take, drop, get_or, ap, sym, ◌∙◌, refl, subst, ◌↔◌, append_assoc, Bool, true, false, IsTrue}
 use Rattle.std.proofs.lemmas.Bool.{false≢true}
 use Rattle.std.proofs.lemmas.List.{same_from_push, take-append-drop, drop_more, get_or_default}
 use Rattle.uca_weights.specs.declared.Element.{Element}
 use Rattle.uca_weights.specs.Kinds.{IsContinuation}
+use Rattle.uca_weights.proofs.Lists.{not_nil, by_last, taken_more}
 use Rattle.uca_check.specs.WellFormed.{HasGap, IsLead, EndsWithLead}
-use Rattle.uca_check.proofs.Elements.{taken_more}
 
 abbrev pub AreGapless : List Element → Type 0
 AreGapless elements = (before : List Element) (e : Element) (after : List Element) → elements ≡ before ++ e ∷ after → HasGap e → IsContinuation e × EndsWithLead before
-
-not_nil : {X : Type 0} (xs : List X) (x : X) (ys : List X) → [] ≡ xs ++ x ∷ ys → ⊥
-not_nil xs x ys h = let e = ap length h in omega (arith, e, length-append xs (x ∷ ys))
-
--- a list is empty, or has a last element
-by_last : {X : Type 0} (xs : List X) → (xs ≡ []) ⊎ ((front : List X) × (last : X) × (xs ≡ front ++ last ∷ []))
-by_last [] = inl refl
-by_last (x ∷ xs) = inr (⊎_elim (λ e. ([], x, ap (λ zs. x ∷ zs) e)) (λ h. (x ∷ h.0, h.1, ap (λ zs. x ∷ zs) h.2)) (by_last xs))
 
 pub none_gapless : AreGapless []
 none_gapless before e after h gap = absurd (not_nil before e after h)

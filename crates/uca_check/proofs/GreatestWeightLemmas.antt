@@ -3,10 +3,10 @@ use Rattle.std.proofs.Common.{◌≡◌, ◌≢◌, ℕ, ◌<◌, max, ◌⊎◌
 use Rattle.std.specs.List.{AllByRecursion}
 use Rattle.uca_weights.specs.declared.Element.{Element}
 use Rattle.uca_weights.specs.Kinds.{IsPrimaryElement, IsSecondaryElement, IsTertiaryElement}
+use Rattle.uca_weights.proofs.Lists.{each_push}
 use Rattle.uca_check.specs.declared.wf2.GreatestWeights.{GreatestWeights}
 use Rattle.uca_check.specs.Searches.{AreGreatestWeights, IsAllowed}
 use Rattle.uca_check.specs.WellFormed.{IsHighSecondary, IsHighTertiary}
-use Rattle.uca_check.proofs.Elements.{each_push}
 
 iff_push : {A B F : Type 0} (Q : Element → Type 0) (all : List Element) (e : Element) → A ↔ (F × AllByRecursion Q all) → B ↔ (A × Q e) → B ↔ (F × AllByRecursion Q (all ++ e ∷ []))
 iff_push Q all e old new = (

@@ -5,9 +5,9 @@ use Rattle.std.proofs.lemmas.List.{same_from_push, get_or-map, length-map, take_
 use Rattle.std.proofs.lemmas.List.Elements.{Contains-get_or, at_from_Contains}
 use Rattle.std.proofs.lemmas.Slice.Eq.{bytes_eq-Decides}
 use Rattle.std.specs.Str.{bytes_eq}
+use Rattle.uca_weights.proofs.Lists.{taken_more}
 use Rattle.uca_values.specs.Content.{Entry, keys_of}
 use Rattle.uca_check.specs.WellFormed.{MeetsWF5}
-use Rattle.uca_check.proofs.Elements.{taken_more}
 
 -- whether the row at a place has the key
 pub key_there : (rows : List Entry) (at : ℕ) (row : Entry) (key own : List ℕ) → at < length rows → row ≡ get_or rows at row → own ≡ row.key → get_or (keys_of rows) at key ≡ own

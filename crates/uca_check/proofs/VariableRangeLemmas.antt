@@ -3,10 +3,10 @@ use Rattle.std.proofs.Common.{◌≡◌, ℕ, ◌<◌, ◌≤◌, min, max, ◌�
 use Rattle.std.specs.List.{AllByRecursion}
 use Rattle.std.proofs.lemmas.Bool.{false≢true, cases_lt}
 use Rattle.uca_weights.specs.declared.Element.{Element}
+use Rattle.uca_weights.proofs.Lists.{each_push, each_weaker, each_any}
 use Rattle.uca_check.specs.declared.wf4.VariableRange.{VariableRange}
 use Rattle.uca_check.specs.WellFormed.{IsVariable, IsVariableBetween}
 use Rattle.uca_check.specs.Searches.{IsVariableRange, IsVariableRangeIfAny, StandsApart}
-use Rattle.uca_check.proofs.Elements.{each_push, each_weaker, each_any}
 
 iff_push : {A B : Type 0} (Q : Element → Type 0) (all : List Element) (e : Element) → A ↔ AllByRecursion Q all → B ↔ (A × Q e) → B ↔ AllByRecursion Q (all ++ e ∷ [])
 iff_push Q all e old new = (

@@ -1,13 +1,9 @@
 -- A well-formed table has no row that fails a condition.
-use Rattle.std.proofs.Common.{ℕ, zero, suc, ◌≤◌, List, [], ◌∷◌, ◌++◌, subst, arith}
+use Rattle.std.proofs.Common.{ℕ, zero, suc, ◌≤◌, List, subst, arith}
 use Rattle.std.specs.List.{AllByRecursion}
+pub use Rattle.uca_weights.proofs.Lists.{inside}
 use Rattle.uca_values.specs.Content.{Entry}
 use Rattle.uca_check.specs.WellFormed.{IsWellFormed, IsFirstWithout, IsFirstFailure, Meets as MeetsForm}
-
--- what holds of each of a list holds of one inside it
-pub inside : {X : Type 0} (P : X → Type 0) (before : List X) (x : X) (after : List X) → AllByRecursion P (before ++ x ∷ after) → P x
-inside P [] x after h = h.0
-inside P (y ∷ before) x after h = inside P before x after h.1
 
 -- where each row has a property no row is the first without it
 pub no_row_without : (P : Entry → Type 0) (rows : List Entry) (number : ℕ) → AllByRecursion P rows → IsFirstWithout P rows number → ⊥

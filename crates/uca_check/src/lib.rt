@@ -17,6 +17,7 @@ use std::alloc::Allocator;
 use std::fmt;
 use thiserror::Error;
 use uca_values::{Data, Row, Table};
+use uca_weights::Message;
 
 /// The first condition that a table fails, and the first row that fails it.
 #[derive(Clone, Copy, Debug, PartialEq, Eq, Error)]
@@ -27,11 +28,24 @@ pub struct IllFormed {
     pub row: u32,
 }
 
+impl IllFormed {
+    /// Its text: `WF2 row 6`.
+    pub fn message(&self) -> Message
+        ensures text { result ≡ ill_formed_text self.now }
+        ensures short { length result ≤ 60 }
+    {
+        Message::of("WF")
+            .number(self.wf.into())
+            .text(" row ")
+            .number(self.row.into())
+    }
+}
+
 impl fmt::Display for IllFormed {
     ghost output = { λ fault. Some (ill_formed_text fault) };
 
     fn fmt<W: fmt::Write>(&self, f: &mut fmt::Formatter<W>) -> fmt::Result {
-        write!(f, "WF{} row {}", self.wf, self.row)
+        f.write_str(self.message().as_str())
     }
 }
 

@@ -1,18 +1,16 @@
 //! The run that audits a tailoring.
 
-ghost use Rattle.std.specs.Prelude.{◌≡◌, ◌++◌, ◌∷◌, [], ◌||◌, true, false};
+ghost use Rattle.std.specs.Prelude.{◌≡◌, ◌∷◌, [], ◌||◌, true, false};
 ghost use Rattle.uca_values.specs.Content.{properties_of};
 ghost use Rattle.uca_tailorings.specs.Tailorings.{IsAccepted};
-ghost use Rattle.uca_audit.specs.FaultText.{audit_fault_text};
 ghost use Rattle.uca_tailorings.specs.Inputs.{tailoring_of};
 ghost use Rattle.uca_cli.specs.AuditRun.{AcceptsOrStops, Audits, RunsAudit};
 ghost use Rattle.uca_runs.specs.Files.{ended_by_file};
 ghost use Rattle.uca_runs.specs.Runs.{ended_before_output, ended_by_output};
 
-use crate::reporting::line::{Line, push_number};
 use std::alloc::{Allocator, Global};
 use std::io::{Read, Write};
-use uca_audit::{AuditFault, Place, audit};
+use uca_audit::audit;
 use uca_runs::audit_files::{AuditFiles, read_audit_files};
 use uca_runs::faults::RunFault;
 use uca_runs::output::write_text;
@@ -109,24 +107,6 @@ fn write_verdict<A: Allocator + Copy, W: Write>(
     if fault.number == NO_MEMORY {
         return Err(RunFault::Memory);
     }
-    write_text(refusal_line(fault).as_str().as_bytes(), out)?;
+    write_text(fault.message().text("\n").as_str().as_bytes(), out)?;
     Ok(false)
-}
-
-// The verdict on a tailoring that is not accepted, as a line.
-fn refusal_line(fault: AuditFault) -> Line
-    ensures { result.bytes ≡ audit_fault_text fault ++ 10 ∷ [] }
-{
-    let mut line = Line::new();
-    push_number(&mut line, "refused ", fault.number.into());
-    line.push_str(" ");
-    line.push_str(fault.name());
-    match fault.place {
-        Place::Nowhere => {}
-        Place::BaseRow(row) => push_number(&mut line, " base row ", row.into()),
-        Place::TailoredRow(row) => push_number(&mut line, " tailored row ", row.into()),
-        Place::Relation(number) => push_number(&mut line, " relation ", number.into()),
-    }
-    line.push('\n');
-    line
 }

@@ -5,10 +5,7 @@ ghost use Rattle.uca_runs.specs.FaultText.{fault_text};
 ghost use Rattle.uca_cli.specs.Reports.{GoesOut, ReportsRefusal, ReportsWords, Reports};
 ghost use Rattle.uca_cli.specs.Statuses.{line_status, rule_status, certificate_status, file_status, input_status, text_status, tailor_status, is_asked_for, IsWordStatus, IsStatus};
 
-pub(crate) mod line;
-
 use clap::error::ErrorKind;
-use line::line_of;
 use std::alloc::Global;
 use std::fmt::Display;
 use std::io::Write;
@@ -121,8 +118,7 @@ fn write_line<E: Write>(fault: &RunFault, status: u8, err: &mut Sink<E>) -> u8
     ensures line { GoesOut err.old err.new (fault_text fault.now ++ 10 ∷ []) }
     ensures status { result ≡ status }
 {
-    let mut line = line_of(fault);
-    line.push('\n');
+    let line = fault.message().text("\n");
     show(line.as_str().as_bytes(), err);
     status
 }

@@ -1,6 +1,6 @@
 -- Numbers and their digits.
-use Rattle.std.proofs.Common.{◌≡◌, ℕ, zero, suc, ◌+◌, ◌*◌, ◌/◌, ◌%◌, ◌^◌, ◌<◌, ◌≤◌, Bool, true, false, ◌&&◌, List, [], ◌∷◌, ◌++◌, length, get_or, take, Some, None, refl, ap, sym, subst, ◌==◌, ◌∙◌, arith, add-one, length-append, lit≤, lit<}
-use Rattle.std.proofs.Math.Nat.{pow-suc, mul-le-mul_right}
+use Rattle.std.proofs.Common.{◌≡◌, ℕ, zero, suc, ◌+◌, ◌*◌, ◌/◌, ◌%◌, ◌^◌, ◌<◌, ◌≤◌, Bool, true, false, List, [], ◌∷◌, ◌++◌, length, get_or, take, Some, None, refl, ap, sym, subst, ◌==◌, ◌∙◌, arith, add-one, length-append, lit≤, lit<}
+use Rattle.std.proofs.Math.Nat.{pow-suc}
 use borrow.Author.Tests.{eqb-true}
 use Rattle.std.specs.List.{list_all}
 use Rattle.std.specs.Char.{digit_value}
@@ -8,8 +8,9 @@ use Rattle.std.specs.Str.Parse.{digits_value}
 use Rattle.std.proofs.lemmas.Int.Digits.{digits_value_push, digits_value_more}
 use Rattle.std.proofs.lemmas.List.Folds.{list_all-append, list_all_more, list_all_at}
 use Rattle.std.proofs.lemmas.Nat.{div-mul-add, mod-mul-add}
-use Rattle.std.proofs.lemmas.Bool.{false≢true}
+use Rattle.std.proofs.lemmas.Bool.{and_parts}
 use Rattle.std.proofs.lemmas.Bool.Decides.{nat_tests}
+use Rattle.uca_weights.proofs.Numbers.{grows}
 use Rattle.uca_lines.specs.Numbers.{is_decimal_digit, is_hex_digit, number_of, hex_of, decimal_of, weight_of, upper_digit, digits}
 use Rattle.uca_lines.proofs.FieldLemmas.{before_last}
 
@@ -71,10 +72,6 @@ hex_small x d h = let k = digit_is is_hex_digit 16 x d h in rw (← k.1) (hex_di
 pub decimal_small : (x d : ℕ) → decimal_of (x ∷ []) ≡ Some d → d < 10
 decimal_small x d h = let k = digit_is is_decimal_digit 10 x d h in rw (← k.1) (decimal_digit_small x k.0)
 
--- one more digit makes a number at most radix times as large
-pub grows : (radix n d i : ℕ) → n < radix ^ i → d < radix → n * radix + d < radix ^ (i + 1)
-grows radix n d i h k = rw (add-one, pow-suc) (let m : suc n * radix ≤ radix ^ i * radix = mul-le-mul_right radix h in omega (arith, m))
-
 pow_small : (i : ℕ) → i < 6 → 16 ^ i ≤ 1048576
 pow_small zero h = lit≤ tt
 pow_small (suc zero) h = lit≤ tt
@@ -130,10 +127,6 @@ value-digits (suc k) n h =
 pub hex_of-digits : (k n : ℕ) → n < 16 ^ k → hex_of (digits k n) ≡ Some n
 hex_of-digits k n h = is_number is_hex_digit 16 (digits k n) n (record { all = list_all-digits k n; value = value-digits k n h })
 
-both : (a b : Bool) → (a && b) ≡ true → (a ≡ true) × (b ≡ true)
-both true b h = (refl, h)
-both false b h = absurd (false≢true h)
-
 digits_push : (k : ℕ) (front : List ℕ) (x v : ℕ) → digits_value 16 front ≡ v → front ≡ digits k v → v < 16 ^ k → is_hex_digit x ≡ true → (front ++ x ∷ [] ≡ digits (suc k) (digits_value 16 (front ++ x ∷ []))) × (digits_value 16 (front ++ x ∷ []) < 16 ^ suc k)
 unfolding digits
 digits_push k front x v value again small h =
@@ -149,8 +142,8 @@ digits_again zero [] e h = (refl, lit< tt)
 digits_again zero (x ∷ xs) e h = absurd (omega arith)
 digits_again (suc k) word e h =
     let whole = before_last word k e in
-    let all = both _ _ (sym (list_all-append is_hex_digit (take k word) (get_or word k 0 ∷ [])) ∙ (ap (list_all is_hex_digit) whole ∙ h)) in
-    let last : is_hex_digit (get_or word k 0) ≡ true = (both _ _ all.1).0 in
+    let all = and_parts _ _ (sym (list_all-append is_hex_digit (take k word) (get_or word k 0 ∷ [])) ∙ (ap (list_all is_hex_digit) whole ∙ h)) in
+    let last : is_hex_digit (get_or word k 0) ≡ true = (and_parts _ _ all.1).0 in
     let front = digits_again k (take k word) (omega (arith, ap length whole, length-append (take k word) (get_or word k 0 ∷ []))) all.0 in
     let P : List ℕ → Type 0 = λ w. (w ≡ digits (suc k) (digits_value 16 w)) × (digits_value 16 w < 16 ^ suc k) in
     subst P whole (digits_push k (take k word) (get_or word k 0) _ refl front.0 front.1 last)

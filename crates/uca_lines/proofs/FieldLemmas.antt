@@ -1,7 +1,6 @@
 -- What a cut gives, by where it is cut.
 use Rattle.std.proofs.Common.{◌≡◌, ℕ, zero, suc, ◌+◌, ◌<◌, ◌≤◌, Bool, true, false, not, List, [], ◌∷◌, ◌++◌, length, get_or, take, drop, refl, ap, sym, arith, ◌-◌, ◌&&◌, ◌==◌, ◌∙◌, length-append, eq-eqb, Some, None, Option}
-use Rattle.std.proofs.lemmas.List.{length-drop}
-use Rattle.std.proofs.Math.Seq.{take-length}
+use Rattle.std.proofs.lemmas.List.{take_rest}
 use Rattle.std.proofs.lemmas.Bool.{false≢true}
 use borrow.Author.Tests.{eqb-true}
 use Rattle.std.specs.List.{list_all}
@@ -96,16 +95,12 @@ halves_nowhere (a ∷ b ∷ bs) zero all none = absurd (omega arith)
 halves_nowhere (a ∷ b ∷ bs) (suc i) all none =
     halves_later a b bs None (none 0 (omega arith)) (halves_nowhere (b ∷ bs) i (omega arith) (λ k h e f. none (suc k) (omega arith) e f))
 
--- what is left of a text from a place on, as a slice of it
-drop_as_slice : (xs : List ℕ) (i : ℕ) → take (length xs - i) (drop i xs) ≡ drop i xs
-drop_as_slice xs i = ap (λ n. take n (drop i xs)) (sym (length-drop i xs)) ∙ take-length (drop i xs)
-
 pub halves_at : (xs : List ℕ) (at : ℕ) → 1 ≤ at → at < length xs → NoDotsBefore xs at → get_or xs (at - 1) 0 ≡ 46 → get_or xs at 0 ≡ 46 → halves xs ≡ Some (take (at - 1) xs, take (length xs - (at + 1)) (drop (at + 1) xs))
 halves_at xs zero low small none one two = absurd (omega arith)
 halves_at xs (suc i) low small none one two =
     let before : suc i - 1 ≡ i = omega arith in
     let after : suc i + 1 ≡ suc (suc i) = omega arith in
-    rw (before, drop_as_slice xs (suc i + 1), after) (halves_found xs i small none (rw before at one) two)
+    rw (before, take_rest xs (suc i + 1), after) (halves_found xs i small none (rw before at one) two)
 
 -- what a cut leaves begins with a byte that passes
 pub from_first_passes : (p : ℕ → Bool) (text : List ℕ) (x : ℕ) (rest : List ℕ) → from_first p text ≡ x ∷ rest → p x ≡ true

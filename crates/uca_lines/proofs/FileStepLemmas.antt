@@ -5,6 +5,7 @@ use Rattle.std.specs.Option.{unwrap_or}
 use Rattle.std.specs.Io.KnownBytes.{Consumes, IsAtEnd, prepend_known}
 use Rattle.std.proofs.lemmas.Bool.{eqb-true}
 use Rattle.std.proofs.lemmas.Grind.{flat_map-append}
+use Rattle.uca_weights.proofs.Lists.{each_push}
 use Rattle.uca_lines.specs.Lines.{is_lf, Lacks, ended}
 use Rattle.uca_lines.specs.declared.files.FileForm.{FileForm}
 use Rattle.uca_lines.specs.NextLine.{SaysOfBytes, IsWithinLimit, BeginsLonger}
@@ -12,7 +13,6 @@ use Rattle.uca_lines.specs.declared.lines.LineFault.{LineFault}
 use Rattle.uca_lines.specs.declared.lines.LineFault.TheVariants.{TooLong, Limit, Read, Memory}
 use Rattle.uca_lines.specs.FaultKinds.{kind_of_fault}
 use Rattle.uca_lines.specs.Files.{EndsLine, IsFileLine, AreLines, ReadsLines, Reaches, BeginsFault, LosesPart, RefusesLine}
-use Rattle.uca_lines.proofs.ListLemmas.{each_more}
 use Rattle.uca_lines.specs.FileSteps.{TakesNext, RefusesNext}
 
 -- of known bytes the lines before line `number` are acceptable in order and say s, and this is left
@@ -43,7 +43,7 @@ more_lines : {K : Type 0} (form : FileForm K) (front : List ℕ) (before : List 
 more_lines form front before line h fits few = record {
   parts = ap (λ (xs : List ℕ). xs ++ ended line) h.parts ∙ ap (λ (xs : List ℕ). flat_map ended before ++ xs) (sym (append-nil (ended line)))
       ∙ sym (flat_map-append ended before (line ∷ []));
-  each = each_more (IsFileLine form) before line h.each fits;
+  each = (each_push (IsFileLine form) before line).1 (h.each, fits);
   count = within form.too_many _ (omega (arith, length-append before (line ∷ [])));
 }
 

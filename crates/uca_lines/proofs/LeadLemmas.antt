@@ -1,5 +1,6 @@
 -- Values that stand in a text one after the other: one more, and that there is one way to read them.
 use Rattle.std.proofs.Common.{◌≡◌, ◌≢◌, ℕ, ◌≤◌, Bool, true, false, List, [], ◌∷◌, ◌++◌, length, Some, refl, ap, sym, subst, ◌∙◌, arith, length-append}
+use Rattle.std.proofs.lemmas.Option.{same_Some}
 use Rattle.uca_lines.specs.Fields.{from_first, skip_blanks}
 use Rattle.uca_lines.specs.Numbers.{code_point_of}
 use Rattle.uca_lines.specs.Leads.{Leads, BeginsCodePoint, BeginsWord}
@@ -67,12 +68,9 @@ leads_within B exact text front rest xs f h =
     let split = leads_split B exact text front rest xs f h in
     omega (arith, ap length split.1, length-append front split.0)
 
-some_is : {A : Type 0} (x y : A) → Some x ≡ Some y → x ≡ y
-some_is x y e = cc
-
 pub exact_code_points : IsExact BeginsCodePoint
 exact_code_points = record {
-  same = λ text x y a b h k. (some_is x y (sym h.word ∙ k.word), sym h.rest ∙ k.rest);
+  same = λ text x y a b h k. (same_Some x y (sym h.word ∙ k.word), sym h.rest ∙ k.rest);
   some = λ x a h. none_is x h.word;
 }
   where

@@ -5,7 +5,6 @@ pub mod FieldLemmas
 pub mod DigitLemmas
 pub mod LeadLemmas
 pub mod ManyDigits
-pub mod ListLemmas
 pub mod LineCuts
 pub mod FileLemmas
 pub mod ByLine

@@ -28,7 +28,7 @@ points_of_letters [] classes same = refl
 points_of_letters (c ∷ points) [] same = absurd (omega arith)
 points_of_letters (c ∷ points) (k ∷ classes) same = ap (λ rest. c ∷ rest) (points_of_letters points classes (omega arith))
 
--- a text has the code points that it is spelled by
+-- a text has the code points of its NFD
 pub points_of : (text : NfdText) → length text.classes ≡ length text.points → code_points (letters_of text) ≡ text.points
 points_of text same = points_of_letters text.points text.classes same
 

@@ -9,7 +9,7 @@ use Rattle.uca_weights.specs.Maps.{Sends}
 use Rattle.uca_values.specs.Content.{TableContent, Properties, Fits, IsEntry}
 use Rattle.uca_check.specs.WellFormed.{elements_of}
 use Rattle.uca_rules.specs.declared.relations.Relation.{Relation}
-use Rattle.uca_tailorings.specs.Images.{map_of}
+use Rattle.uca_weights.specs.PerLevel.{at_level}
 use Rattle.uca_tailorings.specs.Tailorings.{IsPairWeight, IsKnownWeight, IsImageOfBase}
 use Rattle.uca_tailorings.proofs.Members.{each_contained}
 use Rattle.uca_tailorings.proofs.Nearest.{IsHigh}
@@ -87,7 +87,7 @@ module _ (base : TableContent) (properties : Properties) (relations : List Relat
 
   -- a weight of 16 bits that is not numbered is sent to a high one
   high_image : (level : Level) (v w : ℕ) → 0 < v → v < 0x1_0000 → ((0 < v) × (v ≤ top_weight level) → ⊥)
-      → Sends (map_of level (maps_in base properties relations plan case)) v w → IsHigh level w
+      → Sends (at_level level (maps_in base properties relations plan case)) v w → IsHigh level w
   high_image One v w some fits not sent =
       let high : 0x8000 ≤ v = elim (cases_lt v 0x8000) [ inl low ↦ absurd (not (some, omega (arith, low))) | inr high ↦ high ] in
       let same : Some v ≡ Some w = sym (sends_high base properties relations plan case v high) ∙ sent in

@@ -12,7 +12,8 @@ use Rattle.uca_weights.specs.Runs.{weight_image}
 use Rattle.uca_values.specs.Content.{TableContent, Properties, Fits}
 use Rattle.uca_check.specs.WellFormed.{elements_of}
 use Rattle.uca_rules.specs.declared.relations.Relation.{Relation}
-use Rattle.uca_tailorings.specs.Images.{map_of, Maps, IsImage}
+use Rattle.uca_weights.specs.PerLevel.{at_level}
+use Rattle.uca_tailorings.specs.Images.{Maps, IsImage}
 use Rattle.uca_tailorings.specs.Inputs.{maps_of}
 use Rattle.uca_weights.specs.declared.Element.{Element}
 use Rattle.uca_plans.specs.declared.drafts.DraftWeight.{DraftWeight}
@@ -169,24 +170,24 @@ module _ (base : TableContent) (properties : Properties) (relations : List Relat
   runs_in level = runs_of (members_in level) (level_numbers level (members_in level))
 
   -- the map of a level is that of its runs
-  map_is : (level : Level) → map_of level maps_in ≡ weight_image level (runs_in level)
+  map_is : (level : Level) → at_level level maps_in ≡ weight_image level (runs_in level)
   map_is One = ap (λ p. weight_image One p.primary) case.made.is_plan
   map_is Two = ap (λ p. weight_image Two p.secondary) case.made.is_plan
   map_is Three = ap (λ p. weight_image Three p.tertiary) case.made.is_plan
 
   -- each map sends 0 to 0
-  pub sends_zero : (level : Level) → Sends (map_of level maps_in) 0 0
+  pub sends_zero : (level : Level) → Sends (at_level level maps_in) 0 0
   sends_zero One = refl
   sends_zero Two = refl
   sends_zero Three = refl
 
   -- 0 is sent to its number
-  sends_none : (level : Level) (w : ℕ) → w ≡ 0 → Sends (map_of level maps_in) w (number_of level (Base w))
+  sends_none : (level : Level) (w : ℕ) → w ≡ 0 → Sends (at_level level maps_in) w (number_of level (Base w))
   sends_none level w none =
-      subst (λ x. Sends (map_of level maps_in) x (number_of level (Base x))) (sym none) (sends_zero level ∙ ap Some (sym (zero_number level)))
+      subst (λ x. Sends (at_level level maps_in) x (number_of level (Base x))) (sym none) (sends_zero level ∙ ap Some (sym (zero_number level)))
 
   -- each map sends a listed weight to its number
-  pub sends_number : (level : Level) (w : ℕ) → IsAmong (members_in level) (Base w) → Sends (map_of level maps_in) w (number_of level (Base w))
+  pub sends_number : (level : Level) (w : ℕ) → IsAmong (members_in level) (Base w) → Sends (at_level level maps_in) w (number_of level (Base w))
   sends_number level w among = elim (member_cases level w among) [
     | inl zero ↦ sends_none level w zero.0
     | inr some ↦
@@ -210,7 +211,7 @@ module _ (base : TableContent) (properties : Properties) (relations : List Relat
 
   -- so a weight of a base element is sent to its number
   weight_sent : (level : Level) (e : Element) → IsAmong (elements_of base.rows) e → weight level e ≤ top_weight level
-      → Sends (map_of level maps_in) (weight level e) (number_of level (Base (weight level e)))
+      → Sends (at_level level maps_in) (weight level e) (number_of level (Base (weight level e)))
   weight_sent level e among within = elim (cases_lt 0 (weight level e)) [
     | inl some ↦ sends_number level (weight level e) (base_member level e among some within)
     | inr none ↦ sends_none level (weight level e) (omega arith)

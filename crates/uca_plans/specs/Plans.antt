@@ -18,6 +18,7 @@ use Rattle.uca_plans.specs.declared.faults.TailorKind.TheVariants as kinds
 use Rattle.uca_plans.specs.declared.faults.TailorFault.{TailorFault}
 use Rattle.uca_rules.specs.declared.relations.Relation.{Relation}
 use Rattle.uca_weights.specs.Levels.{level_of}
+use Rattle.uca_weights.specs.PerLevel.{PerLevel}
 use Rattle.uca_plans.specs.Lists.{Insertion, members_of, level_has_room, level_numbers, number_in}
 use Rattle.uca_plans.specs.Drafts.{DraftRow, row_as_draft, with_row, has_key, draft_elements, draft_weight, AnchorPart, anchor_part, accepted_part, reweighted}
 
@@ -148,10 +149,8 @@ numbered_weight level plan (Base w) =
     stays Three w = false
 numbered_weight level plan (New n) = number_in plan.members plan.numbers (New n)
 
-pub record LevelPlans : Type 0 where
-  pub primary : LevelPlan
-  pub secondary : LevelPlan
-  pub tertiary : LevelPlan
+abbrev pub LevelPlans : Type 0
+LevelPlans = PerLevel LevelPlan
 
 abbrev pub numbered : LevelPlans → DraftElement → Element
 numbered plans e = record {

@@ -1,13 +1,13 @@
 //! Why there is no plan.
 
-ghost use Rattle.std.specs.Prelude.{◌≡◌, Some};
+ghost use Rattle.std.specs.Prelude.{◌≡◌, ◌≤◌, length, Some};
 ghost use Rattle.uca_weights.specs.Levels as levels;
 ghost use Rattle.uca_plans.specs.FaultText.{tailor_kind_text, tailor_fault_text};
 
 use std::alloc::AllocError;
 use std::fmt;
 use thiserror::Error;
-use uca_weights::Level;
+use uca_weights::{Level, Message};
 
 /// Why rules can't be planned over a base.
 #[derive(Clone, Copy, Debug, PartialEq, Eq)]
@@ -31,19 +31,29 @@ pub enum TailorKind {
     Memory,
 }
 
+impl TailorKind {
+    /// Its text: `NeedsPrefix`, `NoRoom 3`.
+    pub fn message(&self) -> Message
+        ensures text { result ≡ tailor_kind_text self.now }
+        ensures short { length result ≤ 40 }
+    {
+        match self {
+            TailorKind::BaseIllFormed => Message::of("BaseIllFormed"),
+            TailorKind::Anchor => Message::of("Anchor"),
+            TailorKind::NeedsPrefix => Message::of("NeedsPrefix"),
+            TailorKind::NoRoom(level) => Message::of("NoRoom ").number(level_number(*level).into()),
+            TailorKind::Limit => Message::of("Limit"),
+            TailorKind::ImplicitVariable => Message::of("ImplicitVariable"),
+            TailorKind::Memory => Message::of("Memory"),
+        }
+    }
+}
+
 impl fmt::Display for TailorKind {
     ghost output = { λ kind. Some (tailor_kind_text kind) };
 
     fn fmt<W: fmt::Write>(&self, f: &mut fmt::Formatter<W>) -> fmt::Result {
-        match self {
-            TailorKind::BaseIllFormed => f.write_str("BaseIllFormed"),
-            TailorKind::Anchor => f.write_str("Anchor"),
-            TailorKind::NeedsPrefix => f.write_str("NeedsPrefix"),
-            TailorKind::NoRoom(level) => write!(f, "NoRoom {}", level_number(*level)),
-            TailorKind::Limit => f.write_str("Limit"),
-            TailorKind::ImplicitVariable => f.write_str("ImplicitVariable"),
-            TailorKind::Memory => f.write_str("Memory"),
-        }
+        f.write_str(self.message().as_str())
     }
 }
 
@@ -56,15 +66,27 @@ pub struct TailorFault {
     pub relation: u32,
 }
 
+impl TailorFault {
+    /// Its text: `relation 3: NeedsPrefix`, `NoRoom 3`.
+    pub fn message(&self) -> Message
+        ensures text { result ≡ tailor_fault_text self.now }
+        ensures short { length result ≤ 100 }
+    {
+        if self.relation == 0 {
+            return self.kind.message();
+        }
+        Message::of("relation ")
+            .number(self.relation.into())
+            .text(": ")
+            .text(self.kind.message().as_str())
+    }
+}
+
 impl fmt::Display for TailorFault {
     ghost output = { λ fault. Some (tailor_fault_text fault) };
 
     fn fmt<W: fmt::Write>(&self, f: &mut fmt::Formatter<W>) -> fmt::Result {
-        if self.relation == 0 {
-            write!(f, "{}", self.kind)
-        } else {
-            write!(f, "relation {}: {}", self.relation, self.kind)
-        }
+        f.write_str(self.message().as_str())
     }
 }
 

@@ -1,12 +1,13 @@
 //! Why rules are rejected.
 
-ghost use Rattle.std.specs.Prelude.{◌≡◌, Some};
+ghost use Rattle.std.specs.Prelude.{◌≡◌, ◌≤◌, length, Some};
 ghost use Rattle.uca_rules.specs.declared.faults.RuleFaultKind.{RuleFaultKind};
 ghost use Rattle.uca_rules.specs.FaultText.{kind_text, rule_fault_text};
 
 use std::alloc::{AllocError, AllocFailed};
 use std::fmt;
 use thiserror::Error;
+use uca_weights::Message;
 
 /// Why rules are rejected.
 #[derive(Clone, Copy, Debug, PartialEq, Eq)]
@@ -70,11 +71,24 @@ pub struct RuleFault {
     pub kind: RuleFaultKind,
 }
 
+impl RuleFault {
+    /// Its text: `byte 13: LateTarget`.
+    pub fn message(&self) -> Message
+        ensures text { result ≡ rule_fault_text self.now }
+        ensures short { length result ≤ 60 }
+    {
+        Message::of("byte ")
+            .number(self.byte as u64)
+            .text(": ")
+            .text(self.kind.name())
+    }
+}
+
 impl fmt::Display for RuleFault {
     ghost output = { λ fault. Some (rule_fault_text fault) };
 
     fn fmt<W: fmt::Write>(&self, f: &mut fmt::Formatter<W>) -> fmt::Result {
-        write!(f, "byte {}: {}", self.byte, self.kind)
+        f.write_str(self.message().as_str())
     }
 }
 

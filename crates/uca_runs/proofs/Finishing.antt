@@ -1,11 +1,10 @@
 -- How a run of keys begins and ends.
-use Rattle.std.proofs.Common.{◌≡◌, ℕ, List, [], true, false, Option, Some, None, IfSome, Result, Ok, Err, refl, ap, subst, arith, sym, ◌∙◌}
-use Rattle.std.specs.Io.KnownBytes.{Appends, prepend_known}
+use Rattle.std.proofs.Common.{◌≡◌, ℕ, List, [], true, false, Option, Some, None, IfSome, Result, Ok, Err, refl, ap, subst, sym, ◌∙◌}
+use Rattle.std.specs.Io.KnownBytes.{Appends}
 use Rattle.std.proofs.lemmas.Grind.{flat_map-append}
 use Rattle.uca_weights.specs.Streams.{SourceState, SinkState}
 use Rattle.uca_weights.specs.Writes.{WentOut}
 use Rattle.uca_lines.specs.Lines.{lines_of}
-use Rattle.uca_lines.specs.LineReader.{LineState}
 use Rattle.uca_lines.specs.OutputBuffer.{BufferState, IsBuffered}
 use Rattle.uca_runs.specs.declared.faults.RunFault.{RunFault}
 use Rattle.uca_runs.specs.declared.faults.RunFault.TheVariants.{File, Input, Write, Memory}
@@ -14,18 +13,15 @@ use Rattle.uca_runs.specs.Keys.{KeySettings, key_lines, keys_output}
 use Rattle.uca_runs.specs.Files.{ended_by_file}
 use Rattle.uca_runs.specs.Runs.{IsInputFault, ended_by_output}
 use Rattle.uca_runs.specs.KeysRun.{WritesKeys, ended_before_input}
-use Rattle.uca_runs.specs.LinesSoFar.{IsKnownBehind, AreAll}
+use Rattle.uca_runs.specs.LinesSoFar.{AreAll}
+use Rattle.uca_runs.specs.Texts.{TextsState, HasRead}
 use Rattle.uca_runs.specs.KeysSoFar.{HasPrinted, IsPartOfOutput, PrintsRest}
-use Rattle.uca_runs.proofs.KnownLines.{known_start}
 use Rattle.uca_runs.proofs.PrintLemmas.{WentOut-more, written_nothing}
 
-pub started : (c : KeySettings) (reader : LineState) (input : SourceState) (buffer : BufferState) (out : SinkState) → reader.pending ≡ [] → reader.number ≡ 0 → buffer.held ≡ [] → buffer.written ≡ 0 → HasPrinted c input.remaining out.contents [] reader input buffer out
-started c reader input buffer out pending number held written = record {
-  behind = subst (λ xs. IsKnownBehind c.collation.properties input.remaining (prepend_known xs input.remaining) []) (sym pending) (known_start c.collation.properties input.remaining);
-  printed = written_nothing out.contents buffer held written;
-  count = number;
-  small = rw (written, held) (omega arith);
-}
+-- nothing was handed over yet
+pub started : (c : KeySettings) (texts : TextsState) (input : SourceState) (buffer : BufferState) (out : SinkState)
+    → HasRead c.collation.properties input.remaining [] texts input → buffer.held ≡ [] → buffer.written ≡ 0 → HasPrinted c input.remaining out.contents [] texts input buffer out
+started c texts input buffer out read held written = record { read = read; printed = written_nothing out.contents buffer held written }
 
 -- part of what begins the output is part of the output
 part_of : (c : KeySettings) (start begun now : Option (List ℕ)) (written : ℕ) → IsPartOfOutput c start begun now written → IfSome start (λ bytes. WentOut begun now (keys_output c (lines_of bytes)) written)

@@ -1,9 +1,8 @@
 pub mod LongRuns
 pub mod LineCuts
-pub mod LinesSoFar
-pub mod KnownLines
 pub mod Causes
-pub mod NextTexts
+pub mod LinesSoFar
+pub mod TextsLemmas
 pub mod PrintLemmas
 pub mod Printing
 pub mod Keeping

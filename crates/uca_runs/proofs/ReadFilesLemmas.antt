@@ -1,6 +1,6 @@
 -- What is read of the files of a run, from what each of them means or why it is rejected.
 use Rattle.std.specs.Prelude.{⊤}
-use Rattle.std.proofs.Common.{◌≡◌, ℕ, List, [], ◌∷◌, false, Option, IfSome, IsSomeAnd, Result, Ok, Err, None, refl, ap, sym, ◌∙◌}
+use Rattle.std.proofs.Common.{◌≡◌, List, [], ◌∷◌, false, IfSome, Result, Ok, Err, None, refl, ap, ◌∙◌}
 use Rattle.uca_weights.specs.Streams.{SourceState}
 use Rattle.uca_values.specs.Content.{TableContent, Properties}
 use Rattle.uca_table.specs.TableLines as tables
@@ -14,7 +14,7 @@ use Rattle.uca_tailorings.specs.Inputs.{tailoring_of}
 use Rattle.uca_runs.specs.declared.faults.RunFault.{RunFault}
 use Rattle.uca_runs.specs.declared.faults.Role.{Role}
 use Rattle.uca_runs.specs.declared.faults.Role.TheVariants as roles
-use Rattle.uca_runs.specs.Files.{TableAndData, TailorContent, Reading, Done, Then, then_table, OfLines, Over, RefusesRules, RefusesCertificate, audit_files, fault_of, is_role, rules_over, table_and_data, table_with, tailor_content}
+use Rattle.uca_runs.specs.Files.{TailorContent, Reading, Done, Then, then_table, OfLines, Over, RefusesRules, RefusesCertificate, audit_files, fault_of, is_role, rules_over, table_and_data, table_with, tailor_content}
 use Rattle.uca_runs.specs.ReadFiles.{IsRefused}
 use Rattle.uca_runs.proofs.FilesLemmas.{no_other_fault, over_rejected, over_value}
 

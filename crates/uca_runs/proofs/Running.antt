@@ -1,5 +1,5 @@
 -- How runs end that go by a table and a data file.
-use Rattle.std.proofs.Common.{◌≡◌, true, false, ◌||◌, Bool, List, Option, Some, None, IfSome, Err, refl, ap, ◌∙◌, sym}
+use Rattle.std.proofs.Common.{◌≡◌, true, false, ◌||◌, Bool, Option, Some, None, IfSome, Result, Ok, Err, OnOk, is_err, refl, ap, ◌∙◌, sym}
 use Rattle.std.specs.Prelude.{⊤}
 use Rattle.uca_weights.specs.declared.Depth.{Depth}
 use Rattle.uca_weights.specs.declared.Weighting.{Weighting}
@@ -62,3 +62,8 @@ made_of_files asked rows weighting files same_rows same_weighting = (ap (λ r. c
 pub not_both : {X : Type 0} (b : Bool) → b ≡ false → b ≡ true → X
 not_both true one other = let never : ⊥ = cc in absurd never
 not_both false one other = let never : ⊥ = cc in absurd never
+
+-- what holds at Ok, where no error is returned
+pub at_ok : {T E : Type 0} (r : Result T E) (P : Type 0) → is_err r ≡ false → OnOk r P → P
+at_ok (Ok x) P h p = p
+at_ok (Err e) P h p = let never : ⊥ = cc in absurd never

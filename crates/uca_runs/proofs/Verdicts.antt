@@ -1,5 +1,5 @@
 -- What the runs of check and compare return, from what is found and what went out of its line.
-use Rattle.std.proofs.Common.{◌≡◌, ℕ, ◌||◌, List, [], ◌∷◌, ◌++◌, append_assoc, Bool, true, false, Option, IfSome, Result, Ok, Err, OnOk, IfErr, chars, refl, ap, subst, sym, ◌∙◌}
+use Rattle.std.proofs.Common.{◌≡◌, ℕ, List, Bool, true, false, Option, Result, Ok, Err, OnOk, IfErr, chars, refl, ap, subst, sym, ◌∙◌}
 use Rattle.std.specs.Io.KnownBytes.{Appends}
 use Rattle.std.specs.declared.cmp.Ordering.{Ordering}
 use Rattle.uca_weights.specs.Streams.{SinkState}
@@ -20,13 +20,6 @@ use Rattle.uca_runs.specs.Verdicts.{WritesVerdict}
 use Rattle.uca_runs.specs.CompareRun.{comparison_line, IsWithinLimits, WritesComparison, RefusesWord, RunsCompare}
 
 -- ---- Check
-
--- the parts of a line, whichever two stand together
-pub line_parts : (a b c d : List ℕ) → ((a ++ b) ++ (c ++ d)) ++ 10 ∷ [] ≡ (((a ++ b) ++ c) ++ d) ++ 10 ∷ []
-line_parts a b c d = ap (λ text. text ++ 10 ∷ []) (sym (append_assoc (a ++ b) c d))
-
-pub line_from_front : (a b c d : List ℕ) → (a ++ b) ++ ((c ++ d) ++ 10 ∷ []) ≡ (((a ++ b) ++ c) ++ d) ++ 10 ∷ []
-line_from_front a b c d = sym (append_assoc (a ++ b) (c ++ d) (10 ∷ [])) ∙ line_parts a b c d
 
 -- the verdict did not go out whole
 pub verdict_cut : {V : Type 0} (Is : V → List ℕ → Type 0) (verdict : V) (line : List ℕ) (begun now : Option (List ℕ)) (fault : RunFault)

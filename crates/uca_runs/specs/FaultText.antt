@@ -1,8 +1,8 @@
 -- The words of a fault: its line on standard error, without the LF.
 use Rattle.std.specs.Prelude.{ℕ, List, [], ◌++◌, Bool, codes, decimal, nat_eq, if◌then◌else◌}
-use Rattle.uca_values.specs.FaultText.{kind_text}
-use Rattle.uca_rules.specs.FaultText as rule_files
-use Rattle.uca_certificates.specs.FaultText as certificates
+use Rattle.uca_values.specs.FaultText.{table_fault_text}
+use Rattle.uca_rules.specs.FaultText.{rule_fault_text}
+use Rattle.uca_certificates.specs.FaultText.{certificate_fault_text}
 use Rattle.uca_text.specs.FaultText.{text_fault_text}
 use Rattle.uca_plans.specs.declared.faults.TailorFault.{TailorFault}
 use Rattle.uca_plans.specs.declared.faults.TailorKind.{TailorKind}
@@ -18,28 +18,21 @@ use Rattle.uca_runs.specs.declared.faults.RunFault.{RunFault}
 use Rattle.uca_runs.specs.declared.faults.RunFault.TheVariants.{File, Input, Write, Memory, Text, Tailor, CertificateWrite, Open, Words}
 use Rattle.uca_runs.specs.RoleText.{role_text}
 
-abbrev pub long_run_text : ℕ → List ℕ
-long_run_text place = codes "LongRun at " ++ decimal place
-
 abbrev pub input_kind_text : InputKind → List ℕ
 input_kind_text input_kind.Utf8 = codes "Utf8"
 input_kind_text input_kind.TooLong = codes "TooLong"
-input_kind_text (input_kind.LongRun place) = long_run_text place
+input_kind_text (input_kind.LongRun place) = codes "LongRun at " ++ decimal place
 input_kind_text input_kind.Read = codes "Read"
 input_kind_text input_kind.Limit = codes "Limit"
 input_kind_text input_kind.Memory = codes "Memory"
 
--- a place in lines and what is wrong there, as `input line 7: Utf8`
-abbrev pub line_text : List ℕ → ℕ → List ℕ → List ℕ
-line_text name line kind = name ++ codes " line " ++ decimal line ++ codes ": " ++ kind
-
 -- where a file of this name is refused, and why
 abbrev pub file_fault_text : List ℕ → FileFault → List ℕ
-file_fault_text name (Lines fault) = line_text name fault.line (kind_text fault.kind)
-file_fault_text name (Rules fault) = name ++ codes " byte " ++ decimal fault.byte ++ codes ": " ++ rule_files.kind_text fault.kind
+file_fault_text name (Lines fault) = name ++ codes " " ++ table_fault_text fault
+file_fault_text name (Rules fault) = name ++ codes " " ++ rule_fault_text fault
 file_fault_text name RulesRead = name ++ codes ": Read"
 file_fault_text name RulesMemory = name ++ codes ": Memory"
-file_fault_text name (Certificate fault) = line_text name fault.line (certificates.kind_text fault.kind)
+file_fault_text name (Certificate fault) = name ++ codes " " ++ certificate_fault_text fault
 
 abbrev pub side_text : Bool → List ℕ
 side_text right = if right then codes "right" else codes "left"
@@ -61,7 +54,7 @@ tailor_text fault = line_by fault.kind
 -- the line of a fault
 abbrev pub fault_text : RunFault → List ℕ
 fault_text (File role fault) = file_fault_text (role_text role) fault
-fault_text (Input line kind) = line_text (codes "input") line (input_kind_text kind)
+fault_text (Input line kind) = codes "input line " ++ decimal line ++ codes ": " ++ input_kind_text kind
 fault_text (Write written) = codes "output: Write"
 fault_text Memory = codes "memory"
 fault_text (Text right fault) = side_text right ++ codes ": " ++ text_fault_text fault

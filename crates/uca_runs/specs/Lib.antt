@@ -5,6 +5,7 @@ pub mod ReadFiles
 pub mod Runs
 pub mod KeysRun
 pub mod LinesSoFar
+pub mod Texts
 pub mod KeysSoFar
 pub mod SortRun
 pub mod SortSoFar
@@ -14,6 +15,5 @@ pub mod CompareRun
 pub mod Laws
 pub mod Print
 pub mod RoleText
-pub mod Texts
 pub mod FaultText
 pub mod PlanFaults

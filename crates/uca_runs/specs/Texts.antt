@@ -1,21 +1,24 @@
--- A line of the input as a text. Only contracts of private functions cite this: no promise of the crate rests on it.
-use Rattle.std.specs.Prelude.{◌≡◌, ℕ, ◌+◌, ◌<◌, ◌≤◌, ◌⊎◌, Bool, false, List, ◌∷◌, Option, Some, None, Result, Ok, Err, IfSome, length, chars, ⊤}
-use Rattle.std.specs.Io.KnownBytes.{Consumes, IsAtEnd}
+-- The lines of an input as texts. Only contracts of private functions cite this: no promise of the crate rests on it.
+use Rattle.std.specs.Prelude.{◌≡◌, ℕ, suc, ◌+◌, Bool, false, MatchBool, List, [], ◌∷◌, ◌++◌, Option, Some, Result, Ok, Err, IfSome, length, chars, ⊤}
+use Rattle.uca_weights.specs.Streams.{SourceState}
 use Rattle.uca_values.specs.Content.{Properties}
 use Rattle.uca_text.specs.Texts.{NfdText, nfd_text}
 use Rattle.uca_text.specs.declared.normalize.TextFault.{TextFault}
 use Rattle.uca_text.specs.declared.normalize.TextFault.TheVariants as text_fault
-use Rattle.uca_lines.specs.NextLine.{HasBytes}
-use Rattle.uca_lines.specs.Lines.{is_lf, Lacks, ended, lines_of}
+use Rattle.uca_lines.specs.LineReader.{LineState, left_of}
 use Rattle.uca_lines.specs.declared.lines.LineFault.{LineFault}
 use Rattle.uca_lines.specs.declared.lines.LineFault.TheVariants as line_fault
 use Rattle.uca_runs.specs.declared.faults.InputKind.{InputKind}
 use Rattle.uca_runs.specs.declared.faults.InputKind.TheVariants.{Utf8, TooLong, LongRun, Read, Limit, Memory}
-use Rattle.uca_lines.specs.declared.lines.NextLine.{NextLine}
-use Rattle.uca_lines.specs.declared.lines.NextLine.TheVariants.{Terminated, Unterminated, EndOfInput}
+use Rattle.uca_runs.specs.declared.faults.RunFault.{RunFault}
+use Rattle.uca_runs.specs.declared.faults.RunFault.TheVariants.{Input}
 use Rattle.uca_runs.specs.Input.{cause_of, is_input_read_kind}
+use Rattle.uca_runs.specs.Runs.{IsInputFault}
+use Rattle.uca_runs.specs.LinesSoFar.{IsAfter, IsNext, OnKnown, AreAll}
 
--- the kind of a line's fault, and of a text's
+-- ---- Errors
+
+-- the kind of a line's error, and of a text's
 abbrev pub line_kind : LineFault → InputKind
 line_kind line_fault.TooLong = TooLong
 line_kind line_fault.Limit = Limit
@@ -27,13 +30,7 @@ text_kind text_fault.TooLong = TooLong
 text_kind (text_fault.LongRun place) = LongRun place
 text_kind text_fault.Memory = Memory
 
--- the line behind so many others is not faulty, and this is its text
-pub record IsTextOf (properties : Properties) (before : ℕ) (line : List ℕ) (text : NfdText) : Type 0 where
-  pub clean : cause_of properties before line ≡ None
-  pub spelling : text ≡ nfd_text properties (chars line)
-  pub lacks : Lacks is_lf line
-
--- the cause for which a line behind so many others is refused; an allocation may fail at any line
+-- the cause for which a line after so many others has no text; an allocation may fail at any line
 abbrev pub HasTextCause : Properties → ℕ → List ℕ → InputKind → Type 0
 HasTextCause properties before line Utf8 = cause_of properties before line ≡ Some Utf8
 HasTextCause properties before line TooLong = cause_of properties before line ≡ Some TooLong
@@ -42,31 +39,52 @@ HasTextCause properties before line Limit = ⊥
 HasTextCause properties before line Read = ⊥
 HasTextCause properties before line Memory = ⊤
 
--- the first line of the known bytes has this cause, where so many lines stand before it
-abbrev pub HasNextCause : Properties → ℕ → Option (List ℕ) → InputKind → Type 0
-HasNextCause properties before known kind = IfSome known (λ bytes. (line : List ℕ) × (later : List (List ℕ)) × (lines_of bytes ≡ line ∷ later) × (cause_of properties before line ≡ Some kind))
-
--- What is answered where known bytes were left, and others are left now: the text of the next line, that no
--- byte was left, or why the next line is not read.
-abbrev pub SaysNext : Properties → ℕ → Option (List ℕ) → Option (List ℕ) → List ℕ → NfdText → Result NextLine InputKind → Type 0
-SaysNext properties before old new line text (Ok Terminated) = IsTextOf properties before line text × Consumes old new (ended line)
-SaysNext properties before old new line text (Ok Unterminated) = IsTextOf properties before line text × (0 < length line) × Consumes old new line × IsAtEnd new
-SaysNext properties before old new line text (Ok EndOfInput) = IsAtEnd old
-SaysNext properties before old new line text (Err Utf8) = HasNextCause properties before old Utf8
-SaysNext properties before old new line text (Err TooLong) = HasNextCause properties before old TooLong
-SaysNext properties before old new line text (Err (LongRun place)) = HasNextCause properties before old (LongRun place)
-SaysNext properties before old new line text (Err Limit) = HasNextCause properties before old Limit
-SaysNext properties before old new line text (Err Read) = Consumes old new line × Lacks is_lf line × (length line ≤ 4194304)
-SaysNext properties before old new line text (Err Memory) = HasBytes old
-
--- how many lines were found: one more where a text was, and at a fault of a text too
-abbrev pub IsCounted : ℕ → ℕ → Result NextLine InputKind → Type 0
-IsCounted old new (Ok Terminated) = (new ≡ old + 1) × (old < 1000000)
-IsCounted old new (Ok Unterminated) = (new ≡ old + 1) × (old < 1000000)
-IsCounted old new (Ok EndOfInput) = new ≡ old
-IsCounted old new (Err kind) = (new ≡ old) ⊎ (new ≡ old + 1)
-
--- whether the fault is the reader's
+-- whether the error is the reader's
 abbrev pub is_read : {A : Type 0} → Result A InputKind → Bool
 is_read (Ok x) = false
 is_read (Err kind) = is_input_read_kind kind
+
+-- ---- Lines and their texts
+
+-- What a clause sees of an `InputTexts`: the reader of lines, the line that was read last and its text, and whether no LF
+-- ended that line.
+pub record TextsState : Type 0 where
+  pub reader : LineState
+  pub line : List ℕ
+  pub text : NfdText
+  pub is_cut : Bool
+
+-- These lines, none of them faulty, were read since the input had `start`.
+pub record HasRead (properties : Properties) (start : Option (List ℕ)) (before : List (List ℕ)) (texts : TextsState) (input : SourceState) : Type 0 where
+  pub after : OnKnown start (left_of texts.reader input) (λ bytes left. IsAfter properties bytes left texts.is_cut before)
+  pub count : texts.reader.number ≡ length before
+
+-- no line is left after these
+abbrev pub HasReadAll : Properties → Option (List ℕ) → List (List ℕ) → Type 0
+HasReadAll properties start before = IfSome start (λ bytes. AreAll properties bytes before)
+
+-- why the line after these, which has this number, gives no text
+abbrev pub HasNoText : Properties → Option (List ℕ) → List (List ℕ) → SourceState → ℕ → InputKind → Type 0
+HasNoText properties start before input number kind = IfSome start (λ bytes. IsInputFault properties bytes input.remaining before number kind)
+
+-- The next line was read, and its bytes were not looked at.
+pub record HasLine (properties : Properties) (start : Option (List ℕ)) (before : List (List ℕ)) (texts : TextsState) (input : SourceState) : Type 0 where
+  pub next : OnKnown start (left_of texts.reader input) (λ bytes left. IsNext properties bytes left texts.is_cut before texts.line)
+  pub count : texts.reader.number ≡ length before + 1
+
+-- what is returned where a line is due: the next line, that none is left, or why it is not read
+abbrev pub ReadsLine : Properties → Option (List ℕ) → List (List ℕ) → TextsState → SourceState → Result Bool InputKind → Type 0
+ReadsLine properties start before texts input (Ok more) = MatchBool more (HasLine properties start before texts input) (HasReadAll properties start before)
+ReadsLine properties start before texts input (Err kind) = HasNoText properties start before input (suc (length before)) kind
+
+-- The next line is not faulty, and this is its text. An allocation that fails now is an error of this line.
+pub record HasText (properties : Properties) (start : Option (List ℕ)) (before : List (List ℕ)) (texts : TextsState) (input : SourceState) : Type 0 where
+  pub read : HasRead properties start (before ++ texts.line ∷ []) texts input
+  pub text : texts.text ≡ nfd_text properties (chars texts.line)
+  pub memory : HasNoText properties start before input texts.reader.number Memory
+
+-- what is returned where a text is due: the text of the next line, that no line is left, or why there is no text
+abbrev pub ReadsNext : Properties → Option (List ℕ) → List (List ℕ) → TextsState → SourceState → Result Bool RunFault → Type 0
+ReadsNext properties start before texts input (Ok more) = MatchBool more (HasText properties start before texts input) (HasReadAll properties start before)
+ReadsNext properties start before texts input (Err (Input number kind)) = HasNoText properties start before input number kind
+ReadsNext properties start before texts input (Err _) = ⊥

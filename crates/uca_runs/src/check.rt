@@ -1,9 +1,7 @@
 //! The run that checks whether a table is well-formed.
 
-ghost use Rattle.std.specs.Prelude.{◌≡◌, ◌≤◌, ◌+◌, ◌++◌, ◌∷◌, [], ◌||◌, ℕ, List, Option, true, false, is_err, length, decimal, IfErr, OnOk, MatchResult};
+ghost use Rattle.std.specs.Prelude.{◌≡◌, ◌++◌, ◌∷◌, [], ◌||◌, true, false, IfErr, OnOk};
 ghost use Rattle.std.specs.Io.KnownBytes.{Appends};
-ghost use Rattle.uca_weights.specs.Writes.{WentOut, Writes};
-ghost use Rattle.uca_lines.specs.OutputBuffer.{IsBuffered};
 ghost use Rattle.uca_values.specs.Content.{properties_of};
 ghost use Rattle.uca_check.specs.FaultText.{ill_formed_text};
 ghost use Rattle.uca_runs.specs.Files.{ended_by_file, table_with};
@@ -16,8 +14,7 @@ use crate::output::write_text;
 use std::alloc::Allocator;
 use std::io::{Read, Write};
 use uca_check::{IllFormed, check};
-use uca_lines::OutputBuffer;
-use uca_weights::{Sink, Source, WriteFault};
+use uca_weights::{Sink, Source};
 
 /// Checks whether the table is well-formed (UTS #10, section 9.2) with the properties of the data file,
 /// writes the verdict as a line, and answers whether it is: `well-formed`, or the first condition that
@@ -69,41 +66,5 @@ fn write_ill_formed<W: Write>(fault: IllFormed, out: &mut Sink<W>) -> Result<(),
     ensures no_file { ended_by_file result ≡ false }
     ensures failed { out.new.failed ≡ (out.old.failed || ended_by_output result) }
 {
-    Ok(hand_ill_formed(fault, out)?)
-}
-
-fn hand_ill_formed<W: Write>(fault: IllFormed, out: &mut Sink<W>) -> Result<(), WriteFault>
-    ensures text { Writes out.old.contents out.new.contents (ill_formed_text fault ++ 10 ∷ []) result }
-    ensures failed { out.new.failed ≡ (out.old.failed || is_err result) }
-{
-    let mut output = OutputBuffer::new();
-    write_number(&mut output, out, b"WF", fault.wf.into())?;
-    write_number(&mut output, out, b" row ", fault.row)?;
-    output.write(out, b"\n")?;
-    output.flush(out)
-}
-
-// WritesThrough over a word and a number in decimal behind it.
-fn write_number<W: Write>(
-    output: &mut OutputBuffer,
-    out: &mut Sink<W>,
-    word: &[u8],
-    number: u32,
-) -> Result<(), WriteFault>
-    requires word { length word.now ≤ 40 }
-    requires room { output.old.written + length output.old.held ≤ 80 }
-
-    // Whatever the writer held at the start, and whatever was handed over since.
-    ensures text { (start : Option (List ℕ)) (before : List ℕ) →
-        IsBuffered start out.old.contents before output.old →
-        MatchResult result
-        (λ _. IsBuffered start out.new.contents (before ++ (word.now ++ decimal number)) output.new)
-        (λ fault. WentOut start out.new.contents (before ++ (word.now ++ decimal number)) fault.written) }
-    ensures count { OnOk result (output.new.written + length output.new.held
-        ≤ output.old.written + length output.old.held + length word.now + 40) }
-    ensures failed { out.new.failed ≡ (out.old.failed || is_err result) }
-{
-    let mut digits = itoa::Buffer::new();
-    output.write(out, word)?;
-    output.write(out, digits.format(number).as_bytes())
+    write_text(fault.message().text("\n").as_str().as_bytes(), out)
 }

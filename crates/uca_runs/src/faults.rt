@@ -1,8 +1,8 @@
 //! Why a run ends without its whole output.
 
-ghost use Rattle.std.specs.Prelude.{◌≡◌, Some};
+ghost use Rattle.std.specs.Prelude.{◌≡◌, ◌≤◌, length, Some};
 ghost use Rattle.uca_runs.specs.RoleText.{role_text};
-ghost use Rattle.uca_runs.specs.FaultText.{tailor_text};
+ghost use Rattle.uca_runs.specs.FaultText.{input_kind_text, file_fault_text, tailor_text, fault_text};
 ghost use Rattle.uca_runs.specs.PlanFaults.{refused_plan};
 ghost use Rattle.uca_runs.specs.declared.faults.RunFault.TheVariants.{Write};
 
@@ -13,7 +13,7 @@ use uca_plans::{TailorFault, TailorKind};
 use uca_rules::RuleFault;
 use uca_text::TextFault;
 use uca_values::TableFault;
-use uca_weights::WriteFault;
+use uca_weights::{Message, WriteFault};
 use uca_words::WordFault;
 
 /// What a file is for.
@@ -61,25 +61,44 @@ impl fmt::Display for Role {
 #[derive(Clone, Copy, Debug, PartialEq, Eq, Error)]
 pub enum InputKind {
     /// It is not UTF-8.
-    #[error("Utf8")]
     Utf8,
     /// It has more than 4,194,304 bytes, or its text more than 1,048,576 code points in
     /// Normalization Form D (UAX #15).
-    #[error("TooLong")]
     TooLong,
     /// More than 64 non-starters stand in a row in Normalization Form D: the index, from 0, of the
     /// first one of the first such run.
-    #[error("LongRun at {0}")]
     LongRun(u32),
     /// The reader failed.
-    #[error("Read")]
     Read,
     /// It is line 1,000,001.
-    #[error("Limit")]
     Limit,
     /// An allocation failed.
-    #[error("Memory")]
     Memory,
+}
+
+impl InputKind {
+    /// Its text: `Utf8`, `LongRun at 12`.
+    pub fn message(&self) -> Message
+        ensures text { result ≡ input_kind_text self.now }
+        ensures short { length result ≤ 40 }
+    {
+        match self {
+            InputKind::Utf8 => Message::of("Utf8"),
+            InputKind::TooLong => Message::of("TooLong"),
+            InputKind::LongRun(place) => Message::of("LongRun at ").number((*place).into()),
+            InputKind::Read => Message::of("Read"),
+            InputKind::Limit => Message::of("Limit"),
+            InputKind::Memory => Message::of("Memory"),
+        }
+    }
+}
+
+impl fmt::Display for InputKind {
+    ghost output = { λ kind. Some (input_kind_text kind) };
+
+    fn fmt<W: fmt::Write>(&self, f: &mut fmt::Formatter<W>) -> fmt::Result {
+        f.write_str(self.message().as_str())
+    }
 }
 
 /// Where a file is refused, and why. Its text follows the word for the role of the file.
@@ -103,11 +122,18 @@ pub enum FileFault {
 }
 
 impl FileFault {
-    // What stands between the word for the role of the file and the text: a fault without a place is set off by a colon.
-    fn separator(self) -> &'static str {
+    /// Its line for a file of this role: `table line 7: Range`, `rules: Read`.
+    pub fn message(&self, role: Role) -> Message
+        ensures text { result ≡ file_fault_text (role_text role) self.now }
+        ensures short { length result ≤ 100 }
+    {
+        let name = Message::of(role.name());
         match self {
-            FileFault::RulesRead | FileFault::RulesMemory => ": ",
-            _ => " ",
+            FileFault::Lines(fault) => name.text(" ").text(fault.message().as_str()),
+            FileFault::Rules(fault) => name.text(" ").text(fault.message().as_str()),
+            FileFault::RulesRead => name.text(": Read"),
+            FileFault::RulesMemory => name.text(": Memory"),
+            FileFault::Certificate(fault) => name.text(" ").text(fault.message().as_str()),
         }
     }
 }
@@ -116,7 +142,6 @@ impl FileFault {
 #[derive(Debug, Drop, Error)]
 pub enum RunFault {
     /// A file is refused, or cannot be read.
-    #[error("{role}{}{fault}", .fault.separator())]
     File {
         /// What the file is for.
         role: Role,
@@ -124,7 +149,6 @@ pub enum RunFault {
         fault: FileFault,
     },
     /// A line of the input is refused, or cannot be read.
-    #[error("input line {line}: {kind}")]
     Input {
         /// The line, counted from 1.
         line: u32,
@@ -132,16 +156,13 @@ pub enum RunFault {
         kind: InputKind,
     },
     /// The writer failed.
-    #[error("output: Write")]
     Write {
         /// How many bytes of the whole output went out before.
         written: u64,
     },
     /// An allocation failed that belongs to no file and to no line.
-    #[error("memory")]
     Memory,
     /// A word that is to be compared is refused.
-    #[error("{}: {fault}", if *.right {"right"} else {"left"})]
     Text {
         /// Whether it is the second of the two words.
         right: bool,
@@ -149,37 +170,66 @@ pub enum RunFault {
         fault: TextFault,
     },
     /// There is no plan, and so no tailored table: `tailor relation 3: Anchor`, `tailor: NoRoom 2`.
-    #[error("{}", TailorLine(*.0))]
     Tailor(TailorFault),
     /// The file of the certificate cannot be made, or its writer failed.
-    #[error("certificate: Write")]
     CertificateWrite {
         /// How many bytes of the certificate went out before.
         written: u64,
     },
     /// A file does not open.
-    #[error("{0}: Open")]
     Open(Role),
     /// The command line is refused.
-    #[error("{0}")]
     Words(WordFault),
 }
 
-// The line of a fault of the planner.
-#[derive(Clone, Copy)]
-struct TailorLine(TailorFault);
+impl RunFault {
+    /// Its line on standard error, without the LF: empty for an error of `clap`, which has a text of its own.
+    pub fn message(&self) -> Message
+        ensures text { result ≡ fault_text self.now }
+        ensures short { length result ≤ 120 }
+    {
+        match self {
+            RunFault::File { role, fault } => fault.message(*role),
+            RunFault::Input { line, kind } => Message::of("input line ")
+                .number((*line).into())
+                .text(": ")
+                .text(kind.message().as_str()),
+            RunFault::Write { .. } => Message::of("output: Write"),
+            RunFault::Memory => Message::of("memory"),
+            RunFault::Text { right, fault } => Message::of(if *right { "right" } else { "left" })
+                .text(": ")
+                .text(fault.message().as_str()),
+            RunFault::Tailor(fault) => tailor_message(*fault),
+            RunFault::CertificateWrite { .. } => Message::of("certificate: Write"),
+            RunFault::Open(role) => Message::of(role.name()).text(": Open"),
+            RunFault::Words(WordFault::Weighting) => Message::of("weighting: unknown"),
+            RunFault::Words(WordFault::Memory) => Message::of("memory"),
+            RunFault::Words(WordFault::Refused(_)) => Message::of(""),
+        }
+    }
+}
 
-impl fmt::Display for TailorLine {
-    ghost output = { λ line. Some (tailor_text line.0) };
+// The line of an error of the planner.
+fn tailor_message(fault: TailorFault) -> Message
+    ensures text { result ≡ tailor_text fault }
+    ensures short { length result ≤ 120 }
+{
+    if fault.kind == TailorKind::Memory {
+        return Message::of("memory");
+    }
+    let start = if fault.relation == 0 {
+        "tailor: "
+    } else {
+        "tailor "
+    };
+    Message::of(start).text(fault.message().as_str())
+}
 
+impl fmt::Display for RunFault {
     fn fmt<W: fmt::Write>(&self, f: &mut fmt::Formatter<W>) -> fmt::Result {
-        let TailorLine(fault) = *self;
-        if fault.kind == TailorKind::Memory {
-            f.write_str("memory")
-        } else if fault.relation == 0 {
-            write!(f, "tailor: {fault}")
-        } else {
-            write!(f, "tailor {fault}")
+        match self {
+            RunFault::Words(fault) => write!(f, "{fault}"),
+            _ => f.write_str(self.message().as_str()),
         }
     }
 }

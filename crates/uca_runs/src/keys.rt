@@ -1,8 +1,7 @@
 //! The run that prints the sort key of each line.
 
-ghost use Rattle.std.specs.Prelude.{◌≡◌, ◌∷◌, [], ℕ, ◌+◌, ◌-◌, ◌*◌, ◌^◌, ◌<◌, ◌≤◌, ◌||◌, true, false, List, Option, IfOk, IfSome, OnOk, length};
+ghost use Rattle.std.specs.Prelude.{◌≡◌, ◌∷◌, [], ℕ, ◌+◌, ◌-◌, ◌*◌, ◌^◌, ◌<◌, ◌≤◌, ◌||◌, true, false, List, Option, IfSome, OnOk, length};
 ghost use Rattle.uca_weights.specs.Writes.{WentOut};
-ghost use Rattle.std.specs.Bool.{OnTrue};
 ghost use Rattle.uca_lines.specs.OutputBuffer.{IsBuffered};
 ghost use Rattle.uca_match.specs.Collations.{collation_of};
 ghost use Rattle.uca_weights.specs.declared.Depth.TheVariants.{Weights};
@@ -10,60 +9,60 @@ ghost use Rattle.uca_key.specs.Lengths.{HasShortRows};
 ghost use Rattle.uca_runs.specs.Keys.{key_settings_of, text_line};
 ghost use Rattle.uca_runs.specs.Runs.{is_input_read, ended_by_output};
 ghost use Rattle.uca_runs.specs.KeysRun.{ended_before_input, PrintsKeys, WritesKeys};
-ghost use Rattle.uca_runs.specs.KeysSoFar.{HasPrinted, PrintsNext, PrintsText, PrintsRest};
+ghost use Rattle.uca_runs.specs.KeysSoFar.{HasPrinted, PrintsText, PrintsRest};
 
 use crate::faults::{InputKind, RunFault};
 use crate::files::read_collation;
-use crate::input::{LONGEST_INPUT_LINE, next_text};
+use crate::input::InputTexts;
 use crate::print::print_key;
 use std::alloc::{Allocator, Global};
 use std::io::{Read, Write};
 use uca_key::KeyBuffer;
-use uca_lines::{LINE_LIMIT, LineReader, NextLine, OutputBuffer};
+use uca_lines::OutputBuffer;
 use uca_match::{Collator, Lookup};
-use uca_text::Normal;
 use uca_weights::{Depth, Sink, Source, Weighting};
 
-// The reader of lines, and what is used for one line after the other.
+// The lines of the input, and what is used for one after the other.
 #[derive(Drop)]
 struct KeyRun<A: Allocator> {
-    reader: LineReader,
-    line: Vec<u8, A>,
-    text: Normal,
-    // the key of the weights; an identical level is printed behind it
+    texts: InputTexts<A>,
+    // the key of the weights; an identical level is printed after it
     key: KeyBuffer<A>,
     depth: Depth,
     output: OutputBuffer,
 }
 
 impl<A: Allocator> KeyRun<A> {
-    // WritesThrough over the key of the text, which is that of the line with this number.
+    // WritesThrough over the key of the line that was read.
     fn print_text<L: Lookup, T: Allocator, W: Write>(
         &mut self,
         collator: &Collator<L, T>,
-        number: u32,
         out: &mut Sink<W>,
     ) -> Result<(), RunFault>
         requires weights { self.old.key.depth ≡ Weights }
         requires short_rows { HasShortRows (collation_of L.content collator.now).rows }
-        requires few { 0 < number }
-        requires many { number ≤ LINE_LIMIT }
-        requires small { self.old.output.written + length self.old.output.held ≤ (number - 1) * 2 ^ 42 }
+        requires few { 0 < self.old.texts.reader.number }
+        requires small { self.old.output.written + length self.old.output.held
+            ≤ (self.old.texts.reader.number - 1) * 2 ^ 42 }
         ensures prints { (begun : Option (List ℕ)) (before : List ℕ) →
-            let line = text_line (key_settings_of L.content collator.now self.old.key.weighting self.old.depth) self.old.text in
+            let c = key_settings_of L.content collator.now self.old.key.weighting self.old.depth in
             IsBuffered begun out.old.contents before self.old.output →
-            PrintsText begun before line number self.old.output out.old self.new.output out.new result }
-        ensures small { OnOk result (self.new.output.written + length self.new.output.held ≤ number * 2 ^ 42) }
-        ensures reader { self.new.reader ≡ self.old.reader }
+            PrintsText begun before (text_line c self.old.texts.text) self.old.texts.reader.number
+            self.old.output out.old self.new.output out.new result }
+        ensures small { OnOk result (self.new.output.written + length self.new.output.held
+            ≤ self.old.texts.reader.number * 2 ^ 42) }
+        ensures texts { self.new.texts ≡ self.old.texts }
         ensures weighting { self.new.key.weighting ≡ self.old.key.weighting }
         ensures weights { self.new.key.depth ≡ self.old.key.depth }
         ensures depth { self.new.depth ≡ self.old.depth }
         ensures not_read { is_input_read result ≡ false }
         ensures failed { out.new.failed ≡ (out.old.failed || ended_by_output result) }
     {
-        if self.key.write_text(collator, &self.text).is_err() {
+        let line = self.texts.number();
+        let text = self.texts.text();
+        if self.key.write_text(collator, text).is_err() {
             return Err(RunFault::Input {
-                line: number,
+                line,
                 kind: InputKind::Memory,
             });
         }
@@ -72,55 +71,8 @@ impl<A: Allocator> KeyRun<A> {
             out,
             self.depth,
             self.key.bytes(),
-            self.text.chars(),
+            text.chars(),
         )?)
-    }
-
-    // WritesThrough over the key of the next line, and answers whether more lines may follow.
-    fn print_next<L: Lookup, T: Allocator, I: Read, W: Write>(
-        &mut self,
-        collator: &Collator<L, T>,
-        input: &mut Source<I>,
-        out: &mut Sink<W>,
-    ) -> Result<bool, RunFault>
-        requires longest { self.old.reader.longest ≡ LONGEST_INPUT_LINE }
-        requires weights { self.old.key.depth ≡ Weights }
-        requires short_rows { HasShortRows (collation_of L.content collator.now).rows }
-        requires small { self.old.output.written + length self.old.output.held ≤ self.old.reader.number * 2 ^ 42 }
-        ensures prints { (start begun : Option (List ℕ)) (before : List (List ℕ)) →
-            let c = key_settings_of L.content collator.now self.old.key.weighting self.old.depth in
-            HasPrinted c start begun before self.old.reader input.old self.old.output out.old →
-            PrintsNext c start begun before self.new.reader input.new self.new.output out.new result }
-        ensures small { IfOk result (λ more. OnTrue more (self.new.output.written
-            + length self.new.output.held ≤ self.new.reader.number * 2 ^ 42)) }
-        ensures count { IfOk result (λ more. OnTrue more ((self.new.reader.number ≡ self.old.reader.number + 1)
-            × (self.new.reader.number ≤ LINE_LIMIT))) }
-        ensures longest { self.new.reader.longest ≡ self.old.reader.longest }
-        ensures weighting { self.new.key.weighting ≡ self.old.key.weighting }
-        ensures weights { self.new.key.depth ≡ self.old.key.depth }
-        ensures depth { self.new.depth ≡ self.old.depth }
-        ensures input_failed { input.new.failed ≡ (input.old.failed || is_input_read result) }
-        ensures out_failed { out.new.failed ≡ (out.old.failed || ended_by_output result) }
-    {
-        let number = self.reader.number() + 1;
-        match next_text(
-            &mut self.reader,
-            &mut self.line,
-            &mut self.text,
-            input,
-            collator.data,
-        ) {
-            Ok(NextLine::Terminated) => {
-                self.print_text(collator, number, out)?;
-                Ok(true)
-            }
-            Ok(NextLine::Unterminated) => {
-                self.print_text(collator, number, out)?;
-                Ok(false)
-            }
-            Ok(NextLine::EndOfInput) => Ok(false),
-            Err(kind) => Err(RunFault::Input { line: number, kind }),
-        }
     }
 
     // WritesThrough over the keys of all lines that are left.
@@ -130,24 +82,21 @@ impl<A: Allocator> KeyRun<A> {
         input: &mut Source<I>,
         out: &mut Sink<W>,
     ) -> Result<(), RunFault>
-        requires longest { self.old.reader.longest ≡ LONGEST_INPUT_LINE }
         requires weights { self.old.key.depth ≡ Weights }
         requires short_rows { HasShortRows (collation_of L.content collator.now).rows }
-        requires small { self.old.output.written + length self.old.output.held ≤ self.old.reader.number * 2 ^ 42 }
+        requires small { self.old.output.written + length self.old.output.held
+            ≤ self.old.texts.reader.number * 2 ^ 42 }
         ensures prints { (start begun : Option (List ℕ)) (before : List (List ℕ)) →
             let c = key_settings_of L.content collator.now self.old.key.weighting self.old.depth in
-            HasPrinted c start begun before self.old.reader input.old self.old.output out.old →
+            HasPrinted c start begun before self.old.texts input.old self.old.output out.old →
             PrintsRest c start begun input.new self.new.output out.new result }
         ensures input_failed { input.new.failed ≡ (input.old.failed || is_input_read result) }
         ensures out_failed { out.new.failed ≡ (out.old.failed || ended_by_output result) }
     {
-        'lines: loop {
-            match self.print_next(collator, input, out) {
-                Ok(true) => {}
-                Ok(false) => return Ok(()),
-                Err(fault) => return Err(fault),
-            }
+        while self.texts.next(input, collator.data)? {
+            self.print_text(collator, out)?;
         }
+        Ok(())
     }
 }
 
@@ -185,9 +134,7 @@ pub fn print_keys<L: Lookup, T: Allocator, A: Allocator + Copy, I: Read, W: Writ
     ensures out_failed { out.new.failed ≡ (out.old.failed || ended_by_output result) }
 {
     let mut run = KeyRun {
-        reader: LineReader::new(LONGEST_INPUT_LINE),
-        line: Vec::new(alloc),
-        text: Normal::new(global),
+        texts: InputTexts::new(alloc, global),
         key: KeyBuffer::new(alloc, weighting, Depth::Weights),
         depth,
         output: OutputBuffer::new(),

@@ -15,10 +15,6 @@ use Rattle.uca_table.specs.Canonical.{point_width, point_text}
 
 -- ---- Cuts
 
-pub lacks_append : (p : ℕ → Bool) (xs ys : List ℕ) → Lacks p xs → Lacks p ys → Lacks p (xs ++ ys)
-lacks_append p [] ys h k = k
-lacks_append p (x ∷ xs) ys h k = (h.0, lacks_append p xs ys h.1 k)
-
 -- of a text that is written out, by computation
 pub list_lacks : (p : ℕ → Bool) (xs : List ℕ) → list_all (λ b. not (p b)) xs ≡ true → Lacks p xs
 list_lacks p [] h = tt

@@ -1,8 +1,8 @@
 -- Each line of the canonical text of a table says its part of the table.
-use Rattle.std.proofs.Common.{◌≡◌, ℕ, ◌<◌, ◌≤◌, ◌&&◌, ◌==◌, Bool, true, false, List, [], ◌∷◌, ◌++◌, length, Ok, refl, sym, ap, subst, ◌∙◌, arith, append-nil, append_assoc, length-append}
+use Rattle.std.proofs.Common.{◌≡◌, ℕ, ◌<◌, ◌≤◌, ◌==◌, Bool, true, false, List, [], ◌∷◌, ◌++◌, length, Ok, refl, sym, ap, subst, ◌∙◌, arith, append-nil, append_assoc, length-append}
 use Rattle.std.specs.List.{list_all, flat_map, AllByRecursion}
 use Rattle.std.specs.Char.{IsScalar}
-use Rattle.std.proofs.lemmas.Bool.{false≢true}
+use Rattle.std.proofs.lemmas.Bool.{and_parts}
 use Rattle.std.proofs.lemmas.Bool.Decides.{nat_tests}
 use borrow.Author.Tests.{leb-true}
 use Rattle.uca_weights.specs.declared.Element.{Element}
@@ -17,6 +17,7 @@ use Rattle.uca_lines.proofs.DigitLemmas.{weight_of-digits, length-digits}
 use Rattle.uca_lines.proofs.LeadLemmas.{leads_skip, leads_from_skip}
 use Rattle.uca_values.specs.declared.ImplicitRange.{ImplicitRange}
 use Rattle.uca_values.specs.Content.{Entry, IsEntry, Fits, IsImplicitRange, is_name_byte, is_version_name}
+use Rattle.uca_lines.proofs.LineLemmas.{Lacks-append}
 use Rattle.uca_table.specs.CanonicalWords.{at_version, at_ranges}
 use Rattle.uca_table.specs.CanonicalElements.{mark_byte, element_text}
 use Rattle.uca_table.specs.Canonical.{point_text, key_point_text, key_text, version_line, setting_line, range_line, row_line}
@@ -24,7 +25,7 @@ use Rattle.uca_table.specs.Elements.{BeginsElement}
 use Rattle.uca_table.specs.Rows.{IsKey, IsRow}
 use Rattle.uca_table.specs.Headers.{IsVersion, IsRangeText, IsRange}
 use Rattle.uca_table.specs.TableLines.{OfVersion, OfSetting, OfRange, OfRow, IsLine}
-use Rattle.uca_table.proofs.CanonicalBytes.{lacks_append, list_lacks, up_to_lacks, from_first_lacks, skip_front, skip_none, keeps_end, text_again, halves_are, lacks_digits, digit_no_blank, digit_no_hash, digit_no_semicolon, digit_no_lf, digit_no_dot, digits_all, point_all, point_some, code_point_again}
+use Rattle.uca_table.proofs.CanonicalBytes.{list_lacks, up_to_lacks, from_first_lacks, skip_front, skip_none, keeps_end, text_again, halves_are, lacks_digits, digit_no_blank, digit_no_hash, digit_no_semicolon, digit_no_lf, digit_no_dot, digits_all, point_all, point_some, code_point_again}
 
 -- ---- Keys
 
@@ -36,7 +37,7 @@ lacks_key : (p : ℕ → Bool) → ((b : ℕ) → is_hex_digit b ≡ true → p 
 unfolding key_text key_point_text
 lacks_key p each space [] h = tt
 lacks_key p each space (c ∷ key) h =
-    lacks_append p (point_text c ++ 32 ∷ []) (key_text key) (lacks_append p (point_text c) (32 ∷ []) (lacks_point p each c h.0) (space, tt))
+    Lacks-append p (point_text c ++ 32 ∷ []) (key_text key) (Lacks-append p (point_text c) (32 ∷ []) (lacks_point p each c h.0) (space, tt))
     (lacks_key p each space key h.1)
 
 -- a key and more begin with a code point
@@ -84,7 +85,7 @@ spares_mark p s true = s.star
 spares_mark p s false = s.dot
 
 lacks_weight : (p : ℕ → Bool) → SparesElements p → (w : ℕ) (more : List ℕ) → w < 0x1_0000 → Lacks p more → Lacks p (digits 4 w ++ more)
-lacks_weight p s w more h k = lacks_append p (digits 4 w) more (lacks_digits p s.digit (digits 4 w) (digits_all 4 w h)) k
+lacks_weight p s w more h k = Lacks-append p (digits 4 w) more (lacks_digits p s.digit (digits 4 w) (digits_all 4 w h)) k
 
 lacks_element : (p : ℕ → Bool) → SparesElements p → (e : Element) → Fits e → Lacks p (element_text e)
 unfolding element_text
@@ -102,7 +103,7 @@ lacks_element p s e h = (
 
 lacks_elements : (p : ℕ → Bool) → SparesElements p → (elements : List Element) → AllByRecursion Fits elements → Lacks p (flat_map element_text elements)
 lacks_elements p s [] h = tt
-lacks_elements p s (e ∷ elements) h = lacks_append p (element_text e) (flat_map element_text elements) (lacks_element p s e h.0)
+lacks_elements p s (e ∷ elements) h = Lacks-append p (element_text e) (flat_map element_text elements) (lacks_element p s e h.0)
     (lacks_elements p s elements h.1)
 
 elements_some : (elements : List Element) → 1 ≤ length elements → 1 ≤ length (flat_map element_text elements)
@@ -129,7 +130,7 @@ no_lf = record { digit = digit_no_lf; opening = refl; closing = refl; dot = refl
 lacks_row : (p : ℕ → Bool) → SparesElements p → p 32 ≡ false → p 59 ≡ false → (row : Entry) → IsEntry row → Lacks p (row_line row)
 unfolding row_line
 lacks_row p s space semicolon row h =
-    lacks_append p (key_text row.key) (59 ∷ 32 ∷ flat_map element_text row.elements) (lacks_key p s.digit space row.key h.points)
+    Lacks-append p (key_text row.key) (59 ∷ 32 ∷ flat_map element_text row.elements) (lacks_key p s.digit space row.key h.points)
     (semicolon, (space, lacks_elements p s row.elements h.fits))
 
 row_again : (row : Entry) → IsEntry row → IsRow (row_line row) row
@@ -187,7 +188,7 @@ unfolding range_line
 range_front r = simp append_assoc
 
 lacks_ends : (p : ℕ → Bool) → ((b : ℕ) → is_hex_digit b ≡ true → p b ≡ false) → p 46 ≡ false → (r : ImplicitRange) → IsImplicitRange r → Lacks p (ends_text r)
-lacks_ends p each dot r h = lacks_append p (point_text r.first) (46 ∷ 46 ∷ point_text r.last) (lacks_point p each r.first h.first_point)
+lacks_ends p each dot r h = Lacks-append p (point_text r.first) (46 ∷ 46 ∷ point_text r.last) (lacks_point p each r.first h.first_point)
     (dot, (dot, lacks_point p each r.last h.last_point))
 
 lacks_lead : (p : ℕ → Bool) → ((b : ℕ) → is_hex_digit b ≡ true → p b ≡ false) → (r : ImplicitRange) → IsImplicitRange r → Lacks p (digits 4 r.lead)
@@ -197,8 +198,8 @@ lacks_range : (p : ℕ → Bool) → SparesElements p → p 32 ≡ false → p 5
     → IsImplicitRange r → Lacks p (range_line r)
 lacks_range p s space semicolon word r h =
     subst (Lacks p) (sym (range_front r)) (
-    lacks_append p (at_ranges ++ 32 ∷ []) (ends_text r ++ lead_text r) word
-    (lacks_append p (ends_text r) (lead_text r) (lacks_ends p s.digit s.dot r h) (semicolon, (space, lacks_lead p s.digit r h)))
+    Lacks-append p (at_ranges ++ 32 ∷ []) (ends_text r ++ lead_text r) word
+    (Lacks-append p (ends_text r) (lead_text r) (lacks_ends p s.digit s.dot r h) (semicolon, (space, lacks_lead p s.digit r h)))
     )
 
 -- the two code points are found
@@ -215,7 +216,7 @@ ends_trimmed r h =
 
 range_text_again : (r : ImplicitRange) → IsImplicitRange r → IsRangeText (32 ∷ (ends_text r ++ lead_text r)) r
 range_text_again r h =
-    let plain = lacks_append is_semicolon (32 ∷ []) (ends_text r) (refl, tt) (lacks_ends is_semicolon digit_no_semicolon refl r h) in
+    let plain = Lacks-append is_semicolon (32 ∷ []) (ends_text r) (refl, tt) (lacks_ends is_semicolon digit_no_semicolon refl r h) in
     let lead = lacks_lead is_blank digit_no_blank r h in
     record {
       rest = 32 ∷ digits 4 r.lead;
@@ -261,13 +262,9 @@ setting_has_no_lf weightings.Shifted = list_lacks is_lf (setting_line weightings
 
 -- ---- Versions
 
-both : (a b : Bool) → (a && b) ≡ true → (a ≡ true) × (b ≡ true)
-both true b h = (refl, h)
-both false b h = absurd (false≢true h)
-
 lacks_name : (p : ℕ → Bool) → ((b : ℕ) → is_name_byte b ≡ true → p b ≡ false) → (name : List ℕ) → list_all is_name_byte name ≡ true → Lacks p name
 lacks_name p each [] h = tt
-lacks_name p each (b ∷ bs) h = let k = both _ _ h in (each b k.0, lacks_name p each bs k.1)
+lacks_name p each (b ∷ bs) h = let k = and_parts _ _ h in (each b k.0, lacks_name p each bs k.1)
 
 name_no_blank : (b : ℕ) → is_name_byte b ≡ true → is_blank b ≡ false
 name_no_blank b h = grind (arith, nat_tests)
@@ -288,12 +285,12 @@ record IsName (name : List ℕ) : Type 0 where
   bytes : list_all is_name_byte name ≡ true
 
 is_name : (name : List ℕ) → is_version_name name ≡ true → IsName name
-is_name name h = let k = both _ _ h in record { some = leb-true 1 (length name) (both _ _ k.0).0; bytes = k.1 }
+is_name name h = let k = and_parts _ _ h in record { some = leb-true 1 (length name) (and_parts _ _ k.0).0; bytes = k.1 }
 
 lacks_version : (p : ℕ → Bool) → ((b : ℕ) → is_name_byte b ≡ true → p b ≡ false) → Lacks p (at_version ++ 32 ∷ []) → (name : List ℕ) → IsName name
     → Lacks p (version_line name)
 lacks_version p each word name h = subst (Lacks p) (sym (version_front name))
-    (lacks_append p (at_version ++ 32 ∷ []) name word (lacks_name p each name h.bytes))
+    (Lacks-append p (at_version ++ 32 ∷ []) name word (lacks_name p each name h.bytes))
 
 version_again : (name : List ℕ) → is_version_name name ≡ true → IsVersion (version_line name) name
 version_again name h =

@@ -4,6 +4,7 @@ use Rattle.std.specs.List.{AllZip, AllByRecursion}
 use Rattle.std.specs.Option.{option_to_list}
 use Rattle.std.proofs.lemmas.List.{length-map}
 use Rattle.uca_weights.specs.declared.Weighting.{Weighting}
+use Rattle.uca_weights.proofs.Lists.{each_append}
 use Rattle.uca_values.specs.declared.ImplicitRange.{ImplicitRange}
 use Rattle.uca_values.specs.Content.{Entry, TableContent, IsTable, IsEntry, IsImplicitRange, AreImplicitRanges}
 use Rattle.uca_table.specs.Canonical.{setting_line, range_line, row_line, canonical_lines, canonical}
@@ -19,10 +20,6 @@ use Rattle.uca_table.proofs.TableMeanings.{exact, gives_one}
 use Rattle.uca_table.proofs.CanonicalLines.{version_says, version_has_no_lf, setting_says, setting_has_no_lf, range_says, range_has_no_lf, row_says, row_has_no_lf}
 
 -- ---- Lists of lines
-
-each_append : {X : Type 0} (P : X → Type 0) (xs ys : List X) → AllByRecursion P xs → AllByRecursion P ys → AllByRecursion P (xs ++ ys)
-each_append P [] ys h k = k
-each_append P (x ∷ xs) ys h k = (h.0, each_append P xs ys h.1 k)
 
 zip_append : {A B : Type 0} (R : A → B → Type 0) (xs ys : List A) (us vs : List B) → AllZip R xs us → AllZip R ys vs → AllZip R (xs ++ ys) (us ++ vs)
 zip_append R [] ys [] vs h k = k

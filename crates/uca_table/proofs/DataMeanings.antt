@@ -1,6 +1,9 @@
 -- The lines of a data file say one thing, and a line in which a cause stands is part of no data file.
-use Rattle.std.proofs.Common.{◌≡◌, ◌⊎◌, inl, inr, ℕ, ◌<◌, ◌≤◌, Bool, true, false, ◌||◌, List, [], ◌∷◌, ◌++◌, codes, Result, Ok, Err, refl, sym, ap, ◌∙◌, subst, arith, append_assoc, append-nil}
+use Rattle.std.proofs.Common.{◌≡◌, ◌⊎◌, inl, inr, ℕ, ◌<◌, ◌≤◌, Bool, true, false, List, [], ◌∷◌, ◌++◌, codes, Result, Ok, Err, refl, sym, ap, ◌∙◌, subst, arith, append_assoc, append-nil, ⊎_elim}
 use Rattle.std.specs.List.{AllByRecursion, AllZip}
+use Rattle.std.proofs.lemmas.List.{length_push}
+use Rattle.std.proofs.lemmas.Bool.{or_left, or_right}
+use Rattle.uca_weights.proofs.Lists.{each_around}
 use Rattle.uca_lines.specs.Fields.{text_of}
 use Rattle.uca_values.specs.declared.faults.FaultKind.{FaultKind}
 use Rattle.uca_values.specs.declared.faults.FaultKind.TheVariants as kinds
@@ -16,7 +19,7 @@ use Rattle.uca_table.specs.declared.data_file.lines.RangeLine.TheVariants.{Class
 use Rattle.uca_table.specs.DataLines.{Item, Nothing, Start, OfRange, AreWords, read_words, header, IsText, IsLine}
 use Rattle.uca_table.specs.DataSoFar.{Said, Says, Cause, RangeCause, OrderCause, IsRangeDue, IsBarred, Gives, IsUnfinished, count_before, AreInOrder, AreRanges, AreApart, MayStand, ranges_of, summary}
 use Rattle.uca_table.specs.DataSteps.{Takes, IsAdded, Adds, with_range}
-use Rattle.uca_table.proofs.DataSoFarLemmas.{Apart, AllApart, IsRising, apart_swap, put_last, ranges_more, ranges_nothing, ranges_start, summary_more, within_append, length_more}
+use Rattle.uca_table.proofs.DataSoFarLemmas.{Apart, AllApart, IsRising, apart_swap, put_last, ranges_more, ranges_nothing, ranges_start, summary_more, within_append}
 use Rattle.uca_table.proofs.DataWords.{words_same}
 
 -- ---- A line has one form
@@ -150,10 +153,6 @@ range_order (OfRange s ∷ items) r started h = absurd h
 
 -- ---- Ranges
 
-all_out : {X : Type 0} (P : X → Type 0) (front : List X) (x : X) (back : List X) → AllByRecursion P (front ++ x ∷ back) → P x × AllByRecursion P (front ++ back)
-all_out P [] x back h = h
-all_out P (y ∷ front) x back h = let rest = all_out P front x back h.1 in (rest.0, (h.0, rest.1))
-
 -- what holds of a range among others that are apart
 record IsOut {X : Type 0} (first last : X → ℕ) (x : X) (others : List X) : Type 0 where
   rising : first x ≤ last x
@@ -165,7 +164,7 @@ apart_out : {X : Type 0} (first last : X → ℕ) (front : List X) (x : X) (back
 apart_out first last [] x back h = record { rising = h.0; apart = h.1; rest = h.2 }
 apart_out first last (y ∷ front) x back h =
     let out = apart_out first last front x back h.2 in
-    let all = all_out (Apart first last y) front x back h.1 in
+    let all = (each_around (Apart first last y) front x back).0 h.1 in
     record { rising = out.rising; apart = (apart_swap first last y x all.0, out.apart); rest = (h.0, all.1, out.rest) }
 
 last_out : {X : Type 0} (first last : X → ℕ) (xs : List X) (x : X) → AreApart first last (xs ++ x ∷ []) → IsOut first last x xs
@@ -182,7 +181,7 @@ record MayEnd (content : DataContent) (r : RangeLine) : Type 0 where
 may_end : (content : DataContent) (r : RangeLine) → MayStand (put_last r content) → MayEnd content r
 may_end content (Class r) may =
     let out = last_out (λ (s : ClassRange). s.first) (λ s. s.last) content.classes r may.classes in
-    let more = length_more content.classes r in
+    let more = length_push content.classes r in
     record {
       rest = record { classes = out.rest; han = may.han; few_classes = omega (arith, may.few_classes); few_core = may.few_core; few_other = may.few_other };
       rising = out.rising;
@@ -193,7 +192,7 @@ may_end content (Core r) may =
     let P : List CodePointRange → Type 0 = AreApart (λ s. s.first) (λ s. s.last) in
     let out = apart_out (λ (s : CodePointRange). s.first) (λ s. s.last) content.core r content.other
     (subst P (append_assoc content.core (r ∷ []) content.other) may.han) in
-    let more = length_more content.core r in
+    let more = length_push content.core r in
     record {
       rest = record { classes = may.classes; han = out.rest; few_classes = may.few_classes; few_core = omega (arith, may.few_core); few_other = may.few_other };
       rising = out.rising;
@@ -204,7 +203,7 @@ may_end content (Other r) may =
     let P : List CodePointRange → Type 0 = AreApart (λ s. s.first) (λ s. s.last) in
     let out = last_out (λ (s : CodePointRange). s.first) (λ s. s.last) (content.core ++ content.other) r
     (subst P (sym (append_assoc content.core content.other (r ∷ []))) may.han) in
-    let more = length_more content.other r in
+    let more = length_push content.other r in
     record {
       rest = record { classes = may.classes; han = out.rest; few_classes = may.few_classes; few_core = may.few_core; few_other = omega (arith, may.few_other) };
       rising = out.rising;
@@ -228,16 +227,13 @@ none_within : (xs : List CodePointRange) (r : CodePointRange) → AllByRecursion
 none_within [] r apart point low high = refl
 none_within (s ∷ xs) r apart point low high = rw (side r.first r.last s.first s.last point apart.0 low high) (none_within xs r apart.1 point low high)
 
-either_true : (a b : Bool) → (a ≡ true) ⊎ (b ≡ true) → (a || b) ≡ true
-either_true a b (inl e) = rw e refl
-either_true true b (inr e) = refl
-either_true false b (inr e) = e
-
 no_han_between : (content : DataContent) (r : CodePointRange) → AllByRecursion (Apart (λ s. s.first) (λ s. s.last) r) (content.core ++ content.other)
     → HasHanBetween (properties_of content) r.first r.last → ⊥
 no_han_between content r apart has =
     let none = none_within (content.core ++ content.other) r apart has.0 has.1 has.2 in
-    let some = within_append content.core content.other has.0 ∙ either_true _ _ has.3 in
+    let is_core = is_within content.core has.0 in
+    let is_other = is_within content.other has.0 in
+    let some = within_append content.core content.other has.0 ∙ ⊎_elim (or_left is_core is_other) (or_right is_core is_other) has.3 in
     let no : false ≡ true = sym none ∙ some in
     cc
 

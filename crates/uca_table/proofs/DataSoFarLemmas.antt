@@ -1,13 +1,16 @@
 -- The lines of a data file, with one line more.
-use Rattle.std.proofs.Common.{◌≡◌, ◌⊎◌, inl, inr, ℕ, zero, suc, ◌+◌, ◌<◌, ◌≤◌, Bool, true, false, ltb, leb, max, cond, ◌||◌, List, [], ◌∷◌, ◌++◌, length, codes, Option, Some, None, Result, Ok, Err, refl, sym, ap, ◌∙◌, subst, arith, length-append, append_assoc, append-nil}
+use Rattle.std.proofs.Common.{◌≡◌, ◌⊎◌, inl, inr, ℕ, zero, suc, ◌+◌, ◌<◌, ◌≤◌, Bool, true, false, ltb, max, cond, ◌||◌, List, [], ◌∷◌, ◌++◌, codes, Option, Some, None, Result, Ok, Err, refl, sym, ap, ◌∙◌, subst, arith, append_assoc, append-nil}
 use mathlib.Core.Path.{fun_ext}
 use Rattle.std.specs.List.{AllByRecursion, AllZip}
 use Rattle.std.specs.Str.{bytes_eq}
-use Rattle.std.proofs.lemmas.Bool.{and_parts}
-use Rattle.std.proofs.lemmas.Bool.Decides.{nat_tests}
+use Rattle.std.proofs.lemmas.Bool.{and_parts, ltb-true, ltb-false, leb-true, or_left, or_right, or_cases}
 use Rattle.uca_lines.specs.declared.fields.RangeSyntax.{RangeSyntax}
 use Rattle.uca_lines.specs.declared.fields.RangeSyntax.TheVariants as ends
 use Rattle.std.specs.Str.Parse.{digits_value}
+use Rattle.std.proofs.lemmas.Slice.Zip.{all_zipped_more}
+use Rattle.std.proofs.lemmas.List.{length_push}
+use Rattle.uca_weights.proofs.Lists.{each_around}
+use Rattle.uca_weights.proofs.Tests.{by_cases, cond_apart}
 use Rattle.uca_lines.specs.Numbers.{class_of, is_class}
 use Rattle.uca_lines.specs.CodePointRanges.{range_of}
 use Rattle.uca_values.specs.declared.faults.FaultKind.{FaultKind}
@@ -16,17 +19,13 @@ use Rattle.uca_values.specs.declared.ClassRange.{ClassRange}
 use Rattle.uca_values.specs.declared.CodePointRange.{CodePointRange}
 use Rattle.uca_values.specs.Ranges.{is_between, is_within, class_in}
 use Rattle.uca_values.specs.Content.{DataContent, IsClass, properties_of, HasHanBetween}
-use Rattle.uca_values.proofs.Rising.{less_true, less_false, between_true, between_from}
-use Rattle.uca_values.proofs.Gaps.{all_put, within_put, same_properties}
+use Rattle.uca_values.proofs.Rising.{between_true, between_from}
+use Rattle.uca_values.proofs.Gaps.{within_put, same_properties}
 use Rattle.uca_table.specs.declared.data_file.lines.RangeLine.{RangeLine}
 use Rattle.uca_table.specs.declared.data_file.lines.RangeLine.TheVariants.{Class, Core, Other}
 use Rattle.uca_table.specs.DataLines.{Item, Nothing, Start, OfRange, range_read, han_read, class_read, read_words, IsLine}
 use Rattle.uca_table.specs.DataSoFar.{Said, Says, Cause, RangeCause, IsBarred, count_before, AreInOrder, AreRanges, AreApart, MayStand, ranges_of, put, summary}
 use Rattle.uca_table.specs.DataSteps.{Takes, IsNumbered, IsAdded, Adds, with_range}
-
-pub by_cases : {P : Type 0} (b : Bool) → (b ≡ true → P) → (b ≡ false → P) → P
-by_cases true yes_ no_ = yes_ refl
-by_cases false yes_ no_ = no_ refl
 
 -- ---- What the words of a line may say
 
@@ -40,9 +39,6 @@ abbrev pub ReadsWell : Result RangeLine FaultKind → Type 0
 ReadsWell (Ok r) = IsNumbered r
 ReadsWell (Err kind) = IsWordFault kind
 
-le_true : (a b : ℕ) → leb a b ≡ true → a ≤ b
-le_true a b e = grind (arith, nat_tests)
-
 pub class_is : (word : List ℕ) (n : ℕ) → class_of word ≡ Some n → IsClass n
 class_is word n h =
     by_cases (is_class word)
@@ -52,7 +48,7 @@ class_is word n h =
     let last = and_parts _ _ e in
     let before = and_parts _ _ last.0 in
     let P : ℕ → Type 0 = IsClass in
-    subst P is (le_true _ _ before.1, le_true _ _ last.1))
+    subst P is (leb-true _ _ before.1, leb-true _ _ last.1))
     (λ e. let none : None ≡ Some n = rw e at h in cc)
 
 han_well : (K : CodePointRange → RangeLine) → ((r : CodePointRange) → IsNumbered (K r)) → (r : Result (ℕ × ℕ) RangeSyntax)
@@ -91,12 +87,6 @@ no_read said line (inr h) = no_read_words said (read_words h.1.0) (reads_well h.
 
 -- ---- Lists with one more element
 
-pub zip_more : {X Y : Type 0} (R : X → Y → Type 0) (xs : List X) (ys : List Y) (x : X) (y : Y) → AllZip R xs ys → R x y → AllZip R (xs ++ x ∷ []) (ys ++ y ∷ [])
-zip_more R [] [] x y h r = (r, tt)
-zip_more R [] (b ∷ ys) x y h r = absurd h
-zip_more R (a ∷ xs) [] x y h r = absurd h
-zip_more R (a ∷ xs) (b ∷ ys) x y h r = (h.0, zip_more R xs ys x y h.1 r)
-
 abbrev pub Apart : {X : Type 0} → (X → ℕ) → (X → ℕ) → X → X → Type 0
 Apart first last r s = (last r < first s) ⊎ (last s < first r)
 
@@ -108,7 +98,7 @@ apart_put : {X : Type 0} (first last : X → ℕ) (front : List X) (x : X) (back
     → AllByRecursion (Apart first last x) (front ++ back) → AreApart first last (front ++ back) → AreApart first last (front ++ x ∷ back)
 apart_put first last [] x back sound all h = (sound, all, h)
 apart_put first last (y ∷ front) x back sound all h =
-    (h.0, all_put (Apart first last y) front x back (apart_swap first last x y all.0) h.1, apart_put first last front x back sound all.1 h.2)
+    (h.0, (each_around (Apart first last y) front x back).1 (apart_swap first last x y all.0, h.1), apart_put first last front x back sound all.1 h.2)
 
 apart_more : {X : Type 0} (first last : X → ℕ) (xs : List X) (x : X) → first x ≤ last x → AllByRecursion (Apart first last x) xs
     → AreApart first last xs → AreApart first last (xs ++ x ∷ [])
@@ -122,9 +112,9 @@ apart_more {X = X} first last xs x sound all h =
 -- two ranges that are not empty are apart, or have a code point in common
 overlap_cases : (a b c d : ℕ) → a ≤ b → c ≤ d → ((b < c) ⊎ (d < a)) ⊎ ((a ≤ max a c) × (max a c ≤ b) × (is_between c d (max a c) ≡ true))
 overlap_cases a b c d h k =
-    by_cases (ltb b c) (λ e. inl (inl (less_true b c e)))
-    (λ e. by_cases (ltb d a) (λ f. inl (inr (less_true d a f)))
-    (λ f. let low = less_false b c e in let high = less_false d a f in
+    by_cases (ltb b c) (λ e. inl (inl (ltb-true b c e)))
+    (λ e. by_cases (ltb d a) (λ f. inl (inr (ltb-true d a f)))
+    (λ f. let low = ltb-false b c e in let high = ltb-false d a f in
     inr (omega arith, omega arith, between_from c d (max a c) (omega arith) (omega arith))))
 
 class_zero_rest : (s : ClassRange) (xs : List ClassRange) (point : ℕ) → 1 ≤ s.class → class_in (s ∷ xs) point ≡ 0 → class_in xs point ≡ 0
@@ -133,23 +123,9 @@ class_zero_rest s xs point named none =
     (λ e. let is : s.class ≡ 0 = rw e at none in absurd (omega arith))
     (λ e. rw e at none)
 
-or_left : (a b : Bool) → a ≡ true → (a || b) ≡ true
-or_left true b e = refl
-or_left false b e = cc
-
-or_right : (a b : Bool) → b ≡ true → (a || b) ≡ true
-or_right true b e = refl
-or_right false b e = e
-
 or_step : (a x y all : Bool) → all ≡ (x || y) → (a || all) ≡ ((a || x) || y)
 or_step true x y all e = refl
 or_step false x y all e = e
-
-class_step : (here there : Bool) (m n front all : ℕ) → (here ≡ true → there ≡ true → ⊥) → all ≡ cond there n front
-    → cond here m all ≡ cond there n (cond here m front)
-class_step true true m n front all apart e = absurd (apart refl refl)
-class_step true false m n front all apart e = refl
-class_step false there m n front all apart e = e
 
 pub not_both : (r s : ClassRange) (point : ℕ) → (r.last < s.first) ⊎ (s.last < r.first) → (r.first ≤ point) × (point ≤ r.last)
     → (s.first ≤ point) × (point ≤ s.last) → ⊥
@@ -188,17 +164,13 @@ pub within_append : (xs ys : List CodePointRange) (point : ℕ) → is_within (x
 within_append [] ys point = refl
 within_append (r ∷ xs) ys point = or_step (is_between r.first r.last point) _ _ _ (within_append xs ys point)
 
-pub or_cases : (a b : Bool) → (a || b) ≡ true → (a ≡ true) ⊎ (b ≡ true)
-or_cases true b e = inl refl
-or_cases false b e = inr e
-
 -- ---- One more range
 
 class_more : (xs : List ClassRange) (r : ClassRange) → AllByRecursion (Apart (λ s. s.first) (λ s. s.last) r) xs → (point : ℕ)
     → class_in (xs ++ r ∷ []) point ≡ cond (is_between r.first r.last point) r.class (class_in xs point)
 class_more [] r apart point = refl
 class_more (s ∷ xs) r apart point =
-    class_step (is_between s.first s.last point) (is_between r.first r.last point) s.class r.class (class_in xs point) (class_in (xs ++ r ∷ []) point)
+    cond_apart (is_between s.first s.last point) (is_between r.first r.last point) s.class r.class (class_in xs point) (class_in (xs ++ r ∷ []) point)
     (λ e f. not_both r s point apart.0 (between_true r.first r.last point f) (between_true s.first s.last point e)) (class_more xs r apart.1 point)
 
 within_more : (xs : List CodePointRange) (r : CodePointRange) (point : ℕ)
@@ -258,16 +230,13 @@ IsRising (Class r) = r.first ≤ r.last
 IsRising (Core r) = r.first ≤ r.last
 IsRising (Other r) = r.first ≤ r.last
 
-pub length_more : {X : Type 0} (xs : List X) (x : X) → length (xs ++ x ∷ []) ≡ length xs + 1
-length_more xs x = omega (arith, length-append xs (x ∷ []))
-
 pub summary_more : (content : DataContent) (r : RangeLine) → AllApart content r → summary true (put_last r content) ≡ with_range (summary true content) r
 summary_more content (Class r) apart =
-    same_said _ _ refl (same_properties _ _ _ _ _ _ (fun_ext (class_more content.classes r apart)) refl refl) (length_more content.classes r) refl refl
+    same_said _ _ refl (same_properties _ _ _ _ _ _ (fun_ext (class_more content.classes r apart)) refl refl) (length_push content.classes r) refl refl
 summary_more content (Core r) apart =
-    same_said _ _ refl (same_properties _ _ _ _ _ _ refl (fun_ext (within_more content.core r)) refl) refl (length_more content.core r) refl
+    same_said _ _ refl (same_properties _ _ _ _ _ _ refl (fun_ext (within_more content.core r)) refl) refl (length_push content.core r) refl
 summary_more content (Other r) apart =
-    same_said _ _ refl (same_properties _ _ _ _ _ _ refl refl (fun_ext (within_more content.other r))) refl refl (length_more content.other r)
+    same_said _ _ refl (same_properties _ _ _ _ _ _ refl refl (fun_ext (within_more content.other r))) refl refl (length_push content.other r)
 
 -- ---- Order
 
@@ -316,7 +285,7 @@ zero_unless zero h = refl
 zero_unless (suc n) h = absurd (h (λ e. omega arith))
 
 le_unless : (a b : ℕ) → (b < a → ⊥) → a ≤ b
-le_unless a b h = by_cases (ltb b a) (λ e. absurd (h (less_true b a e))) (λ e. less_false b a e)
+le_unless a b h = by_cases (ltb b a) (λ e. absurd (h (ltb-true b a e))) (λ e. ltb-false b a e)
 
 -- a range that is not barred is not empty
 rising_from_free : (said : Said) (r : RangeLine) → (IsBarred said r → ⊥) → IsRising r
@@ -347,7 +316,7 @@ may_stand_more : (content : DataContent) (r : RangeLine) → MayStand content �
 may_stand_more content (Class r) may rising apart room = record {
   classes = apart_more (λ (s : ClassRange). s.first) (λ s. s.last) content.classes r rising apart may.classes;
   han = may.han;
-  few_classes = omega (arith, length_more content.classes r);
+  few_classes = omega (arith, length_push content.classes r);
   few_core = may.few_core;
   few_other = may.few_other;
 }
@@ -358,7 +327,7 @@ may_stand_more content (Core r) may rising apart room = record {
       subst P (sym (append_assoc content.core (r ∷ []) content.other))
       (apart_put (λ (s : CodePointRange). s.first) (λ s. s.last) content.core r content.other rising apart may.han);
   few_classes = may.few_classes;
-  few_core = omega (arith, length_more content.core r);
+  few_core = omega (arith, length_push content.core r);
   few_other = may.few_other;
 }
 may_stand_more content (Other r) may rising apart room = record {
@@ -369,7 +338,7 @@ may_stand_more content (Other r) may rising apart room = record {
       (apart_more (λ (s : CodePointRange). s.first) (λ s. s.last) (content.core ++ content.other) r rising apart may.han);
   few_classes = may.few_classes;
   few_core = may.few_core;
-  few_other = omega (arith, length_more content.other r);
+  few_other = omega (arith, length_push content.other r);
 }
 
 -- a range with which the header stands
@@ -390,7 +359,7 @@ range_says lines old line new r before form started added =
     let Q : Bool → Type 0 = λ b. AreInOrder b (before.items ++ OfRange r ∷ []) in
     record {
       items = before.items ++ OfRange r ∷ [];
-      forms = zip_more IsLine lines before.items line (OfRange r) before.forms form;
+      forms = all_zipped_more IsLine lines before.items line (OfRange r) before.forms form;
       order = subst Q (sym new_started) (range_in_order before.items r (subst Order started before.order));
       ranges = subst MayStand (sym more) (may_stand_more content r before.ranges rising apart here.room);
       sum = new_is ∙ ap (λ b. summary b (put_last r content)) (sym new_started) ∙ ap (summary new.started) (sym more);
@@ -401,7 +370,7 @@ nothing_says lines old line before form =
     let same = ranges_nothing before.items in
     record {
       items = before.items ++ Nothing ∷ [];
-      forms = zip_more IsLine lines before.items line Nothing before.forms form;
+      forms = all_zipped_more IsLine lines before.items line Nothing before.forms form;
       order = nothing_in_order before.items old.started before.order;
       ranges = subst MayStand (sym same) before.ranges;
       sum = before.sum ∙ ap (summary old.started) (sym same);
@@ -414,7 +383,7 @@ start_says lines old line before form unstarted =
     let P : Bool → Type 0 = λ b. AreInOrder b before.items in
     record {
       items = before.items ++ Start ∷ [];
-      forms = zip_more IsLine lines before.items line Start before.forms form;
+      forms = all_zipped_more IsLine lines before.items line Start before.forms form;
       order = start_in_order before.items (subst P unstarted before.order);
       ranges = subst MayStand (sym same) before.ranges;
       sum = ap (λ (s : Said). record s { started = true }) before.sum ∙ ap (summary true) (sym same);

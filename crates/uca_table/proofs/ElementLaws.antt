@@ -1,11 +1,10 @@
 -- What is read as an element is spelled as that element, and what is spelled so is read.
 use Rattle.std.proofs.Common.{◌≡◌, ℕ, ◌<◌, ◌≤◌, Bool, true, false, ◌==◌, List, [], ◌∷◌, ◌++◌, length, take, drop, Option, Some, None, refl, ap, sym, subst, ◌∙◌, arith, append_assoc, length-append}
-use Rattle.std.proofs.lemmas.Option.{same_Some}
-use Rattle.std.specs.Option.{option_map}
-use Rattle.std.proofs.lemmas.List.{take-append-drop}
-use Rattle.std.proofs.Math.Seq.{take-append_seam, drop-append_seam}
+use Rattle.std.proofs.lemmas.Option.{some_pair_parts}
+use Rattle.std.proofs.lemmas.List.{take-append-drop, take_at, drop_at}
 use borrow.Author.Tests.{eqb-true}
 use Rattle.uca_weights.specs.declared.Element.{Element}
+use Rattle.uca_weights.proofs.Tests.{then_some, map_some}
 use Rattle.uca_lines.specs.Numbers.{weight_of, digits}
 use Rattle.uca_lines.proofs.DigitLemmas.{weight_takes, weight_of-digits, length-digits}
 use Rattle.uca_values.specs.declared.faults.FaultKind.TheVariants as kinds
@@ -14,14 +13,9 @@ use Rattle.uca_lines.specs.Leads.{Leads}
 use Rattle.uca_lines.proofs.LeadLemmas.{IsExact, leads_push}
 use Rattle.uca_table.specs.Elements.{BeginsElement, opens, ElementsCause}
 use Rattle.uca_table.specs.CanonicalElements.{mark_byte, element_text}
-use Rattle.uca_table.specs.ElementSteps.{◌>>=◌, after_byte, mark_at, weight_at, element_at}
+use Rattle.uca_table.specs.ElementSteps.{after_byte, mark_at, weight_at, element_at}
 
 -- ---- What is read is spelled so
-
--- both steps of two gave something
-then_some : {A B : Type 0} (o : Option A) (f : A → Option B) (r : B) → o >>= f ≡ Some r → (x : A) × (o ≡ Some x) × (f x ≡ Some r)
-then_some (Some x) f r h = (x, refl, h)
-then_some None f r h = cc
 
 after_byte_takes : (byte : ℕ) (text rest : List ℕ) → after_byte byte text ≡ Some rest → text ≡ byte ∷ rest
 unfolding after_byte
@@ -32,31 +26,21 @@ after_byte_takes byte (b ∷ bs) rest h = cases (b == byte) refl
     cases true e = let same = eqb-true b byte e in let k = rw e at h in cc
     cases false e = let k = rw e at h in cc
 
--- what is equal in some pairs
-some_pair : {A B : Type 0} (x y : A) (a b : B) → ◌≡◌ {A = Option (A × B)} (Some (x, a)) (Some (y, b)) → (x ≡ y) × (a ≡ b)
-some_pair {A = A} {B = B} x y a b h =
-    let k : ◌≡◌ {A = A × B} (x, a) (y, b) = same_Some {A = A × B} (x, a) (y, b) h in
-    (ap (λ (r : A × B). r.0) k, ap (λ (r : A × B). r.1) k)
-
 mark_takes : (text : List ℕ) (m : Bool) (rest : List ℕ) → mark_at text ≡ Some (m, rest) → text ≡ mark_byte m ∷ rest
 unfolding mark_at
 mark_takes [] m rest h = cc
 mark_takes (b ∷ bs) m rest h = cases (b == 46) refl (b == 42) refl
   where
     dot : b ≡ 46 → ◌≡◌ {A = Option (Bool × List ℕ)} (Some (false, bs)) (Some (m, rest)) → b ∷ bs ≡ mark_byte m ∷ rest
-    dot e k = let same = some_pair false m bs rest k in rw (e, same.1, ← same.0) refl
+    dot e k = let same = some_pair_parts false m bs rest k in rw (e, same.1, ← same.0) refl
 
     star : b ≡ 42 → ◌≡◌ {A = Option (Bool × List ℕ)} (Some (true, bs)) (Some (m, rest)) → b ∷ bs ≡ mark_byte m ∷ rest
-    star e k = let same = some_pair true m bs rest k in rw (e, same.1, ← same.0) refl
+    star e k = let same = some_pair_parts true m bs rest k in rw (e, same.1, ← same.0) refl
 
     cases : (v : Bool) → (b == 46) ≡ v → (w : Bool) → (b == 42) ≡ w → b ∷ bs ≡ mark_byte m ∷ rest
     cases true e w k = dot (eqb-true b 46 e) (rw e at h)
     cases false e true k = star (eqb-true b 42 k) (rw (e, k) at h)
     cases false e false k = let n = rw (e, k) at h in cc
-
-map_some : {A B : Type 0} (f : A → B) (o : Option A) (r : B) → option_map f o ≡ Some r → (x : A) × (o ≡ Some x) × (f x ≡ r)
-map_some f (Some x) r h = (x, refl, (let k : Some (f x) ≡ Some r = h in cc))
-map_some f None r h = cc
 
 weight_at_takes : (text : List ℕ) (w : ℕ) (rest : List ℕ) → weight_at text ≡ Some (w, rest) → (text ≡ digits 4 w ++ rest) × (w < 0x1_0000)
 unfolding weight_at
@@ -69,16 +53,11 @@ weight_at_takes text w rest h =
 
 -- ---- What is spelled so is read
 
-take_front : (xs ys : List ℕ) (k : ℕ) → length xs ≡ k → (take k (xs ++ ys) ≡ xs) × (drop k (xs ++ ys) ≡ ys)
-take_front xs ys k h =
-    let P : ℕ → Type 0 = λ n. (take n (xs ++ ys) ≡ xs) × (drop n (xs ++ ys) ≡ ys) in
-    subst P h (take-append_seam xs ys, drop-append_seam xs ys)
-
 weight_at-digits : (w : ℕ) (rest : List ℕ) → w < 0x1_0000 → weight_at (digits 4 w ++ rest) ≡ Some (w, rest)
 unfolding weight_at
 weight_at-digits w rest h =
-    let cut = take_front (digits 4 w) rest 4 (length-digits 4 w) in
-    rw (cut.0, cut.1, weight_of-digits w h) refl
+    let four = length-digits 4 w in
+    rw (take_at (digits 4 w) rest 4 four, drop_at (digits 4 w) rest 4 four, weight_of-digits w h) refl
 
 mark_at-byte : (m : Bool) (rest : List ℕ) → mark_at (mark_byte m ∷ rest) ≡ Some (m, rest)
 unfolding mark_at
@@ -109,7 +88,7 @@ spelled_from : (t0 t1 t2 t3 t4 t5 t6 t7 t8 : List ℕ) (m : Bool) (p s t : ℕ) 
     → BeginsElement t0 e more
 spelled_from t0 t1 t2 t3 t4 t5 t6 t7 t8 m p s t e more h0 h1 h2 h3 h4 h5 h6 h7 h =
     let read : Element = record { primary = p; secondary = s; tertiary = t; mark = m } in
-    let same = some_pair read e t8 more h in
+    let same = some_pair_parts read e t8 more h in
     let nfd_text : t0 ≡ element_text read ++ t8 = rw (h0, h1, h2.0, h3, h4.0, h5, h6.0, h7) (sym (spelled_parts read t8)) in
     let B : Element → Type 0 = λ f. BeginsElement t0 f more in
     subst B same.0 (record { parts = nfd_text ∙ ap (λ z. element_text read ++ z) same.1; fits = record { primary = h2.1; secondary = h4.1; tertiary = h6.1 } })
@@ -142,7 +121,7 @@ not_empty e more h = cc
 
 pub exact_elements : IsExact BeginsElement
 exact_elements = record {
-  same = λ text x y a b h k. some_pair x y a b (sym (element_again text x a h) ∙ element_again text y b k);
+  same = λ text x y a b h k. some_pair_parts x y a b (sym (element_again text x a h) ∙ element_again text y b k);
   some = λ x a h. not_empty x a h.parts;
 }
 

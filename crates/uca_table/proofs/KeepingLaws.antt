@@ -10,9 +10,9 @@ use Rattle.std.proofs.lemmas.Map.Text.{is_eq-slice_cmp}
 use Rattle.std.proofs.lemmas.Bool.{false≢true}
 use Rattle.std.specs.Cmp.Lexicographic.{bytes_decides}
 use Rattle.uca_weights.specs.declared.Weighting.{Weighting}
+use Rattle.uca_weights.proofs.Lists.{each_push}
 use Rattle.uca_values.specs.declared.ImplicitRange.{ImplicitRange}
 use Rattle.uca_values.specs.Content.{Entry, IsEntry, AreRows, AreDistinct, keys_of}
-use Rattle.uca_lines.proofs.ListLemmas.{each_more}
 use Rattle.uca_table.specs.TableSoFar.{Begun}
 use Rattle.uca_table.specs.Keeping.{HoldsKeysOf, Keeps}
 
@@ -41,7 +41,7 @@ distinct_push (r ∷ rows) row h new = (
 pub rows_push : (rows : List Entry) (row : Entry) → AreRows rows → IsEntry row → (Contains (keys_of rows) row.key → ⊥) → length rows < 200000
     → AreRows (rows ++ row ∷ [])
 rows_push rows row h e new few = record {
-  entries = each_more IsEntry rows row h.entries e;
+  entries = (each_push IsEntry rows row).1 (h.entries, e);
   distinct = distinct_push rows row h.distinct new;
   few = omega (arith, length-append rows (row ∷ []));
 }

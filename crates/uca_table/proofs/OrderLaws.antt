@@ -1,37 +1,18 @@
 -- The order of the items of a table: which may follow which.
-use Rattle.std.proofs.Common.{◌≡◌, ℕ, zero, suc, get_or, ◌<◌, ◌⊎◌, List, [], ◌∷◌, ◌++◌, length, map, Option, Some, None, Contains, refl, ap, sym, subst, ◌∙◌, inl, inr, ⊎_elim, arith, length-append, append_assoc, append-nil}
+use Rattle.std.proofs.Common.{◌≡◌, ℕ, zero, suc, get_or, ◌<◌, ◌⊎◌, List, [], ◌∷◌, ◌++◌, length, map, Option, Some, None, Contains, refl, ap, sym, subst, ◌∙◌, inl, inr, arith, length-append, append_assoc, append-nil}
 use Rattle.std.specs.List.{AllByRecursion}
 use Rattle.std.specs.Option.{option_to_list}
-use Rattle.std.proofs.lemmas.List.{map-append}
+use Rattle.std.proofs.lemmas.List.{map-append, same_from_push}
 use Rattle.std.proofs.lemmas.List.Elements.{Contains-append_left, Contains-push}
 use Rattle.uca_weights.specs.declared.Weighting.{Weighting}
+use Rattle.uca_weights.proofs.Lists.{by_last, not_nil, each_push}
 use Rattle.uca_values.specs.declared.ImplicitRange.{ImplicitRange}
 use Rattle.uca_values.specs.Content.{Entry, IsEntry, AreRows, AreDistinct, AreImplicitRanges, Agree, keys_of}
 use Rattle.uca_table.specs.TableSoFar.{Begun, IsBegun}
 use Rattle.uca_table.specs.Headers.{MayFollow}
 use Rattle.uca_table.specs.TableLines.{Item, Nothing, OfVersion, OfSetting, OfRange, OfRow, said, in_order}
 
--- ---- Lists by their last element
-
-pub last_same : {X : Type 0} (xs ys : List X) (x y : X) → xs ++ x ∷ [] ≡ ys ++ y ∷ [] → (xs ≡ ys) × (x ≡ y)
-last_same [] [] x y h = (refl, cc)
-last_same [] (z ∷ zs) x y h = absurd (let e = ap length h in omega (arith, e, length-append zs (y ∷ [])))
-last_same (z ∷ zs) [] x y h = absurd (let e = ap length h in omega (arith, e, length-append zs (x ∷ [])))
-last_same (z ∷ zs) (w ∷ ws) x y h = let front : z ≡ w = cc in let back : zs ++ x ∷ [] ≡ ws ++ y ∷ [] = cc in let rest = last_same zs ws x y back in (cc, rest.1)
-
--- a list is empty, or has a last element
-pub by_last : {X : Type 0} (xs : List X) → (xs ≡ []) ⊎ ((front : List X) × (last : X) × (xs ≡ front ++ last ∷ []))
-by_last [] = inl refl
-by_last (x ∷ xs) = inr (⊎_elim (λ e. ([], x, ap (λ zs. x ∷ zs) e)) (λ h. (x ∷ h.0, h.1, ap (λ zs. x ∷ zs) h.2)) (by_last xs))
-
-pub not_nil : {X : Type 0} (xs : List X) (x : X) → xs ++ x ∷ [] ≡ [] → ⊥
-not_nil xs x h = let e = ap length h in omega (arith, e, length-append xs (x ∷ []))
-
 -- ---- What holds of the beginning of a list
-
-each_front : {X : Type 0} (P : X → Type 0) (xs : List X) (x : X) → AllByRecursion P (xs ++ x ∷ []) → AllByRecursion P xs × P x
-each_front P [] x h = (tt, h.0)
-each_front P (y ∷ ys) x h = let rest = each_front P ys x h.1 in ((h.0, rest.0), rest.1)
 
 keys_of-last : (rows : List Entry) (row : Entry) → keys_of (rows ++ row ∷ []) ≡ keys_of rows ++ row.key ∷ []
 keys_of-last rows row = map-append (λ (r : Entry). r.key) rows (row ∷ [])
@@ -55,20 +36,20 @@ distinct_last (r ∷ rows) row h k = first (distinct_last rows row h.1) k.0 k.1 
 
 rows_front : (rows : List Entry) (row : Entry) → AreRows (rows ++ row ∷ []) → AreRows rows
 rows_front rows row h = record {
-  entries = (each_front IsEntry rows row h.entries).0;
+  entries = ((each_push IsEntry rows row).0 h.entries).0;
   distinct = distinct_front rows row h.distinct;
   few = omega (arith, h.few, length-append rows (row ∷ []));
 }
 
 ranges_front : (ranges : List ImplicitRange) (r : ImplicitRange) → AreImplicitRanges (ranges ++ r ∷ []) → AreImplicitRanges ranges
 ranges_front [] r h = tt
-ranges_front (s ∷ ranges) r h = (h.0, (each_front (Agree s) ranges r h.1).0, ranges_front ranges r h.2)
+ranges_front (s ∷ ranges) r h = (h.0, ((each_push (Agree s) ranges r).0 h.1).0, ranges_front ranges r h.2)
 
 pub ranges_last : (ranges : List ImplicitRange) (r : ImplicitRange) → AreImplicitRanges (ranges ++ r ∷ []) → MayFollow ranges r
 ranges_last [] r h = record { alone = h.0; agrees = tt }
 ranges_last (s ∷ ranges) r h =
     let rest = ranges_last ranges r h.2 in
-    record { alone = rest.alone; agrees = ((each_front (Agree s) ranges r h.1).1, rest.agrees) }
+    record { alone = rest.alone; agrees = (((each_push (Agree s) ranges r).0 h.1).1, rest.agrees) }
 
 pub ranges_push : (ranges : List ImplicitRange) (r : ImplicitRange) → AreImplicitRanges ranges → MayFollow ranges r → AreImplicitRanges (ranges ++ r ∷ [])
 ranges_push [] r h m = (m.alone, tt, tt)
@@ -323,7 +304,7 @@ ends_row t rows row h e = record {
   front = record t { rows = rows };
   item = OfRow row;
   begun = record {
-    versioned = λ n. absurd (not_nil rows row (sym e ∙ (h.versioned n).2));
+    versioned = λ n. absurd (not_nil rows row [] (sym (h.versioned n).2 ∙ e));
     ranges = h.ranges;
     few_ranges = h.few_ranges;
     rows = rows_front rows row (subst AreRows e h.rows);
@@ -337,7 +318,7 @@ ends_range t ranges r h w e = record {
   front = with_parts t.version t.setting ranges [];
   item = OfRange r;
   begun = record {
-    versioned = λ n. absurd (not_nil ranges r (sym e ∙ (h.versioned n).1));
+    versioned = λ n. absurd (not_nil ranges r [] (sym (h.versioned n).1 ∙ e));
     ranges = ranges_front ranges r (subst AreImplicitRanges e h.ranges);
     few_ranges = omega (arith, h.few_ranges, ap length e, length-append ranges (r ∷ []));
     rows = no_rows;

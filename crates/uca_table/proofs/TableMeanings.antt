@@ -4,7 +4,9 @@ use Rattle.std.proofs.lemmas.Option.{same_Some}
 use Rattle.std.specs.Prelude.{IsSome, is_some, true}
 use Rattle.std.specs.List.{AllZip}
 use Rattle.std.specs.Option.{option_to_list}
+use Rattle.std.proofs.lemmas.List.{same_from_push}
 use Rattle.uca_weights.specs.declared.Weighting.{Weighting}
+use Rattle.uca_weights.proofs.Lists.{not_nil, by_last}
 use Rattle.uca_values.specs.declared.ImplicitRange.{ImplicitRange}
 use Rattle.uca_values.specs.Content.{Entry, TableContent, AreDistinct, AreImplicitRanges}
 use Rattle.uca_values.specs.declared.faults.FaultKind.{FaultKind}
@@ -18,7 +20,7 @@ use Rattle.uca_table.specs.Headers.{FollowCause}
 use Rattle.uca_table.specs.TableLines.{Item, Nothing, OfVersion, OfSetting, OfRange, OfRow, IsItem, IsLine, said, in_order, Says, Gives, IsUnfinished, all_of, Purpose, ForVersion, ForSetting, ForRange, ForRow, begins_at, Has, IsDue, PurposeCause, TextCause, Cause}
 use Rattle.uca_table.specs.Taking.{TakesText, Takes}
 use Rattle.uca_table.proofs.TableLinesLemmas.{said-append}
-use Rattle.uca_table.proofs.OrderLaws.{not_nil, by_last, last_same, distinct_last, ranges_last, versions_in-in_order, settings_in-in_order, ranges_in-in_order, rows_in-in_order, versions_in, settings_in, ranges_in, rows_in, versions_in-append, settings_in-append, ranges_in-append, rows_in-append, option_same, option_last, in_order_same, in_order-row, in_order-range, ends_empty, EndsIn, drop_last, with_parts}
+use Rattle.uca_table.proofs.OrderLaws.{distinct_last, ranges_last, versions_in-in_order, settings_in-in_order, ranges_in-in_order, rows_in-in_order, versions_in, settings_in, ranges_in, rows_in, versions_in-append, settings_in-append, ranges_in-append, rows_in-append, option_same, option_last, in_order_same, in_order-row, in_order-range, ends_empty, EndsIn, drop_last, with_parts}
 use Rattle.uca_table.proofs.FormLaws.{is_version, is_setting, is_range, is_row, item_same, row_same, range_same, row_text_barred, range_text_barred, row_begins}
 
 -- ---- What one more item says of what was begun
@@ -47,7 +49,7 @@ versioned t xs item h e = cases t.version refl
   where
     cases : (v : Option (List ℕ)) → t.version ≡ v → IsSome t.version
     cases (Some name) v = ap is_some v
-    cases None v = let none = h.versioned v in absurd (not_nil xs item (sym e ∙ ends_empty t none.2 none.1 none.0 v))
+    cases None v = let none = h.versioned v in absurd (not_nil xs item [] (sym (ends_empty t none.2 none.1 none.0 v) ∙ e))
 
 -- another item than a row is not last where there are rows
 no_rows_left : (s t : Begun) (item : Item) → in_order t ≡ in_order s ++ item ∷ [] → ((row : Entry) → item ≡ OfRow row → ⊥) → t.rows ≡ []
@@ -55,7 +57,7 @@ no_rows_left s t item h other = cases (by_last t.rows)
   where
     cases : (t.rows ≡ []) ⊎ ((front : List Entry) × (last : Entry) × (t.rows ≡ front ++ last ∷ [])) → t.rows ≡ []
     cases (inl e) = e
-    cases (inr e) = absurd (other e.1 (sym (last_same _ _ _ _ (sym (in_order-row t.version t.setting t.ranges e.0 e.1)
+    cases (inr e) = absurd (other e.1 (sym (same_from_push _ _ _ _ (sym (in_order-row t.version t.setting t.ranges e.0 e.1)
         ∙ (sym (ap (λ rs. in_order (with_parts t.version t.setting t.ranges rs)) e.2) ∙ h))).1))
 
 -- another item than a range is not last where there are ranges and no rows
@@ -64,7 +66,7 @@ no_ranges_left s t item h none other = cases (by_last t.ranges)
   where
     cases : (t.ranges ≡ []) ⊎ ((front : List ImplicitRange) × (last : ImplicitRange) × (t.ranges ≡ front ++ last ∷ [])) → t.ranges ≡ []
     cases (inl e) = e
-    cases (inr e) = absurd (other e.1 (sym (last_same _ _ _ _ (sym (in_order-range t.version t.setting e.0 e.1)
+    cases (inr e) = absurd (other e.1 (sym (same_from_push _ _ _ _ (sym (in_order-range t.version t.setting e.0 e.1)
         ∙ (sym (ap (λ rs. in_order (with_parts t.version t.setting t.ranges rs)) none
         ∙ ap (λ rs. in_order (with_parts t.version t.setting rs [])) e.2) ∙ h))).1))
 
@@ -191,9 +193,9 @@ taken_last before line t h = by_item (said_one item)
     whole = sym h.order ∙ (ap said parts.2 ∙ said-append parts.0 (item ∷ []))
 
     by_end : said (item ∷ []) ≡ item ∷ [] → (in_order t ≡ []) ⊎ EndsIn t → TakenLast before line t
-    by_end one (inl e) = absurd (not_nil (said parts.0) item (sym (whole ∙ ap (λ xs. said parts.0 ++ xs) one) ∙ e))
+    by_end one (inl e) = absurd (not_nil (said parts.0) item [] (sym e ∙ (whole ∙ ap (λ xs. said parts.0 ++ xs) one)))
     by_end one (inr e) =
-        let same = last_same (said parts.0) (in_order e.front) item e.item (sym (whole ∙ ap (λ xs. said parts.0 ++ xs) one) ∙ e.order) in
+        let same = same_from_push (said parts.0) (in_order e.front) item e.item (sym (whole ∙ ap (λ xs. said parts.0 ++ xs) one) ∙ e.order) in
         record {
           s = e.front;
           says = record { items = parts.0; forms = parts.3; order = same.0; begun = e.begun };

@@ -7,7 +7,7 @@ use Rattle.std.specs.List.{AllByRecursion, list_all}
 use Rattle.std.specs.Char.{IsScalar}
 use Rattle.std.specs.Str.{IsAscii, IsUtf8}
 use Rattle.std.specs.Str.Parse.{digits_value}
-use Rattle.std.proofs.lemmas.Bool.{false≢true}
+use Rattle.std.proofs.lemmas.Bool.{false≢true, and_parts}
 use Rattle.std.proofs.lemmas.Bool.Decides.{nat_tests}
 use Rattle.std.proofs.lemmas.Str.{IsUtf8-from_ascii}
 use Rattle.uca_weights.specs.declared.Element.{Element}
@@ -31,10 +31,6 @@ use Rattle.uca_table.proofs.KeepingLaws.{some_not_none, rows_push}
 use Rattle.uca_table.proofs.OrderLaws.{in_order-row, in_order-range, ranges_push}
 
 -- ---- A row that is read may stand in a table
-
-both_true : (a b : Bool) → (a && b) ≡ true → (a ≡ true) × (b ≡ true)
-both_true true b h = (refl, h)
-both_true false b h = absurd (false≢true h)
 
 last_true : (a b c d : Bool) → (a && b && c && d) ≡ true → d ≡ true
 last_true true true true d h = h
@@ -153,11 +149,11 @@ name_byte_small b h = grind (arith, nat_tests)
 
 names_are_ascii : (name : List ℕ) → list_all is_name_byte name ≡ true → IsAscii name
 names_are_ascii [] h i = omega arith
-names_are_ascii (b ∷ bs) h zero = name_byte_small b (both_true _ _ h).0
-names_are_ascii (b ∷ bs) h (suc i) = names_are_ascii bs (both_true _ _ h).1 i
+names_are_ascii (b ∷ bs) h zero = name_byte_small b (and_parts _ _ h).0
+names_are_ascii (b ∷ bs) h (suc i) = names_are_ascii bs (and_parts _ _ h).1 i
 
 pub name_is_text : (name : List ℕ) → is_version_name name ≡ true → IsUtf8 name
-name_is_text name h = IsUtf8-from_ascii name (names_are_ascii name (both_true _ _ h).1)
+name_is_text name h = IsUtf8-from_ascii name (names_are_ascii name (and_parts _ _ h).1)
 
 pub is_ok_by : {T E : Type 0} (r : Result T E) (P : T → Type 0) (Q : E → Type 0) (U : Type 0) → MatchResult r P (λ e. (U → ⊥) × Q e) → U → IsOk r
 is_ok_by (Ok x) P Q U h u = refl

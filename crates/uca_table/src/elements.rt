@@ -9,10 +9,8 @@ ghost use Rattle.uca_table.specs.ElementSteps;
 use std::alloc::Allocator;
 use uca_lines::fields::{skip_blanks, weight};
 use uca_values::FaultKind;
+use uca_values::limits::MOST_ELEMENTS;
 use uca_weights::Element;
-
-/// How many elements a row may have.
-const MOST_ELEMENTS: usize = 32;
 
 /// The elements that a text spells, with or without blanks around them.
 ///

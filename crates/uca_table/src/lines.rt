@@ -11,14 +11,12 @@ use std::marker::Model;
 use std::str;
 use uca_lines::fields::{cut_word, line_text, skip_blanks};
 use uca_lines::files::{FileForm, LineParser, TABLE_FORM};
+use uca_values::limits::MOST_ROWS;
 use uca_values::{FaultKind, Header, ImplicitRange, Row, Table};
 use uca_weights::Weighting;
 
 /// How many `@implicitweights` lines a table may have.
 const MOST_RANGES: usize = 256;
-
-/// How many rows a table may have.
-const MOST_ROWS: usize = 200_000;
 
 /// What the lines of a table file say so far.
 #[derive(Drop)]

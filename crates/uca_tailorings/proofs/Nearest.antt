@@ -8,15 +8,17 @@ use Rattle.uca_weights.specs.declared.Element.{Element}
 use Rattle.uca_weights.specs.declared.Level.{Level}
 use Rattle.uca_weights.specs.declared.Level.TheVariants.{One, Two, Three}
 use Rattle.uca_weights.specs.Levels.{weight, level_of}
-use Rattle.uca_weights.specs.Maps.{Sends}
+use Rattle.uca_weights.specs.Maps.{Sends, IsRisingMap}
 use Rattle.uca_values.specs.Content.{Entry}
 use Rattle.uca_values.specs.Implicit.{implicit_pair, implicit}
 use Rattle.uca_rules.specs.declared.relations.Relation.{Relation}
 use Rattle.uca_rules.specs.Relations.{IsTarget}
 use Rattle.uca_match.specs.Rows.{rows_of}
 use Rattle.uca_match.specs.Laws.{AreRelatedRows}
+use Rattle.uca_weights.proofs.PerLevel.{holds_at}
 use Rattle.uca_match.proofs.RowsByKey.{row_of_found, found_of_row}
-use Rattle.uca_tailorings.specs.Images.{Maps, map_of, AreRisingMaps, IsImage, AreImages}
+use Rattle.uca_weights.specs.PerLevel.{at_level}
+use Rattle.uca_tailorings.specs.Images.{Maps, AreRisingMaps, IsImage, AreImages}
 use Rattle.uca_tailorings.specs.Placing.{IsLow, reset, reweighted, placed}
 use Rattle.uca_tailorings.specs.Tailorings.{Tailoring, IsTailoring, anchor_elements, expansion_elements, IsPlacedAt, IsPlacedBy, IsPlaced}
 use Rattle.uca_tailorings.specs.Tailorings.{IsNewWeight, IsPairWeight, IsKnownWeight, IsBetween}
@@ -64,26 +66,24 @@ new_of_part tailoring level old w (q ∷ before) r after at = inr (new_of_part t
 -- ---- Images and implicit weights
 
 -- the image at a level
-image_at : (level : Level) (maps : Maps) (e f : Element) → IsImage maps e f → Sends (map_of level maps) (weight level e) (weight level f)
+image_at : (level : Level) (maps : Maps) (e f : Element) → IsImage maps e f → Sends (at_level level maps) (weight level e) (weight level f)
 image_at One maps e f image = image.primary
 image_at Two maps e f image = image.secondary
 image_at Three maps e f image = image.tertiary
 
 -- no map changes 0
-zero_at : (level : Level) (maps : Maps) → AreRisingMaps maps → Sends (map_of level maps) 0 0
-zero_at One maps rising = rising.primary.zero
-zero_at Two maps rising = rising.secondary.zero
-zero_at Three maps rising = rising.tertiary.zero
+zero_at : (level : Level) (maps : Maps) → AreRisingMaps maps → Sends (at_level level maps) 0 0
+zero_at level maps rising = (holds_at IsRisingMap level maps rising).zero
 
 module _ (tailoring : Tailoring) (is : IsTailoring tailoring) (accepted : IsAccepted tailoring) (level : Level) where
   -- the image of an element of a base row
   image_source : (row : Entry) → Contains tailoring.base.rows row → (e f : Element) → Contains row.elements e →
       IsImage tailoring.maps e f → IsFounded tailoring level f
   image_source row is_row e f is_element image =
-      let sent : Sends (map_of level tailoring.maps) (weight level e) (weight level f) = image_at level tailoring.maps e f image in
+      let sent : Sends (at_level level tailoring.maps) (weight level e) (weight level f) = image_at level tailoring.maps e f image in
       ⊎_elim
       (λ none.
-      let same : Some (weight level f) ≡ Some 0 = sym sent ∙ ap (map_of level tailoring.maps) none ∙ zero_at level tailoring.maps is.maps in
+      let same : Some (weight level f) ≡ Some 0 = sym sent ∙ ap (at_level level tailoring.maps) none ∙ zero_at level tailoring.maps is.maps in
       inl (let zero_there : weight level f ≡ 0 = cc in zero_there))
       (λ some. inr (inl (inl (record { row = row; is_row = is_row; element = e; is_element = is_element; some = some; image = sent }))))
       (zero_or_not (weight level e))

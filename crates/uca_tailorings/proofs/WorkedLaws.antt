@@ -17,7 +17,8 @@ use Rattle.uca_tailorings.specs.Tailorings.{IsTailoring, IsPlacedAt, IsNewWeight
 use Rattle.uca_tailorings.specs.Tailorings.{Meets, IsAccepted}
 use Rattle.uca_tailorings.specs.declared.conditions.Condition.TheVariants.{BaseIllFormed, TailoredIllFormed, Header, Uncovered, RowChanged, RowMissing}
 use Rattle.uca_tailorings.specs.declared.conditions.Condition.TheVariants.{RowExtra, Anchor, NotPlaced, NotFresh, NotNearest}
-use Rattle.uca_tailorings.specs.Worked.{maps_of, a_and_b, x_behind_a, kept_runs, with_x, WorkedTailorings}
+use Rattle.uca_tailorings.specs.Inputs.{maps_of}
+use Rattle.uca_tailorings.specs.Worked.{a_and_b, x_behind_a, kept_runs, with_x, WorkedTailorings}
 use Rattle.uca_tailorings.proofs.Members.{only_one}
 use Rattle.uca_tailorings.proofs.WorkedTables.{IsLetterRow, letter_row, letters_table, letters_well_formed}
 use Rattle.uca_tailorings.proofs.WorkedRuns.{kept, moving, maps_rise}

@@ -16,7 +16,8 @@ use Rattle.uca_tailorings.specs.Placing.{IsAnchor, IsLow}
 use Rattle.uca_tailorings.specs.Tailorings.{IsTailoring, IsPlacedAt, IsKnownWeight, IsAccepted}
 use Rattle.uca_tailorings.specs.declared.conditions.Condition.TheVariants.{BaseIllFormed, TailoredIllFormed, Header, Uncovered, RowChanged, RowMissing}
 use Rattle.uca_tailorings.specs.declared.conditions.Condition.TheVariants.{RowExtra, Anchor, NotPlaced, NotFresh, NotNearest}
-use Rattle.uca_tailorings.specs.Worked.{maps_of, x_behind_a, four_letters, eight_letters, z_behind_capital_a, y_before_c, w_as_a_and_b}
+use Rattle.uca_tailorings.specs.Inputs.{maps_of}
+use Rattle.uca_tailorings.specs.Worked.{x_behind_a, four_letters, eight_letters, z_behind_capital_a, y_before_c, w_as_a_and_b}
 use Rattle.uca_tailorings.specs.Worked.{moving_runs, with_moved_b}
 use Rattle.uca_check.proofs.RowElements.{each_parts}
 use Rattle.uca_tailorings.proofs.Parts.{of_part}

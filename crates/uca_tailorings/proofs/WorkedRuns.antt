@@ -6,8 +6,10 @@ use Rattle.uca_weights.specs.declared.Level.TheVariants.{One, Two, Three}
 use Rattle.uca_weights.specs.declared.maps.Run.{Run}
 use Rattle.uca_weights.specs.Runs.{weights_end, IsAbove, IsProperRun}
 use Rattle.uca_weights.proofs.RunMaps.{IsRisingMap-runs}
+use Rattle.uca_certificates.specs.Certificates.{CertificateContent, IsCertificate}
 use Rattle.uca_tailorings.specs.Images.{AreRisingMaps}
-use Rattle.uca_tailorings.specs.Worked.{run, LevelRuns, AreProper, maps_of, kept_runs, moving_runs}
+use Rattle.uca_tailorings.specs.Inputs.{maps_of}
+use Rattle.uca_tailorings.specs.Worked.{run, kept_runs, moving_runs}
 
 -- both sides of a run are weights of the level, and it has some
 abbrev is_in_range : Level → Run → Bool
@@ -29,7 +31,7 @@ proper_run level previous r range above =
     }
 
 -- the runs by which no weight moves
-pub kept : AreProper kept_runs
+pub kept : IsCertificate kept_runs
 kept =
     record {
       primary = record {
@@ -44,7 +46,7 @@ kept =
     }
 
 -- the runs by which `b` moves
-pub moving : AreProper moving_runs
+pub moving : IsCertificate moving_runs
 moving =
     record {
       primary = record {
@@ -65,7 +67,7 @@ moving =
     }
 
 -- the maps of proper runs rise
-pub maps_rise : (runs : LevelRuns) → AreProper runs → AreRisingMaps (maps_of runs)
+pub maps_rise : (runs : CertificateContent) → IsCertificate runs → AreRisingMaps (maps_of runs)
 maps_rise runs proper =
     record {
       primary = IsRisingMap-runs One runs.primary proper.primary;

@@ -11,7 +11,8 @@ use Rattle.uca_values.specs.Content.{Entry, IsHeader}
 use Rattle.uca_rules.specs.declared.relations.Relation.{Relation}
 use Rattle.uca_rules.specs.Relations.{IsRuleText}
 use Rattle.uca_match.specs.WorkedTable.{small_header}
-use Rattle.uca_tailorings.specs.Images.{Maps, map_of, IsImage, AreImages}
+use Rattle.uca_weights.specs.PerLevel.{at_level}
+use Rattle.uca_tailorings.specs.Images.{Maps, IsImage, AreImages}
 use Rattle.uca_tailorings.specs.Placing.{IsLow}
 use Rattle.uca_tailorings.specs.Tailorings.{Tailoring, IsPlacedAt, IsNewWeight, IsImageOfBase, IsPairWeight, IsKnownWeight, IsBetween}
 use Rattle.uca_tailorings.specs.Tailorings.{IsFreshWeight, IsNearestWeight, IsFresh, IsNearest}
@@ -137,17 +138,17 @@ module _ (tailoring : Tailoring) where
 
   -- what holds of each image of a weight of a base row holds of all
   pub image_is : (P : ℕ → Type 0) (level : Level) →
-      AllByRecursion (λ (r : Entry). AllByRecursion (λ e. IfSome (map_of level tailoring.maps (weight level e)) P) r.elements) tailoring.base.rows →
+      AllByRecursion (λ (r : Entry). AllByRecursion (λ e. IfSome (at_level level tailoring.maps (weight level e)) P) r.elements) tailoring.base.rows →
       (w : ℕ) → IsImageOfBase tailoring level w → P w
   image_is P level each w image =
       subst (λ found. IfSome found P) image.image
-      (each_contained (λ e. IfSome (map_of level tailoring.maps (weight level e)) P) image.row.elements image.element
-      (each_contained (λ (r : Entry). AllByRecursion (λ e. IfSome (map_of level tailoring.maps (weight level e)) P) r.elements) tailoring.base.rows image.row
+      (each_contained (λ e. IfSome (at_level level tailoring.maps (weight level e)) P) image.row.elements image.element
+      (each_contained (λ (r : Entry). AllByRecursion (λ e. IfSome (at_level level tailoring.maps (weight level e)) P) r.elements) tailoring.base.rows image.row
       each image.is_row) image.is_element)
 
   -- and of all known weights, where it holds of that of implicit weights
   pub known_is : (P : ℕ → Type 0) (level : Level) →
-      AllByRecursion (λ (r : Entry). AllByRecursion (λ e. IfSome (map_of level tailoring.maps (weight level e)) P) r.elements) tailoring.base.rows →
+      AllByRecursion (λ (r : Entry). AllByRecursion (λ e. IfSome (at_level level tailoring.maps (weight level e)) P) r.elements) tailoring.base.rows →
       ((w : ℕ) → IsPairWeight level w → P w) → (w : ℕ) → IsKnownWeight tailoring level w → P w
   known_is P level each pair w known = ⊎_elim (λ image. image_is P level each w image) (λ own. pair w own) known
 

@@ -1,31 +1,19 @@
 -- Elements and their images under the maps of the three levels.
 use Rattle.std.specs.Prelude.{◌≡◌, List, [], ◌∷◌, ⊤}
 use Rattle.uca_weights.specs.declared.Element.{Element}
-use Rattle.uca_weights.specs.declared.Level.{Level}
-use Rattle.uca_weights.specs.declared.Level.TheVariants.{One, Two, Three}
+use Rattle.uca_weights.specs.PerLevel.{PerLevel, AtEachLevel}
 use Rattle.uca_weights.specs.Maps.{WeightImages, Sends, IsRisingMap, KeepsWeights}
 
 -- one map for each level
-pub record Maps : Type 0 where
-  pub primary : WeightImages
-  pub secondary : WeightImages
-  pub tertiary : WeightImages
+abbrev pub Maps : Type 0
+Maps = PerLevel WeightImages
 
-abbrev pub map_of : Level → Maps → WeightImages
-map_of One maps = maps.primary
-map_of Two maps = maps.secondary
-map_of Three maps = maps.tertiary
-
-pub record AreRisingMaps (maps : Maps) : Type 0 where
-  pub primary : IsRisingMap One maps.primary
-  pub secondary : IsRisingMap Two maps.secondary
-  pub tertiary : IsRisingMap Three maps.tertiary
+abbrev pub AreRisingMaps : Maps → Type 0
+AreRisingMaps = AtEachLevel IsRisingMap
 
 -- each map sends each weight that it maps to itself
-pub record KeepAllWeights (maps : Maps) : Type 0 where
-  pub primary : KeepsWeights maps.primary
-  pub secondary : KeepsWeights maps.secondary
-  pub tertiary : KeepsWeights maps.tertiary
+abbrev pub KeepAllWeights : Maps → Type 0
+KeepAllWeights = AtEachLevel (λ level. KeepsWeights)
 
 -- each weight is put through the map of its level, and the element stays variable or not
 pub record IsImage (maps : Maps) (e f : Element) : Type 0 where

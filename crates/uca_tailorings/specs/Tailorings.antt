@@ -13,7 +13,8 @@ use Rattle.uca_rules.specs.declared.relations.Relation.{Relation}
 use Rattle.uca_rules.specs.Relations.{IsTarget, AreRules}
 use Rattle.uca_match.specs.Rows.{IsKey, rows_of}
 use Rattle.uca_match.specs.Collations.{Collation, elements_of}
-use Rattle.uca_tailorings.specs.Images.{Maps, map_of, AreRisingMaps, AreImages}
+use Rattle.uca_weights.specs.PerLevel.{at_level}
+use Rattle.uca_tailorings.specs.Images.{Maps, AreRisingMaps, AreImages}
 use Rattle.uca_tailorings.specs.Placing.{IsLow, IsAnchor, placed, IsOnSide}
 use Rattle.uca_tailorings.specs.declared.conditions.Condition.{Condition}
 use Rattle.uca_tailorings.specs.declared.conditions.Condition.TheVariants.{BaseIllFormed, TailoredIllFormed, Header, Uncovered, RowChanged, RowMissing, RowExtra, Anchor, NotPlaced, NotFresh, NotNearest}
@@ -138,7 +139,7 @@ pub record IsImageOfBase (tailoring : Tailoring) (level : Level) (w : ℕ) : Typ
   pub element : Element
   pub is_element : Contains row.elements element
   pub some : weight level element ≢ 0
-  pub image : Sends (map_of level tailoring.maps) (weight level element) w
+  pub image : Sends (at_level level tailoring.maps) (weight level element) w
 
 -- a weight that the base gave the tailored table
 abbrev pub IsKnownWeight : Tailoring → Level → ℕ → Type 0

@@ -44,15 +44,14 @@
 --     007A ; [.1C47.0021.0002]
 use Rattle.std.specs.Prelude.{ℕ, List, [], ◌∷◌, ◌++◌, true, false, Some, None}
 use Rattle.uca_weights.specs.declared.Element.{Element}
-use Rattle.uca_weights.specs.declared.Level.TheVariants.{One, Two, Three}
 use Rattle.uca_weights.specs.declared.Strength.TheVariants.{Primary, Secondary, Identical}
 use Rattle.uca_weights.specs.declared.maps.Run.{Run}
-use Rattle.uca_weights.specs.Runs.{weight_image, AreProperRuns}
 use Rattle.uca_values.specs.Content.{Entry}
 use Rattle.uca_text.specs.Texts.{NfdText}
 use Rattle.uca_rules.specs.declared.relations.Relation.{Relation}
 use Rattle.uca_match.specs.WorkedTable.{plain, row, small_header, small_properties}
-use Rattle.uca_tailorings.specs.Images.{Maps}
+use Rattle.uca_certificates.specs.Certificates.{CertificateContent, IsCertificate}
+use Rattle.uca_tailorings.specs.Inputs.{maps_of}
 use Rattle.uca_tailorings.specs.Tailorings.{Tailoring, IsTailoring, Meets, IsAccepted}
 use Rattle.uca_tailorings.specs.declared.conditions.Condition.TheVariants.{RowMissing, NotPlaced, NotFresh, NotNearest}
 
@@ -61,24 +60,6 @@ letter point = record { points = point ∷ []; classes = 0 ∷ [] }
 
 abbrev pub run : ℕ → ℕ → ℕ → Run
 run from to count = record { from = from; to = to; count = count }
-
--- the runs of the levels of a certificate, and their maps
-pub record LevelRuns : Type 0 where
-  pub primary : List Run
-  pub secondary : List Run
-  pub tertiary : List Run
-
-pub record AreProper (runs : LevelRuns) : Type 0 where
-  pub primary : AreProperRuns One runs.primary
-  pub secondary : AreProperRuns Two runs.secondary
-  pub tertiary : AreProperRuns Three runs.tertiary
-
-abbrev pub maps_of : LevelRuns → Maps
-maps_of runs = record {
-  primary = weight_image One runs.primary;
-  secondary = weight_image Two runs.secondary;
-  tertiary = weight_image Three runs.tertiary;
-}
 
 -- ---- One letter more
 
@@ -90,7 +71,7 @@ abbrev pub x_behind_a : Relation
 x_behind_a = record { anchor = letter 0x61; before = false; strength = Primary; target = letter 0x78; expansion = None }
 
 -- no weight moves
-abbrev pub kept_runs : LevelRuns
+abbrev pub kept_runs : CertificateContent
 kept_runs = record {
   primary = run 0x1C47 0x1C47 1 ∷ run 0x1C60 0x1C60 1 ∷ [];
   secondary = run 0x20 0x20 1 ∷ [];
@@ -144,7 +125,7 @@ abbrev pub w_as_a_and_b : Relation
 w_as_a_and_b = record { anchor = letter 0x61; before = false; strength = Identical; target = letter 0x77; expansion = Some (letter 0x62) }
 
 -- `b` moves
-abbrev pub moving_runs : LevelRuns
+abbrev pub moving_runs : CertificateContent
 moving_runs = record {
   primary = run 0x1C47 0x1C47 1 ∷ run 0x1C48 0x1C49 1 ∷ run 0x1C60 0x1C60 1 ∷ [];
   secondary = run 0x20 0x20 1 ∷ [];
@@ -164,8 +145,8 @@ with_moved_b = record {
 
 pub record WorkedTailorings : Type 0 where
   -- the maps are those of runs which certificates may have
-  pub kept : AreProper kept_runs
-  pub moving : AreProper moving_runs
+  pub kept : IsCertificate kept_runs
+  pub moving : IsCertificate moving_runs
   -- `x` directly behind `a`
   pub is_tailoring : IsTailoring (with_x (plain 0x1C48 0x20 2))
   pub accepted : IsAccepted (with_x (plain 0x1C48 0x20 2))

@@ -5,6 +5,7 @@ use Rattle.std.proofs.lemmas.List.{get_or-map, take_more, take_all}
 use Rattle.std.specs.List.{AllByRecursion}
 use Rattle.std.specs.Char.{IsScalar}
 use Rattle.std.proofs.lemmas.Grind.{common_steps}
+use Rattle.uca_weights.proofs.Lists.{each_push}
 use Rattle.uca_text.specs.Limits.{IsLongRun, HasNoLongRun, IsFirstLongRun}
 
 -- of the classes before the place `here`, the last `run` are those of non-starters, and no more; a long run does not stand among them
@@ -92,17 +93,12 @@ classes_more f points classes more here point class before pushed within is give
 pub all_classes : (f : ℕ → ℕ) (points classes : List ℕ) (here : ℕ) → classes ≡ map f (take here points) → length points ≤ here → classes ≡ map f points
 all_classes f points classes here before all = grind (arith, common_steps)
 
--- one element more
-each_more : (P : ℕ → Type 0) (xs : List ℕ) (x : ℕ) → AllByRecursion P xs → P x → AllByRecursion P (xs ++ x ∷ [])
-each_more P [] x all one = (one, tt)
-each_more P (y ∷ xs) x all one = (all.0, each_more P xs x all.1 one)
-
 -- one scalar more
 pub scalars_more : (points : List ℕ) (here point : ℕ) → AllByRecursion IsScalar (take here points) → here < length points →
     point ≡ get_or points here point → IsScalar point → AllByRecursion IsScalar (take (here + 1) points)
 scalars_more points here point before within is scalar =
     subst (AllByRecursion IsScalar) (sym (take_more points here point within))
-    (each_more IsScalar (take here points) (get_or points here point) before (subst IsScalar is scalar))
+    ((each_push IsScalar (take here points) (get_or points here point)).1 (before, subst IsScalar is scalar))
 
 -- the scalars are all code points
 pub all_scalars : (points : List ℕ) (here : ℕ) → AllByRecursion IsScalar (take here points) → length points ≤ here → AllByRecursion IsScalar points

@@ -8,12 +8,14 @@ ghost use Rattle.uca_values.specs.Ranges.{class_in};
 ghost use Rattle.uca_text.specs.Texts.{nfd_text};
 ghost use Rattle.uca_text.specs.Limits.{IsAccepted, IsNormal, HasNoLongRun};
 ghost use Rattle.uca_text.specs.Faults.{IsCause};
+ghost use Rattle.uca_text.specs.FaultText.{text_fault_text};
 
 use crate::Normal;
 use std::alloc::{AllocError, AllocFailed, Allocator, Global};
 use std::{fmt, mem};
 use thiserror::Error;
 use uca_values::Data;
+use uca_weights::Message;
 use unicode_normalization::slice::extend_nfd;
 
 /// How many code points a text may have in Normalization Form D.
@@ -34,18 +36,27 @@ pub enum TextFault {
     Memory,
 }
 
+impl TextFault {
+    /// Its text: `TooLong`, `LongRun at 12`.
+    pub fn message(&self) -> Message
+        ensures text { result ≡ text_fault_text self.now }
+        ensures short { length result ≤ 40 }
+    {
+        match self {
+            TextFault::TooLong => Message::of("TooLong"),
+            TextFault::LongRun(place) => Message::of("LongRun at ").number((*place).into()),
+            TextFault::Memory => Message::of("Memory"),
+        }
+    }
+}
+
 impl fmt::Display for TextFault {
     ghost use Rattle.std.specs.Prelude.{Some};
-    ghost use Rattle.uca_text.specs.FaultText.{text_fault_text};
 
     ghost output = { λ fault. Some (text_fault_text fault) };
 
     fn fmt<W: fmt::Write>(&self, f: &mut fmt::Formatter<W>) -> fmt::Result {
-        match self {
-            TextFault::TooLong => f.write_str("TooLong"),
-            TextFault::LongRun(place) => write!(f, "LongRun at {place}"),
-            TextFault::Memory => f.write_str("Memory"),
-        }
+        f.write_str(self.message().as_str())
     }
 }
 

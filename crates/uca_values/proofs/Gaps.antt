@@ -1,10 +1,15 @@
 -- Where a range fits between ranges in rising order, and what the ranges say once it stands there.
-use Rattle.std.proofs.Common.{◌≡◌, ◌≢◌, ℕ, zero, suc, ◌+◌, ◌<◌, ◌≤◌, ◌⊎◌, inl, inr, Bool, true, false, max, ◌||◌, cond, not, List, [], ◌∷◌, ◌++◌, length, get_or, take, drop, refl, sym, ap, ◌∙◌, subst, arith, length-take-le, length-drop}
+use Rattle.std.proofs.Common.{◌≡◌, ◌≢◌, ℕ, ◌+◌, ◌<◌, ◌≤◌, ◌⊎◌, inl, inr, Bool, true, false, max, ◌||◌, cond, not, List, [], ◌∷◌, ◌++◌, length, get_or, take, drop, refl, sym, ap, ◌∙◌, subst, arith, length-take-le, length-drop}
 use mathlib.Core.Path.{Path, fun_ext}
 use Rattle.std.specs.List.{AllByRecursion, insert}
 use Rattle.std.proofs.lemmas.List.{get_or-take, get_or-drop, get_or_default, take-append-drop}
 use Rattle.std.proofs.lemmas.List.Edits.{length-insert}
 use Rattle.std.proofs.lemmas.List.Recursion.{found_at, found_nowhere, or_at, or_from_places}
+use Rattle.std.proofs.lemmas.Bool.{cases_lt}
+use Rattle.std.proofs.Math.Nat.{eq-or-lt_of_le}
+use Rattle.std.proofs.lemmas.List.Elements.{recursion_from_All}
+use Rattle.uca_weights.proofs.Lists.{each_around}
+use Rattle.uca_weights.proofs.Tests.{cond_apart}
 use Rattle.uca_values.specs.declared.ClassRange.{ClassRange}
 use Rattle.uca_values.specs.declared.CodePointRange.{CodePointRange}
 use Rattle.uca_values.specs.Ranges.{is_between, is_within, class_in, RiseBy, AreRising, AreRisingClasses}
@@ -12,12 +17,6 @@ use Rattle.uca_values.specs.Gaps.{IsGap}
 use Rattle.uca_values.specs.Content.{properties_of, IsClass, IsData, DataContent, Properties, HasClassBetween, HasHanBetween}
 use Rattle.uca_values.specs.Adding.{AddsClass, AddsCore, AddsOther}
 use Rattle.uca_values.proofs.Rising.{all_at, sound_at, apart_at, IsPlace, between_true, between_false, between_from}
-
-from_cases : (i j : ℕ) → i ≤ j → (i ≡ j) ⊎ (i < j)
-from_cases zero zero l = inl refl
-from_cases zero (suc j) l = inr (omega arith)
-from_cases (suc i) zero l = absurd (omega arith)
-from_cases (suc i) (suc j) l = elim (from_cases i j (omega arith)) [ inl e ↦ inl (omega arith) | inr m ↦ inr (omega arith) ]
 
 -- the place of a is a gap if the range there, if any, begins above b
 pub gap_at_place : {X : Type 0} (first last : X → ℕ) (xs : List X) → RiseBy first last xs → (a b at : ℕ) (d : X) → IsPlace last a xs at → (at < length xs → b < first (get_or xs at d)) → IsGap first last a b xs at
@@ -27,28 +26,20 @@ gap_at_place {X = X} first last xs h a b at d place above = (place.0, after)
     begins e l = let P : X → Type 0 = λ x. b < first x in subst P (get_or_default xs at d e l) (above l)
 
     after : (k : ℕ) (e : X) → at ≤ k → k < length xs → b < first (get_or xs k e)
-    after k e from l = elim (from_cases at k from) [
+    after k e from l = elim (eq-or-lt_of_le from) [
       | inl same ↦ let P : ℕ → Type 0 = λ i. i < length xs → b < first (get_or xs i e) in subst P same (begins e) l
       | inr less ↦ omega (arith, apart_at first last xs h at k e less l, sound_at first last xs h at e (omega arith), begins e (omega arith))
     ]
 
 -- ---- A list with one more element
 
-all_from : {X : Type 0} (P : X → Type 0) (xs : List X) → ((k : ℕ) (d : X) → k < length xs → P (get_or xs k d)) → AllByRecursion P xs
-all_from P [] h = tt
-all_from P (x ∷ xs) h = (h 0 x (omega arith), all_from P xs (λ k d l. h (suc k) d (omega arith)))
-
-pub all_put : {X : Type 0} (P : X → Type 0) (front : List X) (x : X) (back : List X) → P x → AllByRecursion P (front ++ back) → AllByRecursion P (front ++ x ∷ back)
-all_put P [] x back here h = (here, h)
-all_put P (y ∷ front) x back here h = (h.0, all_put P front x back here h.1)
-
 rise_put : {X : Type 0} (first last : X → ℕ) (front : List X) (x : X) (back : List X) → first x ≤ last x → AllByRecursion (λ s. last s < first x) front → AllByRecursion (λ s. last x < first s) back → RiseBy first last (front ++ back) → RiseBy first last (front ++ x ∷ back)
 rise_put first last [] x back sound below above h = (sound, above, h)
 rise_put first last (y ∷ front) x back sound below above h =
-    (h.0, all_put (λ s. last y < first s) front x back below.0 h.1, rise_put first last front x back sound below.1 above h.2)
+    (h.0, (each_around (λ s. last y < first s) front x back).1 (below.0, h.1), rise_put first last front x back sound below.1 above h.2)
 
 below_gap : {X : Type 0} (first last : X → ℕ) (xs : List X) (a b at : ℕ) → at ≤ length xs → IsGap first last a b xs at → AllByRecursion (λ s. last s < a) (take at xs)
-below_gap {X = X} first last xs a b at bound gap = all_from (λ s. last s < a) (take at xs) each
+below_gap {X = X} first last xs a b at bound gap = recursion_from_All (λ s. last s < a) (take at xs) each
   where
     each : (k : ℕ) (d : X) → k < length (take at xs) → last (get_or (take at xs) k d) < a
     each k d l =
@@ -56,7 +47,7 @@ below_gap {X = X} first last xs a b at bound gap = all_from (λ s. last s < a) (
         rw get_or-take (gap.0 k d (omega arith) m)
 
 above_gap : {X : Type 0} (first last : X → ℕ) (xs : List X) (a b at : ℕ) → IsGap first last a b xs at → AllByRecursion (λ s. b < first s) (drop at xs)
-above_gap {X = X} first last xs a b at gap = all_from (λ s. b < first s) (drop at xs) each
+above_gap {X = X} first last xs a b at gap = recursion_from_All (λ s. b < first s) (drop at xs) each
   where
     each : (k : ℕ) (d : X) → k < length (drop at xs) → b < first (get_or (drop at xs) k d)
     each k d l = rw get_or-drop (gap.1 (at + k) d (omega arith) (omega (arith, length-drop at xs)))
@@ -67,19 +58,14 @@ rise_insert first last xs x at bound h sound gap =
     (let P = RiseBy first last in subst P (sym (take-append-drop at xs)) h)
 
 pub all_insert : {X : Type 0} (P : X → Type 0) (xs : List X) (x : X) (at : ℕ) → P x → AllByRecursion P xs → AllByRecursion P (insert xs at x)
-all_insert P xs x at here h = all_put P (take at xs) x (drop at xs) here (let Q = AllByRecursion P in subst Q (sym (take-append-drop at xs)) h)
+all_insert P xs x at here h = (each_around P (take at xs) x (drop at xs)).1 (here, subst (AllByRecursion P) (sym (take-append-drop at xs)) h)
 
 -- ---- What the ranges say of a code point, with one more range
-
-class_step : (here there : Bool) (m n front all : ℕ) → (here ≡ true → there ≡ true → ⊥) → all ≡ cond there n front → cond here m all ≡ cond there n (cond here m front)
-class_step true true m n front all apart e = absurd (apart refl refl)
-class_step true false m n front all apart e = refl
-class_step false there m n front all apart e = e
 
 class_put : (front : List ClassRange) (r : ClassRange) (back : List ClassRange) → AllByRecursion (λ s. s.last < r.first) front → (point : ℕ) → class_in (front ++ r ∷ back) point ≡ cond (is_between r.first r.last point) r.class (class_in (front ++ back) point)
 class_put [] r back below point = refl
 class_put (s ∷ front) r back below point =
-    class_step (is_between s.first s.last point) (is_between r.first r.last point) s.class r.class (class_in (front ++ back) point) (class_in (front ++ r ∷ back) point)
+    cond_apart (is_between s.first s.last point) (is_between r.first r.last point) s.class r.class (class_in (front ++ back) point) (class_in (front ++ r ∷ back) point)
     (λ e f. omega (arith, (between_true s.first s.last point e).1, (between_true r.first r.last point f).0, below.0))
     (class_put front r back below.1 point)
 
@@ -108,13 +94,8 @@ between_cases : (first last a b point : ℕ) → (last < a) ⊎ (b < first) → 
 between_cases first last a b point (inl below) low high = between_false first last point (inr (omega arith))
 between_cases first last a b point (inr above) low high = between_false first last point (inl (omega arith))
 
-place_sides : (k at : ℕ) → (k < at) ⊎ (at ≤ k)
-place_sides k zero = inr (omega arith)
-place_sides zero (suc at) = inl (omega arith)
-place_sides (suc k) (suc at) = elim (place_sides k at) [ inl l ↦ inl (omega arith) | inr l ↦ inr (omega arith) ]
-
 gap_sides : {X : Type 0} (first last : X → ℕ) (xs : List X) (a b at : ℕ) → IsGap first last a b xs at → (k : ℕ) (d : X) → k < length xs → (last (get_or xs k d) < a) ⊎ (b < first (get_or xs k d))
-gap_sides first last xs a b at gap k d l = elim (place_sides k at) [ inl below ↦ inl (gap.0 k d (omega arith) below) | inr above ↦ inr (gap.1 k d above l) ]
+gap_sides first last xs a b at gap k d l = elim (cases_lt k at) [ inl below ↦ inl (gap.0 k d (omega arith) below) | inr above ↦ inr (gap.1 k d above l) ]
 
 pub no_class_in_gap : (xs : List ClassRange) (a b at : ℕ) → IsGap (λ s. s.first) (λ s. s.last) a b xs at → (point : ℕ) → a ≤ point → point ≤ b → class_in xs point ≡ 0
 no_class_in_gap xs a b at gap point low high =

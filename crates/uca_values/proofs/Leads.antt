@@ -1,17 +1,15 @@
 -- Why the weights of a code point in a range of the header do not overflow.
-use Rattle.std.proofs.Common.{◌≡◌, ℕ, ◌+◌, ◌<◌, ◌≤◌, Bool, true, false, leb, eqb, min, ◌&&◌, List, [], ◌∷◌, Some, refl, sym, ◌∙◌, arith}
+use Rattle.std.proofs.Common.{◌≡◌, ℕ, ◌+◌, ◌<◌, ◌≤◌, Bool, true, leb, eqb, min, ◌&&◌, List, [], ◌∷◌, Some, sym, ◌∙◌, arith}
 use Rattle.std.specs.List.{AllByRecursion}
 use Rattle.std.proofs.lemmas.Bool.Decides.{nat_tests}
+use Rattle.std.proofs.lemmas.Bool.{eqb-true}
+use Rattle.uca_weights.proofs.Tests.{by_cases}
 use Rattle.uca_values.specs.declared.ImplicitRange.{ImplicitRange}
 use Rattle.uca_values.specs.Content.{Agree, AreImplicitRanges}
 use Rattle.uca_values.specs.Implicit.{lead_of, base_of}
 
 abbrev is_inside : ImplicitRange → ℕ → Bool
 is_inside r point = leb r.first point && leb point r.last
-
-by_cases : {P : Type 0} (b : Bool) → (b ≡ true → P) → (b ≡ false → P) → P
-by_cases true yes_ no_ = yes_ refl
-by_cases false yes_ no_ = no_ refl
 
 inside_last : (r : ImplicitRange) (point : ℕ) → is_inside r point ≡ true → point ≤ r.last
 inside_last r point h = grind (arith, nat_tests)
@@ -55,14 +53,11 @@ base_at_most (r ∷ xs) lead least =
     (λ e. rw e (omega (arith, base_at_most xs lead (min r.first least))))
     (λ e. rw e (base_at_most xs lead least))
 
-same_lead : (a b : ℕ) → eqb a b ≡ true → a ≡ b
-same_lead a b e = grind (arith, nat_tests)
-
 base_near : (xs : List ImplicitRange) (lead point least : ℕ) → AllByRecursion (Near lead point) xs → point < least + 0x8000 → point < base_of xs lead least + 0x8000
 base_near [] lead point least h low = low
 base_near (r ∷ xs) lead point least h low =
     by_cases (eqb r.lead lead)
-    (λ e. let near = h.0 (same_lead _ _ e) in rw e (base_near xs lead point (min r.first least) h.1 (omega arith)))
+    (λ e. let near = h.0 (eqb-true _ _ e) in rw e (base_near xs lead point (min r.first least) h.1 (omega arith)))
     (λ e. rw e (base_near xs lead point least h.1 low))
 
 -- the code point is less than 8000 above the base of its lead

@@ -4,6 +4,8 @@ use Rattle.std.specs.List.{AllByRecursion}
 use Rattle.std.specs.List.Sorted.{IsPartitionPoint, IsPartitionedBy}
 use Rattle.std.proofs.lemmas.Bool.Decides.{nat_tests}
 use Rattle.std.proofs.lemmas.List.Recursion.{found_at, found_nowhere, or_at, or_from_places}
+use Rattle.std.proofs.lemmas.Bool.{ltb-true, ltb-false, lt-ltb, cases_order}
+use Rattle.std.proofs.Math.Nat.{eq-or-lt_of_le}
 use Rattle.uca_values.specs.declared.ClassRange.{ClassRange}
 use Rattle.uca_values.specs.declared.CodePointRange.{CodePointRange}
 use Rattle.uca_values.specs.Ranges.{is_between, is_within, class_in, RiseBy, AreRising, AreRisingClasses}
@@ -28,30 +30,15 @@ apart_at first last (x ∷ xs) h (suc i) (suc j) d l m = apart_at first last xs 
 
 -- ---- The place of a code point
 
-equal_or_less : (i j : ℕ) → i ≤ j → (i ≡ j) ⊎ (i < j)
-equal_or_less zero zero h = inl refl
-equal_or_less zero (suc j) h = inr (omega arith)
-equal_or_less (suc i) zero h = absurd (omega arith)
-equal_or_less (suc i) (suc j) h = elim (equal_or_less i j (omega arith)) [ inl e ↦ inl (omega arith) | inr l ↦ inr (omega arith) ]
-
-pub less_true : (a b : ℕ) → ltb a b ≡ true → a < b
-less_true a b h = grind (arith, nat_tests)
-
-pub less_false : (a b : ℕ) → ltb a b ≡ false → b ≤ a
-less_false a b h = grind (arith, nat_tests)
-
-pub true_less : (a b : ℕ) → a < b → ltb a b ≡ true
-true_less a b h = grind (arith, nat_tests)
-
 pub parted : {X : Type 0} (first last : X → ℕ) (xs : List X) → RiseBy first last xs → (point : ℕ) → IsPartitionedBy (λ r. ltb (last r) point) xs
 parted first last xs h point i j d l m t =
-    elim (equal_or_less i j l) [
+    elim (eq-or-lt_of_le l) [
       | inl e ↦ let P : ℕ → Type 0 = λ k. ltb (last (get_or xs k d)) point ≡ true in subst P (sym e) t
       | inr less ↦
           let a = apart_at first last xs h i j d less m in
           let b = sound_at first last xs h j d m in
-          let c = less_true _ _ t in
-          true_less _ _ (omega (arith, a, b, c))
+          let c = ltb-true _ _ t in
+          lt-ltb _ _ (omega (arith, a, b, c))
     ]
 
 -- the ranges before the place end below the code point, and those from it on do not
@@ -59,7 +46,7 @@ abbrev pub IsPlace : {X : Type 0} → (X → ℕ) → ℕ → List X → ℕ →
 IsPlace last point xs at = IsPartitionPoint (λ r. last r < point) (λ r. point ≤ last r) xs at
 
 pub place_from_tests : {X : Type 0} (last : X → ℕ) (point : ℕ) (xs : List X) (at : ℕ) → IsPartitionPoint (λ r. ltb (last r) point ≡ true) (λ r. ltb (last r) point ≡ false) xs at → IsPlace last point xs at
-place_from_tests last point xs at h = (λ k d a b. less_true _ _ (h.0 k d a b), λ k d a b. less_false _ _ (h.1 k d a b))
+place_from_tests last point xs at h = (λ k d a b. ltb-true _ _ (h.0 k d a b), λ k d a b. ltb-false _ _ (h.1 k d a b))
 
 -- ---- What the ranges say of a code point
 
@@ -81,16 +68,10 @@ others_outside first last xs h point at place k d l (inr above) =
     let b = place.1 at d (omega arith) (omega arith) in
     between_false _ _ point (inl (omega (arith, a, b)))
 
-place_cases : (k at : ℕ) → (k ≡ at) ⊎ ((k < at) ⊎ (at < k))
-place_cases zero zero = inl refl
-place_cases zero (suc at) = inr (inl (omega arith))
-place_cases (suc k) zero = inr (inr (omega arith))
-place_cases (suc k) (suc at) = elim (place_cases k at) [ inl e ↦ inl (omega arith) | inr (inl l) ↦ inr (inl (omega arith)) | inr (inr l) ↦ inr (inr (omega arith)) ]
-
 -- no range holds the code point, since that at the place does not
 none_inside : {X : Type 0} (first last : X → ℕ) (xs : List X) → RiseBy first last xs → (point at : ℕ) → IsPlace last point xs at → (d : X) → (at < length xs → point < first (get_or xs at d)) → (k : ℕ) → k < length xs → is_between (first (get_or xs k d)) (last (get_or xs k d)) point ≡ false
 none_inside first last xs h point at place d misses k l =
-    elim (place_cases k at) [
+    elim (cases_order k at) [
       | inl e ↦
           let P : ℕ → Type 0 = λ i. i < length xs → is_between (first (get_or xs i d)) (last (get_or xs i d)) point ≡ false in
           subst P (sym e) (λ m. between_false _ _ point (inl (misses m))) l

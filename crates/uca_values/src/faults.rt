@@ -1,12 +1,13 @@
 //! Why a table file or a data file is refused.
 
-ghost use Rattle.std.specs.Prelude.{◌≡◌, Some};
+ghost use Rattle.std.specs.Prelude.{◌≡◌, ◌≤◌, length, Some};
 ghost use Rattle.uca_values.specs.declared.faults.FaultKind.{FaultKind};
 ghost use Rattle.uca_values.specs.FaultText.{kind_text, table_fault_text};
 
 use std::alloc::{AllocError, AllocFailed};
 use std::error::Error;
 use std::fmt;
+use uca_weights::Message;
 
 /// Why a table file or a data file is refused.
 #[derive(Clone, Copy, Debug, PartialEq, Eq)]
@@ -68,6 +69,19 @@ pub struct TableFault {
     pub kind: FaultKind,
 }
 
+impl TableFault {
+    /// Its text: `line 7: Range`.
+    pub fn message(&self) -> Message
+        ensures text { result ≡ table_fault_text self.now }
+        ensures short { length result ≤ 60 }
+    {
+        Message::of("line ")
+            .number(self.line.into())
+            .text(": ")
+            .text(self.kind.name())
+    }
+}
+
 impl From<AllocError> for FaultKind {
     ghost from_gives = { λ _ kind. kind ≡ FaultKind.Memory };
 
@@ -88,7 +102,7 @@ impl fmt::Display for TableFault {
     ghost output = { λ fault. Some (table_fault_text fault) };
 
     fn fmt<W: fmt::Write>(&self, f: &mut fmt::Formatter<W>) -> fmt::Result {
-        write!(f, "line {}: {}", self.line, self.kind)
+        f.write_str(self.message().as_str())
     }
 }
 

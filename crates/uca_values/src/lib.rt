@@ -5,6 +5,7 @@
 pub mod characters;
 pub mod faults;
 pub mod implicit;
+pub mod limits;
 pub mod tables;
 
 pub use characters::{Data, RangeFault};

@@ -1,4 +1,8 @@
+pub mod Lists
+pub mod Tests
+pub mod Numbers
 pub mod WriteLemmas
+pub mod PerLevel
 pub mod RunMaps
 pub mod RunPlaces
 pub mod RunSteps

@@ -3,6 +3,7 @@ use Rattle.std.proofs.Common.{◌≡◌, ◌⊎◌, inl, inr, ℕ, zero, suc, �
 use Rattle.std.specs.Bool.{⊤}
 use Rattle.std.specs.List.{AllByRecursion}
 use Rattle.std.proofs.lemmas.Bool.Decides.{nat_tests}
+use Rattle.std.proofs.lemmas.Option.{same_Some}
 use Rattle.uca_weights.specs.declared.Level.{Level}
 use Rattle.uca_weights.specs.declared.Level.TheVariants.{One, Two, Three}
 use Rattle.uca_weights.specs.declared.maps.Run.{Run}
@@ -56,17 +57,13 @@ runs_from level [] h = tt
 runs_from level (r ∷ runs) h =
     (omega (arith, h.0.range.from_zero), omega (arith, h.0.range.to_zero), h.0.range.from_end, h.0.range.to_end, runs_behind level r runs h.1)
 
--- the number in an option is the one
-some_is : (w x : ℕ) → Some w ≡ Some x → w ≡ x
-some_is w x e = cc
-
 -- a weight with an image lies between the bounds, and so does its image
 pub run_bounds : (end from to : ℕ) (runs : List Run) (w x : ℕ)
     → AreRunsFrom end from to runs → Sends (run_image runs) w x → (from ≤ w) × (w < end) × (to ≤ x) × (x < end)
 run_bounds end from to [] w x h e = absurd (cc)
 run_bounds end from to (r ∷ runs) w x h e = elim (image_cases r runs w) [
   | inl here ↦
-      let same : r.to + (w - r.from) ≡ x = some_is _ _ (sym here.1 ∙ e) in
+      let same : r.to + (w - r.from) ≡ x = same_Some _ _ (sym here.1 ∙ e) in
       let low : r.from ≤ w = here.0.0 in let high : w < r.from + r.count = here.0.1 in
       (omega arith, omega arith, omega arith, omega arith)
   | inr there ↦
@@ -80,11 +77,11 @@ pub run_rising : (end from to : ℕ) (runs : List Run) (v w x y : ℕ)
 run_rising end from to [] v w x y h e f l = absurd (cc)
 run_rising end from to (r ∷ runs) v w x y h e f l = elim (image_cases r runs v) [
   | inl here ↦
-      let image : r.to + (v - r.from) ≡ x = some_is _ _ (sym here.1 ∙ e) in
+      let image : r.to + (v - r.from) ≡ x = same_Some _ _ (sym here.1 ∙ e) in
       let low : r.from ≤ v = here.0.0 in let high : v < r.from + r.count = here.0.1 in
       elim (image_cases r runs w) [
         | inl also ↦
-            let other : r.to + (w - r.from) ≡ y = some_is _ _ (sym also.1 ∙ f) in
+            let other : r.to + (w - r.from) ≡ y = same_Some _ _ (sym also.1 ∙ f) in
             omega arith
         | inr there ↦
             let rest = run_bounds end (r.from + r.count) (r.to + r.count) runs w y h.4 (sym there ∙ f) in
@@ -126,7 +123,7 @@ zero_rising end runs v w x y h e f l = elim (zero_cases w (run_image runs w)) [
       let bounds = run_bounds end 1 1 runs w y h sent in
       elim (zero_cases v (run_image runs v)) [
         | inl none ↦
-            let image : 0 ≡ x = some_is _ _ (sym none.1 ∙ e) in
+            let image : 0 ≡ x = same_Some _ _ (sym none.1 ∙ e) in
             let low : 1 ≤ y = bounds.2 in
             omega arith
         | inr also ↦ run_rising end 1 1 runs v w x y h (sym also.1 ∙ e) sent l
@@ -150,7 +147,7 @@ first_cases runs w x e = elim (zero_cases w (if nat_le 0x8000 w then Some w else
   | inl none ↦ inr (omega (arith, none.0), zero_sent none.0 (sym none.1 ∙ e))
   | inr some ↦
       elim (high_cases w (Some w) (run_image runs w)) [
-        | inl high ↦ inl (high.0, some_is w x (sym high.1 ∙ (sym some.1 ∙ e)))
+        | inl high ↦ inl (high.0, same_Some w x (sym high.1 ∙ (sym some.1 ∙ e)))
         | inr low ↦ inr (low.0, run_sent some.0 (sym low.1 ∙ (sym some.1 ∙ e)))
       ]
 ]
@@ -170,7 +167,7 @@ first_cases runs w x e = elim (zero_cases w (if nat_le 0x8000 w then Some w else
 -- what the runs say at level 1 stays below 8000
 first_low : (runs : List Run) (w x : ℕ) → AreRunsFrom 0x8000 1 1 runs → Sends (with_zero runs) w x → x < 0x8000
 first_low runs w x h e = elim (zero_cases w (run_image runs w)) [
-  | inl none ↦ let image : 0 ≡ x = some_is _ _ (sym none.1 ∙ e) in omega arith
+  | inl none ↦ let image : 0 ≡ x = same_Some _ _ (sym none.1 ∙ e) in omega arith
   | inr some ↦ (run_bounds 0x8000 1 1 runs w x h (sym some.1 ∙ e)).3
 ]
 
@@ -256,7 +253,7 @@ stay_sent : (runs : List Run) (w x : ℕ) → AllByRecursion (λ r. r.from ≡ r
 stay_sent [] w x h e = absurd (cc)
 stay_sent (r ∷ runs) w x h e = elim (image_cases r runs w) [
   | inl here ↦
-      let same : r.to + (w - r.from) ≡ x = some_is _ _ (sym here.1 ∙ e) in
+      let same : r.to + (w - r.from) ≡ x = same_Some _ _ (sym here.1 ∙ e) in
       let low : r.from ≤ w = here.0.0 in let stays : r.from ≡ r.to = h.0 in
       omega arith
   | inr there ↦ stay_sent runs w x h.1 (sym there ∙ e)
@@ -265,7 +262,7 @@ stay_sent (r ∷ runs) w x h e = elim (image_cases r runs w) [
 -- nor does 0 move
 stay_with_zero : (runs : List Run) (w x : ℕ) → AllByRecursion (λ r. r.from ≡ r.to) runs → Sends (with_zero runs) w x → w ≡ x
 stay_with_zero runs w x h e = elim (zero_cases w (run_image runs w)) [
-  | inl none ↦ none.0 ∙ some_is _ _ (sym none.1 ∙ e)
+  | inl none ↦ none.0 ∙ same_Some _ _ (sym none.1 ∙ e)
   | inr some ↦ stay_sent runs w x h (sym some.1 ∙ e)
 ]
 

@@ -3,6 +3,7 @@ pub mod Writes
 pub mod Kinds
 pub mod WeightingText
 pub mod Levels
+pub mod PerLevel
 pub mod Maps
 pub mod Runs
 pub mod MapFaultText

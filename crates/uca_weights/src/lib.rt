@@ -1,17 +1,20 @@
 //! The words that every crate of `uca` shares: collation elements, the levels, strengths,
-//! weightings and depths of UTS #10, rising maps of weights, and the streams that bytes come from and go to.
+//! weightings and depths of UTS #10, rising maps of weights, the streams that bytes come from and go to, and
+//! the texts of errors.
 #![tactic(auto)]
 
 ghost use Rattle.std.specs.Prelude.{◌≡◌, IfSome, IfNone};
 ghost use Rattle.uca_weights.specs.WeightingText.{weighting_text, IsNoWeighting};
 
 mod maps;
+mod messages;
 pub mod streams;
 
 pub use maps::{
     MapFault, MapFaultKind, Run, WeightMap, faulty_runs_are_not_proper, proper_runs_rise,
     runs_that_stay_keep_weights,
 };
+pub use messages::Message;
 pub use streams::{ReadFault, Sink, Source, WriteFault};
 
 /// A collation element (UTS #10, section 3.1): a weight for each of three levels, each 16 bits wide,

@@ -1,5 +1,5 @@
 -- An accepted tailoring is not refused, and the line of a refusal is that of its condition.
-use Rattle.std.proofs.Common.{◌∙◌}
+use Rattle.std.proofs.Common.{◌∙◌, ◌++◌, ◌∷◌, [], ap}
 use Rattle.std.proofs.lemmas.Result.{err_from_is_err_and}
 use Rattle.uca_values.specs.Content.{properties_of}
 use Rattle.uca_tailorings.specs.Inputs.{tailoring_of}
@@ -13,7 +13,7 @@ returns-in_err-write_text-2-clause-verdict g c =
     let tailoring = tailoring_of files.base (properties_of files.properties) files.rules files.tailored files.certificate in
     rw (p.1, p.2) (refusal_cut tailoring c.args.out.now c.write_text-2.new.out c.in-Err.fault c.as_bytes.result.now c.in_err-write_text-2.field-0.0
     (of_condition tailoring c.in-Err.fault c.in-Err.ensures.refused c.if-fault-eq-NO_MEMORY.false)
-    (c.as_bytes.ensures.value ∙ c.as_str.ensures.value ∙ c.refusal_line.ensures) c.in_err-write_text-2.ensures.failed_in)
+    (c.as_bytes.ensures.value ∙ c.as_str.ensures ∙ c.text.ensures ∙ ap (λ text. text ++ 10 ∷ []) c.message.ensures.text) c.in_err-write_text-2.ensures.failed_in)
 
 pub returns-clause-verdict : goal.returns-clause-verdict
 returns-clause-verdict g c = (
@@ -21,7 +21,7 @@ returns-clause-verdict g c = (
   (
     c.in-Err.fault,
     of_condition _ c.in-Err.fault c.in-Err.ensures.refused c.if-fault-eq-NO_MEMORY.false,
-    c.as_bytes.ensures.value ∙ c.as_str.ensures.value ∙ c.refusal_line.ensures,
+    c.as_bytes.ensures.value ∙ c.as_str.ensures ∙ c.text.ensures ∙ ap (λ text. text ++ 10 ∷ []) c.message.ensures.text,
   ),
   c.in_ok-write_text-2.ensures.written,
 )

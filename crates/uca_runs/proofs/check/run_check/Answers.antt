@@ -1,6 +1,6 @@
 -- The whole run, from what its two files mean and the verdict that is written.
 use Rattle.std.specs.Prelude.{⊤}
-use Rattle.std.proofs.Common.{◌≡◌, Bool, [], ◌∷◌, Err, refl, subst, sym}
+use Rattle.std.proofs.Common.{◌≡◌, Bool, [], ◌∷◌, Err, refl, subst}
 use Rattle.std.proofs.lemmas.Result.{err_from_is_err_and}
 use Rattle.uca_values.specs.Content.{properties_of}
 use Rattle.uca_runs.specs.CheckRun.{RunsCheck}

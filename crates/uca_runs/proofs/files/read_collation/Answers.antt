@@ -1,7 +1,6 @@
 -- The rows and the weighting are those of the table that was read.
 use Rattle.std.specs.Prelude.{⊤}
-use Rattle.std.proofs.Common.{◌≡◌, List, [], ◌∷◌, Ok, Err, refl, ap, subst, ◌∙◌}
-use Rattle.std.proofs.lemmas.Result.{err_from_is_err_and}
+use Rattle.std.proofs.Common.{◌≡◌, [], ◌∷◌, Ok, refl, ap, subst, ◌∙◌}
 use Rattle.uca_values.specs.Content.{properties_of}
 use Rattle.uca_match.specs.Rows.{rows_of}
 use Rattle.uca_match.specs.Tries.{held}

@@ -1,7 +1,8 @@
 -- The number so far is below 16 to the number of its digits.
 use Rattle.std.proofs.Common.{sym, get_or, arith}
+use Rattle.uca_weights.proofs.Numbers.{grows}
 use Rattle.uca_lines.specs.Numbers.{is_hex_digit}
-use Rattle.uca_lines.proofs.DigitLemmas.{number_more, hex_small, grows, hex_fits}
+use Rattle.uca_lines.proofs.DigitLemmas.{number_more, hex_small, hex_fits}
 use Rattle.uca_lines.proofs.fields.numbers.hexadecimal.Goals as goal
 
 pub overflow_mul-number : goal.overflow_mul-number

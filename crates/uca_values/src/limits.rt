@@ -1,0 +1,7 @@
+//! Limits of tables that more than one crate keeps.
+
+/// How many rows a table may have.
+pub const MOST_ROWS: usize = 200_000;
+
+/// How many elements a row may have.
+pub const MOST_ELEMENTS: usize = 32;
