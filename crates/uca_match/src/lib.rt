@@ -21,4 +21,4 @@ pub use lookup::{Lookup, row_of};
 pub use matches::Match;
 pub use row_list::{RowList, RowNode};
 pub use text_matches::Matches;
-pub use trie::Trie;
+pub use trie::{Trie, key_list};

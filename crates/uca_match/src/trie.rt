@@ -50,7 +50,11 @@ impl<A: Allocator + Copy> Trie<A> {
 }
 
 /// The keys of rows, lent, in their order.
-fn key_list<A: Allocator, T: Allocator>(
+///
+/// # Errors
+///
+/// An allocation that fails.
+pub fn key_list<A: Allocator, T: Allocator>(
     alloc: A,
     rows: &[Row<T>],
 ) -> Result<Vec<&[char], A>, AllocError>

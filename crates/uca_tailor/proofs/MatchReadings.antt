@@ -4,8 +4,11 @@ use Rattle.std.proofs.Common.{is_some, unwrap_or, refl, sym, ap, ap₂, ◌∙�
 use Rattle.std.specs.List.{AllByRecursion, flat_map}
 use Rattle.std.proofs.lemmas.Bool.{false≢true}
 use Rattle.std.proofs.lemmas.List.Concat.{flat_map-append}
+use Rattle.uca_weights.specs.declared.Element.{Element}
 use Rattle.uca_values.specs.declared.ImplicitRange.{ImplicitRange}
 use Rattle.uca_values.specs.Content.{Properties}
+use Rattle.uca_values.specs.Implicit.{implicit}
+use Rattle.uca_values.proofs.ImplicitPairs.{of_pair}
 use Rattle.uca_text.specs.Texts.{NfdText, Text, letters_of}
 use Rattle.uca_match.specs.Rows.{same_key}
 use Rattle.uca_match.specs.Positions.{Positions, is_placed, place_at}
@@ -14,7 +17,7 @@ use Rattle.uca_match.specs.Reading.{parts}
 use Rattle.uca_match.specs.TextMatches.{match_of, matches_of}
 use Rattle.uca_match.specs.declared.matches.Match.{Match}
 use Rattle.uca_match.proofs.Parts.{each_part}
-use Rattle.uca_plans.specs.Drafts.{DraftRow, draft_at, part_drafts}
+use Rattle.uca_plans.specs.Drafts.{DraftRow, as_draft, draft_at, part_drafts}
 use Rattle.uca_plans.specs.Keys.{keys_in, is_among, read_over}
 use Rattle.uca_tailor.specs.MatchDrafts.{elements_at, match_drafts}
 use Rattle.uca_tailor.specs.Ready.{ArePlacesWith}
@@ -96,6 +99,16 @@ module _ (places : Positions) (rows : List DraftRow) (more : List (List ℕ)) (a
       ≡ read_over ranges properties (is_placed places) rows text
   text_stands text =
       matches_stand (letters_of text) (parts (is_placed places) (letters_of text)) (each_part (is_placed places) (letters_of text))
+
+-- ---- One match
+
+-- the two implicit elements of a code point
+pub pair_stands : (ranges : List ImplicitRange) (properties : Properties) (c : ℕ) (pair : List Element) (d : Element) →
+    pair ≡ implicit ranges properties c →
+    as_draft true (get_or pair 0 d) ∷ as_draft true (get_or pair 1 d) ∷ [] ≡ map (as_draft true) (implicit ranges properties c)
+pair_stands ranges properties c pair d are =
+    ap (λ es. as_draft true (get_or es 0 d) ∷ as_draft true (get_or es 1 d) ∷ []) are
+    ∙ of_pair (λ es. as_draft true (get_or es 0 d) ∷ as_draft true (get_or es 1 d) ∷ [] ≡ map (as_draft true) es) ranges properties c (λ lead low _. refl)
 
 -- ---- One more match
 

@@ -1,13 +1,15 @@
 //! Texts of relations, read over the rows so far.
 
-ghost use Rattle.std.specs.Prelude.{◌≡◌, ◌++◌, ℕ, List, OnOk};
-ghost use Rattle.uca_values.specs.Content.{properties_of};
+ghost use Rattle.std.specs.Prelude.{◌≡◌, ◌++◌, ℕ, List, OnOk, map, true};
 ghost use Rattle.std.specs.List.{flat_map};
+ghost use Rattle.uca_values.specs.Content.{properties_of};
+ghost use Rattle.uca_values.specs.Implicit.{implicit};
 ghost use Rattle.uca_text.specs.Texts.{letters_of};
 ghost use Rattle.uca_match.specs.Reading.{parts};
 ghost use Rattle.uca_match.specs.TextMatches.{matches_of};
 ghost use Rattle.uca_match.specs.Positions.{is_placed};
 ghost use Rattle.uca_match.specs.Tries.{positions};
+ghost use Rattle.uca_plans.specs.Drafts as drafts;
 ghost use Rattle.uca_plans.specs.Keys.{read_over};
 ghost use Rattle.uca_tailor.specs.Ready.{ArePlacesWith};
 ghost use Rattle.uca_tailor.specs.MatchDrafts.{match_drafts};
@@ -87,12 +89,23 @@ impl<'r, A: Allocator, T: Allocator> Reader<'r, A, T> {
                 Some(row) => row.append_to(elements),
                 None => Ok(()),
             },
-            Match::Unlisted(point) => {
-                let base = self.base;
-                let [first, second] = base.header.implicit(self.properties, point);
-                elements.push(as_draft(true, first))?;
-                elements.push(as_draft(true, second))
-            }
+            Match::Unlisted(point) => self.append_implicit(point, elements),
         }
+    }
+
+    /// Puts the implicit elements of a code point after those of a list.
+    fn append_implicit(
+        &self,
+        point: char,
+        elements: &mut Vec<DraftElement, A>,
+    ) -> Result<(), AllocError>
+        ensures { OnOk result (elements.new.items ≡ elements.old.items
+            ++ map (drafts.as_draft true) (implicit self.now.base.now.header.ranges (properties_of self.now.properties.now) point)) }
+    {
+        let base = self.base;
+        let [first, second] = base.header.implicit(self.properties, point);
+        elements.push(as_draft(true, first))?;
+        elements.push(as_draft(true, second))?;
+        Ok(())
     }
 }
