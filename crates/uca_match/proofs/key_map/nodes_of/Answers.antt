@@ -1,5 +1,5 @@
 -- Key after key, the nodes hold the keys so far.
-use Rattle.std.proofs.Common.{◌≡◌, ◌<◌, ◌∷◌, ◌++◌, [], length, map, take, get_or, ap, ap₂, subst, sym, ◌∙◌, arith}
+use Rattle.std.proofs.Common.{◌≡◌, ◌∷◌, ◌++◌, [], map, take, ap₂, subst, sym, ◌∙◌, arith}
 use Rattle.std.proofs.lemmas.List.{take_all, length-map, get_or-map}
 use Rattle.std.specs.List.Sorted.{IsPermutation}
 use Rattle.uca_match.specs.Positions.{placed_from}
@@ -22,13 +22,10 @@ loop-numbered-preserved g c =
     let keys = points_of c.args.keys.now in
     let items = c.deref-numbered-items.result.now in
     let i = c.loop-numbered.numbered-index in
-    let numbered = c.numbered-item.result in
     let same : IsPermutation (placed_from 0 keys) (map placed_of items) =
     subst (λ list. IsPermutation (placed_from 0 keys) (map placed_of list)) (sym c.deref-numbered-items.ensures.value) c.in_ok-sorted.ensures in
-    let within : i < length (map placed_of items) = omega (arith, length-map items placed_of) in
-    let is : placed_of numbered ≡ get_or (map placed_of items) i (placed_of numbered) = ap placed_of c.numbered-item.is
-    ∙ sym (get_or-map placed_of items i numbered (placed_of numbered) c.loop-numbered-test.true) in
-    IsBuilt-more keys c.requires (map placed_of items) same i (placed_of numbered) within is c.loop-numbered.nodes.items c.add_key.new.nodes.items
+    IsBuilt-more keys c.requires (map placed_of items) same i _ (omega (arith, length-map items placed_of))
+    (sym (get_or-map placed_of items i _ _ c.loop-numbered-test.true)) c.loop-numbered.nodes.items c.add_key.new.nodes.items
     c.loop-numbered.invariant c.in_ok-add_key.ensures.tree c.in_ok-add_key.ensures.key
 
 pub returns : goal.returns
