@@ -1,5 +1,5 @@
 -- Lists of keys as the code has them, and what a trie holds.
-use Rattle.std.specs.Prelude.{ℕ, List, [], map, Option, option_map, slice_index_or}
+use Rattle.std.specs.Prelude.{ℕ, List, [], map, option_map, slice_index_or}
 use Rattle.std.specs.Borrow.{Bor}
 use Rattle.uca_weights.specs.declared.Element.{Element}
 use Rattle.uca_values.specs.Content.{Entry}

@@ -1,5 +1,5 @@
 -- The position of the key goes to the node to which its key has led.
-use Rattle.std.proofs.Common.{◌≡◌, ◌+◌, ◌∷◌, ◌++◌, [], length, take, Some, ap, refl, sym, subst, ◌∙◌, arith}
+use Rattle.std.proofs.Common.{◌≡◌, ◌+◌, ◌∷◌, ◌++◌, [], take, Some, ap, refl, sym, subst, ◌∙◌, arith}
 use Rattle.std.proofs.lemmas.List.{take_all, take_more, get_or_read}
 use Rattle.uca_match.specs.NumberedKeys.{placed_of}
 use Rattle.uca_match.specs.Tries.{NodeContent, empty_node, node_at, IsAlong}
