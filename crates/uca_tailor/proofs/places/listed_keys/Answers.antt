@@ -1,6 +1,6 @@
-use Rattle.std.proofs.Common.{◌≡◌, ◌∷◌, ◌++◌, [], List, length, Bor, ap, sym, ◌∙◌, arith, subst}
+use Rattle.std.proofs.Common.{◌∷◌, ◌++◌, [], List, Bor, ap, sym, ◌∙◌, arith, subst}
 use Rattle.std.proofs.lemmas.List.{length-map}
-use Rattle.uca_values.specs.Content.{Entry, TableContent, AreRows, keys_of}
+use Rattle.uca_values.specs.Content.{TableContent, AreRows, keys_of}
 use Rattle.uca_match.specs.NumberedKeys.{points_of}
 use Rattle.uca_tailor.proofs.PlaceKeys.{distinct_base, distinct_listed, points_push, base_listed, target_found, target_there, target_more, listed_some, listed_all}
 use Rattle.uca_tailor.proofs.places.listed_keys.Goals as goal

@@ -1,6 +1,4 @@
-use Rattle.std.proofs.Common.{◌≡◌, false, MatchOption, sym, ◌∙◌, subst}
-use Rattle.uca_plans.specs.Keys.{is_among}
-use Rattle.uca_tailor.specs.Places.{IsPlaceOf}
+use Rattle.std.proofs.Common.{sym, ◌∙◌}
 use Rattle.uca_tailor.proofs.KeyLookups.{place_found}
 use Rattle.uca_tailor.proofs.places.place_of.Goals as goal
 

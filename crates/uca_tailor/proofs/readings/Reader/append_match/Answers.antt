@@ -1,8 +1,7 @@
 -- What a match gives is that of the row at its place, or of its code point.
-use Rattle.std.proofs.Common.{◌≡◌, ◌++◌, List, [], OnOk, ap, sym, subst, ◌∙◌, append-nil}
+use Rattle.std.proofs.Common.{◌≡◌, ◌++◌, [], OnOk, ap, sym, subst, ◌∙◌, append-nil}
 use Rattle.uca_values.specs.Content.{properties_of}
 use Rattle.uca_match.specs.declared.matches.Match.TheVariants.{Unlisted}
-use Rattle.uca_plans.specs.declared.drafts.DraftElement.{DraftElement}
 use Rattle.uca_tailor.specs.MatchDrafts.{match_drafts}
 use Rattle.uca_tailor.proofs.RowLookups.{elements_there, elements_past}
 use Rattle.uca_tailor.proofs.readings.Reader.append_match.Goals as goal
