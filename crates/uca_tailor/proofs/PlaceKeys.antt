@@ -1,6 +1,6 @@
 -- The keys that have places.
 use Rattle.std.proofs.Common.{◌≡◌, ℕ, ◌+◌, ◌<◌, ◌≤◌, List, [], ◌∷◌, ◌++◌, length, take, drop, get_or, true, false, is_some, Option}
-use Rattle.std.proofs.Common.{Bor, sym, ap, ap₂, subst, ◌∙◌, ⊎_elim, arith, length-append, append_assoc, append-nil, take-append-drop}
+use Rattle.std.proofs.Common.{Bor, refl, sym, ap, ap₂, subst, ◌∙◌, ⊎_elim, arith, length-append, append_assoc, append-nil, take-append-drop}
 use Rattle.std.proofs.lemmas.List.{take_more, take_all, length-map, map-append}
 use Rattle.std.proofs.lemmas.Bool.{false≢true, false_from_ne_true, cond-true, cond-false}
 use Rattle.uca_values.specs.Content.{Entry, keys_of, AreRows}
