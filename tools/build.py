@@ -24,7 +24,7 @@ IDLE = ""
 MOST_JOBS = 2
 
 # A crate of so many lines of code gets all of these at once: it is proved for so long that others end meanwhile.
-LARGE = 1_000
+LARGE = 1_700
 
 
 def digest(folder):

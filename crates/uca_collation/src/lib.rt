@@ -21,6 +21,6 @@ pub use uca_table::{
 pub use uca_tailor::{TailorFault, TailorKind, tailor};
 pub use uca_text::{Normal, TextFault, normal};
 pub use uca_weights::{
-    Depth, Element, Level, MapFault, MapFaultKind, ReadFault, Run, Sink, Source, Strength,
+    Depth, Element, Level, MapFault, MapFaultKind, Message, ReadFault, Run, Sink, Source, Strength,
     WeightMap, Weighting, WriteFault,
 };
