@@ -10,9 +10,11 @@ pub mod OccurringLetters
 pub mod Parts
 pub mod RelatedReading
 pub mod RowsByKey
+pub mod Prefixes
 pub mod TrieEdges
 pub mod TrieSteps
 pub mod TrieWalks
-pub mod TrieRows
+pub mod PlacedKeys
+pub mod TrieKeys
 pub mod TrieLookups
 pub mod TrieHeads

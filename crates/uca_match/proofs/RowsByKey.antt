@@ -20,13 +20,13 @@ pub same_key-itself : (key : List ℕ) → same_key key key ≡ true
 same_key-itself [] = refl
 same_key-itself (a ∷ x) = and_from (nat_eq a a) (same_key x x) (eq-eqb a a refl) (same_key-itself x)
 
-Contains-first : {X : Type 0} (x y : X) (xs : List X) → x ≡ y → Contains (x ∷ xs) y
+pub Contains-first : {X : Type 0} (x y : X) (xs : List X) → x ≡ y → Contains (x ∷ xs) y
 Contains-first x y xs e = (0, omega arith, e)
 
-Contains-later : {X : Type 0} (x y : X) (xs : List X) → Contains xs y → Contains (x ∷ xs) y
+pub Contains-later : {X : Type 0} (x y : X) (xs : List X) → Contains xs y → Contains (x ∷ xs) y
 Contains-later x y xs h = (suc h.0, omega (arith, h.1), h.2)
 
-Contains-cases : {X : Type 0} (x y : X) (xs : List X) → Contains (x ∷ xs) y → (x ≡ y) ⊎ Contains xs y
+pub Contains-cases : {X : Type 0} (x y : X) (xs : List X) → Contains (x ∷ xs) y → (x ≡ y) ⊎ Contains xs y
 Contains-cases x y xs h = go h.0 h.1 h.2
   where
     go : (k : ℕ) → k < length (x ∷ xs) → get_or (x ∷ xs) k y ≡ y → (x ≡ y) ⊎ Contains xs y

@@ -9,7 +9,7 @@ use Rattle.std.proofs.lemmas.List.{get_or_default}
 use Rattle.uca_values.proofs.Rising.{all_at}
 use Rattle.uca_values.proofs.Gaps.{all_insert}
 use Rattle.uca_match.specs.Tries.{target_of, AreRisingEdges, IsNewPlace}
-use Rattle.uca_match.specs.declared.trie.Edge.{Edge}
+use Rattle.uca_match.specs.declared.key_map.Edge.{Edge}
 
 -- ---- By place
 

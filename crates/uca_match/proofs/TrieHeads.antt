@@ -5,7 +5,7 @@ use Rattle.std.proofs.lemmas.Bool.{cond-true, cond-false, cond_both, cases_eq, e
 use Rattle.std.proofs.lemmas.List.{length-set, take_more, take_all, get_or-set_same, get_or-set_other, get_or-replicate, length-replicate}
 use Rattle.uca_values.proofs.Rising.{all_at}
 use Rattle.uca_match.specs.Tries.{target_of, AreRisingEdges, IsTree, node_at, NodeContent, head_target, AreHeads}
-use Rattle.uca_match.specs.declared.trie.Edge.{Edge}
+use Rattle.uca_match.specs.declared.key_map.Edge.{Edge}
 
 -- ---- Edges by their places
 

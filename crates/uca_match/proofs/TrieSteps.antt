@@ -5,10 +5,9 @@ use Rattle.std.proofs.lemmas.Bool.{cases_eq, cases_order}
 use Rattle.std.proofs.lemmas.List.{get_or_append_left, get_or-set_same, get_or-set_other, get_or_push, get_or_default, length_push}
 use Rattle.std.proofs.lemmas.Option.{none-some, same_Some}
 use Rattle.std.specs.List.{insert}
-use Rattle.uca_weights.specs.declared.Element.{Element}
-use Rattle.uca_match.specs.Tries.{NodeContent, empty_node, node_at, target_of, walk, held, LeadsOn, AreNodes, AreRisingEdges, IsNoDeadEnd, IsNewPlace}
+use Rattle.uca_match.specs.Tries.{NodeContent, empty_node, node_at, target_of, walk, positions, LeadsOn, AreNodes, AreRisingEdges, IsNoDeadEnd, IsNewPlace}
 use Rattle.uca_match.specs.Tries.{IsAlong}
-use Rattle.uca_match.specs.declared.trie.Edge.{Edge}
+use Rattle.uca_match.specs.declared.key_map.Edge.{Edge}
 use Rattle.uca_match.proofs.TrieWalks.{walk_push, walk_root}
 use Rattle.uca_match.proofs.TrieEdges.{none_at_new_place, target_of_new, target_of_others, rising_with_new}
 
@@ -51,7 +50,7 @@ same_then f g (Some x) h = h x refl
 
 -- the nodes with one more, to which an edge leads from the node `number`
 abbrev with_step : List NodeContent → ℕ → List Edge → List NodeContent
-with_step old number edges = set (old ++ empty_node ∷ []) number (record { edges = edges; row = (node_at old number).row })
+with_step old number edges = set (old ++ empty_node ∷ []) number (record { edges = edges; position = (node_at old number).position })
 
 -- the edges lead where the old ones do, and the new one to the new node
 record AddsEdge (old : List NodeContent) (number point : ℕ) (edges : List Edge) : Type 0 where
@@ -74,7 +73,7 @@ module _ (old : List NodeContent) (number point : ℕ) (edges : List Edge) (adds
   length_with : length nodes ≡ suc (length old)
   length_with = length-set (old ++ empty_node ∷ []) number _ ∙ length-append old (empty_node ∷ []) ∙ omega arith
 
-  at_number : node_at nodes number ≡ record { edges = edges; row = (node_at old number).row }
+  at_number : node_at nodes number ≡ record { edges = edges; position = (node_at old number).position }
   at_number = get_or-set_same (old ++ empty_node ∷ []) number _ empty_node (omega (arith, adds.within, length-append old (empty_node ∷ [])))
 
   at_others : (n : ℕ) → n < length old → n ≢ number → node_at nodes n ≡ node_at old n
@@ -85,10 +84,10 @@ module _ (old : List NodeContent) (number point : ℕ) (edges : List Edge) (adds
   at_new = get_or-set_other (old ++ empty_node ∷ []) number (length old) _ empty_node (λ e. absurd (omega (arith, e, adds.within)))
       ∙ get_or_push old empty_node empty_node (length old) refl
 
-  same_rows : (n : ℕ) → n < length old → (node_at nodes n).row ≡ (node_at old n).row
+  same_rows : (n : ℕ) → n < length old → (node_at nodes n).position ≡ (node_at old n).position
   same_rows n within = elim (cases_eq n number) [
-    | inl same ↦ subst (λ i. (node_at nodes i).row ≡ (node_at old i).row) (sym same) (ap (λ (b : NodeContent). b.row) at_number)
-    | inr apart ↦ ap (λ (b : NodeContent). b.row) (at_others n within apart)
+    | inl same ↦ subst (λ i. (node_at nodes i).position ≡ (node_at old i).position) (sym same) (ap (λ (b : NodeContent). b.position) at_number)
+    | inr apart ↦ ap (λ (b : NodeContent). b.position) (at_others n within apart)
   ]
 
   -- an edge of an old node is an old one, or the new one
@@ -156,15 +155,15 @@ module _ (old : List NodeContent) (number point : ℕ) (edges : List Edge) (adds
       | inr none ↦ absurd (none-some k (sym none.0 ∙ leads))
     ]
 
-    held_same : (key : List ℕ) → held nodes key ≡ held old key
+    held_same : (key : List ℕ) → positions nodes key ≡ positions old key
     held_same key = elim (walk_cases 0 key shape.some) [
       | inl same ↦
-          ap (option_and_then (λ n. (node_at nodes n).row)) same ∙
-          same_then (λ n. (node_at nodes n).row) (λ n. (node_at old n).row) (walk old 0 key)
+          ap (option_and_then (λ n. (node_at nodes n).position)) same ∙
+          same_then (λ n. (node_at nodes n).position) (λ n. (node_at old n).position) (walk old 0 key)
           (λ n leads. same_rows n (walk_root old texts shape n key leads).0)
       | inr step ↦
-          ap (option_and_then (λ n. (node_at nodes n).row)) step.1 ∙ ap (λ (b : NodeContent). b.row) at_new
-          ∙ sym (ap (option_and_then (λ n. (node_at old n).row)) step.0)
+          ap (option_and_then (λ n. (node_at nodes n).position)) step.1 ∙ ap (λ (b : NodeContent). b.position) at_new
+          ∙ sym (ap (option_and_then (λ n. (node_at old n).position)) step.0)
     ]
 
     -- ---- What holds of the nodes
@@ -280,21 +279,21 @@ insert_adds old number point at within rising new =
     }
 
 pub along_insert : (start old pushed : List NodeContent) (front : List ℕ) (number point at target : ℕ) (read inside after : List Edge)
-    (row : Option (List Element)) (new : NodeContent) → IsAlong start old front number → IsNewPlace read point at →
-    read ≡ (node_at old number).edges → record { edges = inside; row = row } ≡ node_at old number → pushed ≡ old ++ new ∷ [] → new ≡ empty_node →
+    (position : Option ℕ) (new : NodeContent) → IsAlong start old front number → IsNewPlace read point at →
+    read ≡ (node_at old number).edges → record { edges = inside; position = position } ≡ node_at old number → pushed ≡ old ++ new ∷ [] → new ≡ empty_node →
     target ≡ length old → after ≡ insert inside at (record { point = point; target = target }) →
-    IsAlong start (set pushed number (record { edges = after; row = row })) (front ++ point ∷ []) target
-along_insert start old pushed front number point at target read inside after row new along place same_read same_node push is_leaf is_target put =
+    IsAlong start (set pushed number (record { edges = after; position = position })) (front ++ point ∷ []) target
+along_insert start old pushed front number point at target read inside after position new along place same_read same_node push is_leaf is_target put =
     let here : NodeContent = node_at old number in
     let edges : List Edge = insert here.edges at (record { point = point; target = length old }) in
     let same_edges : after ≡ edges =
     put ∙ ap (λ (t : ℕ). insert inside at (record { point = point; target = t })) is_target ∙
     ap (λ (es : List Edge). insert es at (record { point = point; target = length old })) (ap (λ (b : NodeContent). b.edges) same_node) in
-    let N : List Edge → Option (List Element) → NodeContent = λ es r. record { edges = es; row = r } in
-    let same_nodes : set pushed number (N after row) ≡ with_step old number edges =
-    ap (λ (list : List NodeContent). set list number (N after row)) (push ∙ ap (λ (b : NodeContent). old ++ b ∷ []) is_leaf) ∙
-    ap (λ (es : List Edge). set (old ++ empty_node ∷ []) number (N es row)) same_edges ∙
-    ap (λ (r : Option (List Element)). set (old ++ empty_node ∷ []) number (N edges r)) (ap (λ (b : NodeContent). b.row) same_node) in
+    let N : List Edge → Option ℕ → NodeContent = λ es r. record { edges = es; position = r } in
+    let same_nodes : set pushed number (N after position) ≡ with_step old number edges =
+    ap (λ (list : List NodeContent). set list number (N after position)) (push ∙ ap (λ (b : NodeContent). old ++ b ∷ []) is_leaf) ∙
+    ap (λ (es : List Edge). set (old ++ empty_node ∷ []) number (N es position)) same_edges ∙
+    ap (λ (r : Option ℕ). set (old ++ empty_node ∷ []) number (N edges r)) (ap (λ (b : NodeContent). b.position) same_node) in
     let adds = insert_adds old number point at (number_within along) (edges_rise along) (subst (λ es. IsNewPlace es point at) same_read place) in
-    subst (λ t. IsAlong start (set pushed number (N after row)) (front ++ point ∷ []) t) (sym is_target)
+    subst (λ t. IsAlong start (set pushed number (N after position)) (front ++ point ∷ []) t) (sym is_target)
     (subst (λ nodes. IsAlong start nodes (front ++ point ∷ []) (length old)) (sym same_nodes) (along_new old number point edges adds start front along))

@@ -4,10 +4,13 @@ pub mod Reading
 pub mod Collations
 pub mod Lookups
 pub mod RowLists
+pub mod Positions
 pub mod Tries
+pub mod NumberedKeys
 pub mod Places
 pub mod Matches
 pub mod Extensions
+pub mod TextMatches
 pub mod Rest
 pub mod Laws
 pub mod WorkedTable

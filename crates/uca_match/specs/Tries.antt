@@ -1,22 +1,21 @@
--- Trees of code points: what their nodes hold, where code points lead, and which map from keys to elements that makes.
--- Only clauses inside this crate cite this file: a caller's clauses see the map alone, as the lookup's content.
+-- Trees of code points: what their nodes hold, where code points lead, and which map from keys to positions that makes.
+-- A caller's clauses cite `positions` alone, which is that map.
 use Rattle.std.specs.Prelude.{◌≡◌, ◌≢◌, ℕ, zero, suc, ◌<◌, ◌≤◌, ◌==◌, ⊤, List, [], ◌∷◌, ◌++◌, length, Option, Some, None, if◌then◌else◌}
 use Rattle.std.specs.Prelude.{slice_index_or, option_and_then}
 use Rattle.std.specs.List.{AllByRecursion}
 use Rattle.std.specs.List.Sorted.{IsPartitionPoint}
-use Rattle.uca_weights.specs.declared.Element.{Element}
-use Rattle.uca_values.specs.Content.{Entry}
-use Rattle.uca_match.specs.Rows.{Rows, same_key}
-use Rattle.uca_match.specs.declared.trie.Edge.{Edge}
+use Rattle.uca_match.specs.Rows.{same_key}
+use Rattle.uca_match.specs.Positions.{Positions, Placed}
+use Rattle.uca_match.specs.declared.key_map.Edge.{Edge}
 
--- a node: the edges that leave it, and the elements of its key, if the code points that lead to it are one
+-- a node: the edges that leave it, and the position of its key, if the code points that lead to it are one
 pub record NodeContent : Type 0 where
   pub edges : List Edge
-  pub row : Option (List Element)
+  pub position : Option ℕ
 
 -- a node that nothing leaves, and that is no key
 abbrev pub empty_node : NodeContent
-empty_node = record { edges = []; row = None }
+empty_node = record { edges = []; position = None }
 
 -- the node of a number
 abbrev pub node_at : List NodeContent → ℕ → NodeContent
@@ -32,9 +31,9 @@ abbrev pub walk : List NodeContent → ℕ → List ℕ → Option ℕ
 walk nodes n [] = Some n
 walk nodes n (c ∷ key) = option_and_then (λ m. walk nodes m key) (target_of (node_at nodes n).edges c)
 
--- the elements of each key
-abbrev pub held : List NodeContent → Rows
-held nodes key = option_and_then (λ n. (node_at nodes n).row) (walk nodes 0 key)
+-- the position of each key
+abbrev pub positions : List NodeContent → Positions
+positions nodes key = option_and_then (λ n. (node_at nodes n).position) (walk nodes 0 key)
 
 -- ---- What holds of the nodes
 
@@ -64,7 +63,7 @@ pub record AreNodes (nodes : List NodeContent) (texts : List (List ℕ)) : Type 
 
 -- the node is that of a key, or something leaves it
 abbrev pub IsNoDeadEnd : NodeContent → Type 0
-IsNoDeadEnd b = b.row ≡ None → b.edges ≢ []
+IsNoDeadEnd b = b.position ≡ None → b.edges ≢ []
 
 -- nodes that make a tree without dead ends, so that some key begins with each text but the empty one
 pub record IsTree (nodes : List NodeContent) : Type 0 where
@@ -73,17 +72,17 @@ pub record IsTree (nodes : List NodeContent) : Type 0 where
   pub no_dead_end : (n : ℕ) → 0 < n → n < length nodes → IsNoDeadEnd (node_at nodes n)
 
 -- nodes to which those of the beginning of a key have been added: the last of these may be a dead end, and the keys and
--- elements are those of the nodes at the start
+-- positions are those of the nodes at the start
 pub record IsAlong (start nodes : List NodeContent) (front : List ℕ) (last : ℕ) : Type 0 where
   pub texts : List (List ℕ)
   pub shape : AreNodes nodes texts
   pub leads : walk nodes 0 front ≡ Some last
   pub no_dead_end : (n : ℕ) → 0 < n → n < length nodes → n ≢ last → IsNoDeadEnd (node_at nodes n)
-  pub same : (key : List ℕ) → held nodes key ≡ held start key
+  pub same : (key : List ℕ) → positions nodes key ≡ positions start key
 
--- a map in which a row has been put
-abbrev pub with_row : Rows → Entry → Rows
-with_row rows row key = if same_key row.key key then Some row.elements else rows key
+-- a map in which a key has been put with its position
+abbrev pub with_position : Positions → Placed → Positions
+with_position before placed key = if same_key placed.key key then Some placed.position else before key
 
 -- ---- First steps
 
@@ -96,7 +95,7 @@ head_target (suc n) = Some (suc n)
 abbrev pub AreHeads : List Edge → List ℕ → Type 0
 AreHeads edges heads = (c : ℕ) → c < length heads → target_of edges c ≡ head_target (slice_index_or heads c 0)
 
--- what holds of every trie
+-- what holds of every map from keys to positions
 pub record IsTrie (nodes : List NodeContent) (heads : List ℕ) : Type 0 where
   pub tree : IsTree nodes
   pub first_steps : AreHeads (node_at nodes 0).edges heads

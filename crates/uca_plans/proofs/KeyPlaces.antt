@@ -8,7 +8,8 @@ use Rattle.uca_match.specs.Rows.{same_key}
 use Rattle.uca_match.proofs.RowsByKey.{same_key-true, same_key-itself}
 use Rattle.uca_plans.specs.Drafts.{DraftRow, with_row, has_key, draft_at}
 use Rattle.uca_plans.specs.Readings.{IsOneMore}
-use Rattle.uca_plans.specs.Keys.{keys_in, is_among, with_key, with_targets, place_at}
+use Rattle.uca_match.specs.Positions.{place_at}
+use Rattle.uca_plans.specs.Keys.{keys_in, is_among, with_key, with_targets}
 
 -- other keys are told apart
 pub same_key-other : (a b : List ℕ) → a ≢ b → same_key a b ≡ false

@@ -1,5 +1,5 @@
 -- The keys of drafts: those of the base, and then the new targets, in their order.
-use Rattle.std.specs.Prelude.{◌≡◌, ◌⊎◌, ℕ, ◌+◌, Bool, false, ◌||◌, List, [], ◌∷◌, ◌++◌, map, if◌then◌else◌, Option, Some, None}
+use Rattle.std.specs.Prelude.{◌≡◌, ◌⊎◌, ℕ, Bool, false, ◌||◌, List, [], ◌∷◌, ◌++◌, map, if◌then◌else◌, Some}
 use Rattle.std.specs.List.{flat_map}
 use Rattle.uca_values.specs.declared.ImplicitRange.{ImplicitRange}
 use Rattle.uca_values.specs.Content.{Properties}
@@ -28,11 +28,6 @@ with_key new (key ∷ keys) = if same_key key new then key ∷ keys else key ∷
 abbrev pub with_targets : List Relation → List (List ℕ) → List (List ℕ)
 with_targets [] keys = keys
 with_targets (r ∷ relations) keys = with_targets relations (with_key r.target.points keys)
-
--- the place of a key among others, of which the first has this place
-abbrev pub place_at : ℕ → List (List ℕ) → List ℕ → Option ℕ
-place_at place [] key = None
-place_at place (k ∷ keys) key = if same_key k key then Some place else place_at (place + 1) keys key
 
 -- a text's draft elements, where it is matched against keys that may be more than those of the rows
 abbrev pub read_over : List ImplicitRange → Properties → Keys → List DraftRow → NfdText → List DraftElement

@@ -11,7 +11,8 @@ use Rattle.uca_match.specs.Collations.{elements_of}
 use Rattle.uca_text.specs.Occurring.{OccursInOrder}
 use Rattle.uca_plans.specs.declared.drafts.DraftElement.{DraftElement}
 use Rattle.uca_plans.specs.Drafts.{DraftRow, as_draft, draft_at, draft_elements, with_row, has_key}
-use Rattle.uca_plans.specs.Keys.{keys_in, place_at}
+use Rattle.uca_match.specs.Positions.{place_at}
+use Rattle.uca_plans.specs.Keys.{keys_in}
 
 -- the rows where each element is valued
 abbrev pub valued_rows : (DraftElement → Element) → List DraftRow → List Entry

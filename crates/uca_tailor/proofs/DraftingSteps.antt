@@ -8,7 +8,7 @@ use Rattle.uca_values.specs.Content.{keys_of}
 use Rattle.uca_check.specs.WellFormed.{elements_of}
 use Rattle.uca_rules.specs.declared.relations.Relation.{Relation}
 use Rattle.uca_text.specs.Texts.{NfdText}
-use Rattle.uca_match.specs.Rows.{Rows}
+use Rattle.uca_match.specs.Positions.{Positions, place_at}
 use Rattle.uca_plans.specs.declared.drafts.DraftWeight.{DraftWeight}
 use Rattle.uca_plans.specs.declared.drafts.DraftWeight.TheVariants.{New}
 use Rattle.uca_plans.specs.declared.faults.TailorKind.{TailorKind}
@@ -20,7 +20,7 @@ use Rattle.uca_plans.specs.Drafts.{DraftRow, row_as_draft, with_row, has_key, dr
 use Rattle.uca_plans.specs.Plans.{Basis, Drafting, Drafted, begun, draft_expansion, drafted_at, drafted, needs_prefix, passes_limit}
 use Rattle.uca_plans.specs.Plans.{holds_implicit_variable, one_drafted}
 use Rattle.uca_plans.specs.Plans.{with_relation, and_then, with_relations}
-use Rattle.uca_plans.specs.Keys.{keys_in, is_among, with_key, with_targets, place_at}
+use Rattle.uca_plans.specs.Keys.{keys_in, is_among, with_key, with_targets}
 use Rattle.uca_plans.proofs.KeyPlaces.{has_key_is, keys_with_row}
 use Rattle.uca_plans.proofs.PlaceRows.{row_at, row_behind}
 use Rattle.uca_plans.proofs.PlanSteps.{target_row, step_of}
@@ -86,7 +86,7 @@ module _ (basis : Basis) (so_far : Drafting) (n : ℕ) (r : Relation) where
 
 -- ---- Room for a row
 
-module _ (basis : Basis) (places : Rows) (rows : List DraftRow) (r : Relation) (ready : IsReady basis places rows r) (row : DraftRow)
+module _ (basis : Basis) (places : Positions) (rows : List DraftRow) (r : Relation) (ready : IsReady basis places rows r) (row : DraftRow)
     (its : row.key ≡ r.target.points) where
   -- there are as many keys as rows
   count : length (keys_in rows) ≡ length rows
@@ -139,14 +139,14 @@ module _ (basis : Basis) (places : Rows) (rows : List DraftRow) (r : Relation) (
         (le-ltb 200000 (length (with_row row rows)) (omega (arith, one_more, past, stands.within, ready.few)))
 
 -- a relation whose target has no place is refused
-pub refused_room : (basis : Basis) (places : Rows) (so_far : Drafting) (n : ℕ) (r : Relation) (new : Drafted) (ready : IsReady basis places so_far.rows r) →
+pub refused_room : (basis : Basis) (places : Positions) (so_far : Drafting) (n : ℕ) (r : Relation) (new : Drafted) (ready : IsReady basis places so_far.rows r) →
     drafted basis so_far (New n) r ≡ Some new → needs_prefix basis.properties.class so_far.rows r.target.points ≡ false →
     is_among (keys_in so_far.rows ++ ready.more) r.target.points ≡ false → with_relation basis so_far n r ≡ Err kinds.Limit
 refused_room basis places so_far n r new ready is has other =
     refused_limit basis so_far n r new is has (no_room basis places so_far.rows r ready (target_row r new) refl other)
 
 -- one whose target has a place, and few elements, passes no limit
-pub in_limits : (basis : Basis) (places : Rows) (so_far : Drafting) (r : Relation) (new : Drafted) (ready : IsReady basis places so_far.rows r) →
+pub in_limits : (basis : Basis) (places : Positions) (so_far : Drafting) (r : Relation) (new : Drafted) (ready : IsReady basis places so_far.rows r) →
     (place : ℕ) → IsPlaceOf (keys_in so_far.rows ++ ready.more) r.target.points place → length new.elements ≤ 32 →
     passes_limit (target_row r new) (with_row (target_row r new) so_far.rows) ≡ false
 in_limits basis places so_far r new ready place stands few =
@@ -156,7 +156,7 @@ in_limits basis places so_far r new ready place stands few =
     (cases_lt place (length so_far.rows))
 
 -- so its row is put in its place, or behind the others, where it holds no implicit element among the variable ones
-pub row_put : (basis : Basis) (places : Rows) (so_far : Drafting) (n : ℕ) (r : Relation) (new : Drafted) (ready : IsReady basis places so_far.rows r) →
+pub row_put : (basis : Basis) (places : Positions) (so_far : Drafting) (n : ℕ) (r : Relation) (new : Drafted) (ready : IsReady basis places so_far.rows r) →
     drafted basis so_far (New n) r ≡ Some new → needs_prefix basis.properties.class so_far.rows r.target.points ≡ false →
     (place : ℕ) → IsPlaceOf (keys_in so_far.rows ++ ready.more) r.target.points place → length new.elements ≤ 32 →
     holds_implicit_variable (elements_of basis.base) (target_row r new) ≡ false → (next : Drafting) →

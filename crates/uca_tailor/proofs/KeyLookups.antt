@@ -1,55 +1,22 @@
 -- Where keys stand among others.
-use Rattle.std.proofs.Common.{◌≡◌, ℕ, suc, ◌+◌, ◌<◌, ◌≤◌, List, [], ◌∷◌, ◌++◌, length, get_or, Bool, true, false, cond, ltb, ◌||◌, is_some, Option, Some, None, Result, Ok, Err, IfOk}
-use Rattle.std.proofs.Common.{refl, sym, ap, subst, ◌∙◌, arith}
+use Rattle.std.proofs.Common.{◌≡◌, ℕ, suc, ◌+◌, List, [], ◌∷◌, ◌++◌, length, Bool, true, false, cond, ltb, ◌||◌, is_some, Option, Some, None, Result, Ok, Err, IfOk}
+use Rattle.std.proofs.Common.{MatchOption, refl, sym, ap, ◌∙◌, arith}
 use Rattle.std.proofs.lemmas.Bool.{false≢true, cond-false, or_parts, lt-ltb, le-ltb}
-use Rattle.uca_weights.specs.declared.Element.{Element}
-use Rattle.uca_values.specs.Content.{Entry}
 use Rattle.uca_rules.specs.declared.relations.Relation.{Relation}
-use Rattle.uca_match.specs.Rows.{Rows, rows_of, same_key}
-use Rattle.uca_plans.specs.Keys.{is_among, place_at}
-use Rattle.uca_tailor.specs.References.{reference, referred, references_from, reference_at}
-use Rattle.uca_tailor.proofs.References.{referred_to, reference_is, reference_among, as_reference}
+use Rattle.uca_match.specs.Rows.{same_key}
+use Rattle.uca_match.specs.Positions.{Positions, place_at}
+use Rattle.uca_match.proofs.PlacedKeys.{placed_within}
+use Rattle.uca_plans.specs.Keys.{is_among}
 use Rattle.uca_tailor.specs.Places.{IsPlaceOf, AreListed, ArePlaces}
+use Rattle.uca_tailor.proofs.MatchReadings.{placed_among}
 
--- its place is below their number
-pub placed_within : (place : ℕ) (keys : List (List ℕ)) (key : List ℕ) (p : ℕ) → place_at place keys key ≡ Some p →
-    (i : ℕ) × (i < length keys) × (p ≡ place + i)
-placed_within place [] key p found = cc
-placed_within place (k ∷ keys) key p found = go (same_key k key) found (placed_within (place + 1) keys key p)
-  where
-    go : (b : Bool) → cond b (Some place) (place_at (place + 1) keys key) ≡ Some p →
-        (place_at (place + 1) keys key ≡ Some p → (i : ℕ) × (i < length keys) × (p ≡ place + 1 + i)) →
-        (i : ℕ) × (i < suc (length keys)) × (p ≡ place + i)
-    go true found later = let same : place ≡ p = cc in (0, omega arith, omega (arith, same))
-    go false found later = let l = later found in (suc l.0, omega (arith, l.1), omega (arith, l.2))
-
--- a place that is found is the key's
-pub place_found : (keys : List (List ℕ)) (key : List ℕ) (e : Element) (es : List Element) → reference_at keys key ≡ Some (e ∷ es) →
-    IsPlaceOf keys key (referred e)
-place_found keys key e es found = go (place_at 0 keys key) refl (sym (reference_is keys key) ∙ found)
-  where
-    go : (place : Option ℕ) → place_at 0 keys key ≡ place → as_reference place ≡ Some (e ∷ es) → IsPlaceOf keys key (referred e)
-    go None is stands = cc
-    go (Some p) is stands =
-        let there = placed_within 0 keys key p is in
-        let first : reference p ≡ e = cc in
-        let at : referred e ≡ p = ap referred (sym first) ∙ referred_to p in
-        record { within = omega (arith, at, there.1, there.2); stands = is ∙ ap (λ q. Some q) (sym at) }
-
--- of a row that was found the first element stands for the place
-pub first_place : (keys : List (List ℕ)) (key : List ℕ) (es : List Element) (e : Element) → reference_at keys key ≡ Some es → 0 < length es →
-    e ≡ get_or es 0 e → IsPlaceOf keys key (referred e)
-first_place keys key [] e found some first = absurd (omega arith)
-first_place keys key (f ∷ es) e found some first = subst (λ g. IsPlaceOf keys key (referred g)) (sym first) (place_found keys key f es found)
-
--- and there is one
-pub some_first : (keys : List (List ℕ)) (key : List ℕ) (es : List Element) → reference_at keys key ≡ Some es → length es ≤ 0 → ⊥
-some_first keys key [] found none = go (place_at 0 keys key) (sym (reference_is keys key) ∙ found)
-  where
-    go : (place : Option ℕ) → as_reference place ≡ Some [] → ⊥
-    go None stands = cc
-    go (Some p) stands = let same : reference p ∷ [] ≡ [] = cc in cc
-some_first keys key (f ∷ es) found none = absurd (omega arith)
+-- a place that is found is the key's, and a key without one is none of them
+pub place_found : (keys : List (List ℕ)) (key : List ℕ) (place : Option ℕ) → place_at 0 keys key ≡ place →
+    MatchOption place (is_among keys key ≡ false) (IsPlaceOf keys key)
+place_found keys key None none = sym (placed_among 0 keys key) ∙ ap is_some none
+place_found keys key (Some place) found =
+    let there = placed_within 0 keys key place found in
+    record { within = omega (arith, there.1, there.2); stands = found }
 
 -- ---- The first of more keys
 
@@ -101,16 +68,11 @@ front_is keys more key place stands = go (is_among keys key) refl
         let found = placed_within (0 + length keys) more key place (sym (place_at_back 0 keys more key other) ∙ stands.stands) in
         le-ltb place (length keys) (omega (arith, found.2))
 
--- ---- What a lookup found
+-- ---- The places that a map tells
 
--- a trie of the rows of places has the places
-pub listed_places : {T E : Type 0} (content : T → Rows) (result : Result T E) (base : List (List ℕ)) (relations : List Relation) (items : List Entry) →
-    IfOk result (λ trie. (key : List ℕ) → content trie key ≡ rows_of items key) →
-    ((keys : List (List ℕ)) × AreListed base relations keys × (items ≡ references_from 0 keys)) → IfOk result (λ trie. ArePlaces base relations (content trie))
-listed_places content (Err e) base relations items h listed = tt
-listed_places content (Ok trie) base relations items h listed =
-    record { keys = listed.0; all = listed.1; each = λ key. h key ∙ ap (λ rows. rows_of rows key) listed.2 }
-
--- a key without a place is none
-pub none_placed : (keys : List (List ℕ)) (key : List ℕ) → reference_at keys key ≡ None → is_among keys key ≡ false
-none_placed keys key none = sym (reference_among keys key) ∙ ap is_some none
+-- a map of the keys has their places
+pub listed_places : {T E : Type 0} (tells : T → Positions) (result : Result T E) (base : List (List ℕ)) (relations : List Relation)
+    (keys : List (List ℕ)) → IfOk result (λ places. (key : List ℕ) → tells places key ≡ place_at 0 keys key) → AreListed base relations keys →
+    IfOk result (λ places. ArePlaces base relations (tells places))
+listed_places tells (Err e) base relations keys h listed = tt
+listed_places tells (Ok places) base relations keys h listed = record { keys = keys; all = listed; each = h }

@@ -4,7 +4,7 @@ pub mod LevelLaws
 pub mod RunLaws
 pub mod AnchorParts
 pub mod PlaceKeys
-pub mod References
+pub mod MatchReadings
 pub mod KeyLookups
 pub mod RowLookups
 pub mod Names

@@ -6,16 +6,15 @@ use Rattle.std.proofs.lemmas.List.{length-map}
 use Rattle.uca_values.specs.Content.{keys_of}
 use Rattle.uca_rules.specs.declared.relations.Relation.{Relation}
 use Rattle.uca_rules.specs.Relations.{AreRules}
-use Rattle.uca_match.specs.Rows.{Rows, is_key}
+use Rattle.uca_match.specs.Positions.{Positions, is_placed, place_at}
 use Rattle.uca_plans.specs.Drafts.{DraftRow}
 use Rattle.uca_plans.specs.Plans.{Basis, Drafting}
 use Rattle.uca_plans.specs.Keys.{keys_in, is_among, with_key, with_targets}
 use Rattle.uca_plans.proofs.KeyPlaces.{with_key_is}
 use Rattle.uca_plans.proofs.SameReading.{same_reading, targets_append, target_among}
-use Rattle.uca_tailor.specs.References.{reference_at}
 use Rattle.uca_tailor.specs.Places.{ArePlaces, IsFull}
 use Rattle.uca_tailor.specs.Ready.{IsReady}
-use Rattle.uca_tailor.proofs.References.{reference_among}
+use Rattle.uca_tailor.proofs.MatchReadings.{placed_among}
 use Rattle.uca_tailor.proofs.PlaceKeys.{relations_around}
 use Rattle.uca_tailor.proofs.DraftingSteps.{IsDrafted}
 
@@ -69,7 +68,7 @@ reaches_or_ends (b ∷ before) r after (l ∷ listed) rest whole = go (reaches_o
     go (inl further) = inl (further.0, ap₂ (λ x xs. x ∷ xs) (sym heads) further.1, further.2)
     go (inr short) = inr (short.0, short.1, short.2, ap₂ (λ x xs. x ∷ xs) heads short.3, short.4)
 
-module _ (basis : Basis) (places : Rows) (before after : List Relation) (r : Relation) (so_far : Drafting) (rules : AreRules (before ++ r ∷ after))
+module _ (basis : Basis) (places : Positions) (before after : List Relation) (r : Relation) (so_far : Drafting) (rules : AreRules (before ++ r ∷ after))
     (all : ArePlaces (keys_of basis.base) (before ++ r ∷ after) places) (own : keys_in so_far.rows ≡ with_targets before (keys_of basis.base))
     (few : length so_far.rows ≤ 200000) where
   -- there are as many rows as keys
@@ -118,12 +117,12 @@ module _ (basis : Basis) (places : Rows) (before after : List Relation) (r : Rel
         let keys : all.keys ≡ keys_in so_far.rows ++ more.0 = keys_are ∙ more.1 in
         record {
           more = more.0;
-          each = λ key. all.each key ∙ ap (λ ks. reference_at ks key) keys;
+          each = λ key. all.each key ∙ ap (λ ks. place_at 0 ks key) keys;
           few = subst (λ ks. length ks ≤ 200000) keys all.all.few;
           full = λ other. placed_or_full further.0 further.2 keys_are (ap (λ ks. is_among ks r.target.points) keys ∙ other);
           alike = λ text is_text.
-              same_reading basis.ranges basis.properties (keys_of basis.base) before after further.0 all.all.rest r so_far.rows (is_key places) text rules further.2 own
-              (λ key. ap is_some (all.each key) ∙ reference_among all.keys key
+              same_reading basis.ranges basis.properties (keys_of basis.base) before after further.0 all.all.rest r so_far.rows (is_placed places) text rules further.2 own
+              (λ key. ap is_some (all.each key) ∙ placed_among 0 all.keys key
               ∙ ap (λ ks. is_among ks key) (all.all.are ∙ ap (λ rs. with_targets rs (keys_of basis.base)) further.1)) is_text;
         }
 
@@ -136,7 +135,7 @@ module _ (basis : Basis) (places : Rows) (before after : List Relation) (r : Rel
       go (inr short) = absurd (not_before short)
 
 -- each relation of rules can be read over the places when those before it have been drafted
-pub ready : (basis : Basis) (places : Rows) (relations : List Relation) (n : ℕ) (r : Relation) (so_far : Drafting) → AreRules relations →
+pub ready : (basis : Basis) (places : Positions) (relations : List Relation) (n : ℕ) (r : Relation) (so_far : Drafting) → AreRules relations →
     ArePlaces (keys_of basis.base) relations places → n < length relations → r ≡ get_or relations n r → IsDrafted basis relations n so_far →
     IsReady basis places so_far.rows r
 ready basis places relations n r so_far rules all within is here =

@@ -2,7 +2,7 @@ pub mod Marks
 pub mod MemberPlaces
 pub mod NumberTables
 pub mod RowDrafts
-pub mod References
+pub mod MatchDrafts
 pub mod Places
 pub mod Ready
 pub mod PlanParts

@@ -1,9 +1,8 @@
 -- The keys that have places, and the places that they have. Only clauses inside this crate cite this file.
 use Rattle.std.specs.Prelude.{◌≡◌, ℕ, ◌<◌, ◌≤◌, ⊤, List, [], ◌∷◌, ◌++◌, length, false, Some}
 use Rattle.uca_rules.specs.declared.relations.Relation.{Relation}
-use Rattle.uca_match.specs.Rows.{Rows}
-use Rattle.uca_plans.specs.Keys.{is_among, with_targets, place_at}
-use Rattle.uca_tailor.specs.References.{reference_at}
+use Rattle.uca_match.specs.Positions.{Positions, place_at}
+use Rattle.uca_plans.specs.Keys.{is_among, with_targets}
 
 -- the key stands at this place
 pub record IsPlaceOf (keys : List (List ℕ)) (key : List ℕ) (place : ℕ) : Type 0 where
@@ -25,7 +24,7 @@ pub record AreListed (base : List (List ℕ)) (relations : List Relation) (keys 
   pub few : length keys ≤ 200000
 
 -- the places of such keys
-pub record ArePlaces (base : List (List ℕ)) (relations : List Relation) (places : Rows) : Type 0 where
+pub record ArePlaces (base : List (List ℕ)) (relations : List Relation) (places : Positions) : Type 0 where
   pub keys : List (List ℕ)
   pub all : AreListed base relations keys
-  pub each : (key : List ℕ) → places key ≡ reference_at keys key
+  pub each : (key : List ℕ) → places key ≡ place_at 0 keys key

@@ -3,13 +3,12 @@ use Rattle.std.specs.Prelude.{◌≡◌, ◌⊎◌, ℕ, ◌+◌, ◌≤◌, Lis
 use Rattle.uca_values.specs.Content.{properties_of}
 use Rattle.uca_text.specs.Texts.{NfdText}
 use Rattle.uca_rules.specs.declared.relations.Relation.{Relation}
-use Rattle.uca_match.specs.Rows.{Rows, is_key}
+use Rattle.uca_match.specs.Positions.{Positions, is_placed, place_at}
 use Rattle.uca_plans.specs.Drafts.{DraftRow, draft_elements}
 use Rattle.uca_plans.specs.Keys.{keys_in, is_among, read_over, IsTextOf}
 use Rattle.uca_plans.specs.Plans.{Basis, Drafting, with_relation}
 use Rattle.uca_plans.specs.declared.faults.TailorFault.{TailorFault}
 use Rattle.uca_plans.specs.Tailors.{basis_of, out_of_memory}
-use Rattle.uca_tailor.specs.References.{reference_at}
 use Rattle.uca_tailor.specs.declared.readings.Reader.{Reader}
 
 -- what a reader reads by
@@ -17,16 +16,16 @@ abbrev pub basis_in : {A T : Type 0} → Reader A T → Basis
 basis_in reader = basis_of reader.base.now (properties_of reader.properties.now)
 
 -- the texts of the relation read over the places as over the rows
-abbrev pub ReadsAlike : Basis → Rows → List DraftRow → Relation → Type 0
+abbrev pub ReadsAlike : Basis → Positions → List DraftRow → Relation → Type 0
 ReadsAlike basis places rows r = (text : NfdText) → IsTextOf r text →
-    read_over basis.ranges basis.properties (is_key places) rows text ≡ draft_elements basis.ranges basis.properties rows text
+    read_over basis.ranges basis.properties (is_placed places) rows text ≡ draft_elements basis.ranges basis.properties rows text
 
 -- the places are those of the rows' keys, in their order, and then of these
-abbrev pub ArePlacesWith : Rows → List DraftRow → List (List ℕ) → Type 0
-ArePlacesWith places rows more = (key : List ℕ) → places key ≡ reference_at (keys_in rows ++ more) key
+abbrev pub ArePlacesWith : Positions → List DraftRow → List (List ℕ) → Type 0
+ArePlacesWith places rows more = (key : List ℕ) → places key ≡ place_at 0 (keys_in rows ++ more) key
 
 -- the rows are the first of those that have places, and one more relation can be read
-pub record IsReady (basis : Basis) (places : Rows) (rows : List DraftRow) (r : Relation) : Type 0 where
+pub record IsReady (basis : Basis) (places : Positions) (rows : List DraftRow) (r : Relation) : Type 0 where
   pub more : List (List ℕ)
   pub each : ArePlacesWith places rows more
   pub few : length (keys_in rows ++ more) ≤ 200000

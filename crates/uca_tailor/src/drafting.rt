@@ -4,6 +4,7 @@ ghost use Rattle.std.specs.Prelude.{◌≡◌, ◌⊎◌, ◌+◌, ◌<◌, ◌�
 ghost use Rattle.std.specs.List.{AllByRecursion};
 ghost use Rattle.std.specs.Option.{option_to_list};
 ghost use Rattle.uca_values.specs.Content.{properties_of};
+ghost use Rattle.uca_match.specs.Tries.{positions};
 ghost use Rattle.uca_plans.specs.Drafts as drafts;
 ghost use Rattle.uca_plans.specs.Plans as plans;
 ghost use Rattle.uca_plans.specs.Plans.{begun, with_relation, with_relations};
@@ -21,7 +22,6 @@ use crate::targets::draft_target;
 use crate::variables::{holds_implicit_variable, variable_span};
 use std::alloc::{AllocError, Allocator};
 use std::marker::Model;
-use uca_match::{Lookup, Trie};
 use uca_plans::{TailorFault, TailorKind};
 use uca_rules::{Relation, Rules};
 use uca_text::Normal;
@@ -93,7 +93,7 @@ impl<'a, A: Allocator> Drafting<'a, A> {
     ) -> Result<(), TailorFault>
         requires index { index < 0xFFFF_FFFF }
         requires bounds { AreBounds reader.now.variables (elements_of reader.now.base.now.rows) }
-        requires ready { IsReady (basis_in reader.now) (⟦<Trie<A> as Lookup>⟧.content reader.now.places.now) self.old.rows relation.now }
+        requires ready { IsReady (basis_in reader.now) (positions reader.now.places.now) self.old.rows relation.now }
         ensures added { OnOk result (with_relation (basis_in reader.now) self.old index relation.now ≡ Ok self.new) }
         ensures rejected { IfErr result (IsRejected (basis_in reader.now) self.old index relation.now) }
     {
@@ -189,7 +189,7 @@ fn needs_prefix<A: Allocator, T: Allocator>(
     rows: &[RowDraft<A>],
     target: &Normal,
 ) -> bool
-    requires { (more : List (List ℕ)) × ArePlacesWith (⟦<Trie<A> as Lookup>⟧.content reader.now.places.now) rows.now more }
+    requires { (more : List (List ℕ)) × ArePlacesWith (positions reader.now.places.now) rows.now more }
     ensures { result ≡ plans.needs_prefix (properties_of reader.now.properties.now).class rows.now target.now.points }
 {
     let points = target.chars();
@@ -208,7 +208,7 @@ fn has_key<A: Allocator, T: Allocator>(
     rows: &[RowDraft<A>],
     key: &[char],
 ) -> bool
-    requires { (more : List (List ℕ)) × ArePlacesWith (⟦<Trie<A> as Lookup>⟧.content reader.now.places.now) rows.now more }
+    requires { (more : List (List ℕ)) × ArePlacesWith (positions reader.now.places.now) rows.now more }
     ensures { result ≡ drafts.has_key rows.now key.now }
 {
     match place_of(reader.places, key) {

@@ -1,9 +1,8 @@
 //! Elements before weights are numbered.
 
-ghost use Rattle.std.specs.Prelude.{◌≡◌, ◌<◌, None, Some, MatchOption};
+ghost use Rattle.std.specs.Prelude.{◌≡◌, None, Some, MatchOption};
 ghost use Rattle.uca_weights.specs.Levels as levels;
 ghost use Rattle.uca_plans.specs.Drafts as drafts;
-ghost use Rattle.uca_tailor.specs.References as references;
 
 use std::alloc::Allocator;
 use uca_plans::{DraftElement, DraftWeight};
@@ -11,9 +10,6 @@ use uca_weights::{Element, Level, Strength};
 
 /// The first primary of implicit weights (UTS #10, section 10.1.3); new primaries stand below it.
 const FIRST_IMPLICIT: u16 = 0x8000;
-
-/// How many places stand for one primary weight, in an element that stands for a place.
-const PLACES_PER_PRIMARY: usize = 0x1_0000;
 
 /// The level at which texts of a strength differ, if at one.
 pub(crate) fn level_of(strength: Strength) -> Option<Level>
@@ -25,26 +21,6 @@ pub(crate) fn level_of(strength: Strength) -> Option<Level>
         Strength::Tertiary => Some(Level::Three),
         Strength::Identical => None,
     }
-}
-
-/// The element that stands for the row at a place. It is variable, which an implicit element never is.
-pub(crate) fn reference(place: usize) -> Element
-    requires { place < 0x1_0000_0000 }
-    ensures { result ≡ references.reference place }
-{
-    Element {
-        primary: (place / PLACES_PER_PRIMARY) as u16,
-        secondary: (place % PLACES_PER_PRIMARY) as u16,
-        tertiary: 0,
-        mark: true,
-    }
-}
-
-/// The place of the row that an element stands for.
-pub(crate) fn referred(element: Element) -> usize
-    ensures { result ≡ references.referred element }
-{
-    usize::from(element.primary) * PLACES_PER_PRIMARY + usize::from(element.secondary)
 }
 
 /// An element with its weights as they are.

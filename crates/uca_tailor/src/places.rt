@@ -1,23 +1,24 @@
 //! The places of the rows of a tailored table.
 
-ghost use Rattle.std.specs.Prelude.{◌≡◌, ◌<◌, ℕ, List, [], ◌∷◌, ◌++◌, length, false, MatchOption, IfOk, OnOk};
-ghost use Rattle.uca_values.specs.Content.{keys_of, AreRows};
+ghost use Rattle.std.specs.Prelude.{◌≡◌, ℕ, List, false, MatchOption, IfOk};
+ghost use Rattle.uca_values.specs.Content.{keys_of};
 ghost use Rattle.uca_rules.specs.Relations.{AreRules};
+ghost use Rattle.uca_match.specs.Positions.{place_at, AreDistinctKeys};
+ghost use Rattle.uca_match.specs.Tries.{positions};
+ghost use Rattle.uca_match.specs.NumberedKeys.{points_of};
 ghost use Rattle.uca_plans.specs.Keys.{is_among};
-ghost use Rattle.uca_tailor.specs.References.{references_from, reference_at};
 ghost use Rattle.uca_tailor.specs.Places.{IsPlaceOf, AreListed, ArePlaces};
 
-use crate::elements::{reference, referred};
 use std::alloc::{AllocError, Allocator};
-use uca_match::{Lookup, Trie, row_of};
+use uca_match::{KeyMap, key_list};
 use uca_rules::{Relation, Rules};
-use uca_values::{Header, Row, Table};
+use uca_values::Table;
 
 /// The most rows of a table.
 const MOST_ROWS: usize = 200_000;
 
 /// The place of each key: the keys of the base come first, in their order, and then the targets that are no base keys, in the
-/// order of the rules, as far as a table has room for them. So all relations can be read by one trie: no text of a relation
+/// order of the rules, as far as a table has room for them. So all relations can be read by one map: no text of a relation
 /// holds a later target.
 ///
 /// # Errors
@@ -27,71 +28,42 @@ pub(crate) fn places_of<A: Allocator + Copy, T: Allocator>(
     alloc: A,
     base: &Table<T>,
     rules: &Rules<T>,
-) -> Result<Trie<A>, AllocError>
-    ensures { IfOk result (λ places. ArePlaces (keys_of base.now.rows) rules.now (⟦<Trie<A> as Lookup>⟧.content places)) }
+) -> Result<KeyMap<A>, AllocError>
+    ensures { IfOk result (λ places. ArePlaces (keys_of base.now.rows) rules.now (positions places)) }
 {
-    let rows = place_rows(alloc, base, rules.relations())?;
-    let header = Header {
-        version: String::from_str(alloc, "1")?,
-        setting: None,
-        ranges: Vec::new(alloc),
-    };
-    let table = Table { header, rows };
-    Trie::new(alloc, &table)
+    let keys = listed_keys(alloc, base, rules.relations())?;
+    KeyMap::new(alloc, &keys)
 }
 
 /// The place of a key, if it has one.
-pub(crate) fn place_of<A: Allocator>(places: &Trie<A>, key: &[char]) -> Option<usize>
-    ensures { (keys : List (List ℕ)) → ((k : List ℕ) → ⟦<Trie<A> as Lookup>⟧.content places.now k ≡ reference_at keys k) →
+pub(crate) fn place_of<A: Allocator>(places: &KeyMap<A>, key: &[char]) -> Option<usize>
+    ensures { (keys : List (List ℕ)) → ((k : List ℕ) → positions places.now k ≡ place_at 0 keys k) →
         MatchOption result (is_among keys key.now ≡ false) (IsPlaceOf keys key.now) }
 {
-    let row = row_of(places, key)?;
-    let element = row.first()?;
-    Some(referred(*element))
+    places.position(key)
 }
 
-/// A row for each key, with the element that stands for its place.
-fn place_rows<A: Allocator + Copy, T: Allocator>(
+/// The keys that have places, in their order.
+fn listed_keys<'a, A: Allocator + Copy, T: Allocator>(
     alloc: A,
-    base: &Table<T>,
-    relations: &[Relation],
-) -> Result<Vec<Row<A>, A>, AllocError>
+    base: &'a Table<T>,
+    relations: &'a [Relation],
+) -> Result<Vec<&'a [char], A>, AllocError>
     requires { AreRules relations.now }
-    ensures places { IfOk result (λ rows.
-        (keys : List (List ℕ)) × AreListed (keys_of base.now.rows) relations.now keys × (rows.items ≡ references_from 0 keys)) }
-    ensures rows { IfOk result (λ rows. AreRows rows.items) }
+    ensures listed { IfOk result (λ keys. AreListed (keys_of base.now.rows) relations.now (points_of keys.items)) }
+    ensures distinct { IfOk result (λ keys. AreDistinctKeys (points_of keys.items)) }
 {
-    let base_keys = Trie::new(alloc, base)?;
-    let mut rows = Vec::with_capacity(alloc, base.rows.len())?;
-    for row in &base.rows {
-        push_place(alloc, &mut rows, &row.key)?;
-    }
+    let mut keys = key_list(alloc, &base.rows)?;
+    let base_keys = KeyMap::new(alloc, &keys)?;
     for relation in relations {
         let target = relation.target.chars();
-        if row_of(&base_keys, target).is_some() {
+        if base_keys.position(target).is_some() {
             continue;
         }
-        if rows.len() >= MOST_ROWS {
-            return Ok(rows);
+        if keys.len() >= MOST_ROWS {
+            return Ok(keys);
         }
-        push_place(alloc, &mut rows, target)?;
+        keys.push(target)?;
     }
-    Ok(rows)
-}
-
-/// Puts a row for the key, with the element that stands for its place, behind the others.
-fn push_place<A: Allocator + Copy>(
-    alloc: A,
-    rows: &mut Vec<Row<A>, A>,
-    key: &[char],
-) -> Result<(), AllocError>
-    requires { length rows.old.items < 200000 }
-    ensures { (keys : List (List ℕ)) → rows.old.items ≡ references_from 0 keys →
-        OnOk result (rows.new.items ≡ references_from 0 (keys ++ key.now ∷ [])) }
-{
-    let mut elements = Vec::with_capacity(alloc, 1)?;
-    elements.push(reference(rows.len()))?;
-    let key = Vec::from_slice(alloc, key)?;
-    rows.push(Row { key, elements })?;
-    Ok(())
+    Ok(keys)
 }

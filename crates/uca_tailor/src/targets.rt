@@ -1,6 +1,7 @@
 //! What relations give their targets.
 
 ghost use Rattle.std.specs.Prelude.{◌≡◌, ◌++◌, ◌∷◌, [], ℕ, List, IfOk, OnOk, option_map};
+ghost use Rattle.uca_match.specs.Tries.{positions};
 ghost use Rattle.uca_plans.specs.declared.drafts.DraftElement.{DraftElement};
 ghost use Rattle.uca_plans.specs.Drafts.{anchor_part, accepted_part};
 ghost use Rattle.uca_plans.specs.Plans as plans;
@@ -13,7 +14,6 @@ use crate::readings::Reader;
 use crate::row_drafts::RowDraft;
 use std::alloc::{AllocError, Allocator};
 use std::marker::Model;
-use uca_match::{Lookup, Trie};
 use uca_plans::{DraftElement, DraftWeight};
 use uca_rules::Relation;
 use uca_weights::Level;
@@ -49,8 +49,8 @@ pub(crate) fn draft_target<A: Allocator, T: Allocator>(
     relation: &Relation,
     index: u32,
 ) -> Result<Option<TargetDraft<A>>, AllocError>
-    requires places { (more : List (List ℕ)) × ArePlacesWith (⟦<Trie<A> as Lookup>⟧.content reader.now.places.now) rows.now more }
-    requires alike { ReadsAlike (basis_in reader.now) (⟦<Trie<A> as Lookup>⟧.content reader.now.places.now) rows.now relation.now }
+    requires places { (more : List (List ℕ)) × ArePlacesWith (positions reader.now.places.now) rows.now more }
+    requires alike { ReadsAlike (basis_in reader.now) (positions reader.now.places.now) rows.now relation.now }
     ensures { IfOk result (λ found. found
         ≡ plans.drafted (basis_in reader.now) (record { rows = rows.now; insertions = [] }) (DraftWeight.New index) relation.now) }
 {
@@ -108,8 +108,8 @@ fn read_expansion<A: Allocator, T: Allocator>(
     relation: &Relation,
     elements: &mut Vec<DraftElement, A>,
 ) -> Result<(), AllocError>
-    requires places { (more : List (List ℕ)) × ArePlacesWith (⟦<Trie<A> as Lookup>⟧.content reader.now.places.now) rows.now more }
-    requires alike { ReadsAlike (basis_in reader.now) (⟦<Trie<A> as Lookup>⟧.content reader.now.places.now) rows.now relation.now }
+    requires places { (more : List (List ℕ)) × ArePlacesWith (positions reader.now.places.now) rows.now more }
+    requires alike { ReadsAlike (basis_in reader.now) (positions reader.now.places.now) rows.now relation.now }
     ensures { OnOk result (elements.new.items ≡ elements.old.items
         ++ draft_expansion (basis_in reader.now) (record { rows = rows.now; insertions = [] }) relation.now.expansion) }
 {

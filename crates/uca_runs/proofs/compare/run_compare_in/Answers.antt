@@ -3,7 +3,7 @@ use Rattle.std.specs.Prelude.{⊤}
 use Rattle.std.proofs.Common.{◌≡◌, [], ◌∷◌, Err, refl, subst, sym}
 use Rattle.std.proofs.lemmas.Result.{err_from_is_err_and}
 use Rattle.uca_values.specs.Content.{properties_of}
-use Rattle.uca_match.specs.Tries.{held}
+use Rattle.uca_match.specs.NumberedKeys.{rows_at}
 use Rattle.uca_match.specs.Collations.{collation_of}
 use Rattle.uca_runs.specs.declared.faults.RunFault.TheVariants.{Memory}
 use Rattle.uca_runs.specs.Files.{table_and_data, table_and_data_roles, table_with}
@@ -38,10 +38,10 @@ returns g c =
     let news = c.read_collation.new.table ∷ c.read_collation.new.properties ∷ [] in
     record {
       runs = runs_over_all {B = ⊤} table_and_data olds news
-          (λ content. IsCollation c.args.weighting (collation_in (held read.rows) files) read.weighting content) _ tt c.compare_words.result c.compare_words.ensures.of_texts
+          (λ content. IsCollation c.args.weighting (collation_in (rows_at read.rows) files) read.weighting content) _ tt c.compare_words.result c.compare_words.ensures.of_texts
           (λ content is. run_compares c.args.weighting c.args.depth c.args.left.now c.args.right.now c.args.out.now c.compare_words.new.out content c.compare_words.result
           (subst (λ d. WritesComparison d c.args.left.now c.args.right.now c.args.out.now.contents c.compare_words.new.out.contents c.compare_words.result)
-          (same_keying c.args.weighting c.args.depth (collation_of held c.collator-collator.result) (collation_in (held read.rows) files) read.weighting content c.collator-collator.ensures is)
+          (same_keying c.args.weighting c.args.depth (collation_of rows_at c.collator-collator.result) (collation_in (rows_at read.rows) files) read.weighting content c.collator-collator.ensures is)
           c.compare_words.ensures.writes))
           c.in_ok-read.ensures.read;
       nothing_written = c.compare_words.ensures.nothing_written;

@@ -3,7 +3,7 @@ use Rattle.std.specs.Prelude.{⊤}
 use Rattle.std.proofs.Common.{◌≡◌, [], ◌∷◌, Ok, refl, ap, subst, ◌∙◌}
 use Rattle.uca_values.specs.Content.{properties_of}
 use Rattle.uca_match.specs.Rows.{rows_of}
-use Rattle.uca_match.specs.Tries.{held}
+use Rattle.uca_match.specs.NumberedKeys.{rows_at}
 use Rattle.uca_runs.specs.Keys.{weighting_by}
 use Rattle.uca_runs.specs.Files.{table_and_data, table_with}
 use Rattle.uca_runs.specs.ReadFiles.{IsCollation}
@@ -18,7 +18,7 @@ returns-clause-read g c =
     (λ content. table_with files.table (properties_of files.properties) ≡ content)
     _ tt (Ok tt) refl
     (λ content same. subst (IsCollation c.args.weighting _ _) same
-    (made_of_files c.args.weighting (held c.in_ok-rows.rows) c.chosen_weighting-weighting.result (table_with files.table (properties_of files.properties))
+    (made_of_files c.args.weighting (rows_at c.in_ok-rows.rows) c.chosen_weighting-weighting.result (table_with files.table (properties_of files.properties))
     (c.in_ok-rows.ensures.rows ∙ ap (λ f. rows_of f.table.rows) c.files.view_is)
     (c.chosen_weighting-weighting.ensures ∙ ap (λ f. weighting_by c.args.weighting f.table.header.setting) c.files.view_is)))
     c.in_ok-files.ensures.read

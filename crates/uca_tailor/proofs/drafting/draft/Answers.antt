@@ -4,7 +4,7 @@ use Rattle.std.specs.List.{AllByRecursion}
 use Rattle.uca_values.specs.Content.{keys_of, properties_of}
 use Rattle.uca_plans.specs.Plans.{Basis}
 use Rattle.uca_plans.specs.Tailors.{basis_of}
-use Rattle.uca_match.specs.Tries.{held}
+use Rattle.uca_match.specs.Tries.{positions}
 use Rattle.uca_rules.specs.declared.relations.Relation.{Relation}
 use Rattle.uca_rules.specs.Relations.{AreRules}
 use Rattle.uca_tailor.specs.NumberTables.{InsertsBelow}
@@ -21,7 +21,7 @@ pub add-requires-clause-ready : goal.add-requires-clause-ready
 add-requires-clause-ready g c =
     ready _ _ c.relations-relation-items.result.now c.loop-at.at c.relation-item.result c.loop-at.drafting
     (subst AreRules (sym c.relations-relation-items.ensures.value) c.relations-relation-items.ensures.rules)
-    (subst (λ (rs : List Relation). ArePlaces (keys_of c.args.base.now.rows) rs (held c.in_ok-places.places)) (sym c.relations-relation-items.ensures.value)
+    (subst (λ (rs : List Relation). ArePlaces (keys_of c.args.base.now.rows) rs (positions c.in_ok-places.places)) (sym c.relations-relation-items.ensures.value)
     c.in_ok-places.ensures)
     c.loop-at-test.true c.relation-item.is c.loop-at.invariant
 

@@ -1,60 +1,16 @@
-use Rattle.std.proofs.Common.{Some, ap, subst, sym, ◌∙◌, length, arith}
-use Rattle.uca_match.specs.Tries.{target_of, node_at, AreRisingEdges, IsTree, AreHeads}
-use Rattle.uca_match.proofs.TrieEdges.{none_at_new_place}
-use Rattle.uca_match.proofs.TrieLookups.{leads_on, leads_nowhere, is_node, head_some, head_none, branch_read, head_read}
+use Rattle.std.proofs.Common.{◌≡◌, List, ◌∷◌, ◌++◌, [], Some, MatchOption, ap, subst, sym}
+use Rattle.uca_match.specs.Lookups.{BeginsKeyIn, BeginsNoKeyIn}
+use Rattle.uca_match.specs.Positions.{is_placed}
+use Rattle.uca_match.specs.Tries.{NodeContent, positions, walk}
+use Rattle.uca_match.specs.NumberedKeys.{TrieContent}
+use Rattle.uca_match.proofs.PlacedKeys.{step_of_trie}
 use Rattle.uca_match.proofs.trie.TrieLookup.step.Goals as goal
 
-pub returns-then-number-eq0 : goal.returns-then-number-eq0
-returns-then-number-eq0 g c = λ key is.
-    let nodes = c.args.self.now in
-    let heads = c.self.inside.heads.items in
-    let are = subst (λ t. AreHeads (node_at t 0).edges heads) c.self.view_is c.self.invariant.first_steps in
-    let there = head_read (node_at nodes 0).edges heads c.args.c c.index-number.result.now are
-    (omega (arith, c.if-code-len.true, c.len.ensures, c.self.inside.heads.ok.0)) c.index-number.ensures in
-    leads_nowhere nodes 0 c.args.c (head_none (node_at nodes 0).edges heads c.args.c c.index-number.result.now are
-    (omega (arith, c.if-code-len.true, c.len.ensures, c.self.inside.heads.ok.0)) there c.if-number-eq0.true) key (is ∙ ap Some c.if-node-eq0.true)
-
-pub returns-then-code-len : goal.returns-then-code-len
-returns-then-code-len g c = λ key is.
-    let nodes = c.args.self.now in
-    let heads = c.self.inside.heads.items in
-    let tree = subst (λ t. IsTree t) c.self.view_is c.self.invariant.tree in
-    let are = subst (λ t. AreHeads (node_at t 0).edges heads) c.self.view_is c.self.invariant.first_steps in
-    let there = head_read (node_at nodes 0).edges heads c.args.c c.index-number.result.now are
-    (omega (arith, c.if-code-len.true, c.len.ensures, c.self.inside.heads.ok.0)) c.index-number.ensures in
-    leads_on nodes tree 0 c.args.c c.index-number.result.now
-    (head_some (node_at nodes 0).edges heads c.args.c c.index-number.result.now are
-    (omega (arith, c.if-code-len.true, c.len.ensures, c.self.inside.heads.ok.0)) there c.if-number-eq0.false) key (is ∙ ap Some c.if-node-eq0.true)
-
-pub index-requires : goal.index-requires
-index-requires g c =
-    let within = is_node c.args.self.now (subst (λ t. IsTree t) c.self.view_is c.self.invariant.tree) c.args.node.number c.requires in
-    omega (arith, c.self.inside.nodes.ok.0, ap length c.self.view_is)
-
-pub find-requires : goal.find-requires
-find-requires g c =
-    let nodes = c.args.self.now in
-    let tree = subst (λ t. IsTree t) c.self.view_is c.self.invariant.tree in
-    let within = is_node nodes tree c.args.node.number c.requires in
-    let node = branch_read c.self.inside.nodes.items nodes c.args.node.number c.index.result.now c.self.view_is within c.index.ensures in
-    let edges = c.deref.ensures.value ∙ ap (λ b. b.edges) (c.behind-self.view_is ∙ node) in
-    subst (λ e. AreRisingEdges e) (sym edges) (tree.shape.rising c.args.node.number within)
-
-pub returns-in-Ok : goal.returns-in-Ok
-returns-in-Ok g c = λ key is.
-    let nodes = c.args.self.now in
-    let tree = subst (λ t. IsTree t) c.self.view_is c.self.invariant.tree in
-    let within = is_node nodes tree c.args.node.number c.requires in
-    let node = branch_read c.self.inside.nodes.items nodes c.args.node.number c.index.result.now c.self.view_is within c.index.ensures in
-    let edges = c.deref.ensures.value ∙ ap (λ b. b.edges) (c.behind-self.view_is ∙ node) in
-    leads_on nodes tree c.args.node.number c.args.c c.in-Ok.number (ap (λ e. target_of e c.args.c) (sym edges) ∙ c.in-Ok.ensures) key is
-
-pub returns-in-Err : goal.returns-in-Err
-returns-in-Err g c = λ key is.
-    let nodes = c.args.self.now in
-    let tree = subst (λ t. IsTree t) c.self.view_is c.self.invariant.tree in
-    let within = is_node nodes tree c.args.node.number c.requires in
-    let node = branch_read c.self.inside.nodes.items nodes c.args.node.number c.index.result.now c.self.view_is within c.index.ensures in
-    let edges = c.deref.ensures.value ∙ ap (λ b. b.edges) (c.behind-self.view_is ∙ node) in
-    leads_nowhere nodes c.args.node.number c.args.c
-    (ap (λ e. target_of e c.args.c) (sym edges) ∙ none_at_new_place c.deref.result.now c.args.c c.in-Err.field-0 c.in-Err.ensures) key is
+pub returns : goal.returns
+returns g c = λ key is.
+    let keys = ap (λ (t : TrieContent). t.keys) c.self.view_is in
+    let longer = key ++ c.args.c ∷ [] in
+    step_of_trie c.args.self.now longer c.step.result (λ next. walk c.args.self.now.keys 0 longer ≡ Some next.number)
+    (subst (λ (nodes : List NodeContent). MatchOption c.step.result (BeginsNoKeyIn (is_placed (positions nodes)) longer)
+    (λ next. BeginsKeyIn (is_placed (positions nodes)) longer × walk nodes 0 longer ≡ Some next.number)) keys
+    (c.step.ensures key (subst (λ (nodes : List NodeContent). walk nodes 0 key ≡ Some c.args.node.number) (sym keys) is)))

@@ -1,16 +1,22 @@
 use Rattle.std.specs.List.{list_any}
 use Rattle.std.proofs.Common.{inl, ◌≡◌, ◌<◌, ◌≤◌, ◌&&◌, ◌++◌, ◌∷◌, [], List, length, set, None, Some, true, false, refl, sym, ap, subst, ◌∙◌, arith}
 use Rattle.uca_check.specs.WellFormed.{elements_of}
+use Rattle.uca_match.specs.Tries.{positions}
 use Rattle.uca_plans.specs.declared.drafts.DraftWeight.TheVariants.{New}
 use Rattle.uca_plans.specs.Drafts.{DraftRow}
 use Rattle.uca_plans.specs.Plans.{Basis, Drafting, Drafted, drafted, needs_prefix, is_among_variables, holds_implicit_variable}
 use Rattle.uca_plans.specs.Keys.{keys_in, is_among}
 use Rattle.uca_plans.proofs.PlanSteps.{target_row}
 use Rattle.uca_tailor.specs.Places.{IsPlaceOf}
-use Rattle.uca_tailor.specs.Ready.{basis_in, IsRejected}
+use Rattle.uca_tailor.specs.Ready.{basis_in, ReadsAlike, IsRejected}
 use Rattle.uca_tailor.proofs.VariableLaws.{holds_is}
 use Rattle.uca_tailor.proofs.DraftingSteps.{drafted_by_rows, refused_anchor, refused_prefix, refused_limit, too_many, refused_room, refused_variable, in_limits, row_put}
 use Rattle.uca_tailor.proofs.drafting.Drafting.add.Goals as goal
+
+pub draft_target-requires-clause-alike : goal.draft_target-requires-clause-alike
+draft_target-requires-clause-alike g c =
+    let rows : c.deref.result.now ≡ c.args.self.now.rows = c.deref.ensures.value ∙ ap (λ (d : Drafting). d.rows) c.self.view_is in
+    subst (λ rs. ReadsAlike (basis_in c.args.reader.now) (positions c.args.reader.now.places.now) rs c.args.relation.now) (sym rows) c.requires.ready.alike
 
 pub returns-in_default-clause-rejected : goal.returns-in_default-clause-rejected
 returns-in_default-clause-rejected g c =

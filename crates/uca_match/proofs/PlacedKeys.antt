@@ -1,0 +1,151 @@
+-- Keys with their positions.
+use Rattle.std.proofs.Common.{◌≡◌, ℕ, suc, ◌+◌, ◌<◌, List, [], ◌∷◌, ◌++◌, length, map, take, get_or, Bool, true, false, cond, Option, Some, None, Contains, MatchOption}
+use Rattle.std.proofs.Common.{⊎_elim, is_some, option_map, append_assoc, length-take-le, sym, ap, ap₂, subst, refl, ◌∙◌, arith}
+use Rattle.std.proofs.lemmas.Bool.{cond_both, cond-true, cond-false, false_from_ne_true}
+use Rattle.std.proofs.lemmas.List.{get_or_append_left, get_or_push, length_push, length-map, map-append, take_more}
+use Rattle.std.specs.Borrow.{Bor}
+use Rattle.uca_weights.specs.declared.Element.{Element}
+use Rattle.uca_values.specs.Content.{Entry, keys_of, AreDistinct}
+use Rattle.uca_match.specs.Rows.{same_key, rows_of}
+use Rattle.uca_match.specs.Positions.{Placed, is_placed, place_at, AreDistinctKeys, placed_from}
+use Rattle.uca_match.specs.Lookups.{BeginsKeyIn, BeginsNoKeyIn, BeginsSomeKey, BeginsNoKey}
+use Rattle.uca_match.specs.Tries.{positions}
+use Rattle.uca_match.specs.NumberedKeys.{points_of, placed_of, TrieContent, rows_at}
+use Rattle.uca_match.specs.declared.key_map.Numbered.{Numbered}
+use Rattle.uca_match.proofs.RowsByKey.{same_key-true, same_key-itself, Contains-first, Contains-later, Contains-cases}
+
+-- what is found at a key is its position
+pub placed_of_found : (place : ℕ) (keys : List (List ℕ)) (key : List ℕ) (position : ℕ) → place_at place keys key ≡ Some position →
+    Contains (placed_from place keys) (record { key = key; position = position })
+placed_of_found place [] key position found = cc
+placed_of_found place (k ∷ keys) key position at_key =
+    let here : Placed = record { key = key; position = position } in
+    let first : Placed = record { key = k; position = place } in
+    cond_both (same_key k key) (Some place) (place_at (place + 1) keys key)
+    (λ o. o ≡ Some position → Contains (placed_from place (k ∷ keys)) here)
+    (λ same found. let same_position : place ≡ position = cc in
+    let same_placed : first ≡ here = λ i. record { key = same_key-true k key same i; position = same_position i } in
+    Contains-first first here (placed_from (place + 1) keys) same_placed)
+    (λ other found. Contains-later first here (placed_from (place + 1) keys) (placed_of_found (place + 1) keys key position found))
+    at_key
+
+-- a key with a position is one of the keys
+key_of_placed : (place : ℕ) (keys : List (List ℕ)) (placed : Placed) → Contains (placed_from place keys) placed → Contains keys placed.key
+key_of_placed place [] placed h = absurd (omega (arith, h.1))
+key_of_placed place (k ∷ keys) placed h =
+    ⊎_elim
+    (λ same. Contains-first k placed.key keys (ap (λ (p : Placed). p.key) same))
+    (λ later. Contains-later k placed.key keys (key_of_placed (place + 1) keys placed later))
+    (Contains-cases (record { key = k; position = place }) placed (placed_from (place + 1) keys) h)
+
+-- and where keys are distinct, its position is found at the key
+pub found_of_placed : (place : ℕ) (keys : List (List ℕ)) → AreDistinctKeys keys → (placed : Placed) → Contains (placed_from place keys) placed →
+    place_at place keys placed.key ≡ Some placed.position
+found_of_placed place [] distinct placed h = absurd (omega (arith, h.1))
+found_of_placed place (k ∷ keys) distinct placed h =
+    ⊎_elim
+    (λ same. cond-true (same_key k placed.key) (Some place) (place_at (place + 1) keys placed.key)
+    (subst (λ (s : Placed). same_key k s.key ≡ true) same (same_key-itself k)) ∙ ap (λ (s : Placed). Some s.position) same)
+    (λ later.
+    let other : same_key k placed.key ≡ true →
+    ⊥ = λ same. distinct.0 (subst (λ key. Contains keys key) (sym (same_key-true k placed.key same)) (key_of_placed (place + 1) keys placed later)) in
+    cond-false (same_key k placed.key) (Some place) (place_at (place + 1) keys placed.key) (false_from_ne_true (same_key k placed.key) other)
+    ∙ found_of_placed (place + 1) keys distinct.1 placed later)
+    (Contains-cases (record { key = k; position = place }) placed (placed_from (place + 1) keys) h)
+
+-- one more key
+pub placed_push : (place : ℕ) (keys : List (List ℕ)) (key : List ℕ) →
+    placed_from place (keys ++ key ∷ []) ≡ placed_from place keys ++ record { key = key; position = place + length keys } ∷ []
+placed_push place [] key = ap (λ p. record { key = key; position = p } ∷ []) (let same : place ≡ place + 0 = omega arith in same)
+placed_push place (k ∷ keys) key =
+    ap (λ rest. record { key = k; position = place } ∷ rest)
+    (placed_push (place + 1) keys key
+    ∙ ap (λ p. placed_from (place + 1) keys ++ record { key = key; position = p } ∷ [])
+    (let same : place + 1 + length keys ≡ place + suc (length keys) = omega arith in same))
+
+pub length-placed : (place : ℕ) (keys : List (List ℕ)) → length (placed_from place keys) ≡ length keys
+length-placed place [] = refl
+length-placed place (key ∷ keys) = ap suc (length-placed (place + 1) keys)
+
+-- a position is that of one of the keys
+pub placed_within : (place : ℕ) (keys : List (List ℕ)) (key : List ℕ) (p : ℕ) → place_at place keys key ≡ Some p →
+    (i : ℕ) × (i < length keys) × (p ≡ place + i)
+placed_within place [] key p found = cc
+placed_within place (k ∷ keys) key p found = go (same_key k key) found (placed_within (place + 1) keys key p)
+  where
+    go : (b : Bool) → cond b (Some place) (place_at (place + 1) keys key) ≡ Some p →
+        (place_at (place + 1) keys key ≡ Some p → (i : ℕ) × (i < length keys) × (p ≡ place + 1 + i)) →
+        (i : ℕ) × (i < suc (length keys)) × (p ≡ place + i)
+    go true found later = let same : place ≡ p = cc in (0, omega arith, omega (arith, same))
+    go false found later = let l = later found in (suc l.0, omega (arith, l.1), omega (arith, l.2))
+
+-- ---- Keys that are lent
+
+-- one more key with its position
+pub numbered_more : (list : List Numbered) (keys : List (Bor (List ℕ))) (p : ℕ) (new : Numbered) → p < length keys → new.key ≡ get_or keys p new.key →
+    new.position ≡ p → map placed_of list ≡ placed_from 0 (points_of (take p keys)) →
+    map placed_of (list ++ new ∷ []) ≡ placed_from 0 (points_of (take (p + 1) keys))
+numbered_more list keys p new within is its_position so_far =
+    let before : List (List ℕ) = points_of (take p keys) in
+    let count : new.position ≡ 0 + length before =
+    omega (arith, its_position, length-map (take p keys) (λ (k : Bor (List ℕ)). k.now), length-take-le p keys (omega arith)) in
+    let more : points_of (take (p + 1) keys) ≡ before ++ new.key.now ∷ [] =
+    ap points_of (take_more keys p new.key within ∙ ap (λ (k : Bor (List ℕ)). take p keys ++ k ∷ []) (sym is))
+    ∙ map-append (λ (k : Bor (List ℕ)). k.now) (take p keys) (new.key ∷ []) in
+    map-append placed_of list (new ∷ [])
+    ∙ ap (λ (front : List Placed). front ++ placed_of new ∷ []) so_far
+    ∙ ap (λ (n : ℕ). placed_from 0 before ++ record { key = new.key.now; position = n } ∷ []) count
+    ∙ sym (placed_push 0 before new.key.now)
+    ∙ ap (placed_from 0) (sym more)
+
+-- ---- The rows of a table by the positions of their keys
+
+-- the keys of distinct rows are distinct
+pub distinct_keys : (rows : List Entry) → AreDistinct rows → AreDistinctKeys (keys_of rows)
+distinct_keys [] distinct = tt
+distinct_keys (row ∷ rows) distinct = (distinct.0, distinct_keys rows distinct.1)
+
+-- the elements of a key stand at its position, where these elements stand before those of the rows
+rows_behind : (front : List (List Element)) (rows : List Entry) (key : List ℕ) →
+    rows_of rows key ≡ option_map (λ p. get_or (front ++ map (λ (r : Entry). r.elements) rows) p []) (place_at (length front) (keys_of rows) key)
+rows_behind front [] key = refl
+rows_behind front (row ∷ rows) key = go (same_key row.key key) (rows_behind (front ++ row.elements ∷ []) rows key)
+  where
+    all : List (List Element)
+    all = map (λ (r : Entry). r.elements) rows
+
+    go : (b : Bool) →
+        rows_of rows key ≡ option_map (λ p. get_or ((front ++ row.elements ∷ []) ++ all) p [])
+        (place_at (length (front ++ row.elements ∷ [])) (keys_of rows) key) →
+        cond b (Some row.elements) (rows_of rows key)
+        ≡ option_map (λ p. get_or (front ++ row.elements ∷ all) p []) (cond b (Some (length front)) (place_at (length front + 1) (keys_of rows) key))
+    go true later =
+        ap Some (sym (ap (λ (es : List (List Element)). get_or es (length front) []) (sym (append_assoc front (row.elements ∷ []) all))
+        ∙ get_or_append_left (front ++ row.elements ∷ []) all [] (length front) (omega (arith, length_push front row.elements))
+        ∙ get_or_push front row.elements [] (length front) refl))
+    go false later =
+        let count : length (front ++ row.elements ∷ []) ≡ length front + 1 = omega (arith, length_push front row.elements) in
+        later ∙ ap₂ (λ (es : List (List Element)) (n : ℕ). option_map (λ p. get_or es p []) (place_at n (keys_of rows) key))
+        (append_assoc front (row.elements ∷ []) all) count
+
+-- the elements of a key stand at its position
+pub rows_by_position : (rows : List Entry) (key : List ℕ) →
+    rows_of rows key ≡ option_map (λ p. get_or (map (λ (r : Entry). r.elements) rows) p []) (place_at 0 (keys_of rows) key)
+rows_by_position rows key = rows_behind [] rows key
+
+-- ---- The keys of a trie
+
+-- a list of code points is a key of a trie exactly where it has a position
+keys_of_trie : (trie : TrieContent) (key : List ℕ) → is_some (rows_at trie key) ≡ is_some (positions trie.keys key)
+keys_of_trie trie key = go (positions trie.keys key)
+  where
+    go : (o : Option ℕ) → is_some (option_map (λ p. get_or trie.rows p []) o) ≡ is_some o
+    go None = refl
+    go (Some p) = refl
+
+-- so a step in its keys is a step in its rows
+pub step_of_trie : (trie : TrieContent) (begin : List ℕ) {X : Type 0} (found : Option X) (P : X → Type 0) →
+    MatchOption found (BeginsNoKeyIn (is_placed (positions trie.keys)) begin) (λ x. BeginsKeyIn (is_placed (positions trie.keys)) begin × P x) →
+    MatchOption found (BeginsNoKey (rows_at trie) begin) (λ x. BeginsSomeKey (rows_at trie) begin × P x)
+step_of_trie trie begin None P none = λ some. none (some.0, sym (keys_of_trie trie (begin ++ some.0)) ∙ some.1)
+step_of_trie trie begin (Some x) P found = ((found.0.0, keys_of_trie trie (begin ++ found.0.0) ∙ found.0.1), found.1)

@@ -1,0 +1,18 @@
+-- Lists with whose beginning no key begins.
+use Rattle.std.proofs.Common.{◌≡◌, ℕ, ◌+◌, ◌<◌, List, [], ◌∷◌, ◌++◌, length, take, drop, get_or, true, Option, Some, None, is_some, refl, sym, ap, subst}
+use Rattle.std.proofs.Common.{◌∙◌, take-append-drop}
+use Rattle.std.proofs.lemmas.List.{take_more}
+use Rattle.uca_match.specs.Lookups.{BeginsNoKeyIn}
+
+-- a list with whose beginning no key begins has no value
+pub no_value : {V : Type 0} (values : List ℕ → Option V) (key : List ℕ) (i point : ℕ) → i < length key → point ≡ get_or key i point →
+    BeginsNoKeyIn (λ k. is_some (values k)) (take i key ++ point ∷ []) → values key ≡ None
+no_value {V} values key i point within is none = go (values key) refl
+  where
+    go : (value : Option V) → values key ≡ value → values key ≡ None
+    go None e = e
+    go (Some value) e =
+        let begin : take (i + 1) key ≡ take i key ++ point ∷ [] = take_more key i point within ∙ ap (λ c. take i key ++ c ∷ []) (sym is) in
+        let whole : key ≡ (take i key ++ point ∷ []) ++ drop (i + 1) key = sym (take-append-drop (i + 1) key)
+        ∙ ap (λ front. front ++ drop (i + 1) key) begin in
+        absurd (none (drop (i + 1) key, subst (λ k. is_some (values k) ≡ true) whole (ap is_some e)))

@@ -1,0 +1,12 @@
+use Rattle.std.proofs.Common.{take, sym, ◌∙◌}
+use Rattle.uca_match.specs.Tries.{positions}
+use Rattle.uca_match.proofs.Prefixes.{no_value}
+use Rattle.uca_match.proofs.key_map.KeyMap.position.Goals as goal
+
+pub returns-in_err-node : goal.returns-in_err-node
+returns-in_err-node g c =
+    let key = c.args.key.now in
+    let i = c.loop-point.point-index in
+    c.from_residual.ensures
+    ∙ sym (no_value (positions c.args.self.now) key i c.point-item.result c.loop-point-test.true c.point-item.is
+    (c.in_err-node.ensures (take i key) c.loop-point.invariant))
