@@ -1,7 +1,8 @@
 -- An anchor from its end: the last of its elements that is not ignorable, and whether a new weight can be put on it.
-use Rattle.std.proofs.Common.{◌≡◌, ℕ, ◌+◌, ◌<◌, List, ◌∷◌, ◌++◌, length, take, drop, get_or, sym, ap, subst, ◌∙◌}
+use Rattle.std.proofs.Common.{◌≡◌, ℕ, ◌+◌, ◌<◌, List, ◌∷◌, ◌++◌, length, take, drop, get_or, sym, subst, ◌∙◌}
 use Rattle.std.specs.List.{AllByRecursion}
-use Rattle.std.proofs.lemmas.List.{append_cancel_left, drop_more, take-append-drop}
+use Rattle.std.proofs.lemmas.List.{append_cancel_left}
+use Rattle.uca_weights.proofs.Lists.{split_at}
 use Rattle.uca_weights.specs.declared.Element.{Element}
 use Rattle.uca_weights.specs.declared.Level.{Level}
 use Rattle.uca_weights.specs.Kinds.{IsContinuation}
@@ -10,10 +11,6 @@ use Rattle.uca_tailorings.specs.Placing.{IsIgnorableTo, IsLow}
 use Rattle.uca_tailorings.proofs.Parts.{of_part}
 use Rattle.uca_tailorings.proofs.Relating.{one_anchor}
 use Rattle.uca_audit.specs.Anchors.{EndsAt, HasNoAnchor}
-
--- a list is the members before a place, the one there, and those behind it
-pub split_at : {X : Type 0} (xs : List X) (at : ℕ) (d : X) → at < length xs → xs ≡ take at xs ++ get_or xs at d ∷ drop (at + 1) xs
-split_at xs at d within = sym (take-append-drop at xs) ∙ ap (λ rest. take at xs ++ rest) (drop_more xs at d within)
 
 -- the member behind which the others stand is the one at the place
 pub member_at : {X : Type 0} (xs : List X) (at : ℕ) (x d : X) → at < length xs → xs ≡ take at xs ++ x ∷ drop (at + 1) xs → x ≡ get_or xs at d

@@ -1,10 +1,11 @@
 -- New weights that are fresh: which weights are new twice.
 use Rattle.std.proofs.Common.{◌≡◌, ◌⊎◌, inl, inr, ⊎_elim, ◌↔◌, ℕ, suc, ◌+◌, ◌<◌, ◌≤◌, Bool, IsTrue, length, take, drop, get_or, List, [], ◌∷◌, ◌++◌}
-use Rattle.std.proofs.Common.{Option, Some, None, MatchOption, cond, true, false, refl, sym, ap, subst, ◌∙◌, arith}
+use Rattle.std.proofs.Common.{Option, Some, None, MatchOption, cond, true, false, refl, sym, ap, subst, ◌∙◌, arith, add-one}
 use Rattle.std.specs.Prelude.{⊤}
 use Rattle.std.specs.List.{AllZip}
 use Rattle.std.proofs.lemmas.Bool.{cases_lt, false≢true}
 use Rattle.uca_weights.specs.declared.Level.{Level}
+use Rattle.uca_weights.proofs.Lists.{split_at}
 use Rattle.uca_rules.specs.declared.relations.Relation.{Relation}
 use Rattle.uca_tailorings.specs.Tailorings.{Tailoring, IsFreshWeight, IsFresh}
 use Rattle.uca_tailorings.proofs.Relating.{one_new}
@@ -13,7 +14,7 @@ use Rattle.uca_audit.specs.Refusals.{IsFirstRelationWithout}
 use Rattle.uca_audit.specs.Views.{IsPlacement}
 use Rattle.uca_audit.specs.WeightSets.{Flags, HasWeight, AddsWeight}
 use Rattle.uca_audit.specs.NewWeights.{times_new, HoldsKnown, HoldsNew, IsFreshAt, IsFreshPlacement}
-use Rattle.uca_audit.proofs.Passes.{in_step, split_at, AllBelow, below_one_more, first_here}
+use Rattle.uca_audit.proofs.Passes.{in_step, AllBelow, below_one_more, first_here}
 use Rattle.uca_audit.proofs.PlacedWeights.{placed_there, puts_there, puts_cases, times_push, times_split, new_counted}
 
 -- ---- Weights that are new twice
@@ -117,7 +118,7 @@ fresh_more tailoring placements known shared i d fresh are is_known is_shared wi
     below_one_more (IsFresh tailoring) tailoring.relations i at.x at.more at.rest below
     (fresh_placement tailoring known shared (take i tailoring.relations) at.x (drop (suc i) tailoring.relations)
     (take i placements) (get_or placements i d) (drop (suc i) placements) is_known
-    (subst (λ l. HoldsNew 2 l shared) (split_at placements i d within) is_shared) at.before at.here at.after (test.0 passes))
+    (subst (λ l. HoldsNew 2 l shared) (rw add-one at (split_at placements i d within)) is_shared) at.before at.here at.after (test.0 passes))
 
 -- that of one that does not is the first that is not
 pub fresh_fails : (tailoring : Tailoring) (placements : List Placement) (known shared : Flags) (i : ℕ) (d : Placement) (fresh : Bool) →
@@ -130,4 +131,4 @@ fresh_fails tailoring placements known shared i d fresh are is_known is_shared w
     (λ holds. false≢true (sym fails ∙ test.1
     (fresh_relation tailoring known shared (take i tailoring.relations) at.x (drop (suc i) tailoring.relations)
     (take i placements) (get_or placements i d) (drop (suc i) placements) is_known
-    (subst (λ l. HoldsNew 2 l shared) (split_at placements i d within) is_shared) at.before at.here at.after holds)))
+    (subst (λ l. HoldsNew 2 l shared) (rw add-one at (split_at placements i d within)) is_shared) at.before at.here at.after holds)))

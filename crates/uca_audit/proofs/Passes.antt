@@ -1,8 +1,9 @@
 -- One pass over the relations of rules and what was found of each, in step.
-use Rattle.std.proofs.Common.{◌≡◌, ◌⊎◌, inl, inr, ⊎_elim, ℕ, zero, suc, ◌<◌, ◌≤◌, List, [], ◌∷◌, ◌++◌, length, take, drop, get_or, refl, sym, ap}
-use Rattle.std.proofs.Common.{subst, ◌∙◌, append_assoc, length-append, arith}
+use Rattle.std.proofs.Common.{◌≡◌, ⊎_elim, ℕ, zero, suc, ◌<◌, ◌≤◌, List, [], ◌∷◌, ◌++◌, length, take, drop, get_or, refl, sym, ap}
+use Rattle.std.proofs.Common.{subst, ◌∙◌, append_assoc, arith}
 use Rattle.std.specs.List.{AllZip}
 use Rattle.std.proofs.lemmas.List.{same_from_push, take-append-drop, take_all, drop_all, append-nil}
+use Rattle.uca_weights.proofs.Lists.{not_nil, by_last}
 use Rattle.uca_rules.specs.declared.relations.Relation.{Relation}
 use Rattle.uca_tailorings.specs.Tailorings.{AllRelations}
 use Rattle.uca_audit.specs.Refusals.{IsFirstRelationWithout}
@@ -37,12 +38,6 @@ in_step R (x ∷ xs) (y ∷ ys) are (suc i) d within =
       after = next.after;
     }
 
--- a list is what stands before an index, there, and after it
-pub split_at : {B : Type 0} (ys : List B) (i : ℕ) (d : B) → i < length ys → ys ≡ take i ys ++ get_or ys i d ∷ drop (suc i) ys
-split_at [] i d within = absurd (omega arith)
-split_at (y ∷ ys) zero d within = refl
-split_at (y ∷ ys) (suc i) d within = ap (λ zs. y ∷ zs) (split_at ys i d (omega arith))
-
 -- they are equally long
 pub length_in_step : {A B : Type 0} (R : A → B → Type 0) (xs : List A) (ys : List B) → AllZip R xs ys → length xs ≡ length ys
 length_in_step R [] [] are = refl
@@ -55,15 +50,6 @@ length_in_step R (x ∷ xs) (y ∷ ys) are = ap suc (length_in_step R xs ys are.
 -- each relation before an index has the property
 abbrev pub AllBelow : (List Relation → Relation → List Relation → Type 0) → List Relation → ℕ → Type 0
 AllBelow P relations i = (front : List Relation) (s : Relation) (back : List Relation) → take i relations ≡ front ++ s ∷ back → P front s (back ++ drop i relations)
-
--- a list with an element is not empty
-not_nil : (xs : List Relation) (x : Relation) (ys : List Relation) → [] ≡ xs ++ x ∷ ys → ⊥
-not_nil xs x ys same = let e = ap length same in omega (arith, e, length-append xs (x ∷ ys))
-
--- a list is empty, or has a last element
-by_last : (xs : List Relation) → (xs ≡ []) ⊎ ((front : List Relation) × (last : Relation) × (xs ≡ front ++ last ∷ []))
-by_last [] = inl refl
-by_last (x ∷ xs) = inr (⊎_elim (λ e. ([], x, ap (λ zs. x ∷ zs) e)) (λ h. (x ∷ h.0, h.1, ap (λ zs. x ∷ zs) h.2)) (by_last xs))
 
 -- no relation stands before the first
 pub below_none : (P : List Relation → Relation → List Relation → Type 0) (relations : List Relation) → AllBelow P relations 0

@@ -5,6 +5,7 @@ use Rattle.std.proofs.lemmas.List.{take_all}
 use Rattle.uca_weights.specs.declared.Element.{Element}
 use Rattle.uca_weights.specs.declared.Level.{Level}
 use Rattle.uca_weights.specs.Levels.{level_of}
+use Rattle.uca_weights.proofs.Lists.{split_at}
 use Rattle.uca_check.proofs.Elements.{each_push, taken_more}
 use Rattle.uca_text.specs.Texts.{NfdText}
 use Rattle.uca_rules.specs.declared.relations.Relation.{Relation}
@@ -15,7 +16,6 @@ use Rattle.uca_tailorings.specs.Laws.{ReadsAs}
 use Rattle.uca_tailorings.proofs.Parts.{of_part}
 use Rattle.uca_audit.specs.Anchors.{IsAnchorAt, HasNoAnchor}
 use Rattle.uca_audit.specs.Refusals.{IsFirstRelationWithout}
-use Rattle.uca_audit.proofs.AnchorSteps.{split_at}
 
 -- one more relation has the property
 pub each_further : (P : Relation → Type 0) (relations : List Relation) (at : ℕ) (r : Relation) → at < length relations → r ≡ get_or relations at r →

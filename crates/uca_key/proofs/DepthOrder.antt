@@ -17,7 +17,8 @@ use Rattle.uca_key.specs.StoredKeys.{shared_separators, stored_level}
 use Rattle.uca_key.specs.Laws.{KeysCompareAsTexts, StoredKeysCompareAsTexts, IdenticalKeysAreOfEquivalentTexts}
 use Rattle.uca_key.proofs.KeyOrder.{cmp_less, cmp_greater, then_assoc, then_equal, bytes_order, dictionary_itself, same_from_dictionary, AreNonZero, AreLevels, AreLevels-from, order-decided}
 use Rattle.uca_key.proofs.KeyOrder.{level_zero, order_equal, key_order}
-use Rattle.uca_key.proofs.StoredOrder.{same_bytes, other_bytes, is_separator, separators_same, separators_other, other_weight, separates, stored_key_level}
+use Rattle.uca_weights.proofs.Tests.{same_bytes, other_bytes}
+use Rattle.uca_key.proofs.StoredOrder.{is_separator, separators_same, separators_other, other_weight, separates, stored_key_level}
 
 -- ---- Order
 

@@ -9,6 +9,7 @@ use Rattle.std.proofs.lemmas.Slice.Eq.{bytes_eq-Decides}
 use Rattle.uca_weights.specs.declared.Element.{Element}
 use Rattle.uca_weights.specs.declared.Weighting.{Weighting}
 use Rattle.uca_weights.specs.declared.Weighting.TheVariants.{NonIgnorable, Shifted}
+use Rattle.uca_weights.proofs.Tests.{same_bytes, other_bytes}
 use Rattle.uca_key.specs.Levels.{Comparison, level_lists, level_count, weighted, lexicographic, decided, compare_from}
 use Rattle.uca_key.specs.Levels.{compared, weight_bytes, level_bytes, levels_bytes, key_bytes}
 use Rattle.uca_key.specs.StoredKeys.{groups, shared_groups, shared_separators, stored_level}
@@ -17,18 +18,6 @@ use Rattle.uca_key.proofs.KeyOrder.{AreNonZero, AreLevels, AreLevels-from, joine
 use Rattle.uca_key.proofs.KeyOrder.{key_same, same_from_dictionary, dictionary_itself}
 
 -- ---- Groups that both sides begin with
-
--- the test of equal lists is true
-pub same_bytes : (xs ys : List ℕ) → xs ≡ ys → bytes_eq xs ys ≡ true
-same_bytes xs ys same = (bytes_eq-Decides xs ys).1 same
-
--- and that of others is false
-pub other_bytes : (xs ys : List ℕ) → (xs ≡ ys → ⊥) → bytes_eq xs ys ≡ false
-other_bytes xs ys other = at (bytes_eq xs ys) refl
-  where
-    at : (b : Bool) → bytes_eq xs ys ≡ b → b ≡ false
-    at true is = absurd (other ((bytes_eq-Decides xs ys).0 is))
-    at false is = refl
 
 -- the groups that both begin with, after a group of each
 pub shared_same : (a b : List ℕ) (left right : List (List ℕ)) → bytes_eq a b ≡ true → shared_groups (a ∷ left) (b ∷ right) ≡ a ∷ shared_groups left right

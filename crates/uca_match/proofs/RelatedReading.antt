@@ -2,6 +2,7 @@
 use Rattle.std.proofs.Common.{◌≡◌, ℕ, zero, suc, ◌<◌, List, [], ◌∷◌, length, get_or, Option, Some, None, Contains, is_some, unwrap_or, refl, sym, ap, subst, arith}
 use Rattle.std.specs.List.{AllByRecursion, flat_map}
 use Rattle.uca_weights.specs.declared.Element.{Element}
+use Rattle.uca_weights.proofs.Lists.{each_contained}
 use Rattle.uca_text.specs.Texts.{Text, code_points}
 use Rattle.uca_text.specs.Occurring.{OccursInOrder}
 use Rattle.uca_match.specs.Rows.{Rows, is_key}
@@ -21,16 +22,6 @@ same_is_some related None None h = refl
 same_is_some related None (Some new) h = absurd h
 same_is_some related (Some row) None h = absurd h
 same_is_some related (Some row) (Some new) h = refl
-
--- what holds of each member of a list holds of what it contains
-pub each_contained : {A : Type 0} (P : A → Type 0) (xs : List A) (y : A) → AllByRecursion P xs → Contains xs y → P y
-each_contained {A = A} P xs y all h = at_place xs all h.0 h.1 h.2
-  where
-    -- by the place of what is contained
-    at_place : (zs : List A) → AllByRecursion P zs → (k : ℕ) → k < length zs → get_or zs k y ≡ y → P y
-    at_place [] all k within same = absurd (omega arith)
-    at_place (z ∷ zs) all zero within same = subst P same all.0
-    at_place (z ∷ zs) all (suc k) within same = at_place zs all.1 k (omega arith) same
 
 module _ (related : List Element → List Element → Type 0) (empty : related [] []) (append : IsKeptByAppend related) (old new : ℕ → List Element)
     (rows new_rows : Rows) (t : Text) (alike : AreAlike related old new rows new_rows t) where

@@ -7,12 +7,12 @@ use Rattle.uca_match.specs.Rows.{same_key}
 use Rattle.uca_plans.specs.declared.drafts.DraftElement.{DraftElement}
 use Rattle.uca_plans.specs.Drafts.{DraftRow, as_draft, draft_at}
 use Rattle.uca_plans.specs.Readings.{IsReadFrom, DraftsComeFromRows}
-use Rattle.uca_check.proofs.RowElements.{each_append}
+use Rattle.uca_weights.proofs.Lists.{each_append}
 use Rattle.uca_plans.proofs.DraftPairs.{read_each}
 
 -- each member of a list is a member of it
-pub each_contained : {A : Type 0} (P : A → Type 0) (xs : List A) → ((x : A) → Contains xs x → P x) → AllByRecursion P xs
-each_contained P xs holds = recursion_from_All P xs (λ k d l. holds (get_or xs k d) (All-contains_itself xs k d l))
+pub each_if_contained : {A : Type 0} (P : A → Type 0) (xs : List A) → ((x : A) → Contains xs x → P x) → AllByRecursion P xs
+each_if_contained P xs holds = recursion_from_All P xs (λ k d l. holds (get_or xs k d) (All-contains_itself xs k d l))
 
 -- what holds of each row holds of the row of a key
 pub each_at : (P : List DraftElement → Type 0) (rows : List DraftRow) → AllByRecursion (λ row. P row.elements) rows → (key : List ℕ) (es : List DraftElement) →
@@ -29,8 +29,8 @@ pub come_from_rows : DraftsComeFromRows
 come_from_rows ranges properties rows text =
     read_each (λ es. AllByRecursion (IsReadFrom ranges properties rows text) es) tt (each_append (IsReadFrom ranges properties rows text))
     ranges properties rows text
-    (each_contained (λ row. AllByRecursion (IsReadFrom ranges properties rows text) row.elements) rows
-    (λ row there. each_contained (IsReadFrom ranges properties rows text) row.elements (λ e within. inl (row, there, within))))
-    (each_contained (λ c. AllByRecursion (IsReadFrom ranges properties rows text) (map (as_draft true) (implicit ranges properties c))) text.points
-    (λ c there. each_contained (IsReadFrom ranges properties rows text) (map (as_draft true) (implicit ranges properties c))
+    (each_if_contained (λ row. AllByRecursion (IsReadFrom ranges properties rows text) row.elements) rows
+    (λ row there. each_if_contained (IsReadFrom ranges properties rows text) row.elements (λ e within. inl (row, there, within))))
+    (each_if_contained (λ c. AllByRecursion (IsReadFrom ranges properties rows text) (map (as_draft true) (implicit ranges properties c))) text.points
+    (λ c there. each_if_contained (IsReadFrom ranges properties rows text) (map (as_draft true) (implicit ranges properties c))
     (λ e within. inr (c, there, within))))

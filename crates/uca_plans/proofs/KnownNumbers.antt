@@ -11,7 +11,7 @@ use Rattle.uca_check.specs.WellFormed.{elements_of}
 use Rattle.uca_rules.specs.declared.relations.Relation.{Relation}
 use Rattle.uca_weights.specs.PerLevel.{at_level}
 use Rattle.uca_tailorings.specs.Tailorings.{IsPairWeight, IsKnownWeight, IsImageOfBase}
-use Rattle.uca_tailorings.proofs.Members.{each_contained}
+use Rattle.uca_weights.proofs.Lists.{each_contained}
 use Rattle.uca_tailorings.proofs.Nearest.{IsHigh}
 use Rattle.uca_check.proofs.RowElements.{element_of_row}
 use Rattle.uca_plans.specs.declared.drafts.DraftWeight.{DraftWeight}

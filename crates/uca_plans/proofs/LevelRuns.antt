@@ -7,7 +7,7 @@ use Rattle.uca_weights.specs.declared.Level.{Level}
 use Rattle.uca_weights.specs.declared.Level.TheVariants.{One, Two, Three}
 use Rattle.uca_weights.specs.declared.maps.Run.{Run}
 use Rattle.uca_weights.specs.Runs.{run_image, weights_end, AreRising, AreProperRuns}
-use Rattle.uca_check.proofs.Elements.{each_weaker}
+use Rattle.uca_weights.proofs.Lists.{each_weaker}
 use Rattle.uca_plans.specs.declared.drafts.DraftWeight.{DraftWeight}
 use Rattle.uca_plans.specs.declared.drafts.DraftWeight.TheVariants.{Base}
 use Rattle.uca_plans.specs.Numbering.{numbers_of}

@@ -9,7 +9,7 @@ use Rattle.uca_weights.specs.declared.Level.TheVariants.{One, Two, Three}
 use Rattle.uca_weights.specs.Levels.{level_of}
 use Rattle.uca_values.specs.Content.{AreImplicitRanges}
 use Rattle.uca_check.specs.WellFormed.{elements_of}
-use Rattle.uca_check.proofs.Elements.{each_weaker}
+use Rattle.uca_weights.proofs.Lists.{each_weaker, each_append, each_parts}
 use Rattle.uca_text.specs.Texts.{NfdText}
 use Rattle.uca_match.specs.Rows.{same_key}
 use Rattle.uca_rules.specs.declared.relations.Relation.{Relation}
@@ -21,7 +21,6 @@ use Rattle.uca_plans.specs.Lists.{Insertion, same_level, inserted, all_inserted}
 use Rattle.uca_plans.specs.ListLaws.{IsAmong}
 use Rattle.uca_plans.specs.Drafts.{DraftRow, with_row, draft_elements, draft_weight, takes_no_weight, AnchorPart, reset, reweighted}
 use Rattle.uca_plans.specs.Plans.{Basis, Drafting, drafted_at, draft_expansion}
-use Rattle.uca_check.proofs.RowElements.{each_append, each_parts}
 use Rattle.uca_plans.proofs.InsertionLemmas.{inserts, inserts_new}
 use Rattle.uca_plans.proofs.GoodLists.{good_fixed, grown_through, grown_same}
 use Rattle.uca_plans.proofs.PlanSteps.{target_row, IsStep, AreSteps}

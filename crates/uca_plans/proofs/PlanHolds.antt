@@ -11,8 +11,8 @@ use Rattle.uca_values.specs.Content.{Entry, Fits, IsEntry, AreImplicitRanges}
 use Rattle.uca_values.specs.Implicit.{implicit}
 use Rattle.uca_values.proofs.ImplicitPairs.{each_pair}
 use Rattle.uca_check.specs.WellFormed.{elements_of, MeetsWF1}
-use Rattle.uca_check.proofs.Elements.{each_weaker}
-use Rattle.uca_check.proofs.RowElements.{each_append, each_of_rows}
+use Rattle.uca_weights.proofs.Lists.{each_weaker, each_append}
+use Rattle.uca_check.proofs.RowElements.{each_of_rows}
 use Rattle.uca_text.specs.Texts.{NfdText}
 use Rattle.uca_plans.specs.declared.drafts.DraftWeight.{DraftWeight}
 use Rattle.uca_plans.specs.declared.drafts.DraftWeight.TheVariants.{Base, New}

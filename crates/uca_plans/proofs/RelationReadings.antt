@@ -1,5 +1,6 @@
 -- One relation of a plan: its step, what holds of the drafts before it, and what it reads and makes under the tailored table.
 use Rattle.std.proofs.Common.{◌≡◌, ◌+◌, List, ◌∷◌, ◌++◌, length, map, Option, Some, None, option_map, inl, inr, refl, ap, ◌∙◌, subst, arith}
+use Rattle.uca_weights.proofs.Lists.{inside, each_parts}
 use Rattle.uca_values.specs.Content.{TableContent, Properties}
 use Rattle.uca_text.specs.Texts.{NfdText}
 use Rattle.uca_match.specs.Rows.{rows_of}
@@ -9,12 +10,10 @@ use Rattle.uca_tailorings.specs.Tailorings.{tailored_reading, anchor_elements, e
 use Rattle.uca_plans.specs.declared.drafts.DraftElement.{DraftElement}
 use Rattle.uca_plans.specs.Plans.{Plan, draft_expansion, begun}
 use Rattle.uca_plans.specs.Tailors.{basis_of}
-use Rattle.uca_check.proofs.RowElements.{each_parts}
 use Rattle.uca_plans.proofs.PlanSteps.{AreSteps}
 use Rattle.uca_plans.proofs.PlanLists.{HasGrownLists, good_steps}
 use Rattle.uca_plans.proofs.PlanHolds.{Holds, start}
 use Rattle.uca_plans.proofs.PlanCarried.{listed_grown, anchor_at, carried}
-use Rattle.uca_plans.proofs.SameReading.{at_split}
 use Rattle.uca_plans.specs.Accepted.{tailoring_by}
 use Rattle.uca_plans.proofs.PlanCase.{IsCase}
 use Rattle.uca_plans.proofs.TailoredReading.{value, tailored_read, tailored_row}
@@ -29,7 +28,7 @@ module _ (base : TableContent) (properties : Properties) (relations : List Relat
 
   -- so it has texts of rules
   pub texts_in : HasRuleTexts r
-  texts_in = at_split HasRuleTexts before r after rules_in.texts
+  texts_in = inside HasRuleTexts before r after rules_in.texts
 
   -- its step
   pub step_in : IsStepAt (basis_of base properties) before r after (begun (basis_of base properties)) case.made.drafting

@@ -1,5 +1,6 @@
 -- The steps of a plan before and after one relation, and what of a step is still there at the end.
 use Rattle.std.proofs.Common.{◌≡◌, ℕ, suc, ◌+◌, List, [], ◌∷◌, ◌++◌, length, Some, inl, inr, refl, sym, ap, ◌∙◌, subst, arith, append_assoc}
+use Rattle.uca_weights.proofs.Lists.{inside}
 use Rattle.uca_text.specs.Texts.{NfdText}
 use Rattle.uca_rules.specs.declared.relations.Relation.{Relation}
 use Rattle.uca_rules.specs.Relations.{IsTarget, IsRuleText, HasRuleTexts, AreDistinct, AreRules}
@@ -11,7 +12,7 @@ use Rattle.uca_plans.specs.Plans.{Basis, Drafting, begun}
 use Rattle.uca_plans.proofs.PlanSteps.{target_row, IsStep, AreSteps}
 use Rattle.uca_plans.proofs.KeyPlaces.{one_more_row}
 use Rattle.uca_plans.proofs.DraftReading.{read_by_what_occurs, read_of_key}
-use Rattle.uca_plans.proofs.SameReading.{target_or_not, at_split, text_used, text_of_rules}
+use Rattle.uca_plans.proofs.SameReading.{target_or_not, text_used, text_of_rules}
 
 -- ---- Targets
 
@@ -159,4 +160,4 @@ module _ (basis : Basis) where
 
       -- it is a text of rules
       in_rules : IsRuleText text
-      in_rules = text_of_rules r text (at_split HasRuleTexts before r after rules.texts) is_text
+      in_rules = text_of_rules r text (inside HasRuleTexts before r after rules.texts) is_text

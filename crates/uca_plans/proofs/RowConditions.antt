@@ -5,7 +5,7 @@ use Rattle.std.proofs.lemmas.Bool.{or_left, or_right}
 use Rattle.uca_weights.specs.declared.Element.{Element}
 use Rattle.uca_values.specs.Content.{Entry, TableContent, Properties, keys_of, AreDistinct}
 use Rattle.uca_check.specs.WellFormed.{elements_of}
-use Rattle.uca_check.proofs.Elements.{each_weaker}
+use Rattle.uca_weights.proofs.Lists.{each_weaker, each_parts}
 use Rattle.uca_match.specs.Rows.{IsKey, same_key, rows_of}
 use Rattle.uca_match.proofs.RowsByKey.{same_key-itself, found_of_row, key_iff}
 use Rattle.uca_rules.specs.declared.relations.Relation.{Relation}
@@ -19,11 +19,10 @@ use Rattle.uca_plans.specs.Drafts.{draft_at}
 use Rattle.uca_plans.specs.Keys.{is_among, with_targets}
 use Rattle.uca_plans.specs.Plans.{Plan, LevelPlans, numbered, begun}
 use Rattle.uca_plans.specs.Tailors.{basis_of}
-use Rattle.uca_check.proofs.RowElements.{each_parts}
 use Rattle.uca_plans.proofs.ListMembers.{each_of}
 use Rattle.uca_plans.proofs.SameReading.{among_kept, target_among, target_of_among}
 use Rattle.uca_plans.proofs.PlanKeys.{contained_among, keys_of_numbered, keys_so_far}
-use Rattle.uca_plans.proofs.DraftOrigins.{each_contained}
+use Rattle.uca_plans.proofs.DraftOrigins.{each_if_contained}
 use Rattle.uca_plans.specs.Accepted.{PlansMeet, tailoring_by}
 use Rattle.uca_plans.proofs.PlanCase.{IsCase, case_of, plans_in}
 use Rattle.uca_plans.proofs.LevelImages.{maps_in, base_image}
@@ -53,7 +52,7 @@ each_target (r ∷ relations) = (
 -- where keys are distinct, each row is found at its key
 each_found : (rows : List Entry) → AreDistinct rows → AllByRecursion (λ row. rows_of rows row.key ≡ Some row.elements) rows
 each_found rows distinct =
-    each_contained (λ (row : Entry). rows_of rows row.key ≡ Some row.elements) rows (λ row there. found_of_row rows distinct row there)
+    each_if_contained (λ (row : Entry). rows_of rows row.key ≡ Some row.elements) rows (λ row there. found_of_row rows distinct row there)
 
 -- what holds of all elements holds of those of each row
 each_in_rows : (P : Element → Type 0) (rows : List Entry) → AllByRecursion P (elements_of rows) →

@@ -3,6 +3,7 @@ use Rattle.std.proofs.Common.{◌≡◌, ◌≢◌, ◌⊎◌, ℕ, List, [], �
 use Rattle.std.proofs.Common.{subst, ◌∙◌, inl, inr, ⊎_elim}
 use Rattle.std.specs.List.{AllByRecursion, flat_map}
 use Rattle.std.proofs.lemmas.Bool.{false≢true, or_left, or_right, or_cases, cases_Bool}
+use Rattle.uca_weights.proofs.Lists.{each_parts, inside}
 use Rattle.uca_text.specs.Texts.{NfdText, code_points, letters_of}
 use Rattle.uca_text.specs.Occurring.{OccursInOrder}
 use Rattle.uca_rules.specs.declared.relations.Relation.{Relation}
@@ -68,16 +69,6 @@ targets_append (r ∷ before) later keys = targets_append before later (with_key
 
 -- ---- Texts of relations
 
--- what holds of all members of a list holds of one between others
-pub at_split : {A : Type 0} (P : A → Type 0) (before : List A) (x : A) (after : List A) → AllByRecursion P (before ++ x ∷ after) → P x
-at_split P [] x after h = h.0
-at_split P (y ∷ before) x after h = at_split P before x after h.1
-
--- and of the first ones
-at_front : {A : Type 0} (P : A → Type 0) (xs ys : List A) → AllByRecursion P (xs ++ ys) → AllByRecursion P xs
-at_front P [] ys h = tt
-at_front P (x ∷ xs) ys h = (h.0, at_front P xs ys h.1)
-
 -- a text of a relation is used by it, and is a text of rules
 pub text_used : (r : Relation) (text : NfdText) → IsTextOf r text → IsUsedBy r text.points
 text_used r text h =
@@ -116,13 +107,13 @@ same_reading ranges properties keys before after later rest r rows all text rule
     listed key
     ∙ ap (λ ks. is_among ks key) all_keys
     ∙ among_left later (keys_in rows) key
-    (no_keys later text.points key (at_front (λ s. OccursInOrder s.target.points text.points → ⊥) later rest untouched)
+    (no_keys later text.points key (each_parts (λ s. OccursInOrder s.target.points text.points → ⊥) later rest untouched).0
     (occurs_in_text key text occurs))
     ∙ sym (has_key_is rows key)))
     (target_or_not before text.points))
   where
     in_rules : IsRuleText text
-    in_rules = text_of_rules r text (at_split HasRuleTexts before r after rules.texts) is_text
+    in_rules = text_of_rules r text (inside HasRuleTexts before r after rules.texts) is_text
 
     nfd_text : length text.classes ≡ length text.points
     nfd_text = in_rules.normal.accepted.same

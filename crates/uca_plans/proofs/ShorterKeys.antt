@@ -5,7 +5,7 @@ use Rattle.std.proofs.lemmas.Bool.{or_left, ne_eqb}
 use Rattle.std.specs.List.{AllByRecursion}
 use Rattle.uca_values.specs.Content.{Entry, keys_of}
 use Rattle.uca_check.specs.WellFormed.{MeetsWF5}
-use Rattle.uca_check.proofs.Elements.{each_weaker}
+use Rattle.uca_weights.proofs.Lists.{each_weaker}
 use Rattle.uca_rules.specs.declared.relations.Relation.{Relation}
 use Rattle.uca_match.specs.Rows.{same_key}
 use Rattle.uca_plans.specs.Drafts.{DraftRow, has_key}

@@ -9,7 +9,7 @@ use Rattle.uca_weights.specs.Levels.{level_of}
 use Rattle.uca_values.specs.Content.{AreImplicitRanges}
 use Rattle.uca_values.specs.Implicit.{implicit}
 use Rattle.uca_check.specs.WellFormed.{elements_of}
-use Rattle.uca_check.proofs.Elements.{each_weaker}
+use Rattle.uca_weights.proofs.Lists.{each_weaker, each_append, each_parts}
 use Rattle.uca_text.specs.Texts.{NfdText}
 use Rattle.uca_rules.specs.declared.relations.Relation.{Relation}
 use Rattle.uca_rules.specs.Relations.{IsRuleText, HasRuleTexts}
@@ -22,7 +22,6 @@ use Rattle.uca_plans.specs.ListLaws.{IsInserted}
 use Rattle.uca_plans.specs.Plans.{Basis, Drafting, drafted_at, draft_expansion, is_among_variables}
 use Rattle.uca_plans.proofs.InsertionLemmas.{stands_nearest}
 use Rattle.uca_values.proofs.ImplicitPairs.{each_pair}
-use Rattle.uca_check.proofs.RowElements.{each_append, each_parts}
 use Rattle.uca_plans.proofs.GoodLists.{IsGrown}
 use Rattle.uca_plans.proofs.PlanSteps.{target_row, IsStep, AreSteps}
 use Rattle.uca_plans.proofs.PlanLists.{list_at, HasGrownLists, good_step, step_list}

@@ -1,6 +1,5 @@
 -- The number that hexadecimal digits give: one digit more, and why there is none.
-use Rattle.std.proofs.Common.{◌≡◌, ℕ, zero, suc, ◌+◌, ◌*◌, ◌^◌, ◌<◌, ◌≤◌, Bool, true, false, List, length, get_or, take, Option, Some, None, if◌then◌else◌, [], ◌∷◌, min, refl, ap, eq-eqb, add-one, nat_lt, arith, lit≤}
-use Rattle.std.proofs.Math.Nat.{pow-suc, mul-le-mul_right}
+use Rattle.std.proofs.Common.{◌≡◌, ℕ, zero, suc, ◌+◌, ◌*◌, ◌^◌, ◌<◌, ◌≤◌, Bool, true, false, List, length, get_or, take, Option, Some, None, if◌then◌else◌, [], ◌∷◌, min, refl, ap, eq-eqb, nat_lt, arith, lit≤}
 use Rattle.std.proofs.lemmas.Bool.{ne_eqb}
 use Rattle.std.proofs.lemmas.Bool.Decides.{nat_tests, Decides-ltb}
 use Rattle.std.proofs.Math.Bool.{and-false}
@@ -12,14 +11,11 @@ use Rattle.std.specs.Char.{digit_value, is_digit}
 use Rattle.std.specs.Option.{SomeIff}
 use Rattle.std.specs.Str.Parse.{digits_value}
 use lib.Utf8.{scalar}
+use Rattle.uca_weights.proofs.Numbers.{grows}
 use Rattle.uca_rules.specs.declared.characters.Character.{Character}
 use Rattle.uca_rules.specs.Characters.{codes_of}
 use Rattle.uca_rules.specs.Pieces.{number_at}
 use Rattle.uca_rules.proofs.Placing.{length-codes, codes_more, code_at}
-
--- one more digit makes a number at most radix times as large
-grows : (radix n d i : ℕ) → n < radix ^ i → d < radix → n * radix + d < radix ^ (i + 1)
-grows radix n d i h k = rw (add-one, pow-suc) (let m : suc n * radix ≤ radix ^ i * radix = mul-le-mul_right radix h in omega (arith, m))
 
 no_digit : (d : ℕ) → ¬ (d < 16) → nat_lt d 16 ≡ false
 no_digit d other = grind (arith, nat_tests)

@@ -1,11 +1,13 @@
 -- How a run of keys begins and ends.
-use Rattle.std.proofs.Common.{◌≡◌, ℕ, List, [], true, false, Option, Some, None, IfSome, Result, Ok, Err, refl, ap, subst, sym, ◌∙◌}
+use Rattle.std.proofs.Common.{◌≡◌, ℕ, List, [], ◌++◌, true, false, Option, Some, None, IfSome, Result, Ok, Err, refl, ap, subst, sym, ◌∙◌, arith, length-append}
 use Rattle.std.specs.Io.KnownBytes.{Appends}
 use Rattle.std.proofs.lemmas.Grind.{flat_map-append}
+use Rattle.std.proofs.lemmas.List.{take-append-le}
 use Rattle.uca_weights.specs.Streams.{SourceState, SinkState}
 use Rattle.uca_weights.specs.Writes.{WentOut}
 use Rattle.uca_lines.specs.Lines.{lines_of}
 use Rattle.uca_lines.specs.OutputBuffer.{BufferState, IsBuffered}
+use Rattle.uca_lines.proofs.HandingLemmas.{nothing_handed}
 use Rattle.uca_runs.specs.declared.faults.RunFault.{RunFault}
 use Rattle.uca_runs.specs.declared.faults.RunFault.TheVariants.{File, Input, Write, Memory}
 use Rattle.uca_runs.specs.declared.faults.InputKind.{InputKind}
@@ -16,12 +18,16 @@ use Rattle.uca_runs.specs.KeysRun.{WritesKeys, ended_before_input}
 use Rattle.uca_runs.specs.LinesSoFar.{AreAll}
 use Rattle.uca_runs.specs.Texts.{TextsState, HasRead}
 use Rattle.uca_runs.specs.KeysSoFar.{HasPrinted, IsPartOfOutput, PrintsRest}
-use Rattle.uca_runs.proofs.PrintLemmas.{WentOut-more, written_nothing}
 
 -- nothing was handed over yet
 pub started : (c : KeySettings) (texts : TextsState) (input : SourceState) (buffer : BufferState) (out : SinkState)
     → HasRead c.collation.properties input.remaining [] texts input → buffer.held ≡ [] → buffer.written ≡ 0 → HasPrinted c input.remaining out.contents [] texts input buffer out
-started c texts input buffer out read held written = record { read = read; printed = written_nothing out.contents buffer held written }
+started c texts input buffer out read held written = record { read = read; printed = nothing_handed out.contents buffer held written }
+
+-- of a longer text as much went out
+WentOut-more : (start now : Option (List ℕ)) (text more : List ℕ) (n : ℕ) → WentOut start now text n → WentOut start now (text ++ more) n
+WentOut-more start now text more n (went, few) =
+    (subst (λ (l : List ℕ). Appends start now l) (sym (take-append-le n text more few)) went, omega (arith, length-append text more))
 
 -- part of what begins the output is part of the output
 part_of : (c : KeySettings) (start begun now : Option (List ℕ)) (written : ℕ) → IsPartOfOutput c start begun now written → IfSome start (λ bytes. WentOut begun now (keys_output c (lines_of bytes)) written)

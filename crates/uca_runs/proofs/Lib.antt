@@ -5,7 +5,6 @@ pub mod LinesSoFar
 pub mod TextsLemmas
 pub mod PrintLemmas
 pub mod Printing
-pub mod Keeping
 pub mod Writing
 pub mod KeyOrdering
 pub mod Finishing

@@ -11,17 +11,13 @@ use Rattle.uca_values.specs.Content.{Properties}
 use Rattle.uca_runs.specs.declared.faults.InputKind.{InputKind}
 use Rattle.uca_runs.specs.declared.faults.InputKind.TheVariants.{Utf8, TooLong, LongRun, Read, Limit, Memory}
 use Rattle.uca_runs.specs.Input.{cause_of, clean_from}
-use Rattle.uca_runs.specs.LinesSoFar.{IsAfter, IsNext, OnKnown, AreAll}
+use Rattle.uca_runs.specs.LinesSoFar.{IsAfter, IsNext, OnKnown}
 use Rattle.uca_runs.specs.Runs.{FailsBehind, HasLineCause, HasCause, IsInputFault}
 use Rattle.uca_runs.specs.Texts.{HasTextCause, line_kind}
 use Rattle.uca_runs.proofs.Causes.{beyond_limit, too_many_bytes}
 use Rattle.uca_runs.proofs.LineCuts.{first_line, lines_of-ended, lines_of-last, some_line}
 
 -- ---- The next line
-
--- nothing was read
-at_start : (properties : Properties) (bytes : List ℕ) → IsAfter properties bytes bytes false []
-at_start properties bytes = record { parts = refl; lines = refl; clean = refl }
 
 -- the bytes of one more line
 more_parts : (before : List (List ℕ)) (left line rest : List ℕ) → left ≡ line ++ 10 ∷ rest → flat_map ended before ++ left ≡ flat_map ended (before ++ line ∷ []) ++ rest
@@ -133,10 +129,6 @@ line_cause properties bytes xs new unread before line line_fault.Memory a says w
 
 -- ---- Known bytes
 
-pub known_start : (properties : Properties) (known : Option (List ℕ)) → OnKnown known (prepend_known [] known) (λ bytes left. IsAfter properties bytes left false [])
-known_start properties None = tt
-known_start properties (Some bytes) = at_start properties bytes
-
 pub known_ended : (properties : Properties) (start old new : Option (List ℕ)) (before : List (List ℕ)) (line : List ℕ)
     → OnKnown start old (λ bytes left. IsAfter properties bytes left false before) → Consumes old new (ended line) → Lacks is_lf line
     → OnKnown start new (λ bytes left. IsNext properties bytes left false before line)
@@ -152,31 +144,6 @@ known_cut properties None old new before line after takes some lacks = tt
 known_cut properties (Some bytes) None new before line after takes some lacks = absurd after
 known_cut properties (Some bytes) (Some xs) None before line after takes some lacks = absurd takes.0
 known_cut properties (Some bytes) (Some xs) (Some ys) before line after takes some lacks = cut_next properties bytes xs before line ys after takes.0 takes.1 some lacks
-
--- no line is left: the last one was read, or no byte follows
-known_end : (properties : Properties) (start old : Option (List ℕ)) (before : List (List ℕ)) (is_cut : Bool)
-    → OnKnown start old (λ bytes left. IsAfter properties bytes left is_cut before) → IsAtEnd old → IfSome start (λ bytes. AreAll properties bytes before)
-known_end properties None old before is_cut after ends = tt
-known_end properties (Some bytes) None before is_cut after ends = absurd after
-known_end properties (Some bytes) (Some xs) before is_cut after ends = record {
-  lines = after.lines ∙ ap (λ left. before ++ lines_of left) ends ∙ append-nil before;
-  clean = after.clean ∙ ap (λ left. before ++ clean_from properties (length before) (lines_of left)) ends ∙ append-nil before;
-}
-
-pub known_after_cut : (properties : Properties) (start old : Option (List ℕ)) (before : List (List ℕ))
-    → OnKnown start old (λ bytes left. IsAfter properties bytes left true before) → IfSome start (λ bytes. AreAll properties bytes before)
-known_after_cut properties None old before after = tt
-known_after_cut properties (Some bytes) None before after = absurd after
-known_after_cut properties (Some bytes) (Some xs) before after = known_end properties (Some bytes) (Some xs) before true after after.parts
-
--- the end of the input
-pub known_at_end : (properties : Properties) (start old new : Option (List ℕ)) (before : List (List ℕ)) (line : List ℕ)
-    → OnKnown start old (λ bytes left. IsAfter properties bytes left false before) → Consumes old new line × IsAtEnd new → line ≡ []
-    → IfSome start (λ bytes. AreAll properties bytes before)
-known_at_end properties start None new before line after takes empty = known_end properties start None before false after tt
-known_at_end properties start (Some xs) None before line after takes empty = absurd takes.0
-known_at_end properties start (Some xs) (Some ys) before line after takes empty =
-    known_end properties start (Some xs) before false after (takes.0 ∙ ap (λ l. l ++ ys) empty ∙ takes.1)
 
 pub known_line_error : (properties : Properties) (start old new unread : Option (List ℕ)) (before : List (List ℕ)) (line : List ℕ) (fault : LineFault)
     → OnKnown start old (λ bytes left. IsAfter properties bytes left false before) → SaysOfBytes old new line 4194304 (Err fault) → IsWithinLimit (length before) (Err fault)

@@ -1,18 +1,15 @@
 -- A line that is printed piece by piece.
-use Rattle.std.proofs.Common.{◌≡◌, ℕ, zero, suc, min, ◌+◌, ◌-◌, ◌*◌, ◌^◌, ◌/◌, ◌%◌, ◌<◌, ◌≤◌, List, [], ◌∷◌, ◌++◌, Bool, true, false, Option, Some, None, length, take, drop, get_or, set, take-append-drop, refl, sym, ap, subst, ◌∙◌, append_assoc, arith, length-append}
-use Rattle.std.specs.Prelude.{◌||◌}
-use Rattle.std.specs.Io.KnownBytes.{Appends}
+use Rattle.std.proofs.Common.{◌≡◌, ℕ, zero, suc, min, ◌+◌, ◌-◌, ◌*◌, ◌^◌, ◌/◌, ◌%◌, ◌<◌, ◌≤◌, List, [], ◌∷◌, ◌++◌, length, take, drop, get_or, set, take-append-drop, refl, sym, ap, subst, ◌∙◌, append_assoc, arith, length-append}
 use Rattle.std.specs.Simd.{first_chunks}
-use Rattle.std.proofs.lemmas.List.{take-append-le, drop-append-le, append-nil, take_more, take_more_set, take_all, take_at, take_rest, length-take-le, drop-drop, get_or-take, get_or-drop}
+use Rattle.std.proofs.lemmas.List.{drop-append-le, append-nil, take_more, take_more_set, take_all, take_at, take_rest, length-take-le, drop-drop, get_or-take, get_or-drop}
 use Rattle.std.proofs.lemmas.List.Concat.{flat_map-append}
 use Rattle.std.specs.List.{flat_map, join_with_byte}
 use Rattle.uca_weights.specs.Streams.{SinkState}
 use Rattle.uca_weights.specs.declared.Depth.{Depth}
 use Rattle.uca_weights.specs.declared.Depth.TheVariants.{Weights, Identical}
-use Rattle.uca_weights.specs.Writes.{WentOut}
-use Rattle.uca_lines.specs.OutputBuffer.{BufferState, IsBuffered}
-use Rattle.uca_lines.specs.Buffered.{HasRoom, HasWrittenThrough as IsHanded}
-use Rattle.uca_lines.proofs.HandingLemmas.{part, written_none as none_written}
+use Rattle.uca_lines.specs.OutputBuffer.{BufferState}
+use Rattle.uca_lines.specs.Buffered.{HasRoom, HasWrittenThrough}
+use Rattle.uca_lines.proofs.HandingLemmas.{part, written_none}
 use Rattle.uca_runs.specs.Print.{byte_digits, groups, printed_groups, spaced_groups, spaced_point, identical_level, printed_behind, print_line_at}
 
 -- ---- The groups
@@ -142,40 +139,6 @@ last_written groups part last digits n b len half odd within written behind is a
     ∙ sym (append_assoc text (32 ∷ byte_digits b) (0 ∷ 0 ∷ [])) ∙ ap (λ l. l ++ (0 ∷ 0 ∷ [])) (sym all))
     (omega arith)
 
--- ---- What has been handed over
-
--- a text has been handed over
-pub record HasWrittenThrough (text : List ℕ) (out now : SinkState) (buffer held : BufferState) : Type 0 where
-  pub hands : (start : Option (List ℕ)) (before : List ℕ) → IsBuffered start out.contents before buffer → IsBuffered start now.contents (before ++ text) held
-  pub count : held.written + length held.held ≡ buffer.written + length buffer.held + length text
-  pub failed : now.failed ≡ out.failed
-
-nothing_out : (known : Option (List ℕ)) → Appends known known []
-nothing_out None = tt
-nothing_out (Some xs) = sym (append-nil xs)
-
-none_dropped : (n : ℕ) → n ≡ 0 → ◌≡◌ {A = List ℕ} [] (drop n [])
-none_dropped n h = rw h refl
-
--- nothing was handed over to an empty buffer
-pub written_nothing : (known : Option (List ℕ)) (buffer : BufferState) → buffer.held ≡ [] → buffer.written ≡ 0 → IsBuffered known known [] buffer
-written_nothing known buffer held written = record {
-  went_out = (subst (λ n. Appends known known (take n [])) (sym written) (nothing_out known), rw written (omega arith));
-  held = held ∙ none_dropped buffer.written written;
-}
-
-pub written_none : (out : SinkState) (buffer : BufferState) → HasWrittenThrough [] out out buffer buffer
-written_none out buffer = record {
-  hands = λ start before h. subst (λ (text : List ℕ). IsBuffered start out.contents text buffer) (sym (append-nil before)) h;
-  count = omega arith;
-  failed = refl;
-}
-
--- of a longer text as much went out
-pub WentOut-more : (start now : Option (List ℕ)) (text more : List ℕ) (n : ℕ) → WentOut start now text n → WentOut start now (text ++ more) n
-WentOut-more start now text more n (went, few) =
-    (subst (λ (l : List ℕ). Appends start now l) (sym (take-append-le n text more few)) went, omega (arith, length-append text more))
-
 -- ---- One more part
 
 -- between the groups stand the spaces before them, but for the first
@@ -201,7 +164,7 @@ pub record HandedUpTo (key rest : List ℕ) (begin : ℕ) (out now : SinkState) 
   pub key_is : key ≡ done ++ rest
   pub whole : 0 < length rest → length done % 2 ≡ 0
   pub begins : begin ≡ 1 - length done
-  pub handed : IsHanded (printed_groups done) buffer held out now
+  pub handed : HasWrittenThrough (printed_groups done) buffer held out now
 
 pub written_up_to_start : (key rest : List ℕ) (out : SinkState) (buffer : BufferState) → rest ≡ key → HandedUpTo key rest 1 out out buffer buffer
 written_up_to_start key rest out buffer is = record {
@@ -209,7 +172,7 @@ written_up_to_start key rest out buffer is = record {
   key_is = sym is;
   whole = λ _. refl;
   begins = refl;
-  handed = subst (λ (text : List ℕ). IsHanded text buffer buffer out out) (sym groups_none) (none_written buffer out);
+  handed = subst (λ (text : List ℕ). HasWrittenThrough text buffer buffer out out) (sym groups_none) (written_none buffer out);
 }
 
 -- the text of a part begins within it
@@ -262,7 +225,7 @@ goes_on key rest part left text begin size out now buffer held upto is cut space
     (part_grown done part _ begin even upto.begins (take_rest text begin ∙ ap (drop begin) spaced))
 
 -- there is room for the piece where there is room for all groups
-pub piece_fits : (key done part piece : List ℕ) (out now : SinkState) (buffer held : BufferState) → IsHanded (printed_groups done) buffer held out now → GoesOn key done part piece
+pub piece_fits : (key done part piece : List ℕ) (out now : SinkState) (buffer held : BufferState) → HasWrittenThrough (printed_groups done) buffer held out now → GoesOn key done part piece
     → HasRoom buffer (length (printed_groups key)) → HasRoom held (length piece)
 piece_fits key done part piece out now buffer held handed on room =
     let front = printed_groups done in
@@ -270,7 +233,7 @@ piece_fits key done part piece out now buffer held handed on room =
 
 -- and behind it the rest is left
 pub written_up_to_more : (key rest part left : List ℕ) (begin size : ℕ) (out now next : SinkState) (buffer held kept : BufferState) (upto : HandedUpTo key rest begin out now buffer held) → size ≡ 256
-    → (rest ≡ part ++ left) × (length part ≡ min size (length rest)) × (0 < length rest) → IsHanded (printed_groups (upto.done ++ part)) buffer kept out next → HandedUpTo key left 0 out next buffer kept
+    → (rest ≡ part ++ left) × (length part ≡ min size (length rest)) × (0 < length rest) → HasWrittenThrough (printed_groups (upto.done ++ part)) buffer kept out next → HandedUpTo key left 0 out next buffer kept
 written_up_to_more key rest part left begin size out now next buffer held kept upto is cut handed =
     let both : length rest ≡ length part + length left = ap length cut.0 ∙ length-append part left in
     let ends : length (upto.done ++ part) ≡ length upto.done + length part = length-append upto.done part in
@@ -281,36 +244,6 @@ written_up_to_more key rest part left begin size out now next buffer held kept u
       begins = omega (arith, is, cut.1, cut.2, ends);
       handed = handed;
     }
-
-pub handed_more : (front piece text : List ℕ) (out now next : SinkState) (buffer held kept : BufferState) → HasWrittenThrough front out now buffer held → text ≡ front ++ piece
-    → ((start : Option (List ℕ)) (before : List ℕ) → IsBuffered start now.contents before held → IsBuffered start next.contents (before ++ piece) kept)
-    → kept.written + length kept.held ≡ held.written + length held.held + length piece
-    → next.failed ≡ now.failed
-    → HasWrittenThrough text out next buffer kept
-handed_more front piece text out now next buffer held kept handed is hands count failed = record {
-  hands = λ start before h. subst (λ (t : List ℕ). IsBuffered start next.contents t kept) (append_assoc before front piece ∙ ap (λ l. before ++ l) (sym is)) (hands start (before ++ front) (handed.hands start before h));
-  count = omega (arith, count, handed.count, ap length is, length-append front piece);
-  failed = failed ∙ handed.failed;
-}
-
--- a fault in a piece of a text is one in the text
-pub fault_within : (front piece text more : List ℕ) (out now next : SinkState) (buffer held : BufferState) (n : ℕ) → HasWrittenThrough front out now buffer held → text ≡ (front ++ piece) ++ more
-    → ((start : Option (List ℕ)) (before : List ℕ) → IsBuffered start now.contents before held → WentOut start next.contents (before ++ piece) n)
-    → (start : Option (List ℕ)) (before : List ℕ) → IsBuffered start out.contents before buffer → WentOut start next.contents (before ++ text) n
-fault_within front piece text more out now next buffer held n handed is went start before h =
-    let there = WentOut-more start next.contents ((before ++ front) ++ piece) more n (went start (before ++ front) (handed.hands start before h)) in
-    subst (λ (t : List ℕ). WentOut start next.contents t n)
-    (append_assoc (before ++ front) piece more ∙ append_assoc before front (piece ++ more) ∙ ap (λ l. before ++ l) (sym (append_assoc front piece more) ∙ sym is))
-    there
-
-pub fault_before_end : (front piece text more : List ℕ) (out now : SinkState) (buffer held : BufferState) (n : ℕ) → HasWrittenThrough front out now buffer held → text ≡ (front ++ piece) ++ more
-    → n < held.written + length held.held + length piece → n < buffer.written + length buffer.held + length text
-fault_before_end front piece text more out now buffer held n handed is below =
-    omega (arith, below, handed.count, ap length is, length-append (front ++ piece) more, length-append front piece)
-
-pub not_failed : (before now : Bool) → now ≡ before || false → now ≡ before
-not_failed true now e = e
-not_failed false now e = e
 
 -- a line is not much longer than its key
 pub length-groups : (key : List ℕ) → length (printed_groups key) ≤ 3 * length key
@@ -337,9 +270,9 @@ line_is_short depth key points short few =
 
 -- all groups of a key of which nothing is left were handed over
 pub all_groups : (key rest : List ℕ) (begin : ℕ) (out now : SinkState) (buffer held : BufferState) → HandedUpTo key rest begin out now buffer held → length rest ≡ 0
-    → IsHanded (printed_groups key) buffer held out now
+    → HasWrittenThrough (printed_groups key) buffer held out now
 all_groups key [] begin out now buffer held upto none =
-    subst (λ (l : List ℕ). IsHanded (printed_groups l) buffer held out now) (sym (upto.key_is ∙ append-nil upto.done)) upto.handed
+    subst (λ (l : List ℕ). HasWrittenThrough (printed_groups l) buffer held out now) (sym (upto.key_is ∙ append-nil upto.done)) upto.handed
 all_groups key (a ∷ rest) begin out now buffer held upto none = absurd (omega arith)
 
 -- ---- The parts of a line

@@ -11,10 +11,10 @@ use Rattle.uca_runs.specs.declared.faults.RunFault.{RunFault}
 use Rattle.uca_runs.specs.declared.faults.RunFault.TheVariants.{Input, Write}
 use Rattle.uca_runs.specs.Input.{clean_from}
 use Rattle.uca_runs.specs.Keys.{KeySettings, text_line, printed_key, key_lines, keys_output}
-use Rattle.uca_runs.specs.KeysSoFar.{HasPrinted, IsStopped, PrintsText}
+use Rattle.uca_runs.specs.KeysSoFar.{IsStopped, PrintsText}
 use Rattle.uca_runs.specs.LinesSoFar.{IsAfter, OnKnown}
 use Rattle.uca_runs.specs.Runs.{ended_by_output}
-use Rattle.uca_runs.specs.Texts.{TextsState, HasText, ReadsNext}
+use Rattle.uca_runs.specs.Texts.{TextsState, HasText}
 
 -- ---- Counts
 
@@ -45,23 +45,12 @@ pub no_write : (A B : Type 0) (fault : RunFault) → ended_by_output {A = A} (Er
 no_write A B (Write written) h = h
 no_write A B _ h = refl
 
--- no text was read after these lines
-pub no_text : (c : KeySettings) (start begun : Option (List ℕ)) (before : List (List ℕ)) (texts : TextsState) (input : SourceState) (buffer : BufferState) (out : SinkState) (fault : RunFault)
-    → IsBuffered begun out.contents (key_lines c before) buffer → ReadsNext c.collation.properties start before texts input (Err fault) → IsStopped c start begun before input buffer out fault
-no_text c start begun before texts input buffer out (Input number kind) printed reads = (reads, printed)
-no_text c start begun before texts input buffer out _ printed reads = absurd reads
-
 module _ (c : KeySettings) (start begun : Option (List ℕ)) (before : List (List ℕ)) (texts : TextsState) (input : SourceState) (t : HasText c.collation.properties start before texts input) where
   -- the keys of the lines so far
   printed_line : key_lines c before ++ text_line c texts.text ≡ key_lines c (before ++ texts.line ∷ [])
   printed_line = ap (λ text. key_lines c before ++ text_line c text) t.text ∙ sym (key_lines-push c before texts.line)
 
-  -- the key of the line was handed over
-  pub printed_more : (buffer : BufferState) (out : SinkState) → IsBuffered begun out.contents (key_lines c before ++ text_line c texts.text) buffer
-      → HasPrinted c start begun (before ++ texts.line ∷ []) texts input buffer out
-  printed_more buffer out handed = record { read = t.read; printed = subst (λ output. IsBuffered begun out.contents output buffer) printed_line handed }
-
-  -- it was not, or not all of it
+  -- the key of the line was not handed over, or not all of it
   pub not_printed : (buffer held : BufferState) (out sink : SinkState) (fault : RunFault) → IsBuffered begun out.contents (key_lines c before) buffer
       → PrintsText {A = Unit {0}} begun (key_lines c before) (text_line c texts.text) texts.reader.number buffer out held sink (Err fault)
       → IsStopped c start begun before input held sink fault

@@ -13,16 +13,8 @@ use Rattle.uca_runs.specs.declared.faults.InputKind.{InputKind}
 use Rattle.uca_runs.specs.declared.faults.InputKind.TheVariants.{Memory}
 use Rattle.uca_runs.specs.Input.{cause_of}
 use Rattle.uca_runs.specs.LinesSoFar.{IsAfter, IsNext, OnKnown}
-use Rattle.uca_runs.specs.Texts.{TextsState, HasRead, HasReadAll, HasLine, HasText, HasNoText, HasTextCause, line_kind}
-use Rattle.uca_runs.proofs.LinesSoFar.{known_start, known_ended, known_cut, known_after_cut, known_at_end, known_line_error, known_text_error, known_clean}
-
--- no line was read
-pub nothing_read : (properties : Properties) (reader : LineState) (line : List ℕ) (text : NfdText) (input : SourceState) → reader.pending ≡ [] → reader.number ≡ 0
-    → HasRead properties input.remaining [] (record { reader = reader; line = line; text = text; is_cut = false }) input
-nothing_read properties reader line text input pending number = record {
-  after = subst (λ xs. OnKnown input.remaining (prepend_known xs input.remaining) (λ bytes left. IsAfter properties bytes left false [])) (sym pending) (known_start properties input.remaining);
-  count = number;
-}
+use Rattle.uca_runs.specs.Texts.{TextsState, HasRead, HasLine, HasText, HasNoText, HasTextCause, line_kind}
+use Rattle.uca_runs.proofs.LinesSoFar.{known_ended, known_cut, known_line_error, known_text_error, known_clean}
 
 -- ---- The next line
 
@@ -30,11 +22,6 @@ module _ (properties : Properties) (start : Option (List ℕ)) (before : List (L
   -- an LF ended each line so far
   uncut : texts.is_cut ≡ false → OnKnown start (left_of texts.reader input) (λ bytes left. IsAfter properties bytes left false before)
   uncut none = subst (λ is_cut. OnKnown start (left_of texts.reader input) (λ bytes left. IsAfter properties bytes left is_cut before)) none read.after
-
-  -- none ended the last line
-  pub last_read : texts.is_cut ≡ true → HasReadAll properties start before
-  last_read cut = known_after_cut properties start (left_of texts.reader input) before
-      (subst (λ is_cut. OnKnown start (left_of texts.reader input) (λ bytes left. IsAfter properties bytes left is_cut before)) cut read.after)
 
   module _ (now : LineState) (unread : SourceState) (line : List ℕ) (none : texts.is_cut ≡ false) where
     -- a line, and the LF that ends it
@@ -53,10 +40,6 @@ module _ (properties : Properties) (start : Option (List ℕ)) (before : List (L
       next = known_cut properties start (left_of texts.reader input) (left_of now unread) before line (uncut none) takes some lacks;
       count = next ∙ ap (λ n. n + 1) read.count;
     }
-
-    -- the end of the input
-    pub at_end : Consumes (left_of texts.reader input) (left_of now unread) line × IsAtEnd (left_of now unread) → line ≡ [] → HasReadAll properties start before
-    at_end takes empty = known_at_end properties start (left_of texts.reader input) (left_of now unread) before line (uncut none) takes empty
 
     -- the line is not read
     pub no_line : (fault : LineFault) → SaysOfBytes (left_of texts.reader input) (left_of now unread) line 4194304 (Err fault) → IsWithinLimit texts.reader.number (Err fault)

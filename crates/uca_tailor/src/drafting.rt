@@ -25,10 +25,8 @@ use std::marker::Model;
 use uca_plans::{TailorFault, TailorKind};
 use uca_rules::{Relation, Rules};
 use uca_text::Normal;
+use uca_values::limits::{MOST_ELEMENTS, MOST_ROWS};
 use uca_values::{Data, Table};
-
-/// The most elements of a row.
-const MOST_ELEMENTS: usize = 32;
 
 /// The rows of a tailored table before weights are numbered, and where the new weights go: base rows in their order, and then
 /// those of the targets that are no base keys. It borrows from the base and the rules what they have of it.
@@ -51,7 +49,7 @@ impl<'a, A: Allocator + Copy> Drafting<'a, A> {
     fn begun<T: Allocator>(alloc: A, base: &'a Table<T>) -> Result<Drafting<'a, A>, AllocError>
         ensures rows { IfOk result (λ drafting. drafting.rows ≡ map drafts.row_as_draft base.now.rows) }
         ensures insertions { IfOk result (λ drafting. drafting.insertions ≡ []) }
-        ensures few { IfOk result (λ drafting. length drafting.rows ≤ 200000) }
+        ensures few { IfOk result (λ drafting. length drafting.rows ≤ MOST_ROWS) }
     {
         let mut rows = Vec::with_capacity(alloc, base.rows.len())?;
         for row in &base.rows {

@@ -13,9 +13,7 @@ use std::alloc::{AllocError, Allocator};
 use uca_match::{KeyMap, key_list};
 use uca_rules::{Relation, Rules};
 use uca_values::Table;
-
-/// The most rows of a table.
-const MOST_ROWS: usize = 200_000;
+use uca_values::limits::MOST_ROWS;
 
 /// The place of each key: the keys of the base come first, in their order, and then the targets that are no base keys, in the
 /// order of the rules, as far as a table has room for them. So all relations can be read by one map: no text of a relation

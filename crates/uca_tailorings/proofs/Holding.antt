@@ -13,7 +13,7 @@ use Rattle.uca_weights.specs.declared.Level.{Level}
 use Rattle.uca_weights.specs.declared.Level.TheVariants.{One, Two, Three}
 use Rattle.uca_weights.specs.declared.Weighting.TheVariants.{NonIgnorable}
 use Rattle.uca_weights.specs.Levels.{weight, level_number}
-use Rattle.uca_check.proofs.Elements.{each_weaker}
+use Rattle.uca_weights.proofs.Lists.{each_weaker}
 use Rattle.uca_key.specs.Levels.{Comparison, weighted_following, level_list, level_lists, lexicographic, decided, compare_from, compared}
 use Rattle.uca_key.proofs.KeyOrder.{cmp_less, cmp_equal, cmp_greater, then_equal, dictionary_itself}
 use Rattle.uca_tailorings.specs.Placing.{IsIgnorableTo, placed, reweighted, IsOnSide}

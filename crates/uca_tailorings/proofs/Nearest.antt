@@ -27,7 +27,7 @@ use Rattle.uca_tailorings.specs.Meaning.{IsTailoredWeight, StandsNearestAt, Near
 use Rattle.uca_tailorings.specs.declared.conditions.Condition.TheVariants.{NotPlaced, NotFresh, NotNearest}
 use Rattle.uca_tailorings.proofs.RowConditions.{row_kept}
 use Rattle.uca_values.proofs.ImplicitPairs.{each_pair}
-use Rattle.uca_check.proofs.RowElements.{each_append, each_parts}
+use Rattle.uca_weights.proofs.Lists.{each_append, each_parts}
 use Rattle.uca_tailorings.proofs.Parts.{of_part}
 use Rattle.uca_tailorings.proofs.Sound.{zero_or_not}
 use Rattle.uca_tailorings.proofs.Relating.{one_new}

@@ -1,7 +1,7 @@
 -- What holds of each member of a list, by the parts of the list before and after it.
 use Rattle.std.proofs.Common.{◌≡◌, List, [], ◌∷◌, ◌++◌, refl, ap, subst}
 use Rattle.std.specs.List.{AllByRecursion}
-use Rattle.uca_check.proofs.RowElements.{each_parts}
+use Rattle.uca_weights.proofs.Lists.{each_parts}
 
 -- what holds of a member at each split holds of each member
 pub each_by_parts : {X : Type 0} (P : X → Type 0) (xs : List X) → ((before : List X) (x : X) (after : List X) → xs ≡ before ++ x ∷ after → P x) →

@@ -9,7 +9,7 @@ use Rattle.uca_match.specs.Rows.{Rows}
 use Rattle.uca_match.specs.Reading.{read}
 use Rattle.uca_match.specs.Laws.{AreRelatedRows}
 use Rattle.uca_match.proofs.RelatedReading.{read_related}
-use Rattle.uca_check.proofs.RowElements.{each_append}
+use Rattle.uca_weights.proofs.Lists.{each_append}
 
 -- letters have the code points that they are made of
 points_of_letters : (points classes : List ℕ) → length classes ≡ length points → code_points (letters points classes) ≡ points

@@ -20,7 +20,7 @@ use Rattle.uca_tailorings.specs.Tailorings.{Tailoring, IsTailoring, tailored_rea
 use Rattle.uca_tailorings.specs.Tailorings.{IsPlacedBy, IsPlaced, IsPairWeight, IsBetween, IsAccepted}
 use Rattle.uca_tailorings.specs.Meaning.{Holds, stands}
 use Rattle.uca_tailorings.specs.declared.conditions.Condition.TheVariants.{TailoredIllFormed, NotPlaced, NotNearest}
-use Rattle.uca_check.proofs.RowElements.{each_parts}
+use Rattle.uca_weights.proofs.Lists.{each_parts}
 use Rattle.uca_tailorings.proofs.Parts.{each_by_parts, of_part}
 use Rattle.uca_tailorings.proofs.ReadingEach.{points_of_text}
 use Rattle.uca_tailorings.proofs.Sound.{IsSound, sound_row, sound_elements, old_is_some, new_is_some}

@@ -11,7 +11,7 @@ use Rattle.uca_weights.specs.Levels.{weight}
 use Rattle.uca_values.specs.Content.{Entry}
 use Rattle.uca_values.specs.Implicit.{implicit_pair, implicit}
 use Rattle.uca_check.specs.WellFormed.{HasGap, MeetsWF1, MeetsWF2, IsWellFormed}
-use Rattle.uca_check.proofs.Elements.{each_weaker}
+use Rattle.uca_weights.proofs.Lists.{each_weaker}
 use Rattle.uca_text.specs.Texts.{NfdText, letters_of}
 use Rattle.uca_text.specs.Limits.{IsNormal}
 use Rattle.uca_match.specs.Rows.{rows_of}

@@ -9,7 +9,7 @@ use Rattle.uca_weights.specs.declared.Weighting.{Weighting}
 use Rattle.uca_weights.specs.declared.Weighting.TheVariants.{NonIgnorable, Shifted}
 use Rattle.uca_values.specs.Content.{HeaderContent}
 use Rattle.uca_values.specs.Implicit.{implicit}
-use Rattle.uca_check.proofs.Elements.{each_weaker}
+use Rattle.uca_weights.proofs.Lists.{each_weaker}
 use Rattle.uca_text.specs.Texts.{NfdText, letters, letters_of, code_points}
 use Rattle.uca_text.specs.Limits.{IsNormal}
 use Rattle.uca_text.specs.Occurring.{OccursInOrder}

@@ -19,7 +19,7 @@ use Rattle.uca_tailorings.specs.declared.conditions.Condition.TheVariants.{RowEx
 use Rattle.uca_tailorings.specs.Inputs.{maps_of}
 use Rattle.uca_tailorings.specs.Worked.{x_behind_a, four_letters, eight_letters, z_behind_capital_a, y_before_c, w_as_a_and_b}
 use Rattle.uca_tailorings.specs.Worked.{moving_runs, with_moved_b}
-use Rattle.uca_check.proofs.RowElements.{each_parts}
+use Rattle.uca_weights.proofs.Lists.{each_parts}
 use Rattle.uca_tailorings.proofs.Parts.{of_part}
 use Rattle.uca_tailorings.proofs.WorkedTables.{IsLetterRow, full_plain, letter_row, letters_table, letters_well_formed}
 use Rattle.uca_tailorings.proofs.WorkedRuns.{moving, maps_rise}

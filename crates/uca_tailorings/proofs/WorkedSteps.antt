@@ -17,7 +17,7 @@ use Rattle.uca_tailorings.specs.Placing.{IsLow}
 use Rattle.uca_tailorings.specs.Tailorings.{Tailoring, IsPlacedAt, IsNewWeight, IsImageOfBase, IsPairWeight, IsKnownWeight, IsBetween}
 use Rattle.uca_tailorings.specs.Tailorings.{IsFreshWeight, IsNearestWeight, IsFresh, IsNearest}
 use Rattle.uca_tailorings.specs.Worked.{letter}
-use Rattle.uca_tailorings.proofs.Members.{none_of, each_contained}
+use Rattle.uca_weights.proofs.Lists.{not_nil, each_contained}
 use Rattle.uca_tailorings.proofs.Relating.{one_anchor, one_new}
 
 -- ---- Parts
@@ -61,7 +61,7 @@ AtEachPart P front (x ∷ xs) = P front x xs × AtEachPart P (front ++ x ∷ [])
 -- so it holds at each split
 at_split : {A : Type 0} (P : List A → A → List A → Type 0) (front xs : List A) → AtEachPart P front xs →
     (before : List A) (y : A) (after : List A) → xs ≡ before ++ y ∷ after → P (front ++ before) y after
-at_split P front [] each before y after split = absurd (none_of before y after split)
+at_split P front [] each before y after split = absurd (not_nil before y after split)
 at_split P front (x ∷ xs) each [] y after split =
     let first : x ≡ y = cc in
     let rest : xs ≡ after = cc in

@@ -8,9 +8,8 @@ use Rattle.std.proofs.lemmas.Bool.Decides.{nat_tests}
 use Rattle.uca_weights.specs.declared.Element.{Element}
 use Rattle.uca_values.specs.Content.{Entry, Fits, IsEntry, AreDistinct, AreRows, keys_of}
 use Rattle.uca_check.specs.WellFormed.{elements_of, HasGap, IsVariable, IsVariableBetween, MeetsWF1, MeetsWF2, MeetsWF3, MeetsWF4, MeetsWF5, IsWellFormed}
-use Rattle.uca_check.proofs.Elements.{each_weaker, each_any}
+use Rattle.uca_weights.proofs.Lists.{each_weaker, each_any, each_contained}
 use Rattle.uca_match.specs.WorkedTable.{plain, row}
-use Rattle.uca_tailorings.proofs.Members.{each_contained}
 use Rattle.uca_check.proofs.RowElements.{each_of_rows}
 use Rattle.uca_tailorings.proofs.Parts.{of_part}
 
