@@ -2,10 +2,9 @@
 use Rattle.std.proofs.Common.{◌≡◌, ℕ, ◌+◌, ◌<◌, ◌≤◌, List, ◌∷◌, ◌++◌, length, take, drop, get_or, sym, ap, subst, ◌∙◌, arith, length-take}
 use Rattle.std.specs.List.{AllByRecursion}
 use Rattle.std.proofs.lemmas.List.{take_all}
-use Rattle.uca_weights.proofs.Lists.{split_at}
+use Rattle.uca_weights.proofs.Lists.{split_at, each_push, taken_more}
 use Rattle.uca_values.specs.Content.{Entry}
 use Rattle.uca_check.specs.WellFormed.{IsFirstWithout}
-use Rattle.uca_check.proofs.Elements.{each_push, taken_more}
 
 module _ (P : Entry → Type 0) (items rows : List Entry) (same : items ≡ rows) (at : ℕ) where
   -- one more row has the property

@@ -12,7 +12,7 @@ use Rattle.uca_weights.specs.Maps.{WeightImages}
 use Rattle.uca_weights.specs.Runs.{weight_image, MapContent}
 use Rattle.uca_values.specs.Content.{Entry}
 use Rattle.uca_check.specs.WellFormed.{elements_of}
-use Rattle.uca_check.proofs.Elements.{taken_more}
+use Rattle.uca_weights.proofs.Lists.{taken_more}
 use Rattle.uca_check.proofs.RowElements.{none_contained, row_of_element, element_of_row}
 use Rattle.uca_weights.specs.PerLevel.{at_level}
 use Rattle.uca_tailorings.specs.Images.{Maps}

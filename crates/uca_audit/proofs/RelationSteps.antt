@@ -5,8 +5,7 @@ use Rattle.std.proofs.lemmas.List.{take_all}
 use Rattle.uca_weights.specs.declared.Element.{Element}
 use Rattle.uca_weights.specs.declared.Level.{Level}
 use Rattle.uca_weights.specs.Levels.{level_of}
-use Rattle.uca_weights.proofs.Lists.{split_at}
-use Rattle.uca_check.proofs.Elements.{each_push, taken_more}
+use Rattle.uca_weights.proofs.Lists.{split_at, each_push, taken_more}
 use Rattle.uca_text.specs.Texts.{NfdText}
 use Rattle.uca_rules.specs.declared.relations.Relation.{Relation}
 use Rattle.uca_match.specs.Collations.{Collation, elements_of}

@@ -9,7 +9,7 @@ use Rattle.std.proofs.lemmas.Bool.{or_cases, or_left, or_right}
 use Rattle.std.proofs.lemmas.Map.Text.{is_eq-slice_cmp}
 use Rattle.uca_rules.specs.declared.relations.Relation.{Relation}
 use Rattle.uca_rules.specs.Relations.{IsTarget}
-use Rattle.uca_check.proofs.Elements.{taken_more}
+use Rattle.uca_weights.proofs.Lists.{taken_more}
 use Rattle.uca_audit.specs.Chaining.{AreTargetsOf}
 
 -- what a list with one more at its front contains
