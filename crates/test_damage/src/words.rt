@@ -220,7 +220,7 @@ fn with_options<'a>(
 }
 
 /// One line that says what was read.
-fn nfd_text<'a>(alloc: Global, words: Words<'a>) -> Result<Vec<&'a str>, AllocError> {
+fn line_of<'a>(alloc: Global, words: Words<'a>) -> Result<Vec<&'a str>, AllocError> {
     let none = (None, Depth::Weights);
     match words {
         Words::Check { table, properties } => with_options(
@@ -301,14 +301,14 @@ fn meant<'a>(alloc: Global, model: &Model<'a>) -> Result<Vec<&'a str>, AllocErro
 /// Whether what is read of a line is written out as this line again.
 fn is_kept(alloc: Global, line: &[&str]) -> Result<bool, AllocError> {
     match read_words(alloc, line) {
-        Ok(found) => Ok(nfd_text(alloc, found)?.as_slice() == line),
+        Ok(found) => Ok(line_of(alloc, found)?.as_slice() == line),
         Err(_) => Ok(false),
     }
 }
 
 /// Whether words are what the model says, and mean the same when they are written out.
 fn is_read(alloc: Global, words: Words, model: &Model) -> Result<bool, Fail> {
-    let line = nfd_text(alloc, words)?;
+    let line = line_of(alloc, words)?;
     let wanted = meant(alloc, model)?;
     Ok(is_kept(alloc, &line)? && line.as_slice() == wanted.as_slice())
 }

@@ -41,7 +41,7 @@ impl MayEndEarly for AnyLines {
 
 /// A file, and how many lines it has or why it is refused.
 const FILES: &str = " | Ok(0)
-a | Err(FileFault { line: 1, kind: Line })";
+a | Err(LineFileFault { line: 1, kind: Line })";
 
 /// What is said of a file.
 fn said(alloc: Global, file: &[u8]) -> Result<String, AllocError> {

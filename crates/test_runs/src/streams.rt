@@ -266,7 +266,7 @@ fn a_writer_that_fails_too_late(rt: HostRuntime) -> Result<(), Fail> {
     check_late_writer(rt.alloc(), &COMPARE)
 }
 
-// A run whose output is longer than what is handed over at once. What is written is counted from the
+// A run whose output is longer than what is written at once. What is written is counted from the
 // first line on, and not from the last call.
 fn check_long_output(alloc: Global, case: &Case) -> Result<(), Fail> {
     let length = case.printed.len();

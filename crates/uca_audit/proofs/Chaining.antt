@@ -96,15 +96,15 @@ refused_at tailoring condition fault so_far (inr memory) = inr memory
 pub passes_refused : {A : Type 0} (tailoring : Tailoring) (n : ℕ) (condition : Condition) (result : Result A AuditFault) (given : AuditFault)
     → IsErrAnd result (λ fault. fault ≡ given)
     → MeetsBelow tailoring (number_of condition) → Fails tailoring condition given ⊎ IsMemory given → Passes tailoring n result
-passes_refused tailoring n condition (Ok x) given handed so_far fails = absurd handed
-passes_refused tailoring n condition (Err fault) given handed so_far fails =
-    refused_at tailoring condition fault so_far (subst (λ f. Fails tailoring condition f ⊎ IsMemory f) (sym handed) fails)
+passes_refused tailoring n condition (Ok x) given passed_on so_far fails = absurd passed_on
+passes_refused tailoring n condition (Err fault) given passed_on so_far fails =
+    refused_at tailoring condition fault so_far (subst (λ f. Fails tailoring condition f ⊎ IsMemory f) (sym passed_on) fails)
 
 -- a fault of a part of the audit is handed on
 pub passes_failed : {A : Type 0} (tailoring : Tailoring) (n : ℕ) (result : Result A AuditFault) (given : AuditFault) → IsErrAnd result (λ fault. fault ≡ given)
     → IsFirstRefusal tailoring given ⊎ IsMemory given → Passes tailoring n result
-passes_failed tailoring n (Ok x) given handed refused = absurd handed
-passes_failed tailoring n (Err fault) given handed refused = subst (λ f. IsFirstRefusal tailoring f ⊎ IsMemory f) (sym handed) refused
+passes_failed tailoring n (Ok x) given passed_on refused = absurd passed_on
+passes_failed tailoring n (Err fault) given passed_on refused = subst (λ f. IsFirstRefusal tailoring f ⊎ IsMemory f) (sym passed_on) refused
 
 -- the last condition of a part is met, or its fault is that of the part
 pub passes_last : {A : Type 0} (tailoring : Tailoring) (condition : Condition) (result : Result A AuditFault) → MeetsBelow tailoring (number_of condition)

@@ -66,9 +66,9 @@ unfolding run_text
 line_from t0 t1 t2 t3 [] level from to count l h0 h1 h2 h3 h =
     let read : RunLine = record { level = level; run = record { from = from; to = to; count = count } } in
     let P : RunLine → Type 0 = IsLine t0 in
-    let nfd_text : t0 ≡ run_text read = rw (h0, h1.0, h2.0, h3.0, append-nil (digits 4 count)) refl in
+    let text_is : t0 ≡ run_text read = rw (h0, h1.0, h2.0, h3.0, append-nil (digits 4 count)) refl in
     let same : read ≡ l = same_Some read l h in
-    subst P same (record { text = nfd_text; fits = record { from = h1.1; to = h2.1; count = h3.1 } })
+    subst P same (record { text = text_is; fits = record { from = h1.1; to = h2.1; count = h3.1 } })
 line_from t0 t1 t2 t3 (b ∷ bs) level from to count l h0 h1 h2 h3 h = cc
 
 -- the run that is read is what the line says

@@ -9,7 +9,7 @@ use Rattle.uca_weights.specs.declared.maps.Run.{Run}
 use Rattle.uca_lines.specs.Lines.{ended}
 use Rattle.uca_lines.specs.OutputBuffer.{BufferState}
 use Rattle.uca_lines.specs.Buffered.{count_of, HasRoom}
-use Rattle.uca_lines.proofs.HandingLemmas.{part}
+use Rattle.uca_lines.proofs.BufferedLemmas.{part}
 use Rattle.uca_certificates.specs.Certificates.{CertificateContent, IsCertificate}
 use Rattle.uca_certificates.specs.Texts.{RunLine, run_text, of_level, run_lines, certificate_text}
 use Rattle.uca_certificates.specs.Steps.{level_text}

@@ -7,7 +7,7 @@ ghost use Rattle.uca_certificates.specs.FaultText.{kind_text, certificate_fault_
 use std::alloc::{AllocError, AllocFailed};
 use std::fmt;
 use thiserror::Error;
-use uca_lines::files::FileFault;
+use uca_lines::files::LineFileFault;
 use uca_weights::{MapFault, Message};
 
 /// Why a certificate is refused.
@@ -111,10 +111,10 @@ impl<T: Drop> From<AllocFailed<T>> for CertificateFaultKind {
     }
 }
 
-impl From<FileFault<CertificateFaultKind>> for CertificateFault {
+impl From<LineFileFault<CertificateFaultKind>> for CertificateFault {
     ghost from_gives = { λ fault given. given ≡ record { line = fault.line; kind = fault.kind } };
 
-    fn from(fault: FileFault<CertificateFaultKind>) -> CertificateFault {
+    fn from(fault: LineFileFault<CertificateFaultKind>) -> CertificateFault {
         CertificateFault {
             line: fault.line,
             kind: fault.kind,

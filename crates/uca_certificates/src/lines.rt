@@ -17,13 +17,13 @@ const MOST_RUNS: usize = 0xFFFF;
 
 /// The runs of each level that the lines so far say.
 #[derive(Drop)]
-pub struct Lines<A: Allocator = Global> {
+pub struct CertificateLines<A: Allocator = Global> {
     primary: Vec<Run, A>,
     secondary: Vec<Run, A>,
     tertiary: Vec<Run, A>,
 }
 
-impl<A: Allocator> Model for Lines<A> {
+impl<A: Allocator> Model for CertificateLines<A> {
     ghost use Rattle.std.specs.Prelude.{◌≤◌, length};
     ghost use Rattle.uca_certificates.specs.Certificates.{CertificateContent};
 
@@ -39,7 +39,7 @@ impl<A: Allocator> Model for Lines<A> {
         × (length l.tertiary.items ≤ 0xFFFF) };
 }
 
-impl<A: Allocator + Copy> Lines<A> {
+impl<A: Allocator + Copy> CertificateLines<A> {
     ghost use Rattle.std.specs.Prelude.{◌≡◌, ◌⊎◌, ◌<◌, ◌↔◌, [], length, IsTrue, OnOk, IfOk, IfErr};
     ghost use Rattle.uca_certificates.specs.declared.faults.CertificateFaultKind.{CertificateFaultKind};
     ghost use Rattle.uca_weights.specs.PerLevel.{at_level};
@@ -48,10 +48,10 @@ impl<A: Allocator + Copy> Lines<A> {
     ghost use Rattle.uca_certificates.specs.Steps.{put_last, RefusesContent};
 
     /// Nothing is said yet. It takes no memory.
-    pub fn new(alloc: A) -> Lines<A>
+    pub fn new(alloc: A) -> CertificateLines<A>
         ensures { result ≡ record { primary = []; secondary = []; tertiary = [] } }
     {
-        Lines {
+        CertificateLines {
             primary: Vec::new(alloc),
             secondary: Vec::new(alloc),
             tertiary: Vec::new(alloc),
@@ -93,7 +93,7 @@ impl<A: Allocator + Copy> Lines<A> {
         ensures maps { OnOk result (IsCertificate self) }
         ensures fault { IfErr result (RefusesContent self) }
     {
-        let Lines {
+        let CertificateLines {
             primary,
             secondary,
             tertiary,
@@ -112,7 +112,7 @@ impl<A: Allocator + Copy> Lines<A> {
     }
 }
 
-impl<A: Allocator + Copy> Lines<A> {
+impl<A: Allocator + Copy> CertificateLines<A> {
     ghost use Rattle.std.specs.Prelude.{◌≡◌, ◌⊎◌, OnOk, IfErr};
     ghost use Rattle.uca_certificates.specs.Texts.{Cause};
     ghost use Rattle.uca_certificates.specs.Steps.{Takes};
@@ -132,7 +132,7 @@ impl<A: Allocator + Copy> Lines<A> {
     }
 }
 
-impl<A: Allocator + Copy> LineParser for Lines<A> {
+impl<A: Allocator + Copy> LineParser for CertificateLines<A> {
     ghost use Rattle.uca_certificates.specs.declared.TheConstants.{CERTIFICATE_FORM};
     ghost use Rattle.uca_certificates.specs.Texts.{Says, Cause, is_read_kind};
 

@@ -4,7 +4,7 @@ ghost use Rattle.std.specs.Prelude.{◌≡◌, ◌||◌, IfOk, IfErr, IfSome, Ma
 ghost use Rattle.uca_certificates.specs.Certificates.{CertificateContent};
 ghost use Rattle.uca_certificates.specs.Texts.{IsStop, Means, Refuses, is_read};
 
-use crate::lines::Lines;
+use crate::lines::CertificateLines;
 use crate::{Certificate, CertificateFault};
 use std::alloc::Allocator;
 use std::io::Read;
@@ -50,7 +50,7 @@ fn read_to_end<R: Read, A: Allocator + Copy>(
     ensures fault { IfSome source.old.remaining (λ bytes. IfErr result (Refuses bytes source.new.remaining)) }
     ensures failed { source.new.failed ≡ (source.old.failed || is_read result) }
 {
-    let mut lines = Lines::new(alloc);
+    let mut lines = CertificateLines::new(alloc);
     read_lines(alloc, source, &mut lines)?;
     lines.into_certificate()
 }

@@ -15,7 +15,7 @@ use Rattle.uca_key.specs.Levels.{Comparison, level_list, level_lists_from, weigh
 use Rattle.uca_key.specs.Depths.{ReadText, read_text, levels_at, lists_at, compared_at, points_bytes, key_at}
 use Rattle.uca_key.specs.StoredKeys.{shared_separators, stored_level}
 use Rattle.uca_key.specs.Laws.{KeysCompareAsTexts, StoredKeysCompareAsTexts, IdenticalKeysAreOfEquivalentTexts}
-use Rattle.uca_key.proofs.KeyOrder.{cmp_less, cmp_greater, then_assoc, then_equal, bytes_order, dictionary_itself, same_from_dictionary, AreNonZero, AreLevels, AreLevels-from, order-decided}
+use Rattle.uca_key.proofs.KeyOrder.{cmp_less, cmp_greater, then_assoc, then_equal, bytes_order, lexicographic_itself, same_from_lexicographic, AreNonZero, AreLevels, AreLevels-from, order-decided}
 use Rattle.uca_key.proofs.KeyOrder.{level_zero, order_equal, key_order}
 use Rattle.uca_weights.proofs.Tests.{same_bytes, other_bytes}
 use Rattle.uca_key.proofs.StoredOrder.{is_separator, separators_same, separators_other, other_weight, separates, stored_key_level}
@@ -128,8 +128,8 @@ depth_equal depth weighting left right =
     let key = key_at depth weighting left in
     let first = lists_at depth weighting left in
     let second = lists_at depth weighting right in (
-      (λ same. level_zero 0 first second (sym (depth_order depth weighting left right) ∙ (ap (lexicographic key) (sym same) ∙ dictionary_itself key))),
-      (λ none. same_from_dictionary key (key_at depth weighting right) (depth_order depth weighting left right ∙ order_equal 0 first second none)),
+      (λ same. level_zero 0 first second (sym (depth_order depth weighting left right) ∙ (ap (lexicographic key) (sym same) ∙ lexicographic_itself key))),
+      (λ none. same_from_lexicographic key (key_at depth weighting right) (depth_order depth weighting left right ∙ order_equal 0 first second none)),
     )
 
 -- ---- The level of stored keys
@@ -200,8 +200,8 @@ level_separators : (a b xs ys : List ℕ) → AreNonZero a → AreNonZero b
     → ((lexicographic a b ≡ Equal → ⊥) → shared_separators (level_bytes a ++ (0 ∷ 0 ∷ xs)) (level_bytes b ++ (0 ∷ 0 ∷ ys)) ≡ 0)
     × (lexicographic a b ≡ Equal → shared_separators (level_bytes a ++ (0 ∷ 0 ∷ xs)) (level_bytes b ++ (0 ∷ 0 ∷ ys)) ≡ suc (shared_separators xs ys))
 level_separators a b xs ys first second = (
-  (λ differ. separators_differ a b xs ys first second (λ same. differ (ap (lexicographic a) (sym same) ∙ dictionary_itself a))),
-  (λ equal. ap (λ l. shared_separators (level_bytes a ++ (0 ∷ 0 ∷ xs)) (level_bytes l ++ (0 ∷ 0 ∷ ys))) (sym (same_from_dictionary a b equal))
+  (λ differ. separators_differ a b xs ys first second (λ same. differ (ap (lexicographic a) (sym same) ∙ lexicographic_itself a))),
+  (λ equal. ap (λ l. shared_separators (level_bytes a ++ (0 ∷ 0 ∷ xs)) (level_bytes l ++ (0 ∷ 0 ∷ ys))) (sym (same_from_lexicographic a b equal))
       ∙ separators_equal a xs ys first),
 )
 
@@ -277,7 +277,7 @@ identical_level a b left right ps qs levels is h true same =
     let one = levels_bytes (a ∷ left) ++ (0 ∷ 0 ∷ points_bytes ps) in
     let other = levels_bytes (b ∷ right) ++ (0 ∷ 0 ∷ points_bytes qs) in
     let equal : one ≡ other = (bytes_eq-Decides one other).0 same in
-    sym (level_zero 0 ((a ∷ left) ++ ps ∷ []) ((b ∷ right) ++ qs ∷ []) (sym (identical_order a b left right ps qs h) ∙ (ap (lexicographic one) (sym equal) ∙ dictionary_itself one)))
+    sym (level_zero 0 ((a ∷ left) ++ ps ∷ []) ((b ∷ right) ++ qs ∷ []) (sym (identical_order a b left right ps qs h) ∙ (ap (lexicographic one) (sym equal) ∙ lexicographic_itself one)))
 identical_level a b left right ps qs levels is h false apart =
     let one = levels_bytes (a ∷ left) ++ (0 ∷ 0 ∷ points_bytes ps) in
     let other = levels_bytes (b ∷ right) ++ (0 ∷ 0 ∷ points_bytes qs) in
@@ -286,7 +286,7 @@ identical_level a b left right ps qs levels is h false apart =
     let points_differ : first.order ≡ Equal → lexicographic ps qs ≡ Equal → ⊥ = λ e d.
     let equal : lexicographic one other ≡ Equal =
     identical_order a b left right ps qs h ∙ more_order 1 (a ∷ left) (b ∷ right) ps qs h ∙ ap (λ o. ordering_then o (lexicographic ps qs)) e ∙ d in
-    let t : bytes_eq one other ≡ true = same_bytes one other (same_from_dictionary one other equal) in cc in
+    let t : bytes_eq one other ≡ true = same_bytes one other (same_from_lexicographic one other equal) in cc in
     stored_where levels (shared_separators one other) (length (a ∷ left)) first (compare_from 1 ((a ∷ left) ++ ps ∷ []) ((b ∷ right) ++ qs ∷ [])) is
     (levels_separators 1 a b left right (points_bytes ps) (points_bytes qs) h) more.0 (λ e. more.1 e (points_differ e)) first.order refl
 
@@ -323,9 +323,9 @@ points_equal : (a b : List ℕ) (left right : List (List ℕ)) (ps qs : List ℕ
     → levels_bytes (a ∷ left) ++ (0 ∷ 0 ∷ points_bytes ps) ≡ levels_bytes (b ∷ right) ++ (0 ∷ 0 ∷ points_bytes qs) → ps ≡ qs
 points_equal a b left right ps qs h same =
     let one = levels_bytes (a ∷ left) ++ (0 ∷ 0 ∷ points_bytes ps) in
-    same_from_dictionary ps qs
+    same_from_lexicographic ps qs
     (last_equal (compare_from 1 (a ∷ left) (b ∷ right)).order (lexicographic ps qs)
-    (sym (more_order 1 (a ∷ left) (b ∷ right) ps qs h) ∙ sym (identical_order a b left right ps qs h) ∙ ap (lexicographic one) (sym same) ∙ dictionary_itself one))
+    (sym (more_order 1 (a ∷ left) (b ∷ right) ps qs h) ∙ sym (identical_order a b left right ps qs h) ∙ ap (lexicographic one) (sym same) ∙ lexicographic_itself one))
 
 identical_points : (weighting : Weighting) (left right : ReadText) → key_at Identical weighting left ≡ key_at Identical weighting right → left.points ≡ right.points
 identical_points NonIgnorable left right same =

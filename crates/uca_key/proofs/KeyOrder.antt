@@ -60,13 +60,13 @@ bytes_order v w =
 -- ---- Lists of numbers
 
 -- a list is equal to itself
-pub dictionary_itself : (xs : List ℕ) → lexicographic xs xs ≡ Equal
-dictionary_itself [] = refl
-dictionary_itself (x ∷ xs) = ap (λ o. ordering_then o (lexicographic xs xs)) (cmp_equal x x refl) ∙ dictionary_itself xs
+pub lexicographic_itself : (xs : List ℕ) → lexicographic xs xs ≡ Equal
+lexicographic_itself [] = refl
+lexicographic_itself (x ∷ xs) = ap (λ o. ordering_then o (lexicographic xs xs)) (cmp_equal x x refl) ∙ lexicographic_itself xs
 
 -- lists that compare as equal are equal
-pub same_from_dictionary : (xs ys : List ℕ) → lexicographic xs ys ≡ Equal → xs ≡ ys
-same_from_dictionary xs ys h = (bytes_eq-Decides xs ys).0 (sym (is_eq-slice_cmp xs ys) ∙ ap is_eq h)
+pub same_from_lexicographic : (xs ys : List ℕ) → lexicographic xs ys ≡ Equal → xs ≡ ys
+same_from_lexicographic xs ys h = (bytes_eq-Decides xs ys).0 (sym (is_eq-slice_cmp xs ys) ∙ ap is_eq h)
 
 -- the bytes of weights compare as the weights
 pub lexicographic-level_bytes : (vs ws : List ℕ) → lexicographic (level_bytes vs) (level_bytes ws) ≡ lexicographic vs ws
@@ -83,17 +83,17 @@ abbrev pub AreNonZero : List ℕ → Type 0
 AreNonZero = AllByRecursion (λ w. w ≢ 0)
 
 -- lists of weights that are not 0, each followed by 0 and more, compare first by the lists and then by what follows
-pub dictionary_zero : (vs ws xs ys : List ℕ) → AreNonZero vs → AreNonZero ws
+pub lexicographic_zero : (vs ws xs ys : List ℕ) → AreNonZero vs → AreNonZero ws
     → lexicographic (vs ++ 0 ∷ xs) (ws ++ 0 ∷ ys) ≡ ordering_then (lexicographic vs ws) (lexicographic xs ys)
-dictionary_zero [] [] xs ys a b = refl
-dictionary_zero [] (w ∷ ws) xs ys a b =
+lexicographic_zero [] [] xs ys a b = refl
+lexicographic_zero [] (w ∷ ws) xs ys a b =
     let above : 0 < w = let apart : w ≢ 0 = b.0 in omega arith in
     ap (λ o. ordering_then o (lexicographic xs (ws ++ 0 ∷ ys))) (cmp_less 0 w above)
-dictionary_zero (v ∷ vs) [] xs ys a b =
+lexicographic_zero (v ∷ vs) [] xs ys a b =
     let above : 0 < v = let apart : v ≢ 0 = a.0 in omega arith in
     ap (λ o. ordering_then o (lexicographic (vs ++ 0 ∷ xs) ys)) (cmp_greater v 0 above)
-dictionary_zero (v ∷ vs) (w ∷ ws) xs ys a b =
-    ap (ordering_then (nat_cmp v w)) (dictionary_zero vs ws xs ys a.1 b.1)
+lexicographic_zero (v ∷ vs) (w ∷ ws) xs ys a b =
+    ap (ordering_then (nat_cmp v w)) (lexicographic_zero vs ws xs ys a.1 b.1)
     ∙ sym (then_assoc (nat_cmp v w) (lexicographic vs ws) (lexicographic xs ys))
 
 -- ---- Levels
@@ -141,7 +141,7 @@ joined_order n (a ∷ []) (b ∷ []) h =
 joined_order n (a ∷ []) (b ∷ d ∷ right) h = absurd h.2
 joined_order n (a ∷ c ∷ left) (b ∷ []) h = absurd h.2
 joined_order n (a ∷ c ∷ left) (b ∷ d ∷ right) h =
-    dictionary_zero a b (joined (c ∷ left)) (joined (d ∷ right)) h.0 h.1
+    lexicographic_zero a b (joined (c ∷ left)) (joined (d ∷ right)) h.0 h.1
     ∙ ap (ordering_then (lexicographic a b)) (joined_order (suc n) (c ∷ left) (d ∷ right) h.2)
     ∙ sym (order-decided (lexicographic a b) n (compare_from (suc n) (c ∷ left) (d ∷ right)))
 
@@ -211,8 +211,8 @@ key_same weighting left right =
     let first = level_lists weighting left in
     let second = level_lists weighting right in
     let key = key_bytes weighting left in (
-      (λ same. level_zero 0 first second (sym (key_order weighting left right) ∙ (ap (lexicographic key) (sym same) ∙ dictionary_itself key))),
-      (λ none. same_from_dictionary key (key_bytes weighting right) (key_order weighting left right ∙ order_equal 0 first second none)),
+      (λ same. level_zero 0 first second (sym (key_order weighting left right) ∙ (ap (lexicographic key) (sym same) ∙ lexicographic_itself key))),
+      (λ none. same_from_lexicographic key (key_bytes weighting right) (key_order weighting left right ∙ order_equal 0 first second none)),
     )
 
 -- the law

@@ -15,7 +15,7 @@ use Rattle.uca_key.specs.Levels.{compared, weight_bytes, level_bytes, levels_byt
 use Rattle.uca_key.specs.StoredKeys.{groups, shared_groups, shared_separators, stored_level}
 use Rattle.uca_key.specs.Laws.{StoredKeysCompareAsElements}
 use Rattle.uca_key.proofs.KeyOrder.{AreNonZero, AreLevels, AreLevels-from, joined, levels_bytes-joined, key_order}
-use Rattle.uca_key.proofs.KeyOrder.{key_same, same_from_dictionary, dictionary_itself}
+use Rattle.uca_key.proofs.KeyOrder.{key_same, same_from_lexicographic, lexicographic_itself}
 
 -- ---- Groups that both sides begin with
 
@@ -131,7 +131,7 @@ zeros_same (v ∷ vs) xs ys a =
 
 -- two lists that differ are Less or Greater
 pub unequal : (vs ws : List ℕ) → (vs ≡ ws → ⊥) → lexicographic vs ws ≡ Equal → ⊥
-unequal vs ws other same = other (same_from_dictionary vs ws same)
+unequal vs ws other same = other (same_from_lexicographic vs ws same)
 
 -- what a level says of its own lists and of the levels after it
 pub level_step : (o : Ordering) (n zeros rest : ℕ) (later : Comparison) → ((o ≡ Equal → ⊥) → zeros ≡ 0) → (o ≡ Equal → zeros ≡ suc rest)
@@ -151,13 +151,13 @@ zeros_joined left right = zeros_before (joined left) (joined right)
 zeros_apart : (a b : List ℕ) (c d : List ℕ) (left right : List (List ℕ)) → AreNonZero a → AreNonZero b → (lexicographic a b ≡ Equal → ⊥)
     → zeros_joined (a ∷ c ∷ left) (b ∷ d ∷ right) ≡ 0
 zeros_apart a b c d left right first second differ =
-    zeros_other a b (joined (c ∷ left)) (joined (d ∷ right)) first second (λ same. differ (ap (lexicographic a) (sym same) ∙ dictionary_itself a))
+    zeros_other a b (joined (c ∷ left)) (joined (d ∷ right)) first second (λ same. differ (ap (lexicographic a) (sym same) ∙ lexicographic_itself a))
 
 -- and one more where they are the same
 zeros_after : (a b : List ℕ) (c d : List ℕ) (left right : List (List ℕ)) → AreNonZero a → lexicographic a b ≡ Equal
     → zeros_joined (a ∷ c ∷ left) (b ∷ d ∷ right) ≡ suc (zeros_joined (c ∷ left) (d ∷ right))
 zeros_after a b c d left right first same =
-    ap (λ l. zeros_before (joined (a ∷ c ∷ left)) (l ++ 0 ∷ joined (d ∷ right))) (sym (same_from_dictionary a b same))
+    ap (λ l. zeros_before (joined (a ∷ c ∷ left)) (l ++ 0 ∷ joined (d ∷ right))) (sym (same_from_lexicographic a b same))
     ∙ zeros_same a (joined (c ∷ left)) (joined (d ∷ right)) first
 
 -- where some level decides, it is the one after as many separators
@@ -236,7 +236,7 @@ stored_key_level weighting left right =
     ∙ stored_at (bytes_eq one other) (level_count weighting) (zeros_joined first second) (compared weighting left right).level
     (λ same. (key_same weighting left right).0 ((bytes_eq-Decides one other).0 same))
     (λ apart. level_zeros 1 first second (AreLevels-from 1 (level_count weighting) (weighted weighting left) (weighted weighting right))
-    (λ undecided. let same : one ≡ other = same_from_dictionary one other (key_order weighting left right ∙ undecided) in
+    (λ undecided. let same : one ≡ other = same_from_lexicographic one other (key_order weighting left right ∙ undecided) in
     let t : bytes_eq one other ≡ true = same_bytes one other same in cc))
     (few_separators weighting left right)
 
@@ -249,12 +249,12 @@ stored_keys_compare weighting left right = (key_order weighting left right, stor
 -- equal slices have the level 0
 pub equal_level : (levels : ℕ) (left right : List ℕ) → lexicographic left right ≡ Equal → 0 ≡ stored_level levels left right
 equal_level levels left right same =
-    let equal : bytes_eq left right ≡ true = same_bytes left right (same_from_dictionary left right same) in
+    let equal : bytes_eq left right ≡ true = same_bytes left right (same_from_lexicographic left right same) in
     rw equal refl
 
 -- the others have the level that their separators give
 pub differing_level : (levels level : ℕ) (left right : List ℕ) → (lexicographic left right ≡ Equal → ⊥) → level ≡ min levels (1 + shared_separators left right)
     → level ≡ stored_level levels left right
 differing_level levels level left right differ is =
-    let apart : bytes_eq left right ≡ false = other_bytes left right (λ same. differ (ap (lexicographic left) (sym same) ∙ dictionary_itself left)) in
+    let apart : bytes_eq left right ≡ false = other_bytes left right (λ same. differ (ap (lexicographic left) (sym same) ∙ lexicographic_itself left)) in
     rw apart is

@@ -1,6 +1,6 @@
 pub mod LineLemmas
 pub mod LinesOf
-pub mod HandingLemmas
+pub mod BufferedLemmas
 pub mod FieldLemmas
 pub mod DigitLemmas
 pub mod LeadLemmas

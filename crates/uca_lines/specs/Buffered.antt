@@ -15,7 +15,7 @@ HasRoom buffer more = count_of buffer + more < 2 ^ 64
 
 -- the text was written to the buffer, whatever the writer held at the start, and whatever was written since
 pub record HasWrittenThrough (text : List ℕ) (buffer held : BufferState) (out now : SinkState) : Type 0 where
-  pub hands : (start : Option (List ℕ)) (before : List ℕ) → IsBuffered start out.contents before buffer → IsBuffered start now.contents (before ++ text) held
+  pub writes : (start : Option (List ℕ)) (before : List ℕ) → IsBuffered start out.contents before buffer → IsBuffered start now.contents (before ++ text) held
   pub count : count_of held ≡ count_of buffer + length text
   pub failed : now.failed ≡ out.failed
 

@@ -2,7 +2,7 @@
 use Rattle.std.specs.Prelude.{◌≡◌, Bool, true, false, IfSome, Result, Ok, Err}
 use Rattle.std.specs.Option.{unwrap_or}
 use Rattle.uca_lines.specs.declared.files.FileForm.{FileForm}
-use Rattle.uca_lines.specs.declared.files.FileFault.{FileFault}
+use Rattle.uca_lines.specs.declared.files.LineFileFault.{LineFileFault}
 use Rattle.uca_lines.specs.declared.lines.LineFault.{LineFault}
 use Rattle.uca_lines.specs.declared.lines.LineFault.TheVariants.{TooLong, Limit, Read, Memory}
 
@@ -15,7 +15,7 @@ pub record CallsReadsAlone {K : Type 0} (form : FileForm K) (is_read : K → Boo
   pub no_memory : is_read form.no_memory ≡ false
 
 -- whether the loop ended as a read failed
-abbrev pub is_read_fault : {X K : Type 0} → (K → Bool) → Result X (FileFault K) → Bool
+abbrev pub is_read_fault : {X K : Type 0} → (K → Bool) → Result X (LineFileFault K) → Bool
 is_read_fault is_read (Ok x) = false
 is_read_fault is_read (Err fault) = is_read fault.kind
 

@@ -46,17 +46,17 @@ pub const TABLE_FORM: FileForm<FaultKind> = FileForm {
 
 /// Why a file is rejected: the line, and the kind. A file that ends too early has the number of its lines plus one.
 #[derive(Debug, Drop)]
-pub struct FileFault<K> {
+pub struct LineFileFault<K> {
     /// The line, counted from 1.
     pub line: u32,
     /// Why it is rejected.
     pub kind: K,
 }
 
-impl From<FileFault<FaultKind>> for TableFault {
+impl From<LineFileFault<FaultKind>> for TableFault {
     ghost from_gives = { λ fault given. given ≡ record { line = fault.line; kind = fault.kind } };
 
-    fn from(fault: FileFault<FaultKind>) -> TableFault {
+    fn from(fault: LineFileFault<FaultKind>) -> TableFault {
         TableFault {
             line: fault.line,
             kind: fault.kind,

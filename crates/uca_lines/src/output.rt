@@ -51,7 +51,7 @@ impl OutputBuffer {
     /// out of all that was written to this buffer.
     pub fn write<W: Write>(&mut self, out: &mut Sink<W>, text: &[u8]) -> Result<(), WriteFault>
         requires { HasRoom self.old (length text.now) }
-        ensures hands { WritesThrough text.now self.old self.new out.old out.new result }
+        ensures writes { WritesThrough text.now self.old self.new out.old out.new result }
         ensures err { OnErr result (count_of self.new ≡ count_of self.old) }
     {
         if text.len() <= SIZE - self.len {
@@ -68,7 +68,7 @@ impl OutputBuffer {
     fn write_first<W: Write>(&mut self, out: &mut Sink<W>, text: &[u8]) -> Result<(), WriteFault>
         requires room { HasRoom self.old (length text.now) }
         requires empty { self.old.held ≡ [] }
-        ensures hands { WritesThrough text.now self.old self.new out.old out.new result }
+        ensures writes { WritesThrough text.now self.old self.new out.old out.new result }
         ensures err { OnErr result (self.new ≡ self.old) }
     {
         if text.len() <= SIZE {

@@ -17,4 +17,4 @@ pub mod TrieWalks
 pub mod PlacedKeys
 pub mod TrieKeys
 pub mod TrieLookups
-pub mod TrieHeads
+pub mod RootIndexLemmas

@@ -5,7 +5,7 @@ use Rattle.std.proofs.lemmas.Bool.{cond-true, eq-eqb, false≢true}
 use Rattle.std.proofs.lemmas.List.{length_push, get_or_read}
 use Rattle.uca_match.specs.Lookups.{BeginsKeyIn, BeginsNoKeyIn}
 use Rattle.uca_match.specs.Positions.{is_placed}
-use Rattle.uca_match.specs.Tries.{NodeContent, target_of, node_at, walk, positions, AreNodes, IsTree, head_target, AreHeads}
+use Rattle.uca_match.specs.Tries.{NodeContent, target_of, node_at, walk, positions, AreNodes, IsTree, indexed_target, IsRootIndex}
 use Rattle.uca_match.specs.declared.key_map.Edge.{Edge}
 use Rattle.uca_match.proofs.TrieWalks.{walk-append, walk_push, walk_root}
 
@@ -87,14 +87,14 @@ is_node nodes tree n led = (walk_root nodes tree.texts tree.shape n led.0 led.1)
 
 -- ---- The first step
 
-pub head_some : (edges : List Edge) (heads : List ℕ) (c n : ℕ) → AreHeads edges heads → c < length heads → n ≡ slice_index_or heads c 0 →
+pub indexed_some : (edges : List Edge) (root_index : List ℕ) (c n : ℕ) → IsRootIndex edges root_index → c < length root_index → n ≡ slice_index_or root_index c 0 →
     (n ≡ 0 → ⊥) → target_of edges c ≡ Some n
-head_some edges heads c zero are below there some = absurd (some refl)
-head_some edges heads c (suc n) are below there some = are c below ∙ ap head_target (sym there)
+indexed_some edges root_index c zero are below there some = absurd (some refl)
+indexed_some edges root_index c (suc n) are below there some = are c below ∙ ap indexed_target (sym there)
 
-pub head_none : (edges : List Edge) (heads : List ℕ) (c n : ℕ) → AreHeads edges heads → c < length heads → n ≡ slice_index_or heads c 0 → n ≡ 0 →
+pub indexed_none : (edges : List Edge) (root_index : List ℕ) (c n : ℕ) → IsRootIndex edges root_index → c < length root_index → n ≡ slice_index_or root_index c 0 → n ≡ 0 →
     target_of edges c ≡ None
-head_none edges heads c n are below there none = are c below ∙ ap head_target (sym there ∙ none)
+indexed_none edges root_index c n are below there none = are c below ∙ ap indexed_target (sym there ∙ none)
 
 -- ---- What the code reads
 
@@ -104,9 +104,9 @@ pub branch_read : (items nodes : List NodeContent) (n : ℕ) (b : NodeContent) �
 branch_read items nodes n b same within there =
     get_or_read nodes n b within (there ∙ ap (λ t. slice_index_or t n b) same) (record { edges = []; position = None })
 
-pub head_read : (edges : List Edge) (heads : List ℕ) (c n : ℕ) → AreHeads edges heads → c < length heads → n ≡ slice_index_or heads c n →
-    n ≡ slice_index_or heads c 0
-head_read edges heads c n are below there = get_or_read heads c n below there 0
+pub indexed_read : (edges : List Edge) (root_index : List ℕ) (c n : ℕ) → IsRootIndex edges root_index → c < length root_index → n ≡ slice_index_or root_index c n →
+    n ≡ slice_index_or root_index c 0
+indexed_read edges root_index c n are below there = get_or_read root_index c n below there 0
 
 -- the position of a key is that of the node to which it leads
 pub placed_there : (nodes : List NodeContent) (n : ℕ) (key : List ℕ) (position : Option ℕ) → walk nodes 0 key ≡ Some n →

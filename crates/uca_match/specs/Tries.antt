@@ -87,15 +87,15 @@ with_position before placed key = if same_key placed.key key then Some placed.po
 -- ---- First steps
 
 -- where a code point leads, as a number that is 0 where it leads nowhere
-abbrev pub head_target : ℕ → Option ℕ
-head_target zero = None
-head_target (suc n) = Some (suc n)
+abbrev pub indexed_target : ℕ → Option ℕ
+indexed_target zero = None
+indexed_target (suc n) = Some (suc n)
 
 -- where each code point of a list leads from the root
-abbrev pub AreHeads : List Edge → List ℕ → Type 0
-AreHeads edges heads = (c : ℕ) → c < length heads → target_of edges c ≡ head_target (slice_index_or heads c 0)
+abbrev pub IsRootIndex : List Edge → List ℕ → Type 0
+IsRootIndex edges root_index = (c : ℕ) → c < length root_index → target_of edges c ≡ indexed_target (slice_index_or root_index c 0)
 
 -- what holds of every map from keys to positions
-pub record IsTrie (nodes : List NodeContent) (heads : List ℕ) : Type 0 where
+pub record IsTrie (nodes : List NodeContent) (root_index : List ℕ) : Type 0 where
   pub tree : IsTree nodes
-  pub first_steps : AreHeads (node_at nodes 0).edges heads
+  pub first_steps : IsRootIndex (node_at nodes 0).edges root_index

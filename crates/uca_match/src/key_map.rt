@@ -2,7 +2,7 @@
 ghost use Rattle.std.specs.Prelude.{◌≡◌, ℕ, ◌<◌, ◌∷◌, ◌++◌, List, [], length, map, IfOk, OnOk, MatchResult, Some, None, ◌≤◌};
 ghost use Rattle.std.specs.List.Sorted.{IsPartitionPoint, IsPermutation};
 ghost use Rattle.uca_match.specs.Positions.{is_placed, place_at, AreDistinctKeys, placed_from};
-ghost use Rattle.uca_match.specs.Tries.{NodeContent, target_of, positions, node_at, walk, with_position, AreRisingEdges, IsNewPlace, IsTree, IsAlong, AreHeads};
+ghost use Rattle.uca_match.specs.Tries.{NodeContent, target_of, positions, node_at, walk, with_position, AreRisingEdges, IsNewPlace, IsTree, IsAlong, IsRootIndex};
 ghost use Rattle.uca_match.specs.NumberedKeys.{points_of, placed_of};
 
 use crate::key_sets::KeySet;
@@ -12,10 +12,10 @@ use std::marker::Model;
 
 /// How many code points, from U+0000 on, the list of first steps may hold: those before CJK Unified
 /// Ideographs Extension A, among which are the letters of most scripts.
-const MOST_HEADS: usize = 0x3400;
+const ROOT_INDEX_LIMIT: usize = 0x3400;
 
 /// How many code points that list may hold for each edge of the root.
-const HEADS_PER_EDGE: usize = 16;
+const ROOT_INDEX_PER_EDGE: usize = 16;
 
 /// Keys, which are lists of code points, and the position of each in a list of them, as a tree: from its root,
 /// the code points of a key lead from node to node, and the last of these nodes has the position of the key.
@@ -28,7 +28,7 @@ pub struct KeyMap<A: Allocator = Global> {
     // the first is the root
     nodes: Vec<Node<A>, A>,
     // where each of the first code points leads from the root, or 0 where it leads nowhere
-    heads: Vec<usize, A>,
+    root_index: Vec<usize, A>,
 }
 
 impl<A: Allocator> Model for KeyMap<A> {
@@ -39,7 +39,7 @@ impl<A: Allocator> Model for KeyMap<A> {
 
     ghost view = { λ t. t.nodes.items };
 
-    ghost invariant = { λ t. IsTrie t.nodes.items t.heads.items };
+    ghost invariant = { λ t. IsTrie t.nodes.items t.root_index.items };
 }
 
 /// What follows some code points with which a key begins.
@@ -83,8 +83,8 @@ impl<A: Allocator + Copy> KeyMap<A> {
         ensures { IfOk result (λ keymap. (key : List ℕ) → positions keymap key ≡ place_at 0 (points_of keys.now) key) }
     {
         let nodes = nodes_of(alloc, keys)?;
-        let heads = heads_of(alloc, &nodes)?;
-        Ok(KeyMap { nodes, heads })
+        let root_index = root_index_of(alloc, &nodes)?;
+        Ok(KeyMap { nodes, root_index })
     }
 }
 
@@ -236,21 +236,24 @@ fn place(edges: &[Edge], point: char) -> usize
 }
 
 /// Where the first code points lead from the root.
-fn heads_of<A: Allocator>(alloc: A, nodes: &[Node<A>]) -> Result<Vec<usize, A>, AllocError>
+fn root_index_of<A: Allocator>(alloc: A, nodes: &[Node<A>]) -> Result<Vec<usize, A>, AllocError>
     requires { IsTree nodes.now }
-    ensures { IfOk result (λ heads. AreHeads (node_at nodes.now 0).edges heads.items) }
+    ensures { IfOk result (λ root_index. IsRootIndex (node_at nodes.now 0).edges root_index.items) }
 {
     let root = &nodes[0];
     let edges = &root.edges;
-    let len = edges.len().saturating_mul(HEADS_PER_EDGE).min(MOST_HEADS);
-    let mut heads = Vec::from_elem(alloc, 0, len)?;
+    let len = edges
+        .len()
+        .saturating_mul(ROOT_INDEX_PER_EDGE)
+        .min(ROOT_INDEX_LIMIT);
+    let mut root_index = Vec::from_elem(alloc, 0, len)?;
     for edge in edges {
         let code = edge.point as usize;
-        if code < heads.len() {
-            heads[code] = edge.target;
+        if code < root_index.len() {
+            root_index[code] = edge.target;
         }
     }
-    Ok(heads)
+    Ok(root_index)
 }
 
 impl<A: Allocator> KeySet for KeyMap<A> {
@@ -266,8 +269,8 @@ impl<A: Allocator> KeySet for KeyMap<A> {
 
     fn step(&self, node: TrieNode, c: char) -> Option<TrieNode> {
         let code = c as usize;
-        if node.number == 0 && code < self.heads.len() {
-            let number = self.heads[code];
+        if node.number == 0 && code < self.root_index.len() {
+            let number = self.root_index[code];
             if number == 0 {
                 return None;
             }

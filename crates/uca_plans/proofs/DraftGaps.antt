@@ -12,7 +12,7 @@ use Rattle.uca_plans.specs.declared.drafts.DraftWeight.{DraftWeight}
 use Rattle.uca_plans.specs.declared.drafts.DraftWeight.TheVariants.{Base, New}
 use Rattle.uca_plans.specs.declared.drafts.DraftElement.{DraftElement}
 use Rattle.uca_plans.specs.Drafts.{as_draft, draft_weight, takes_no_weight, AnchorPart, reweighted}
-use Rattle.uca_plans.proofs.DraftKinds.{IsZero, IsDraftContinuation, HasDraftGap, IsAnchorPart, sounding, reweighted_whole, accepted_no_continuation}
+use Rattle.uca_plans.proofs.DraftKinds.{IsZero, IsDraftContinuation, HasDraftGap, IsAnchorPart, not_ignorable_weight, reweighted_whole, accepted_no_continuation}
 
 -- a primary from FB00 to FBFF
 abbrev pub IsLeadWeight : DraftWeight → Type 0
@@ -62,16 +62,16 @@ part_whole level es part whole found accepted =
     whole_in None part.front part.last found.trailing (subst (HasNoGaps None) found.split whole) (accepted_no_continuation level part.last accepted)
 
 -- and a weight at the level
-pub part_sounds : (level : Level) (es : List DraftElement) (part : AnchorPart) → HasNoGaps None es → IsAnchorPart level es part
+pub part_not_ignorable : (level : Level) (es : List DraftElement) (part : AnchorPart) → HasNoGaps None es → IsAnchorPart level es part
     → takes_no_weight level part.last ≡ false → IsZero (draft_weight level part.last) → ⊥
-part_sounds level es part whole found accepted = sounding level part.last found.not_ignorable (part_whole level es part whole found accepted)
+part_not_ignorable level es part whole found accepted = not_ignorable_weight level part.last found.not_ignorable (part_whole level es part whole found accepted)
 
 -- a target's elements have no gaps
 pub placed_gapless : (level : Level) (n : ℕ) (es expansion : List DraftElement) (part : AnchorPart) → HasNoGaps None es → HasNoGaps None expansion
     → IsAnchorPart level es part → takes_no_weight level part.last ≡ false → HasNoGaps None (part.front ++ reweighted level (New n) part.last ∷ expansion)
 placed_gapless level n es expansion part first second found accepted =
     gaps_replaced None part.front part.last (reweighted level (New n) part.last) found.trailing expansion (subst (HasNoGaps None) found.split first)
-    (reweighted_whole level n part.last (part_whole level es part first found accepted) (part_sounds level es part first found accepted)) second
+    (reweighted_whole level n part.last (part_whole level es part first found accepted) (part_not_ignorable level es part first found accepted)) second
 
 -- ---- Rows and pairs
 

@@ -77,13 +77,13 @@ ignorable_three e first second third = elim (zero_or_not e.secondary) [
 ]
 
 -- an element that is not ignorable at a level, and has no gap, has a weight there
-pub sounding : (level : Level) (e : DraftElement) → is_ignorable_to level e ≡ false → (HasDraftGap e → ⊥) → IsZero (draft_weight level e) → ⊥
-sounding One e tested whole none = let ignorable : is_zero e.primary ≡ true = ignorable_one e none in cc
-sounding Two e tested whole none = elim (zero_or_not e.primary) [
+pub not_ignorable_weight : (level : Level) (e : DraftElement) → is_ignorable_to level e ≡ false → (HasDraftGap e → ⊥) → IsZero (draft_weight level e) → ⊥
+not_ignorable_weight One e tested whole none = let ignorable : is_zero e.primary ≡ true = ignorable_one e none in cc
+not_ignorable_weight Two e tested whole none = elim (zero_or_not e.primary) [
   | inl first ↦ let ignorable = ignorable_two e first.1 none in cc
   | inr first ↦ whole (inl (first.1, none))
 ]
-sounding Three e tested whole none = elim (zero_or_not e.secondary) [
+not_ignorable_weight Three e tested whole none = elim (zero_or_not e.secondary) [
   | inr second ↦ whole (inr (second.1, none))
   | inl second ↦ elim (zero_or_not e.primary) [
     | inl first ↦ let ignorable = ignorable_three e first.1 second.1 none in cc
@@ -137,9 +137,9 @@ pub record IsAnchorPart (level : Level) (es : List DraftElement) (part : AnchorP
   pub ignorable : AllByRecursion (λ e. is_ignorable_to level e ≡ true) trailing
 
 -- where there is no part all elements are ignorable
-none_sounds : (level : Level) (es : List DraftElement) → anchor_part level es ≡ None → AllByRecursion (λ e. is_ignorable_to level e ≡ true) es
-none_sounds level [] none = tt
-none_sounds level (e ∷ es) none = go (anchor_part level es) (none_sounds level es) refl none
+all_are_ignorable : (level : Level) (es : List DraftElement) → anchor_part level es ≡ None → AllByRecursion (λ e. is_ignorable_to level e ≡ true) es
+all_are_ignorable level [] none = tt
+all_are_ignorable level (e ∷ es) none = go (anchor_part level es) (all_are_ignorable level es) refl none
   where
     -- by whether the element is ignorable
     by_test : (b : Bool) → is_ignorable_to level e ≡ b
@@ -175,7 +175,7 @@ part_is level (e ∷ es) part found = go (anchor_part level es) refl (λ p. part
         by_test false not_ignorable chosen =
             let alone : AnchorPart = record { front = []; last = e } in
             let same : alone ≡ part = cc in
-            subst (IsAnchorPart level (e ∷ es)) same (record { trailing = es; split = refl; not_ignorable = not_ignorable; ignorable = none_sounds level es is })
+            subst (IsAnchorPart level (e ∷ es)) same (record { trailing = es; split = refl; not_ignorable = not_ignorable; ignorable = all_are_ignorable level es is })
 
 -- what is drafted at a level: an accepted part with the new weight, and the expansion
 pub record IsPlacedDraft (level : Level) (before : Bool) (n : ℕ) (anchor expansion : List DraftElement) (new : Drafted) : Type 0 where

@@ -71,15 +71,15 @@ module _ (base : TableContent) (properties : Properties) (relations : List Relat
   all_ignorable level (e ∷ es) all = (ignorable_stays level e all.0, all_ignorable level es all.1)
 
   -- an element that is not ignorable does not become so
-  pub sound_stays : (level : Level) (e : DraftElement) → IsListedIn base properties relations plan case e → is_ignorable_to level e ≡ false →
+  pub not_ignorable_stays : (level : Level) (e : DraftElement) → IsListedIn base properties relations plan case e → is_ignorable_to level e ≡ false →
       IsIgnorableTo level (value base properties relations plan case e) → ⊥
-  sound_stays One e listed not_ignorable ignorable =
+  not_ignorable_stays One e listed not_ignorable ignorable =
       let test = ignorable_one e (kinds.no_primary base properties relations plan case e listed ignorable) in cc
-  sound_stays Two e listed not_ignorable ignorable =
+  not_ignorable_stays Two e listed not_ignorable ignorable =
       let first = kinds.no_primary base properties relations plan case e listed ignorable.0 in
       let second = kinds.no_secondary base properties relations plan case e listed ignorable.1 in
       let test = ignorable_two e first second in cc
-  sound_stays Three e listed not_ignorable ignorable =
+  not_ignorable_stays Three e listed not_ignorable ignorable =
       let first = kinds.no_primary base properties relations plan case e listed ignorable.0 in
       let second = kinds.no_secondary base properties relations plan case e listed ignorable.1 in
       let third = kinds.no_tertiary base properties relations plan case e listed ignorable.2 in

@@ -31,7 +31,7 @@ use Rattle.uca_plans.proofs.LevelImages.{members_in, number_of, number_less}
 use Rattle.uca_plans.proofs.TailoredReading.{value}
 use Rattle.uca_plans.proofs.RelationSteps.{IsStepAt}
 use Rattle.uca_plans.proofs.NumberedKinds.{IsListedIn}
-use Rattle.uca_plans.proofs.NumberedAnchors.{weight_number, member_low, all_ignorable, sound_stays, no_continuation, reweighted_number}
+use Rattle.uca_plans.proofs.NumberedAnchors.{weight_number, member_low, all_ignorable, not_ignorable_stays, no_continuation, reweighted_number}
 use Rattle.uca_plans.proofs.RelationReadings.{texts_in, step_in, holds_before, grown_since, held_listed, anchor_read, expansion_read, row_read}
 
 -- ---- The step at a level
@@ -140,7 +140,7 @@ module _ (base : TableContent) (properties : Properties) (relations : List Relat
         ∙ ap (map (value base properties relations plan case)) found.split
         ∙ map-append (value base properties relations plan case) part.front (part.last ∷ found.trailing);
     ignorable = all_ignorable base properties relations plan case level found.trailing found.ignorable;
-    not_ignorable = sound_stays base properties relations plan case level part.last last_listed found.not_ignorable;
+    not_ignorable = not_ignorable_stays base properties relations plan case level part.last last_listed found.not_ignorable;
     alone = no_continuation base properties relations plan case part.last last_listed
         (accepted_no_continuation level part.last step_placed.placed.accepted);
     low = subst (IsLow level) (sym (weight_number base properties relations plan case level part.last))

@@ -26,7 +26,7 @@ use Rattle.uca_plans.proofs.GoodLists.{good_fixed, grown_through, grown_same}
 use Rattle.uca_plans.proofs.PlanSteps.{target_row, IsStep, AreSteps}
 use Rattle.uca_plans.proofs.PlanLists.{list_at, HasGoodLists, HasGrownLists, good_step, step_list}
 use Rattle.uca_plans.proofs.DraftKinds.{IsZero, reset_cases, accepted_low, IsAnchorPart, IsPlacedDraft, placed_is, joined_is}
-use Rattle.uca_plans.proofs.DraftGaps.{HasNoGaps, gaps_joined, part_sounds, placed_gapless}
+use Rattle.uca_plans.proofs.DraftGaps.{HasNoGaps, gaps_joined, part_not_ignorable, placed_gapless}
 use Rattle.uca_plans.proofs.PlanHolds.{IsListed, FitsWeight, IsFitting, Holds, Carries, read_held}
 
 -- ---- Rows
@@ -217,7 +217,7 @@ placed_step basis n rule a b holds ranges texts step level is =
     let placed = placed_is level rule.before n (anchor_at basis a rule) (draft_expansion basis a rule.expansion) step.new is in
     let anchors = read_held basis n a holds ranges rule.anchor (text_points rule.anchor texts.anchors) in
     let last = (part_each holds.E level (anchor_at basis a rule) placed.part placed.found anchors.0).1 in
-    let not_ignorable = part_sounds level (anchor_at basis a rule) placed.part anchors.1 placed.found placed.accepted in
+    let not_ignorable = part_not_ignorable level (anchor_at basis a rule) placed.part anchors.1 placed.found placed.accepted in
     let there = anchor_member level basis a placed.part.last (holds.listed placed.part.last last) placed.accepted not_ignorable in
     record {
       placed = placed;

@@ -95,9 +95,9 @@ same_reading ranges properties keys before after later rest r rows all text rule
     let there : is_among (keys_in rows) text.points ≡ true = ap (λ ks. is_among ks text.points) own ∙ target_among before keys text.points target in
     let there_too : all text.points ≡ true = listed text.points ∙ ap (λ ks. is_among ks text.points) all_keys
     ∙ among_kept later (keys_in rows) text.points there in
-    let points : code_points (letters_of text) ≡ text.points = points_of text nfd_text in
-    key_is_part all (letters_of text) (letters_some text nfd_text in_rules.some) (ap all points ∙ there_too)
-    ∙ sym (key_is_part (has_key rows) (letters_of text) (letters_some text nfd_text in_rules.some)
+    let points : code_points (letters_of text) ≡ text.points = points_of text same_length in
+    key_is_part all (letters_of text) (letters_some text same_length in_rules.some) (ap all points ∙ there_too)
+    ∙ sym (key_is_part (has_key rows) (letters_of text) (letters_some text same_length in_rules.some)
     (ap (has_key rows) points ∙ has_key_is rows text.points ∙ there)))
     (λ free.
     let untouched : IsUntouched (later ++ rest) text.points =
@@ -115,8 +115,8 @@ same_reading ranges properties keys before after later rest r rows all text rule
     in_rules : IsRuleText text
     in_rules = text_of_rules r text (inside HasRuleTexts before r after rules.texts) is_text
 
-    nfd_text : length text.classes ≡ length text.points
-    nfd_text = in_rules.normal.accepted.same
+    same_length : length text.classes ≡ length text.points
+    same_length = in_rules.normal.accepted.same
 
     all_keys : with_targets (before ++ later) keys ≡ with_targets later (keys_in rows)
     all_keys = targets_append before later keys ∙ ap (with_targets later) (sym own)

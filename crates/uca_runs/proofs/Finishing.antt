@@ -7,7 +7,7 @@ use Rattle.uca_weights.specs.Streams.{SourceState, SinkState}
 use Rattle.uca_weights.specs.Writes.{WentOut}
 use Rattle.uca_lines.specs.Lines.{lines_of}
 use Rattle.uca_lines.specs.OutputBuffer.{BufferState, IsBuffered}
-use Rattle.uca_lines.proofs.HandingLemmas.{nothing_handed}
+use Rattle.uca_lines.proofs.BufferedLemmas.{none_buffered}
 use Rattle.uca_runs.specs.declared.faults.RunFault.{RunFault}
 use Rattle.uca_runs.specs.declared.faults.RunFault.TheVariants.{File, Input, Write, Memory}
 use Rattle.uca_runs.specs.declared.faults.InputKind.{InputKind}
@@ -19,10 +19,10 @@ use Rattle.uca_runs.specs.LinesSoFar.{AreAll}
 use Rattle.uca_runs.specs.Texts.{TextsState, HasRead}
 use Rattle.uca_runs.specs.KeysSoFar.{HasPrinted, IsPartOfOutput, PrintsRest}
 
--- nothing was handed over yet
+-- nothing was written yet
 pub started : (c : KeySettings) (texts : TextsState) (input : SourceState) (buffer : BufferState) (out : SinkState)
     → HasRead c.collation.properties input.remaining [] texts input → buffer.held ≡ [] → buffer.written ≡ 0 → HasPrinted c input.remaining out.contents [] texts input buffer out
-started c texts input buffer out read held written = record { read = read; printed = nothing_handed out.contents buffer held written }
+started c texts input buffer out read held written = record { read = read; printed = none_buffered out.contents buffer held written }
 
 -- of a longer text as much went out
 WentOut-more : (start now : Option (List ℕ)) (text more : List ℕ) (n : ℕ) → WentOut start now text n → WentOut start now (text ++ more) n
@@ -42,7 +42,7 @@ write_stays c start begun left input buffer out (Err (Write written)) prints h =
 write_stays c start begun left input buffer out (Err (Input number kind)) prints h = let never : ⊥ = cc in absurd never
 write_stays c start begun left input buffer out (Err _) prints h = absurd prints.1
 
--- all that was handed over went out
+-- all that was written went out
 all_out : (c : KeySettings) (start begun now left : Option (List ℕ)) (x : Unit {0}) (all : List (List ℕ)) → IfSome start (λ bytes. AreAll c.collation.properties bytes all) → Appends begun now (key_lines c all) → IfSome start (λ bytes. WritesKeys {A = Unit {0}} c bytes left begun now (Ok x))
 all_out c None begun now left x all are out = tt
 all_out c (Some bytes) begun now left x all are out = (are.clean ∙ sym are.lines, subst (λ lines. Appends begun now (key_lines c lines)) (sym are.lines) out)

@@ -9,7 +9,7 @@ use Rattle.uca_weights.specs.declared.Depth.{Depth}
 use Rattle.uca_weights.specs.declared.Depth.TheVariants.{Weights, Identical}
 use Rattle.uca_lines.specs.OutputBuffer.{BufferState}
 use Rattle.uca_lines.specs.Buffered.{HasRoom, HasWrittenThrough}
-use Rattle.uca_lines.proofs.HandingLemmas.{part, written_none}
+use Rattle.uca_lines.proofs.BufferedLemmas.{part, written_none}
 use Rattle.uca_runs.specs.Print.{byte_digits, groups, printed_groups, spaced_groups, spaced_point, identical_level, printed_behind, print_line_at}
 
 -- ---- The groups
@@ -158,25 +158,25 @@ printed-append xs ys even some =
     printed_is (xs ++ ys) ∙ ap (drop 1) (spaced-append xs ys even) ∙ drop-append-le 1 (spaced_groups xs) (spaced_groups ys) (omega arith)
     ∙ ap (λ l. l ++ spaced_groups ys) (sym (printed_is xs))
 
--- a key of which so much is left was handed over that far
-pub record HandedUpTo (key rest : List ℕ) (begin : ℕ) (out now : SinkState) (buffer held : BufferState) : Type 0 where
+-- a key of which so much is left was written that far
+pub record IsWrittenUpTo (key rest : List ℕ) (begin : ℕ) (out now : SinkState) (buffer held : BufferState) : Type 0 where
   pub done : List ℕ
   pub key_is : key ≡ done ++ rest
   pub whole : 0 < length rest → length done % 2 ≡ 0
   pub begins : begin ≡ 1 - length done
-  pub handed : HasWrittenThrough (printed_groups done) buffer held out now
+  pub written_through : HasWrittenThrough (printed_groups done) buffer held out now
 
-pub written_up_to_start : (key rest : List ℕ) (out : SinkState) (buffer : BufferState) → rest ≡ key → HandedUpTo key rest 1 out out buffer buffer
+pub written_up_to_start : (key rest : List ℕ) (out : SinkState) (buffer : BufferState) → rest ≡ key → IsWrittenUpTo key rest 1 out out buffer buffer
 written_up_to_start key rest out buffer is = record {
   done = [];
   key_is = sym is;
   whole = λ _. refl;
   begins = refl;
-  handed = subst (λ (text : List ℕ). HasWrittenThrough text buffer buffer out out) (sym groups_none) (written_none buffer out);
+  written_through = subst (λ (text : List ℕ). HasWrittenThrough text buffer buffer out out) (sym groups_none) (written_none buffer out);
 }
 
 -- the text of a part begins within it
-pub text_from : (key rest part left text : List ℕ) (begin size : ℕ) (out now : SinkState) (buffer held : BufferState) → HandedUpTo key rest begin out now buffer held
+pub text_from : (key rest part left text : List ℕ) (begin size : ℕ) (out now : SinkState) (buffer held : BufferState) → IsWrittenUpTo key rest begin out now buffer held
     → (rest ≡ part ++ left) × (length part ≡ min size (length rest)) × (0 < length rest) → size ≡ 256 → text ≡ spaced_groups part → begin ≤ length text
 text_from key rest part left text begin size out now buffer held upto cut is spaced =
     let some = some_spaced part (omega (arith, cut.1, cut.2, is)) in
@@ -188,7 +188,7 @@ pub record GoesOn (key done part piece : List ℕ) : Type 0 where
   pub grown : printed_groups (done ++ part) ≡ printed_groups done ++ piece
   pub line : printed_groups key ≡ (printed_groups done ++ piece) ++ more
 
--- of the text of a part, what is handed over
+-- of the text of a part, what is written
 part_grown : (done part piece : List ℕ) (begin : ℕ) → length done % 2 ≡ 0 → begin ≡ 1 - length done → piece ≡ drop begin (spaced_groups part) → printed_groups (done ++ part) ≡ printed_groups done ++ piece
 part_grown [] part piece begin even begins is =
     printed_is part ∙ ap (λ (n : ℕ). drop n (spaced_groups part)) (sym begins) ∙ sym is ∙ ap (λ l. l ++ piece) (sym groups_none)
@@ -213,7 +213,7 @@ line_goes_on key done part (a ∷ left) piece is even some grown =
           ∙ printed-append (done ++ part) (a ∷ left) (even (omega arith)) some ∙ ap (λ l. l ++ text) grown;
     }
 
-pub goes_on : (key rest part left text : List ℕ) (begin size : ℕ) (out now : SinkState) (buffer held : BufferState) (upto : HandedUpTo key rest begin out now buffer held) → size ≡ 256
+pub goes_on : (key rest part left text : List ℕ) (begin size : ℕ) (out now : SinkState) (buffer held : BufferState) (upto : IsWrittenUpTo key rest begin out now buffer held) → size ≡ 256
     → (rest ≡ part ++ left) × (length part ≡ min size (length rest)) × (0 < length rest) → text ≡ spaced_groups part → GoesOn key upto.done part (take (length text - begin) (drop begin text))
 goes_on key rest part left text begin size out now buffer held upto is cut spaced =
     let done = upto.done in
@@ -227,14 +227,14 @@ goes_on key rest part left text begin size out now buffer held upto is cut space
 -- there is room for the piece where there is room for all groups
 pub piece_fits : (key done part piece : List ℕ) (out now : SinkState) (buffer held : BufferState) → HasWrittenThrough (printed_groups done) buffer held out now → GoesOn key done part piece
     → HasRoom buffer (length (printed_groups key)) → HasRoom held (length piece)
-piece_fits key done part piece out now buffer held handed on room =
+piece_fits key done part piece out now buffer held written_through on room =
     let front = printed_groups done in
-    omega (arith, handed.count, room, ap length on.line, length-append (front ++ piece) on.more, length-append front piece)
+    omega (arith, written_through.count, room, ap length on.line, length-append (front ++ piece) on.more, length-append front piece)
 
 -- and behind it the rest is left
-pub written_up_to_more : (key rest part left : List ℕ) (begin size : ℕ) (out now next : SinkState) (buffer held kept : BufferState) (upto : HandedUpTo key rest begin out now buffer held) → size ≡ 256
-    → (rest ≡ part ++ left) × (length part ≡ min size (length rest)) × (0 < length rest) → HasWrittenThrough (printed_groups (upto.done ++ part)) buffer kept out next → HandedUpTo key left 0 out next buffer kept
-written_up_to_more key rest part left begin size out now next buffer held kept upto is cut handed =
+pub written_up_to_more : (key rest part left : List ℕ) (begin size : ℕ) (out now next : SinkState) (buffer held kept : BufferState) (upto : IsWrittenUpTo key rest begin out now buffer held) → size ≡ 256
+    → (rest ≡ part ++ left) × (length part ≡ min size (length rest)) × (0 < length rest) → HasWrittenThrough (printed_groups (upto.done ++ part)) buffer kept out next → IsWrittenUpTo key left 0 out next buffer kept
+written_up_to_more key rest part left begin size out now next buffer held kept upto is cut written_through =
     let both : length rest ≡ length part + length left = ap length cut.0 ∙ length-append part left in
     let ends : length (upto.done ++ part) ≡ length upto.done + length part = length-append upto.done part in
     record {
@@ -242,7 +242,7 @@ written_up_to_more key rest part left begin size out now next buffer held kept u
       key_is = upto.key_is ∙ ap (λ l. upto.done ++ l) cut.0 ∙ sym (append_assoc upto.done part left);
       whole = λ some. let even = upto.whole cut.2 in omega (arith, some, is, cut.1, both, ends, even);
       begins = omega (arith, is, cut.1, cut.2, ends);
-      handed = handed;
+      written_through = written_through;
     }
 
 -- a line is not much longer than its key
@@ -268,11 +268,11 @@ line_is_short depth key points short few =
     let level = printed_behind depth points in
     omega (arith, short, few, length-append (printed_groups key) (level ++ 10 ∷ []), length-append level (10 ∷ []), length-groups key, length-level depth points)
 
--- all groups of a key of which nothing is left were handed over
-pub all_groups : (key rest : List ℕ) (begin : ℕ) (out now : SinkState) (buffer held : BufferState) → HandedUpTo key rest begin out now buffer held → length rest ≡ 0
+-- all groups of a key of which nothing is left were written
+pub all_groups : (key rest : List ℕ) (begin : ℕ) (out now : SinkState) (buffer held : BufferState) → IsWrittenUpTo key rest begin out now buffer held → length rest ≡ 0
     → HasWrittenThrough (printed_groups key) buffer held out now
 all_groups key [] begin out now buffer held upto none =
-    subst (λ (l : List ℕ). HasWrittenThrough (printed_groups l) buffer held out now) (sym (upto.key_is ∙ append-nil upto.done)) upto.handed
+    subst (λ (l : List ℕ). HasWrittenThrough (printed_groups l) buffer held out now) (sym (upto.key_is ∙ append-nil upto.done)) upto.written_through
 all_groups key (a ∷ rest) begin out now buffer held upto none = absurd (omega arith)
 
 -- ---- The parts of a line

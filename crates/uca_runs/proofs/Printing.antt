@@ -18,7 +18,7 @@ use Rattle.uca_runs.specs.Texts.{TextsState, HasText}
 
 -- ---- Counts
 
--- so much was handed over that the count of all bytes fits
+-- so much was written that the count of all bytes fits
 pub small_enough : (n all line : ℕ) → all ≤ n * 2 ^ 42 → n < 1000000 → line < 2 ^ 42 → all + line < 2 ^ 64
 small_enough n all line small few short = omega (arith, small, few, short)
 
@@ -50,7 +50,7 @@ module _ (c : KeySettings) (start begun : Option (List ℕ)) (before : List (Lis
   printed_line : key_lines c before ++ text_line c texts.text ≡ key_lines c (before ++ texts.line ∷ [])
   printed_line = ap (λ text. key_lines c before ++ text_line c text) t.text ∙ sym (key_lines-push c before texts.line)
 
-  -- the key of the line was not handed over, or not all of it
+  -- the key of the line was not written, or not all of it
   pub not_printed : (buffer held : BufferState) (out sink : SinkState) (fault : RunFault) → IsBuffered begun out.contents (key_lines c before) buffer
       → PrintsText {A = Unit {0}} begun (key_lines c before) (text_line c texts.text) texts.reader.number buffer out held sink (Err fault)
       → IsStopped c start begun before input held sink fault

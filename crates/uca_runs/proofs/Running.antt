@@ -43,14 +43,14 @@ whatever_bytes (Some bytes) = tt
 
 -- ---- What keys go by
 
-abbrev pub keying_by : Collation → Weighting → Depth → KeySettings
-keying_by made weighting depth = record { collation = made; weighting = weighting; depth = depth }
+abbrev pub key_settings_by : Collation → Weighting → Depth → KeySettings
+key_settings_by made weighting depth = record { collation = made; weighting = weighting; depth = depth }
 
 -- a collator of what was read, and the weighting that was chosen
 pub same_keying : (asked : Option Weighting) (depth : Depth) (made read : Collation) (weighting : Weighting) (files : TableAndData)
-    → made ≡ read → IsCollation asked read weighting files → keying_by made weighting depth ≡ key_settings asked depth files.table files.properties
+    → made ≡ read → IsCollation asked read weighting files → key_settings_by made weighting depth ≡ key_settings asked depth files.table files.properties
 same_keying asked depth made read weighting files same is =
-    ap (λ m. keying_by m weighting depth) (same ∙ is.0) ∙ ap (λ w. keying_by (collation files.table files.properties) w depth) is.1
+    ap (λ m. key_settings_by m weighting depth) (same ∙ is.0) ∙ ap (λ w. key_settings_by (collation files.table files.properties) w depth) is.1
 
 -- what is made of files goes by them
 pub made_of_files : (asked : Option Weighting) (rows : Rows) (weighting : Weighting) (files : TableAndData)

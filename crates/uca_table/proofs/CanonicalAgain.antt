@@ -2,7 +2,7 @@
 use Rattle.std.proofs.Common.{◌≡◌, ℕ, true, List, [], ◌∷◌, ap, subst, ◌∙◌}
 use Rattle.std.specs.List.{AllZip, AllByRecursion}
 use Rattle.uca_values.specs.Content.{TableContent, IsTable, is_version_name}
-use Rattle.uca_table.specs.TableSoFar.{IsBegun}
+use Rattle.uca_table.specs.TableSoFar.{IsTableSoFar}
 use Rattle.uca_table.specs.TableLines.{Item, Nothing, OfVersion, OfSetting, OfRange, OfRow, IsLine, said, in_order, all_of, Means}
 
 -- ---- What is said is sound
@@ -46,7 +46,7 @@ table_is_good bytes table h =
 pub meant_is_table : (bytes : List ℕ) (table : TableContent) → Means bytes table → IsTable table
 meant_is_table bytes table h =
     let good = table_is_good bytes table h in
-    let begun : IsBegun (all_of table) = subst IsBegun h.2 h.1.1.says.begun in
+    let begun : IsTableSoFar (all_of table) = subst IsTableSoFar h.2 h.1.1.says.begun in
     record {
       header = record { named = good.0; ranges = begun.ranges; few = begun.few_ranges };
       rows = begun.rows;

@@ -12,7 +12,7 @@ use Rattle.uca_table.proofs.CanonicalSizes.{length-version_line, length-setting_
 use Rattle.uca_lines.specs.declared.files.TheConstants.{TABLE_FORM}
 use Rattle.uca_lines.specs.Files.{IsFileLine}
 use Rattle.uca_lines.proofs.FileLemmas.{one_value}
-use Rattle.uca_table.specs.TableSoFar.{IsBegun}
+use Rattle.uca_table.specs.TableSoFar.{IsTableSoFar}
 use Rattle.uca_table.specs.TableLines.{Item, OfVersion, OfSetting, OfRange, OfRow, IsLine, said, in_order, Says, all_of, Gives, Means}
 use Rattle.uca_table.specs.Laws.{MeansOnly}
 use Rattle.uca_table.proofs.TableLinesLemmas.{said-append}
@@ -138,7 +138,7 @@ forms_are table h =
           (each_says IsEntry row_line OfRow row_says table.rows h.rows.entries),
     )
 
-begun_is : (table : TableContent) → IsTable table → IsBegun (all_of table)
+begun_is : (table : TableContent) → IsTable table → IsTableSoFar (all_of table)
 begun_is table h = record {
   versioned = λ none. absurd (some_is_none table.header.version none);
   ranges = h.header.ranges;

@@ -158,4 +158,4 @@ header_fits header buffer none h = omega (arith, none, length-header_text header
 -- and for the rows after it
 pub rows_fit : (header : HeaderContent) (rows : List Entry) (buffer held : BufferState) (out now : SinkState) → count_of buffer ≡ 0
     → HasWrittenThrough (header_text header) buffer held out now → length (header_text header) ≤ 10000 → AreRows rows → HasRoom held (length (row_lines rows))
-rows_fit header rows buffer held out now none handed short h = omega (arith, none, handed.count, short, length-row_lines rows h)
+rows_fit header rows buffer held out now none written_through short h = omega (arith, none, written_through.count, short, length-row_lines rows h)

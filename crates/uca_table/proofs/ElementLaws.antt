@@ -89,9 +89,9 @@ spelled_from : (t0 t1 t2 t3 t4 t5 t6 t7 t8 : List ℕ) (m : Bool) (p s t : ℕ) 
 spelled_from t0 t1 t2 t3 t4 t5 t6 t7 t8 m p s t e more h0 h1 h2 h3 h4 h5 h6 h7 h =
     let read : Element = record { primary = p; secondary = s; tertiary = t; mark = m } in
     let same = some_pair_parts read e t8 more h in
-    let nfd_text : t0 ≡ element_text read ++ t8 = rw (h0, h1, h2.0, h3, h4.0, h5, h6.0, h7) (sym (spelled_parts read t8)) in
+    let text_is : t0 ≡ element_text read ++ t8 = rw (h0, h1, h2.0, h3, h4.0, h5, h6.0, h7) (sym (spelled_parts read t8)) in
     let B : Element → Type 0 = λ f. BeginsElement t0 f more in
-    subst B same.0 (record { parts = nfd_text ∙ ap (λ z. element_text read ++ z) same.1; fits = record { primary = h2.1; secondary = h4.1; tertiary = h6.1 } })
+    subst B same.0 (record { parts = text_is ∙ ap (λ z. element_text read ++ z) same.1; fits = record { primary = h2.1; secondary = h4.1; tertiary = h6.1 } })
 
 pub element_takes : (text : List ℕ) (e : Element) (more : List ℕ) → element_at text ≡ Some (e, more) → BeginsElement text e more
 unfolding element_at

@@ -13,13 +13,13 @@ use Rattle.uca_weights.specs.declared.Weighting.{Weighting}
 use Rattle.uca_weights.proofs.Lists.{each_push}
 use Rattle.uca_values.specs.declared.ImplicitRange.{ImplicitRange}
 use Rattle.uca_values.specs.Content.{Entry, IsEntry, AreRows, AreDistinct, keys_of}
-use Rattle.uca_table.specs.TableSoFar.{Begun}
+use Rattle.uca_table.specs.TableSoFar.{TableSoFar}
 use Rattle.uca_table.specs.Keeping.{HoldsKeysOf, Keeps}
 
 keys_of-push : (rows : List Entry) (row : Entry) → keys_of (rows ++ row ∷ []) ≡ keys_of rows ++ row.key ∷ []
 keys_of-push rows row = map-append (λ (r : Entry). r.key) rows (row ∷ [])
 
-abbrev pub with_rows : Option (List ℕ) → Option Weighting → List ImplicitRange → List Entry → Begun
+abbrev pub with_rows : Option (List ℕ) → Option Weighting → List ImplicitRange → List Entry → TableSoFar
 with_rows version setting ranges rows = record { version = version; setting = setting; ranges = ranges; rows = rows }
 
 -- ---- Lists with one more
@@ -74,11 +74,11 @@ some_not_none (Some x) h e = cc
 some_not_none None h e = absurd (false≢true h)
 
 -- one more row
-pub keeps_row : {K : Type 0} (points : K → List ℕ) (has now : K → Bool) (old new : Begun) (row : Entry) → Keeps points has old → IsEntry row
+pub keeps_row : {K : Type 0} (points : K → List ℕ) (has now : K → Bool) (old new : TableSoFar) (row : Entry) → Keeps points has old → IsEntry row
     → (Contains (keys_of old.rows) row.key → ⊥) → length old.rows < 200000 → IsSome old.version → new ≡ record old { rows = old.rows ++ row ∷ [] }
     → ((q : K) → now q ≡ cond (bytes_eq row.key (points q)) true (has q)) → Keeps points now new
 keeps_row points has now old new row h e absent few some whole added =
-    let P : Begun → Type 0 = λ b. Keeps points now b in
+    let P : TableSoFar → Type 0 = λ b. Keeps points now b in
     subst P (sym whole) (record {
       keys = holds_added points has now old.rows row h.keys added;
       named = h.named;
@@ -91,10 +91,10 @@ keeps_row points has now old new row h e absent few some whole added =
     })
 
 -- the same rows, and a set with the same keys
-pub keeps_same : {K : Type 0} (points : K → List ℕ) (has now : K → Bool) (old new : Begun) → Keeps points has old → new ≡ old
+pub keeps_same : {K : Type 0} (points : K → List ℕ) (has now : K → Bool) (old new : TableSoFar) → Keeps points has old → new ≡ old
     → ((q : K) → now q ≡ has q) → Keeps points now new
 keeps_same points has now old new h same keys =
-    let P : Begun → Type 0 = λ b. Keeps points now b in
+    let P : TableSoFar → Type 0 = λ b. Keeps points now b in
     subst P (sym same) (record {
       keys = λ q. ((λ e. (h.keys q).0 (sym (keys q) ∙ e)), (λ k. keys q ∙ (h.keys q).1 k));
       named = h.named;

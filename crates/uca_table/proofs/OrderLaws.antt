@@ -8,7 +8,7 @@ use Rattle.uca_weights.specs.declared.Weighting.{Weighting}
 use Rattle.uca_weights.proofs.Lists.{by_last, not_nil, each_push}
 use Rattle.uca_values.specs.declared.ImplicitRange.{ImplicitRange}
 use Rattle.uca_values.specs.Content.{Entry, IsEntry, AreRows, AreDistinct, AreImplicitRanges, Agree, keys_of}
-use Rattle.uca_table.specs.TableSoFar.{Begun, IsBegun}
+use Rattle.uca_table.specs.TableSoFar.{TableSoFar, IsTableSoFar}
 use Rattle.uca_table.specs.Headers.{MayFollow}
 use Rattle.uca_table.specs.TableLines.{Item, Nothing, OfVersion, OfSetting, OfRange, OfRow, said, in_order}
 
@@ -190,7 +190,7 @@ rows_in-OfRow : (xs : List Entry) → rows_in (map OfRow xs) ≡ xs
 rows_in-OfRow [] = refl
 rows_in-OfRow (x ∷ xs) = ap (λ zs. x ∷ zs) (rows_in-OfRow xs)
 
-pub versions_in-in_order : (b : Begun) → versions_in (in_order b) ≡ option_to_list b.version
+pub versions_in-in_order : (b : TableSoFar) → versions_in (in_order b) ≡ option_to_list b.version
 versions_in-in_order b =
     versions_in-append (map OfVersion (option_to_list b.version)) (map OfSetting (option_to_list b.setting) ++ (map OfRange b.ranges ++ map OfRow b.rows))
     ∙ rw (
@@ -202,7 +202,7 @@ versions_in-in_order b =
       versions_in-OfRow b.rows,
     ) (simp append-nil)
 
-pub settings_in-in_order : (b : Begun) → settings_in (in_order b) ≡ option_to_list b.setting
+pub settings_in-in_order : (b : TableSoFar) → settings_in (in_order b) ≡ option_to_list b.setting
 settings_in-in_order b =
     settings_in-append (map OfVersion (option_to_list b.version)) (map OfSetting (option_to_list b.setting) ++ (map OfRange b.ranges ++ map OfRow b.rows))
     ∙ rw (
@@ -214,7 +214,7 @@ settings_in-in_order b =
       settings_in-OfRow b.rows,
     ) (simp append-nil)
 
-pub ranges_in-in_order : (b : Begun) → ranges_in (in_order b) ≡ b.ranges
+pub ranges_in-in_order : (b : TableSoFar) → ranges_in (in_order b) ≡ b.ranges
 ranges_in-in_order b =
     ranges_in-append (map OfVersion (option_to_list b.version)) (map OfSetting (option_to_list b.setting) ++ (map OfRange b.ranges ++ map OfRow b.rows))
     ∙ rw (
@@ -226,7 +226,7 @@ ranges_in-in_order b =
       ranges_in-OfRow b.rows,
     ) (simp append-nil)
 
-pub rows_in-in_order : (b : Begun) → rows_in (in_order b) ≡ b.rows
+pub rows_in-in_order : (b : TableSoFar) → rows_in (in_order b) ≡ b.rows
 rows_in-in_order b =
     rows_in-append (map OfVersion (option_to_list b.version)) (map OfSetting (option_to_list b.setting) ++ (map OfRange b.ranges ++ map OfRow b.rows))
     ∙ rw (
@@ -255,10 +255,10 @@ option_last {A = A} (Some z) p x h = absurd (too_long p h)
     too_long None e = cc
     too_long (Some y) e = cc
 
-abbrev pub with_parts : Option (List ℕ) → Option Weighting → List ImplicitRange → List Entry → Begun
+abbrev pub with_parts : Option (List ℕ) → Option Weighting → List ImplicitRange → List Entry → TableSoFar
 with_parts version setting ranges rows = record { version = version; setting = setting; ranges = ranges; rows = rows }
 
-pub begun_same : (b c : Begun) → b.version ≡ c.version → b.setting ≡ c.setting → b.ranges ≡ c.ranges → b.rows ≡ c.rows → b ≡ c
+pub begun_same : (b c : TableSoFar) → b.version ≡ c.version → b.setting ≡ c.setting → b.ranges ≡ c.ranges → b.rows ≡ c.rows → b ≡ c
 begun_same b c v s r w =
     ap (λ x. with_parts x b.setting b.ranges b.rows) v
     ∙ (ap (λ x. with_parts c.version x b.ranges b.rows) s
@@ -266,7 +266,7 @@ begun_same b c v s r w =
     ∙ ap (λ x. with_parts c.version c.setting c.ranges x) w))
 
 -- the items say what is begun
-pub in_order_same : (b c : Begun) → in_order b ≡ in_order c → b ≡ c
+pub in_order_same : (b c : TableSoFar) → in_order b ≡ in_order c → b ≡ c
 in_order_same b c h =
     begun_same b c
     (option_same b.version c.version (sym (versions_in-in_order b) ∙ (ap versions_in h ∙ versions_in-in_order c)))
@@ -289,17 +289,17 @@ in_order-setting : (version : Option (List ℕ)) (setting : Weighting)
 in_order-setting version setting = simp append-nil
 
 -- some items are those of what was begun, and one more
-pub record EndsIn (t : Begun) : Type 0 where
-  pub front : Begun
+pub record EndsIn (t : TableSoFar) : Type 0 where
+  pub front : TableSoFar
   pub item : Item
-  pub begun : IsBegun front
+  pub begun : IsTableSoFar front
   pub one : said (item ∷ []) ≡ item ∷ []
   pub order : in_order t ≡ in_order front ++ item ∷ []
 
 no_rows : AreRows []
 no_rows = record { entries = tt; distinct = tt; few = omega arith }
 
-ends_row : (t : Begun) (rows : List Entry) (row : Entry) → IsBegun t → t.rows ≡ rows ++ row ∷ [] → EndsIn t
+ends_row : (t : TableSoFar) (rows : List Entry) (row : Entry) → IsTableSoFar t → t.rows ≡ rows ++ row ∷ [] → EndsIn t
 ends_row t rows row h e = record {
   front = record t { rows = rows };
   item = OfRow row;
@@ -313,7 +313,7 @@ ends_row t rows row h e = record {
   order = ap (λ rs. in_order (with_parts t.version t.setting t.ranges rs)) e ∙ in_order-row t.version t.setting t.ranges rows row;
 }
 
-ends_range : (t : Begun) (ranges : List ImplicitRange) (r : ImplicitRange) → IsBegun t → t.rows ≡ [] → t.ranges ≡ ranges ++ r ∷ [] → EndsIn t
+ends_range : (t : TableSoFar) (ranges : List ImplicitRange) (r : ImplicitRange) → IsTableSoFar t → t.rows ≡ [] → t.ranges ≡ ranges ++ r ∷ [] → EndsIn t
 ends_range t ranges r h w e = record {
   front = with_parts t.version t.setting ranges [];
   item = OfRange r;
@@ -328,10 +328,10 @@ ends_range t ranges r h w e = record {
       ∙ (ap (λ rs. in_order (with_parts t.version t.setting rs [])) e ∙ in_order-range t.version t.setting ranges r);
 }
 
-pub nothing_begun : IsBegun (with_parts None None [] [])
+pub nothing_begun : IsTableSoFar (with_parts None None [] [])
 nothing_begun = record { versioned = λ n. (refl, refl, refl); ranges = tt; few_ranges = omega arith; rows = no_rows }
 
-ends_setting : (t : Begun) (setting : Weighting) → t.rows ≡ [] → t.ranges ≡ [] → t.setting ≡ Some setting → EndsIn t
+ends_setting : (t : TableSoFar) (setting : Weighting) → t.rows ≡ [] → t.ranges ≡ [] → t.setting ≡ Some setting → EndsIn t
 ends_setting t setting w r e = record {
   front = with_parts t.version None [] [];
   item = OfSetting setting;
@@ -342,7 +342,7 @@ ends_setting t setting w r e = record {
       ∙ (ap (λ s. in_order (with_parts t.version s [] [])) e ∙ in_order-setting t.version setting));
 }
 
-ends_version : (t : Begun) (name : List ℕ) → t.rows ≡ [] → t.ranges ≡ [] → t.setting ≡ None → t.version ≡ Some name → EndsIn t
+ends_version : (t : TableSoFar) (name : List ℕ) → t.rows ≡ [] → t.ranges ≡ [] → t.setting ≡ None → t.version ≡ Some name → EndsIn t
 ends_version t name w r s e = record {
   front = with_parts None None [] [];
   item = OfVersion name;
@@ -354,13 +354,13 @@ ends_version t name w r s e = record {
       ∙ ap (λ v. in_order (with_parts v None [] [])) e));
 }
 
-pub ends_empty : (t : Begun) → t.rows ≡ [] → t.ranges ≡ [] → t.setting ≡ None → t.version ≡ None → in_order t ≡ []
+pub ends_empty : (t : TableSoFar) → t.rows ≡ [] → t.ranges ≡ [] → t.setting ≡ None → t.version ≡ None → in_order t ≡ []
 ends_empty t w r s e = ap (λ rs. in_order (with_parts t.version t.setting t.ranges rs)) w
     ∙ (ap (λ rs. in_order (with_parts t.version t.setting rs [])) r
     ∙ (ap (λ x. in_order (with_parts t.version x [] [])) s
     ∙ ap (λ v. in_order (with_parts v None [] [])) e))
 
-pub drop_last : (t : Begun) → IsBegun t → (in_order t ≡ []) ⊎ EndsIn t
+pub drop_last : (t : TableSoFar) → IsTableSoFar t → (in_order t ≡ []) ⊎ EndsIn t
 drop_last t h = by_rows (by_last t.rows)
   where
     by_version : t.rows ≡ [] → t.ranges ≡ [] → t.setting ≡ None → (v : Option (List ℕ)) → t.version ≡ v → (in_order t ≡ []) ⊎ EndsIn t

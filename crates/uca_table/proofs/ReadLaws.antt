@@ -6,7 +6,7 @@ use Rattle.uca_values.specs.declared.faults.FaultKind.TheVariants as kinds
 use Rattle.uca_lines.specs.declared.files.TheConstants.{TABLE_FORM}
 use Rattle.uca_lines.specs.Files.{ReadsLines, RefusesLine, Refuses}
 use Rattle.uca_lines.proofs.FileLemmas.{refused_at_end}
-use Rattle.uca_table.specs.TableSoFar.{Begun}
+use Rattle.uca_table.specs.TableSoFar.{TableSoFar}
 use Rattle.uca_table.specs.TableLines.{Says, Cause, IsUnfinished}
 
 pub refused_line : (known left : Option (List ℕ)) (number : ℕ) (kind : FaultKind)
@@ -15,7 +15,7 @@ pub refused_line : (known left : Option (List ℕ)) (number : ℕ) (kind : Fault
 refused_line None left number kind h = tt
 refused_line (Some bytes) left number kind h = inl h
 
-pub refused_end : (known left : Option (List ℕ)) (count : ℕ) (b : Begun) → IfSome known (λ bytes. ReadsLines TABLE_FORM Says bytes count b)
+pub refused_end : (known left : Option (List ℕ)) (count : ℕ) (b : TableSoFar) → IfSome known (λ bytes. ReadsLines TABLE_FORM Says bytes count b)
     → IsUnfinished b → IfSome known (λ bytes. Refuses TABLE_FORM Says Cause IsUnfinished bytes left (count + 1) kinds.Order)
 refused_end None left count b h u = tt
 refused_end (Some bytes) left count b h u = inr (refused_at_end TABLE_FORM Says IsUnfinished bytes count (count + 1) b kinds.Order h u refl refl)

@@ -14,7 +14,7 @@ use Rattle.uca_values.specs.declared.faults.FaultKind.TheVariants as kinds
 use Rattle.uca_lines.specs.FileMeanings.{IsExact, IsExactByLine}
 use Rattle.uca_lines.proofs.ByLine.{exact_by_line}
 use Rattle.uca_lines.specs.Fields.{text_of, after_word}
-use Rattle.uca_table.specs.TableSoFar.{Begun, IsBegun}
+use Rattle.uca_table.specs.TableSoFar.{TableSoFar, IsTableSoFar}
 use Rattle.uca_table.specs.Rows.{AddCause}
 use Rattle.uca_table.specs.Headers.{FollowCause}
 use Rattle.uca_table.specs.TableLines.{Item, Nothing, OfVersion, OfSetting, OfRange, OfRow, IsItem, IsLine, said, in_order, Says, Gives, IsUnfinished, all_of, Purpose, ForVersion, ForSetting, ForRange, ForRow, begins_at, Has, IsDue, PurposeCause, TextCause, Cause}
@@ -25,26 +25,26 @@ use Rattle.uca_table.proofs.FormLaws.{is_version, is_setting, is_range, is_row, 
 
 -- ---- What one more item says of what was begun
 
-ranges_with : (s t : Begun) (item : Item) → in_order t ≡ in_order s ++ item ∷ [] → t.ranges ≡ s.ranges ++ ranges_in (item ∷ [])
+ranges_with : (s t : TableSoFar) (item : Item) → in_order t ≡ in_order s ++ item ∷ [] → t.ranges ≡ s.ranges ++ ranges_in (item ∷ [])
 ranges_with s t item h = sym (ranges_in-in_order t) ∙ (ap ranges_in h
     ∙ (ranges_in-append (in_order s) (item ∷ []) ∙ ap (λ rs. rs ++ ranges_in (item ∷ [])) (ranges_in-in_order s)))
 
-rows_with : (s t : Begun) (item : Item) → in_order t ≡ in_order s ++ item ∷ [] → t.rows ≡ s.rows ++ rows_in (item ∷ [])
+rows_with : (s t : TableSoFar) (item : Item) → in_order t ≡ in_order s ++ item ∷ [] → t.rows ≡ s.rows ++ rows_in (item ∷ [])
 rows_with s t item h = sym (rows_in-in_order t) ∙ (ap rows_in h ∙ (rows_in-append (in_order s) (item ∷ [])
     ∙ ap (λ rs. rs ++ rows_in (item ∷ [])) (rows_in-in_order s)))
 
-versions_with : (s t : Begun) (item : Item) → in_order t ≡ in_order s ++ item ∷ []
+versions_with : (s t : TableSoFar) (item : Item) → in_order t ≡ in_order s ++ item ∷ []
     → option_to_list t.version ≡ option_to_list s.version ++ versions_in (item ∷ [])
 versions_with s t item h = sym (versions_in-in_order t) ∙ (ap versions_in h
     ∙ (versions_in-append (in_order s) (item ∷ []) ∙ ap (λ vs. vs ++ versions_in (item ∷ [])) (versions_in-in_order s)))
 
-settings_with : (s t : Begun) (item : Item) → in_order t ≡ in_order s ++ item ∷ []
+settings_with : (s t : TableSoFar) (item : Item) → in_order t ≡ in_order s ++ item ∷ []
     → option_to_list t.setting ≡ option_to_list s.setting ++ settings_in (item ∷ [])
 settings_with s t item h = sym (settings_in-in_order t) ∙ (ap settings_in h
     ∙ (settings_in-append (in_order s) (item ∷ []) ∙ ap (λ vs. vs ++ settings_in (item ∷ [])) (settings_in-in_order s)))
 
 -- something is said only after the version
-versioned : (t : Begun) (xs : List Item) (item : Item) → IsBegun t → in_order t ≡ xs ++ item ∷ [] → IsSome t.version
+versioned : (t : TableSoFar) (xs : List Item) (item : Item) → IsTableSoFar t → in_order t ≡ xs ++ item ∷ [] → IsSome t.version
 versioned t xs item h e = cases t.version refl
   where
     cases : (v : Option (List ℕ)) → t.version ≡ v → IsSome t.version
@@ -52,7 +52,7 @@ versioned t xs item h e = cases t.version refl
     cases None v = let none = h.versioned v in absurd (not_nil xs item [] (sym (ends_empty t none.2 none.1 none.0 v) ∙ e))
 
 -- another item than a row is not last where there are rows
-no_rows_left : (s t : Begun) (item : Item) → in_order t ≡ in_order s ++ item ∷ [] → ((row : Entry) → item ≡ OfRow row → ⊥) → t.rows ≡ []
+no_rows_left : (s t : TableSoFar) (item : Item) → in_order t ≡ in_order s ++ item ∷ [] → ((row : Entry) → item ≡ OfRow row → ⊥) → t.rows ≡ []
 no_rows_left s t item h other = cases (by_last t.rows)
   where
     cases : (t.rows ≡ []) ⊎ ((front : List Entry) × (last : Entry) × (t.rows ≡ front ++ last ∷ [])) → t.rows ≡ []
@@ -61,7 +61,7 @@ no_rows_left s t item h other = cases (by_last t.rows)
         ∙ (sym (ap (λ rs. in_order (with_parts t.version t.setting t.ranges rs)) e.2) ∙ h))).1))
 
 -- another item than a range is not last where there are ranges and no rows
-no_ranges_left : (s t : Begun) (item : Item) → in_order t ≡ in_order s ++ item ∷ [] → t.rows ≡ [] → ((r : ImplicitRange) → item ≡ OfRange r → ⊥) → t.ranges ≡ []
+no_ranges_left : (s t : TableSoFar) (item : Item) → in_order t ≡ in_order s ++ item ∷ [] → t.rows ≡ [] → ((r : ImplicitRange) → item ≡ OfRange r → ⊥) → t.ranges ≡ []
 no_ranges_left s t item h none other = cases (by_last t.ranges)
   where
     cases : (t.ranges ≡ []) ⊎ ((front : List ImplicitRange) × (last : ImplicitRange) × (t.ranges ≡ front ++ last ∷ [])) → t.ranges ≡ []
@@ -70,16 +70,16 @@ no_ranges_left s t item h none other = cases (by_last t.ranges)
         ∙ (sym (ap (λ rs. in_order (with_parts t.version t.setting t.ranges rs)) none
         ∙ ap (λ rs. in_order (with_parts t.version t.setting rs [])) e.2) ∙ h))).1))
 
-same_version : (s t : Begun) (item : Item) → IsBegun t → in_order t ≡ in_order s ++ item ∷ [] → versions_in (item ∷ []) ≡ [] → IsSome s.version
+same_version : (s t : TableSoFar) (item : Item) → IsTableSoFar t → in_order t ≡ in_order s ++ item ∷ [] → versions_in (item ∷ []) ≡ [] → IsSome s.version
 same_version s t item h e other =
     let same = option_same t.version s.version (versions_with s t item e
     ∙ (ap (λ vs. option_to_list s.version ++ vs) other ∙ append-nil (option_to_list s.version))) in
     subst IsSome same (versioned t (in_order s) item h e)
 
-due_version : (s t : Begun) (name : List ℕ) → in_order t ≡ in_order s ++ OfVersion name ∷ [] → s.version ≡ None
+due_version : (s t : TableSoFar) (name : List ℕ) → in_order t ≡ in_order s ++ OfVersion name ∷ [] → s.version ≡ None
 due_version s t name e = (option_last s.version t.version name (versions_with s t (OfVersion name) e)).0
 
-due_setting : (s t : Begun) (v : Weighting) → IsBegun t → in_order t ≡ in_order s ++ OfSetting v ∷ [] → IsDue s ForSetting
+due_setting : (s t : TableSoFar) (v : Weighting) → IsTableSoFar t → in_order t ≡ in_order s ++ OfSetting v ∷ [] → IsDue s ForSetting
 due_setting s t v h e =
     let rows = no_rows_left s t (OfSetting v) e (λ row q. cc) in
     let ranges = no_ranges_left s t (OfSetting v) e rows (λ r q. cc) in (
@@ -89,7 +89,7 @@ due_setting s t v h e =
       sym (rows_with s t (OfSetting v) e ∙ append-nil s.rows) ∙ rows,
     )
 
-due_range : (s t : Begun) (r : ImplicitRange) → IsBegun t → in_order t ≡ in_order s ++ OfRange r ∷ [] → IsDue s ForRange
+due_range : (s t : TableSoFar) (r : ImplicitRange) → IsTableSoFar t → in_order t ≡ in_order s ++ OfRange r ∷ [] → IsDue s ForRange
 due_range s t r h e = (
   same_version s t (OfRange r) h e refl,
   sym (rows_with s t (OfRange r) e ∙ append-nil s.rows) ∙ no_rows_left s t (OfRange r) e (λ row q. cc),
@@ -97,12 +97,12 @@ due_range s t r h e = (
 
 -- ---- A line in which a cause stands is not taken
 
-follow_barred : (s t : Begun) (r : ImplicitRange) (kind : FaultKind) → IsBegun t → in_order t ≡ in_order s ++ OfRange r ∷ [] → FollowCause s.ranges r kind → ⊥
+follow_barred : (s t : TableSoFar) (r : ImplicitRange) (kind : FaultKind) → IsTableSoFar t → in_order t ≡ in_order s ++ OfRange r ∷ [] → FollowCause s.ranges r kind → ⊥
 follow_barred s t r kinds.Range h e c = c (ranges_last s.ranges r (subst AreImplicitRanges (ranges_with s t (OfRange r) e) h.ranges))
 follow_barred s t r kinds.Limit h e c = omega (arith, ap length (ranges_with s t (OfRange r) e), length-append s.ranges (r ∷ []), h.few_ranges)
 follow_barred s t r _ h e c = c
 
-add_barred : (s t : Begun) (row : Entry) (kind : FaultKind) → IsBegun t → in_order t ≡ in_order s ++ OfRow row ∷ [] → AddCause s.rows row kind → ⊥
+add_barred : (s t : TableSoFar) (row : Entry) (kind : FaultKind) → IsTableSoFar t → in_order t ≡ in_order s ++ OfRow row ∷ [] → AddCause s.rows row kind → ⊥
 add_barred s t row kinds.DuplicateKey h e c = distinct_last s.rows row (subst AreDistinct (rows_with s t (OfRow row) e) h.rows.distinct) c
 add_barred s t row kinds.Limit h e c = omega (arith, ap length (rows_with s t (OfRow row) e), length-append s.rows (row ∷ []), h.rows.few)
 add_barred s t row _ h e c = c
@@ -111,10 +111,10 @@ add_barred s t row _ h e c = c
 form_of : (text : List ℕ) (i j : Item) → i ≡ j → IsItem text i → IsItem text j
 form_of text i j e h = subst (IsItem text) e h
 
-order_of : (s t : Begun) (i j : Item) → i ≡ j → said (j ∷ []) ≡ j ∷ [] → in_order t ≡ in_order s ++ said (i ∷ []) → in_order t ≡ in_order s ++ j ∷ []
+order_of : (s t : TableSoFar) (i j : Item) → i ≡ j → said (j ∷ []) ≡ j ∷ [] → in_order t ≡ in_order s ++ said (i ∷ []) → in_order t ≡ in_order s ++ j ∷ []
 order_of s t i j e one h = h ∙ ap (λ xs. in_order s ++ xs) (ap (λ x. said (x ∷ [])) e ∙ one)
 
-purpose_barred : (s t : Begun) (text : List ℕ) (purpose : Purpose) (kind : FaultKind) → TakesText s text t → Has text purpose
+purpose_barred : (s t : TableSoFar) (text : List ℕ) (purpose : Purpose) (kind : FaultKind) → TakesText s text t → Has text purpose
     → PurposeCause s text purpose kind → ⊥
 purpose_barred s t text ForVersion kind h w c =
     let i = is_version text h.item w h.form in c.1 i.0 (form_of text h.item (OfVersion i.0) i.1 h.form)
@@ -135,7 +135,7 @@ purpose_barred s t text ForRow kind h w (inr c) =
     add_barred s t i.0 kind h.begun (order_of s t h.item (OfRow i.0) i.1 refl h.order) (subst (λ (r : Entry). AddCause s.rows r kind) same c.2)
 
 -- a line that is taken was due
-taken_is_due : (s t : Begun) (text : List ℕ) (purpose : Purpose) → TakesText s text t → Has text purpose → IsDue s purpose
+taken_is_due : (s t : TableSoFar) (text : List ℕ) (purpose : Purpose) → TakesText s text t → Has text purpose → IsDue s purpose
 taken_is_due s t text ForVersion h w = let i = is_version text h.item w h.form in due_version s t i.0 (order_of s t h.item (OfVersion i.0) i.1 refl h.order)
 taken_is_due s t text ForSetting h w = let i = is_setting text h.item w h.form in
     due_setting s t i.0 h.begun (order_of s t h.item (OfSetting i.0) i.1 refl h.order)
@@ -151,7 +151,7 @@ has_purpose text (OfSetting v) h at none = none ForSetting h.word
 has_purpose text (OfRange r) h at none = none ForRange h.word
 has_purpose text (OfRow row) h at none = none ForRow (row_begins text row h)
 
-text_barred : (s t : Begun) (text : List ℕ) (kind : FaultKind) → TextCause s text kind → TakesText s text t → ⊥
+text_barred : (s t : TableSoFar) (text : List ℕ) (kind : FaultKind) → TextCause s text kind → TakesText s text t → ⊥
 text_barred s t text kind (inl c) h = has_purpose text h.item h.form c.1 c.2
 text_barred s t text kind (inr (inl c)) h = c.1.2 (taken_is_due s t text c.1.0 h c.1.1)
 text_barred s t text kind (inr (inr c)) h = purpose_barred s t text c.0 kind h c.1 c.2
@@ -168,8 +168,8 @@ forms_last (l ∷ lines) line (i ∷ items) h =
     let rest = forms_last lines line items h.1 in
     (i ∷ rest.0, rest.1, ap (λ zs. i ∷ zs) rest.2, (h.0, rest.3), rest.4)
 
-record TakenLast (before : List (List ℕ)) (line : List ℕ) (t : Begun) : Type 0 where
-  s : Begun
+record TakenLast (before : List (List ℕ)) (line : List ℕ) (t : TableSoFar) : Type 0 where
+  s : TableSoFar
   says : Says before s
   takes : Takes s line t
 
@@ -180,7 +180,7 @@ said_one (OfSetting v) = inr refl
 said_one (OfRange r) = inr refl
 said_one (OfRow row) = inr refl
 
-taken_last : (before : List (List ℕ)) (line : List ℕ) (t : Begun) → Says (before ++ line ∷ []) t → TakenLast before line t
+taken_last : (before : List (List ℕ)) (line : List ℕ) (t : TableSoFar) → Says (before ++ line ∷ []) t → TakenLast before line t
 taken_last before line t h = by_item (said_one item)
   where
     parts : (front : List Item) × (item : Item) × (h.items ≡ front ++ item ∷ []) × AllZip IsLine before front × IsLine line item
@@ -218,14 +218,14 @@ taken_last before line t h = by_item (said_one item)
 
 -- ---- The laws
 
-nothing_said : (s : Begun) → Says [] s → in_order s ≡ []
+nothing_said : (s : TableSoFar) → Says [] s → in_order s ≡ []
 nothing_said s h = sym h.order ∙ empty h.items h.forms
   where
     empty : (items : List Item) → AllZip IsLine [] items → said items ≡ []
     empty [] f = refl
     empty (i ∷ items) f = absurd f
 
-taken_once : (s : Begun) (line : List ℕ) (t u : Begun) → Takes s line t → Takes s line u → t ≡ u
+taken_once : (s : TableSoFar) (line : List ℕ) (t u : TableSoFar) → Takes s line t → Takes s line u → t ≡ u
 taken_once s line t u h g =
     in_order_same t u (h.order ∙ (ap (λ i. in_order s ++ said (i ∷ [])) (item_same (text_of line) h.item g.item h.form g.form) ∙ sym g.order))
 
@@ -243,17 +243,17 @@ exact = exact_by_line Says Takes Cause by_line
 -- what is begun is one table at most, and a whole table is no unfinished one
 same_all : (t u : TableContent) → all_of t ≡ all_of u → t ≡ u
 same_all t u h =
-    let version = same_Some t.header.version u.header.version (ap (λ (b : Begun). b.version) h) in
+    let version = same_Some t.header.version u.header.version (ap (λ (b : TableSoFar). b.version) h) in
     ap (λ v. make v t.header.setting t.header.ranges t.rows) version
-    ∙ (ap (λ s. make u.header.version s t.header.ranges t.rows) (ap (λ (b : Begun). b.setting) h)
-    ∙ (ap (λ r. make u.header.version u.header.setting r t.rows) (ap (λ (b : Begun). b.ranges) h)
-    ∙ ap (λ w. make u.header.version u.header.setting u.header.ranges w) (ap (λ (b : Begun). b.rows) h)))
+    ∙ (ap (λ s. make u.header.version s t.header.ranges t.rows) (ap (λ (b : TableSoFar). b.setting) h)
+    ∙ (ap (λ r. make u.header.version u.header.setting r t.rows) (ap (λ (b : TableSoFar). b.ranges) h)
+    ∙ ap (λ w. make u.header.version u.header.setting u.header.ranges w) (ap (λ (b : TableSoFar). b.rows) h)))
   where
     make : List ℕ → Option Weighting → List ImplicitRange → List Entry → TableContent
     make v s r w = record { header = record { version = v; setting = s; ranges = r }; rows = w }
 
-pub gives_one : (b : Begun) (t u : TableContent) → Gives b t → Gives b u → t ≡ u
+pub gives_one : (b : TableSoFar) (t u : TableContent) → Gives b t → Gives b u → t ≡ u
 gives_one b t u h g = same_all t u (sym h ∙ g)
 
-pub gives_finished : (b : Begun) (t : TableContent) → Gives b t → IsUnfinished b → ⊥
-gives_finished b t h u = let e = sym u ∙ ap (λ (x : Begun). x.version) h in cc
+pub gives_finished : (b : TableSoFar) (t : TableContent) → Gives b t → IsUnfinished b → ⊥
+gives_finished b t h u = let e = sym u ∙ ap (λ (x : TableSoFar). x.version) h in cc

@@ -19,7 +19,7 @@ use Rattle.uca_values.specs.declared.faults.FaultKind.TheVariants as kinds
 use Rattle.uca_lines.specs.Fields.{skip_blanks, word_of, after_word}
 use Rattle.uca_lines.specs.Numbers.{is_hex_digit, is_code_point, code_point_of}
 use Rattle.uca_lines.specs.Leads.{Leads, BeginsCodePoint}
-use Rattle.uca_table.specs.TableSoFar.{Begun, IsBegun}
+use Rattle.uca_table.specs.TableSoFar.{TableSoFar, IsTableSoFar}
 use Rattle.uca_table.specs.Elements.{BeginsElement}
 use Rattle.uca_table.specs.Headers.{argument_of, IsRangeText, MayFollow, RangeTextCause}
 use Rattle.uca_table.specs.CanonicalWords.{at_version, at_variable, at_ranges, setting_word}
@@ -69,15 +69,15 @@ row_is_entry text row h = record {
 
 -- In each of these `inside` is what the fields say, which is what is begun.
 
-pub takes_nothing : (old inside : Begun) (text : List ℕ) → inside ≡ old → IsBegun inside → text ≡ [] → TakesText old text old
-takes_nothing old inside text same h e = record { item = Nothing; form = e; order = sym (append-nil (in_order old)); begun = subst IsBegun same h }
+pub takes_nothing : (old inside : TableSoFar) (text : List ℕ) → inside ≡ old → IsTableSoFar inside → text ≡ [] → TakesText old text old
+takes_nothing old inside text same h e = record { item = Nothing; form = e; order = sym (append-nil (in_order old)); begun = subst IsTableSoFar same h }
 
-pub takes_version : (old inside : Begun) (text name : List ℕ) (version : Option (List ℕ)) → inside ≡ old → IsBegun inside → inside.version ≡ None
+pub takes_version : (old inside : TableSoFar) (text name : List ℕ) (version : Option (List ℕ)) → inside ≡ old → IsTableSoFar inside → inside.version ≡ None
     → word_of text ≡ at_version → name ≡ argument_of text → is_version_name name ≡ true → version ≡ Some name
     → TakesText old text (record inside { version = version })
 takes_version old inside text name version same h e word argument named v =
     let none = h.versioned e in
-    let P : Begun → Type 0 = λ b. TakesText b text (record inside { version = version }) in
+    let P : TableSoFar → Type 0 = λ b. TakesText b text (record inside { version = version }) in
     subst P same (record {
       item = OfVersion name;
       form = record { word = word; argument = sym argument; named = named };
@@ -88,10 +88,10 @@ takes_version old inside text name version same h e word argument named v =
     some_is_none : {B : Type 0} (x : List ℕ) → Some x ≡ None → B
     some_is_none x q = cc
 
-pub takes_setting : (old inside : Begun) (text word : List ℕ) (setting : Weighting) → inside ≡ old → IsBegun inside → IsDue old ForSetting
+pub takes_setting : (old inside : TableSoFar) (text word : List ℕ) (setting : Weighting) → inside ≡ old → IsTableSoFar inside → IsDue old ForSetting
     → word_of text ≡ at_variable → word ≡ argument_of text → word ≡ setting_word setting → TakesText old text (record inside { setting = Some setting })
 takes_setting old inside text word setting same h due first argument is =
-    let P : Begun → Type 0 = λ b. IsDue b ForSetting → TakesText b text (record inside { setting = Some setting }) in
+    let P : TableSoFar → Type 0 = λ b. IsDue b ForSetting → TakesText b text (record inside { setting = Some setting }) in
     subst P same (λ d. record {
       item = OfSetting setting;
       form = record { word = first; argument = sym argument ∙ is };
@@ -99,11 +99,11 @@ takes_setting old inside text word setting same h due first argument is =
       begun = record { versioned = λ n. absurd (some_not_none inside.version d.0 n); ranges = h.ranges; few_ranges = h.few_ranges; rows = h.rows };
     }) due
 
-pub takes_range : (old inside : Begun) (text rest : List ℕ) (r : ImplicitRange) (all : List ImplicitRange) → inside ≡ old → IsBegun inside
+pub takes_range : (old inside : TableSoFar) (text rest : List ℕ) (r : ImplicitRange) (all : List ImplicitRange) → inside ≡ old → IsTableSoFar inside
     → IsDue old ForRange → word_of text ≡ at_ranges → rest ≡ after_word text → IsRangeText rest r → MayFollow inside.ranges r
     → length inside.ranges < 256 → all ≡ inside.ranges ++ r ∷ [] → TakesText old text (record inside { ranges = all })
 takes_range old inside text rest r all same h due first argument form may few whole =
-    let P : Begun → Type 0 = λ b. IsDue b ForRange → TakesText b text (record inside { ranges = all }) in
+    let P : TableSoFar → Type 0 = λ b. IsDue b ForRange → TakesText b text (record inside { ranges = all }) in
     subst P same (λ d. record {
       item = OfRange r;
       form = record { word = first; range = subst (λ (t : List ℕ). IsRangeText t r) argument form };
@@ -116,10 +116,10 @@ takes_range old inside text rest r all same h due first argument form may few wh
       };
     }) due
 
-pub takes_row : (old inside new : Begun) (text : List ℕ) (row : Entry) → inside ≡ old → IsBegun inside → IsSome inside.version → IsRow text row
+pub takes_row : (old inside new : TableSoFar) (text : List ℕ) (row : Entry) → inside ≡ old → IsTableSoFar inside → IsSome inside.version → IsRow text row
     → (Contains (keys_of old.rows) row.key → ⊥) → length old.rows < 200000 → new ≡ record old { rows = old.rows ++ row ∷ [] } → TakesText old text new
 takes_row old inside new text row same h v form absent few whole =
-    let P : Begun → Type 0 = λ b. (Contains (keys_of b.rows) row.key → ⊥) → length b.rows < 200000 → new ≡ record b { rows = b.rows ++ row ∷ [] }
+    let P : TableSoFar → Type 0 = λ b. (Contains (keys_of b.rows) row.key → ⊥) → length b.rows < 200000 → new ≡ record b { rows = b.rows ++ row ∷ [] }
     → TakesText b text new in
     subst P same (λ a f w. subst (TakesText inside text) (sym w) (record {
       item = OfRow row;
@@ -135,11 +135,11 @@ takes_row old inside new text row same h v form absent few whole =
 
 -- ---- Why a line is refused
 
-pub out_of_order : (b : Begun) (text : List ℕ) (purpose : Purpose) (due : Bool) → Has text purpose → (due ≡ true) ↔ IsDue b purpose → due ≡ false
+pub out_of_order : (b : TableSoFar) (text : List ℕ) (purpose : Purpose) (due : Bool) → Has text purpose → (due ≡ true) ↔ IsDue b purpose → due ≡ false
     → (kinds.Order ≡ kinds.Memory) ⊎ TextCause b text kinds.Order
 out_of_order b text purpose due has h e = inr (inr (inl (refl, (purpose, has, (λ d. false≢true (sym e ∙ h.1 d))))))
 
-pub cause_in : (b : Begun) (text : List ℕ) (purpose : Purpose) (kind : FaultKind) → Has text purpose → PurposeCause b text purpose kind
+pub cause_in : (b : TableSoFar) (text : List ℕ) (purpose : Purpose) (kind : FaultKind) → Has text purpose → PurposeCause b text purpose kind
     → (kind ≡ kinds.Memory) ⊎ TextCause b text kind
 cause_in b text purpose kind has h = inr (inr (inr (purpose, has, h)))
 
@@ -175,7 +175,7 @@ has_none f (Some x) none h e s = false≢true (sym (h ∙ ap not e))
 
 -- ---- What is kept
 
-pub keeps_version : {K : Type 0} (points : K → List ℕ) (has : K → Bool) (inside old : Begun) (text name : List ℕ) (version : Option (List ℕ))
+pub keeps_version : {K : Type 0} (points : K → List ℕ) (has : K → Bool) (inside old : TableSoFar) (text name : List ℕ) (version : Option (List ℕ))
     → Keeps points has inside → TakesText old text (record inside { version = version }) → version ≡ Some name → is_version_name name ≡ true
     → Keeps points has (record inside { version = version })
 keeps_version points has inside old text name version h t v named = record {
@@ -187,50 +187,50 @@ keeps_version points has inside old text name version h t v named = record {
     same : (n : List ℕ) → Some name ≡ Some n → name ≡ n
     same n q = cc
 
-pub keeps_ranges : {K : Type 0} (points : K → List ℕ) (has : K → Bool) (inside old : Begun) (text : List ℕ) (all : List ImplicitRange)
+pub keeps_ranges : {K : Type 0} (points : K → List ℕ) (has : K → Bool) (inside old : TableSoFar) (text : List ℕ) (all : List ImplicitRange)
     → Keeps points has inside → TakesText old text (record inside { ranges = all }) → Keeps points has (record inside { ranges = all })
 keeps_ranges points has inside old text all h t = record { keys = h.keys; named = h.named; begun = t.begun }
 
 -- ---- Why a range or a row is refused
 
-pub range_text_fault : (b : Begun) (text rest : List ℕ) (kind : FaultKind) → word_of text ≡ at_ranges → rest ≡ after_word text
+pub range_text_fault : (b : TableSoFar) (text rest : List ℕ) (kind : FaultKind) → word_of text ≡ at_ranges → rest ≡ after_word text
     → RangeTextCause rest kind → (kind ≡ kinds.Memory) ⊎ TextCause b text kind
 range_text_fault b text rest kind first argument h = cause_in b text ForRange kind first (inl (subst (λ (t : List ℕ). RangeTextCause t kind) argument h))
 
-pub range_follow_fault : (b inside : Begun) (text rest : List ℕ) (r : ImplicitRange) (earlier : List ImplicitRange) (may : Bool) → inside ≡ b
+pub range_follow_fault : (b inside : TableSoFar) (text rest : List ℕ) (r : ImplicitRange) (earlier : List ImplicitRange) (may : Bool) → inside ≡ b
     → word_of text ≡ at_ranges → rest ≡ after_word text → IsRangeText rest r → earlier ≡ inside.ranges → (may ≡ true) ↔ MayFollow earlier r
     → may ≡ false → (kinds.Range ≡ kinds.Memory) ⊎ TextCause b text kinds.Range
 range_follow_fault b inside text rest r earlier may same first argument form e h fails =
     cause_in b text ForRange kinds.Range first (inr (
       r,
       subst (λ (t : List ℕ). IsRangeText t r) argument form,
-      (λ m. false≢true (sym fails ∙ h.1 (subst (λ (rs : List ImplicitRange). MayFollow rs r) (sym (e ∙ ap (λ (x : Begun). x.ranges) same)) m))),
+      (λ m. false≢true (sym fails ∙ h.1 (subst (λ (rs : List ImplicitRange). MayFollow rs r) (sym (e ∙ ap (λ (x : TableSoFar). x.ranges) same)) m))),
     ))
 
-pub range_limit_fault : (b inside : Begun) (text rest : List ℕ) (r : ImplicitRange) → inside ≡ b → word_of text ≡ at_ranges → rest ≡ after_word text
+pub range_limit_fault : (b inside : TableSoFar) (text rest : List ℕ) (r : ImplicitRange) → inside ≡ b → word_of text ≡ at_ranges → rest ≡ after_word text
     → IsRangeText rest r → 256 ≤ length inside.ranges → (kinds.Limit ≡ kinds.Memory) ⊎ TextCause b text kinds.Limit
 range_limit_fault b inside text rest r same first argument form many =
-    let P : Begun → Type 0 = λ x. 256 ≤ length x.ranges in
+    let P : TableSoFar → Type 0 = λ x. 256 ≤ length x.ranges in
     cause_in b text ForRange kinds.Limit first (inr (r, subst (λ (t : List ℕ). IsRangeText t r) argument form, subst P same many))
 
-pub row_order_fault : (b inside : Begun) (text : List ℕ) → inside ≡ b → text ≢ [] → begins_at text ≡ false → (IsSome inside.version → ⊥)
+pub row_order_fault : (b inside : TableSoFar) (text : List ℕ) → inside ≡ b → text ≢ [] → begins_at text ≡ false → (IsSome inside.version → ⊥)
     → (kinds.Order ≡ kinds.Memory) ⊎ TextCause b text kinds.Order
 row_order_fault b inside text same some row none =
-    let P : Begun → Type 0 = λ x. IsSome x.version → ⊥ in
+    let P : TableSoFar → Type 0 = λ x. IsSome x.version → ⊥ in
     inr (inr (inl (refl, (ForRow, (some, row), subst P same none))))
 
-pub row_text_fault : (b : Begun) (text : List ℕ) (kind : FaultKind) → text ≢ [] → begins_at text ≡ false
+pub row_text_fault : (b : TableSoFar) (text : List ℕ) (kind : FaultKind) → text ≢ [] → begins_at text ≡ false
     → (kind ≡ kinds.Memory) ⊎ RowTextCause text kind → (kind ≡ kinds.Memory) ⊎ TextCause b text kind
 row_text_fault b text kind some row (inl m) = inl m
 row_text_fault b text kind some row (inr h) = cause_in b text ForRow kind (some, row) (inl h)
 
-pub row_add_fault : (b : Begun) (text : List ℕ) (r : Entry) (result : Result (Unit {0}) FaultKind) → text ≢ [] → begins_at text ≡ false → IsRow text r
+pub row_add_fault : (b : TableSoFar) (text : List ℕ) (r : Entry) (result : Result (Unit {0}) FaultKind) → text ≢ [] → begins_at text ≡ false → IsRow text r
     → IfErr result (λ kind. (kind ≡ kinds.Memory) ⊎ AddCause b.rows r kind) → IfErr result (λ kind. (kind ≡ kinds.Memory) ⊎ TextCause b text kind)
 row_add_fault b text r (Ok x) some row form h = tt
 row_add_fault b text r (Err kind) some row form (inl m) = inl m
 row_add_fault b text r (Err kind) some row form (inr h) = cause_in b text ForRow kind (some, row) (inr (r, form, h))
 
-pub row_taken : {E : Type 0} (old inside new : Begun) (text : List ℕ) (row : Entry) (result : Result (Unit {0}) E) → inside ≡ old → IsBegun inside
+pub row_taken : {E : Type 0} (old inside new : TableSoFar) (text : List ℕ) (row : Entry) (result : Result (Unit {0}) E) → inside ≡ old → IsTableSoFar inside
     → IsSome inside.version → IsRow text row → OnOk result (Contains (keys_of old.rows) row.key → ⊥) → OnOk result (length old.rows < 200000)
     → OnOk result (new ≡ record old { rows = old.rows ++ row ∷ [] }) → OnOk result (TakesText old text new)
 row_taken old inside new text row (Ok x) same h v form absent few whole = takes_row old inside new text row same h v form absent few whole

@@ -11,7 +11,7 @@ use Rattle.uca_values.specs.declared.ImplicitRange.{ImplicitRange}
 use Rattle.uca_values.specs.Content.{Entry, TableContent}
 use Rattle.uca_lines.specs.declared.files.TheConstants.{TABLE_FORM}
 use Rattle.uca_lines.specs.Files
-use Rattle.uca_table.specs.TableSoFar.{Begun, IsBegun}
+use Rattle.uca_table.specs.TableSoFar.{TableSoFar, IsTableSoFar}
 use Rattle.uca_table.specs.Headers.{IsVersion, IsSetting, IsRange, RangeCause}
 use Rattle.uca_table.specs.CanonicalWords.{at_version, at_variable, at_ranges}
 use Rattle.uca_table.specs.Rows.{IsRow, RowCause}
@@ -47,22 +47,22 @@ said (OfRange r ∷ items) = OfRange r ∷ said items
 said (OfRow row ∷ items) = OfRow row ∷ said items
 
 -- the version and the setting, where there are any, then the ranges, and then the rows
-abbrev pub in_order : Begun → List Item
+abbrev pub in_order : TableSoFar → List Item
 in_order b = map OfVersion (option_to_list b.version) ++ (map OfSetting (option_to_list b.setting) ++ (map OfRange b.ranges ++ map OfRow b.rows))
 
 -- the lines say, in order, what is begun
-pub record Says (lines : List (List ℕ)) (b : Begun) : Type 0 where
+pub record Says (lines : List (List ℕ)) (b : TableSoFar) : Type 0 where
   pub items : List Item
   pub forms : AllZip IsLine lines items
   pub order : said items ≡ in_order b
-  pub begun : IsBegun b
+  pub begun : IsTableSoFar b
 
 -- a table as its lines say it
-abbrev pub all_of : TableContent → Begun
+abbrev pub all_of : TableContent → TableSoFar
 all_of table = record { version = Some table.header.version; setting = table.header.setting; ranges = table.header.ranges; rows = table.rows }
 
 -- what is begun is this whole table
-abbrev pub Gives : Begun → TableContent → Type 0
+abbrev pub Gives : TableSoFar → TableContent → Type 0
 Gives b table = b ≡ all_of table
 
 -- the bytes mean this table
@@ -70,7 +70,7 @@ abbrev pub Means : List ℕ → TableContent → Type 0
 Means bytes table = Files.Means TABLE_FORM Says Gives bytes table
 
 -- a file may not end here
-abbrev pub IsUnfinished : Begun → Type 0
+abbrev pub IsUnfinished : TableSoFar → Type 0
 IsUnfinished b = b.version ≡ None
 
 -- ---- Why a line is refused
@@ -94,14 +94,14 @@ Has text ForRange = word_of text ≡ at_ranges
 Has text ForRow = (text ≢ []) × (begins_at text ≡ false)
 
 -- such a line may stand next
-abbrev pub IsDue : Begun → Purpose → Type 0
+abbrev pub IsDue : TableSoFar → Purpose → Type 0
 IsDue b ForVersion = b.version ≡ None
 IsDue b ForSetting = IsSome b.version × (b.setting ≡ None) × (b.ranges ≡ []) × (b.rows ≡ [])
 IsDue b ForRange = IsSome b.version × (b.rows ≡ [])
 IsDue b ForRow = IsSome b.version
 
 -- a cause of the kind in what a line for a purpose takes
-abbrev pub PurposeCause : Begun → List ℕ → Purpose → FaultKind → Type 0
+abbrev pub PurposeCause : TableSoFar → List ℕ → Purpose → FaultKind → Type 0
 PurposeCause b text ForVersion kind = (kind ≡ kinds.Line) × ((name : List ℕ) → IsVersion text name → ⊥)
 PurposeCause b text ForSetting kind = (kind ≡ kinds.Line) × ((setting : Weighting) → IsSetting text setting → ⊥)
 PurposeCause b text ForRange kind = RangeCause b.ranges (after_word text) kind
@@ -109,12 +109,12 @@ PurposeCause b text ForRow kind = RowCause b.rows text kind
 
 -- A cause of the kind in the text of a line, after lines that say what is begun: an `@` with another word;
 -- a line out of order; or one in what the line takes.
-abbrev pub TextCause : Begun → List ℕ → FaultKind → Type 0
+abbrev pub TextCause : TableSoFar → List ℕ → FaultKind → Type 0
 TextCause b text kind = ((kind ≡ kinds.Line) × (begins_at text ≡ true) × ((purpose : Purpose) → Has text purpose → ⊥))
     ⊎ ((kind ≡ kinds.Order) × ((purpose : Purpose) × Has text purpose × (IsDue b purpose → ⊥)))
     ⊎ ((purpose : Purpose) × Has text purpose × PurposeCause b text purpose kind)
 
-abbrev pub Cause : Begun → List ℕ → FaultKind → Type 0
+abbrev pub Cause : TableSoFar → List ℕ → FaultKind → Type 0
 Cause b line kind = TextCause b (text_of line) kind
 
 -- why the bytes of a table file are refused, of which the source has `left` left

@@ -4,14 +4,14 @@ use Rattle.uca_weights.specs.declared.Weighting.{Weighting}
 use Rattle.uca_values.specs.declared.ImplicitRange.{ImplicitRange}
 use Rattle.uca_values.specs.Content.{Entry, AreImplicitRanges, AreRows}
 
-pub record Begun : Type 0 where
+pub record TableSoFar : Type 0 where
   pub version : Option (List ℕ)
   pub setting : Option Weighting
   pub ranges : List ImplicitRange
   pub rows : List Entry
 
 -- Nothing stands before the version, and the ranges and rows are those of some table.
-pub record IsBegun (b : Begun) : Type 0 where
+pub record IsTableSoFar (b : TableSoFar) : Type 0 where
   pub versioned : b.version ≡ None → (b.setting ≡ None) × (b.ranges ≡ []) × (b.rows ≡ [])
   pub ranges : AreImplicitRanges b.ranges
   pub few_ranges : length b.ranges ≤ 256

@@ -1,7 +1,7 @@
 //! Data files: the combining classes and the Han ranges of code points, line by line.
 
-mod begun;
 mod lines;
 mod read;
+mod so_far;
 
 pub use read::read_data;

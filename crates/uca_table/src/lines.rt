@@ -35,10 +35,10 @@ impl<A: Allocator + Copy> Model for TableLines<A> {
     ghost use Rattle.std.specs.Ordering.{nat_cmp};
     ghost use Rattle.std.specs.Cmp.Lexicographic.{slice_cmp};
     ghost use Rattle.std.specs.BTreeSet.{contains};
-    ghost use Rattle.uca_table.specs.TableSoFar.{Begun};
+    ghost use Rattle.uca_table.specs.TableSoFar.{TableSoFar};
     ghost use Rattle.uca_table.specs.Keeping.{Keeps};
 
-    ghost Value = { Begun };
+    ghost Value = { TableSoFar };
 
     ghost view = { λ t. record {
       version = option_map string_bytes t.version;

@@ -12,7 +12,7 @@ ignorable_last level [] e ignorable = cond-true (is_ignorable_to level e) None (
 ignorable_last level (f ∷ es) e ignorable = ap (behind_front level f) (ignorable_last level es e ignorable)
 
 -- any other at the end is the last
-pub sounding_last : (level : Level) (es : List DraftElement) (e : DraftElement) → is_ignorable_to level e ≡ false →
+pub not_ignorable_last : (level : Level) (es : List DraftElement) (e : DraftElement) → is_ignorable_to level e ≡ false →
     anchor_part level (es ++ e ∷ []) ≡ Some (record { front = es; last = e })
-sounding_last level [] e not_ignorable = cond-false (is_ignorable_to level e) None (Some (record { front = []; last = e })) not_ignorable
-sounding_last level (f ∷ es) e not_ignorable = ap (behind_front level f) (sounding_last level es e not_ignorable)
+not_ignorable_last level [] e not_ignorable = cond-false (is_ignorable_to level e) None (Some (record { front = []; last = e })) not_ignorable
+not_ignorable_last level (f ∷ es) e not_ignorable = ap (behind_front level f) (not_ignorable_last level es e not_ignorable)

@@ -15,15 +15,15 @@ use Rattle.uca_weights.specs.declared.Weighting.TheVariants.{NonIgnorable}
 use Rattle.uca_weights.specs.Levels.{weight, level_number}
 use Rattle.uca_weights.proofs.Lists.{each_weaker}
 use Rattle.uca_key.specs.Levels.{Comparison, weighted_following, level_list, level_lists, lexicographic, decided, compare_from, compared}
-use Rattle.uca_key.proofs.KeyOrder.{cmp_less, cmp_equal, cmp_greater, then_equal, dictionary_itself}
+use Rattle.uca_key.proofs.KeyOrder.{cmp_less, cmp_equal, cmp_greater, then_equal, lexicographic_itself}
 use Rattle.uca_tailorings.specs.Placing.{IsIgnorableTo, placed, reweighted, IsOnSide}
 use Rattle.uca_tailorings.specs.Meaning.{stands}
 
 -- ---- The weights of a level
 
 -- the weights of elements at a level that are not 0
-abbrev pub sounded : Level → List Element → List ℕ
-sounded level es = filter (λ w. not (nat_eq w 0)) (map (weight level) es)
+abbrev pub level_weights : Level → List Element → List ℕ
+level_weights level es = filter (λ w. not (nat_eq w 0)) (map (weight level) es)
 
 -- one more weight in front, unless it is 0
 abbrev pub keep : ℕ → List ℕ → List ℕ
@@ -38,7 +38,7 @@ keep_some : (w : ℕ) (ws : List ℕ) → w ≢ 0 → keep w ws ≡ w ∷ ws
 keep_some w ws some = ap (λ b. cond (not b) (w ∷ ws) ws) (ne_eqb w 0 some)
 
 -- a level list of elements that are not shifted
-level_list_is : (level : Level) (earlier es : List Element) → level_list (level_number level) (weighted_following NonIgnorable earlier es) ≡ sounded level es
+level_list_is : (level : Level) (earlier es : List Element) → level_list (level_number level) (weighted_following NonIgnorable earlier es) ≡ level_weights level es
 level_list_is One earlier [] = refl
 level_list_is Two earlier [] = refl
 level_list_is Three earlier [] = refl
@@ -47,7 +47,7 @@ level_list_is Two earlier (e ∷ es) = ap (keep e.secondary) (level_list_is Two 
 level_list_is Three earlier (e ∷ es) = ap (keep e.tertiary) (level_list_is Three (e ∷ earlier) es)
 
 -- all level lists
-level_lists_are : (es : List Element) → level_lists NonIgnorable es ≡ sounded One es ∷ sounded Two es ∷ sounded Three es ∷ []
+level_lists_are : (es : List Element) → level_lists NonIgnorable es ≡ level_weights One es ∷ level_weights Two es ∷ level_weights Three es ∷ []
 level_lists_are es = λ i. level_list_is One [] es i ∷ level_list_is Two [] es i ∷ level_list_is Three [] es i ∷ []
 
 -- what three levels say
@@ -56,7 +56,7 @@ by_orders first second third = decided first 1 (decided second 2 (decided third 
 
 -- how elements compare at a level
 abbrev order_at : Level → List Element → List Element → Ordering
-order_at level es fs = lexicographic (sounded level es) (sounded level fs)
+order_at level es fs = lexicographic (level_weights level es) (level_weights level fs)
 
 -- elements compare by the three levels
 compared_by_levels : (es fs : List Element) → compared NonIgnorable es fs ≡ by_orders (order_at One es fs) (order_at Two es fs) (order_at Three es fs)
@@ -66,22 +66,22 @@ compared_by_levels es fs = ap₂ (compare_from 1) (level_lists_are es) (level_li
 pub compared_itself : (es : List Element) → compared NonIgnorable es es ≡ record { order = Equal; level = 0 }
 compared_itself es =
     compared_by_levels es es
-    ∙ ap (λ o. by_orders o (order_at Two es es) (order_at Three es es)) (dictionary_itself (sounded One es))
-    ∙ ap (λ o. by_orders Equal o (order_at Three es es)) (dictionary_itself (sounded Two es))
-    ∙ ap (by_orders Equal Equal) (dictionary_itself (sounded Three es))
+    ∙ ap (λ o. by_orders o (order_at Two es es) (order_at Three es es)) (lexicographic_itself (level_weights One es))
+    ∙ ap (λ o. by_orders Equal o (order_at Three es es)) (lexicographic_itself (level_weights Two es))
+    ∙ ap (by_orders Equal Equal) (lexicographic_itself (level_weights Three es))
 
 -- ---- One level
 
 -- elements one after the other
-sounded-append : (level : Level) (es fs : List Element) → sounded level (es ++ fs) ≡ sounded level es ++ sounded level fs
-sounded-append level es fs =
+level_weights-append : (level : Level) (es fs : List Element) → level_weights level (es ++ fs) ≡ level_weights level es ++ level_weights level fs
+level_weights-append level es fs =
     ap (filter (λ w. not (nat_eq w 0))) (map-append (weight level) es fs)
     ∙ filter-append (λ w. not (nat_eq w 0)) (map (weight level) es) (map (weight level) fs)
 
 -- elements without a weight at the level
-unheard : (level : Level) (es fs : List Element) → AllByRecursion (λ e. weight level e ≡ 0) es → sounded level (es ++ fs) ≡ sounded level fs
-unheard level [] fs none = refl
-unheard level (e ∷ es) fs none = keep_zero (weight level e) (sounded level (es ++ fs)) none.0 ∙ unheard level es fs none.1
+ignorable_dropped : (level : Level) (es fs : List Element) → AllByRecursion (λ e. weight level e ≡ 0) es → level_weights level (es ++ fs) ≡ level_weights level fs
+ignorable_dropped level [] fs none = refl
+ignorable_dropped level (e ∷ es) fs none = keep_zero (weight level e) (level_weights level (es ++ fs)) none.0 ∙ ignorable_dropped level es fs none.1
 
 -- lists that begin alike
 lexicographic-append : (xs ys zs : List ℕ) → lexicographic (xs ++ ys) (xs ++ zs) ≡ lexicographic ys zs
@@ -92,31 +92,31 @@ module _ (before : List Element) (last new : Element) (trailing expansion : List
   -- at a level where the trailing elements have no weight, the two last elements decide
   last_decides : (level : Level) → AllByRecursion (λ e. weight level e ≡ 0) trailing →
       order_at level ((before ++ last ∷ trailing) ++ expansion) (before ++ new ∷ expansion)
-      ≡ lexicographic (keep (weight level last) (sounded level expansion)) (keep (weight level new) (sounded level expansion))
+      ≡ lexicographic (keep (weight level last) (level_weights level expansion)) (keep (weight level new) (level_weights level expansion))
   last_decides level none =
-      let left : sounded level ((before ++ last ∷ trailing) ++ expansion)
-      ≡ sounded level before ++ keep (weight level last) (sounded level expansion) =
-      ap (sounded level) (append_assoc before (last ∷ trailing) expansion)
-      ∙ sounded-append level before (last ∷ (trailing ++ expansion))
-      ∙ ap (λ ws. sounded level before ++ keep (weight level last) ws) (unheard level trailing expansion none) in
-      ap₂ lexicographic left (sounded-append level before (new ∷ expansion))
-      ∙ lexicographic-append (sounded level before) (keep (weight level last) (sounded level expansion)) (keep (weight level new) (sounded level expansion))
+      let left : level_weights level ((before ++ last ∷ trailing) ++ expansion)
+      ≡ level_weights level before ++ keep (weight level last) (level_weights level expansion) =
+      ap (level_weights level) (append_assoc before (last ∷ trailing) expansion)
+      ∙ level_weights-append level before (last ∷ (trailing ++ expansion))
+      ∙ ap (λ ws. level_weights level before ++ keep (weight level last) ws) (ignorable_dropped level trailing expansion none) in
+      ap₂ lexicographic left (level_weights-append level before (new ∷ expansion))
+      ∙ lexicographic-append (level_weights level before) (keep (weight level last) (level_weights level expansion)) (keep (weight level new) (level_weights level expansion))
 
   -- where they have the same weight, none does
   same_level : (level : Level) → AllByRecursion (λ e. weight level e ≡ 0) trailing → weight level new ≡ weight level last →
       order_at level ((before ++ last ∷ trailing) ++ expansion) (before ++ new ∷ expansion) ≡ Equal
   same_level level none same =
       last_decides level none
-      ∙ ap (λ w. lexicographic (keep (weight level last) (sounded level expansion)) (keep w (sounded level expansion))) same
-      ∙ dictionary_itself (keep (weight level last) (sounded level expansion))
+      ∙ ap (λ w. lexicographic (keep (weight level last) (level_weights level expansion)) (keep w (level_weights level expansion))) same
+      ∙ lexicographic_itself (keep (weight level last) (level_weights level expansion))
 
   -- where neither weight is 0, the level compares as they do
   new_level : (level : Level) → AllByRecursion (λ e. weight level e ≡ 0) trailing → weight level last ≢ 0 → weight level new ≢ 0 →
       order_at level ((before ++ last ∷ trailing) ++ expansion) (before ++ new ∷ expansion) ≡ nat_cmp (weight level last) (weight level new)
   new_level level none old_some new_some =
       last_decides level none
-      ∙ ap₂ lexicographic (keep_some (weight level last) (sounded level expansion) old_some) (keep_some (weight level new) (sounded level expansion) new_some)
-      ∙ ap (ordering_then (nat_cmp (weight level last) (weight level new))) (dictionary_itself (sounded level expansion))
+      ∙ ap₂ lexicographic (keep_some (weight level last) (level_weights level expansion) old_some) (keep_some (weight level new) (level_weights level expansion) new_some)
+      ∙ ap (ordering_then (nat_cmp (weight level last) (weight level new))) (lexicographic_itself (level_weights level expansion))
       ∙ then_equal (nat_cmp (weight level last) (weight level new))
 
 -- ---- All levels

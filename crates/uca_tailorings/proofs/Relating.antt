@@ -87,23 +87,23 @@ all_hold tailoring is accepted =
 pub one_anchor : (level : Level) (before others : List Element) (last other : Element) (trailing more : List Element) →
     before ++ last ∷ trailing ≡ others ++ other ∷ more → AllByRecursion (IsIgnorableTo level) trailing → AllByRecursion (IsIgnorableTo level) more →
     ¬ (IsIgnorableTo level last) → ¬ (IsIgnorableTo level other) → (before ≡ others) × (last ≡ other)
-one_anchor level [] [] last other trailing more same ignorable quiet not_ignorable sounding =
+one_anchor level [] [] last other trailing more same ignorable quiet not_ignorable not_zero =
     let whole : last ∷ trailing ≡ other ∷ more = same in
     let first : last ≡ other = cc in
     (refl, first)
-one_anchor level [] (f ∷ others) last other trailing more same ignorable quiet not_ignorable sounding =
+one_anchor level [] (f ∷ others) last other trailing more same ignorable quiet not_ignorable not_zero =
     let whole : last ∷ trailing ≡ f ∷ (others ++ other ∷ more) = same in
     let behind : trailing ≡ others ++ other ∷ more = cc in
-    absurd (sounding (of_part (IsIgnorableTo level) trailing others other more ignorable behind))
-one_anchor level (e ∷ before) [] last other trailing more same ignorable quiet not_ignorable sounding =
+    absurd (not_zero (of_part (IsIgnorableTo level) trailing others other more ignorable behind))
+one_anchor level (e ∷ before) [] last other trailing more same ignorable quiet not_ignorable not_zero =
     let whole : e ∷ (before ++ last ∷ trailing) ≡ other ∷ more = same in
     let behind : more ≡ before ++ last ∷ trailing = cc in
     absurd (not_ignorable (of_part (IsIgnorableTo level) more before last trailing quiet behind))
-one_anchor level (e ∷ before) (f ∷ others) last other trailing more same ignorable quiet not_ignorable sounding =
+one_anchor level (e ∷ before) (f ∷ others) last other trailing more same ignorable quiet not_ignorable not_zero =
     let whole : e ∷ (before ++ last ∷ trailing) ≡ f ∷ (others ++ other ∷ more) = same in
     let first : e ≡ f = cc in
     let behind : before ++ last ∷ trailing ≡ others ++ other ∷ more = cc in
-    let rest = one_anchor level before others last other trailing more behind ignorable quiet not_ignorable sounding in
+    let rest = one_anchor level before others last other trailing more behind ignorable quiet not_ignorable not_zero in
     (ap₂ (λ x xs. x ∷ xs) first rest.0, rest.1)
 
 -- the new weight of an element

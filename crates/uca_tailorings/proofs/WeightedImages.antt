@@ -39,15 +39,15 @@ shifted_by variable ignorable empty primary secondary tertiary =
     (cond ignorable (0 ∷ 0 ∷ 0 ∷ 0 ∷ []) (primary ∷ secondary ∷ tertiary ∷ cond empty 0 0xFFFF ∷ []))
 
 -- the weights other than 0
-abbrev sounding : List ℕ → List ℕ
-sounding = filter (λ w. not (nat_eq w 0))
+abbrev non_zero : List ℕ → List ℕ
+non_zero = filter (λ w. not (nat_eq w 0))
 
 -- a rising map keeps the order of two lists, without the weights 0
 kept_order : (level : Level) (images : WeightImages) → IsRisingMap level images → (vs ws xs ys : List ℕ) → AreSent images vs xs →
     AreSent images ws ys →
-    lexicographic (sounding xs) (sounding ys) ≡ lexicographic (sounding vs) (sounding ws)
+    lexicographic (non_zero xs) (non_zero ys) ≡ lexicographic (non_zero vs) (non_zero ws)
 kept_order level images rising vs ws xs ys left right =
-    sent_order level images rising (sounding vs) (sounding ws) (sounding xs) (sounding ys)
+    sent_order level images rising (non_zero vs) (non_zero ws) (non_zero xs) (non_zero ys)
     (sent_filter level images rising vs xs left) (sent_filter level images rising ws ys right)
 
 module _ (maps : Maps) (rising : AreRisingMaps maps) where
@@ -137,19 +137,19 @@ module _ (maps : Maps) (rising : AreRisingMaps maps) where
   weights_at_sent level (w ∷ ws) (x ∷ xs) sent = (sent.0 level, weights_at_sent level ws xs sent.1)
 
   -- lists of weights put through the map of a level keep their order, without the weights 0
-  sounding_order : (level : ℕ) (vs ws xs ys : List ℕ) → AreSent (level_images maps level) vs xs → AreSent (level_images maps level) ws ys →
-      lexicographic (sounding xs) (sounding ys) ≡ lexicographic (sounding vs) (sounding ws)
-  sounding_order zero vs ws xs ys left right = kept_order One maps.primary rising.primary vs ws xs ys left right
-  sounding_order (suc zero) vs ws xs ys left right = kept_order One maps.primary rising.primary vs ws xs ys left right
-  sounding_order (suc (suc zero)) vs ws xs ys left right = kept_order Two maps.secondary rising.secondary vs ws xs ys left right
-  sounding_order (suc (suc (suc zero))) vs ws xs ys left right = kept_order Three maps.tertiary rising.tertiary vs ws xs ys left right
-  sounding_order (suc (suc (suc (suc level)))) vs ws xs ys left right = kept_order One maps.primary rising.primary vs ws xs ys left right
+  non_zero_order : (level : ℕ) (vs ws xs ys : List ℕ) → AreSent (level_images maps level) vs xs → AreSent (level_images maps level) ws ys →
+      lexicographic (non_zero xs) (non_zero ys) ≡ lexicographic (non_zero vs) (non_zero ws)
+  non_zero_order zero vs ws xs ys left right = kept_order One maps.primary rising.primary vs ws xs ys left right
+  non_zero_order (suc zero) vs ws xs ys left right = kept_order One maps.primary rising.primary vs ws xs ys left right
+  non_zero_order (suc (suc zero)) vs ws xs ys left right = kept_order Two maps.secondary rising.secondary vs ws xs ys left right
+  non_zero_order (suc (suc (suc zero))) vs ws xs ys left right = kept_order Three maps.tertiary rising.tertiary vs ws xs ys left right
+  non_zero_order (suc (suc (suc (suc level)))) vs ws xs ys left right = kept_order One maps.primary rising.primary vs ws xs ys left right
 
   -- lists of a level keep their order
   list_order : (level : ℕ) (ls rs xs ys : List Weights) → AreAllSent maps ls xs → AreAllSent maps rs ys →
       lexicographic (level_list level xs) (level_list level ys) ≡ lexicographic (level_list level ls) (level_list level rs)
   list_order level ls rs xs ys left right =
-      sounding_order level (map (weight_at level) ls) (map (weight_at level) rs) (map (weight_at level) xs) (map (weight_at level) ys)
+      non_zero_order level (map (weight_at level) ls) (map (weight_at level) rs) (map (weight_at level) xs) (map (weight_at level) ys)
       (weights_at_sent level ls xs left) (weights_at_sent level rs ys right)
 
   -- so the level lists of images compare as those of the elements

@@ -8,7 +8,7 @@ ghost use Rattle.uca_lines.specs.FaultKinds.{is_read_fault, is_read_step, kind_o
 ghost use Rattle.uca_lines.specs.FileSteps.{TakesNext, RefusesNext};
 ghost use Rattle.uca_lines.specs.LineReader.{left_of};
 
-use crate::files::{FileFault, FileForm, LineParser};
+use crate::files::{FileForm, LineFileFault, LineParser};
 use crate::{LineFault, LineReader, NextLine};
 use std::alloc::Allocator;
 use std::io::Read;
@@ -27,7 +27,7 @@ pub fn read_lines<T: LineParser, R: Read, A: Allocator>(
     alloc: A,
     source: &mut Source<R>,
     taker: &mut T,
-) -> Result<u32, FileFault<T::Kind>>
+) -> Result<u32, LineFileFault<T::Kind>>
     requires { T.says [] taker.old }
 
     // Where the bytes are known.
@@ -49,7 +49,7 @@ pub fn read_lines<T: LineParser, R: Read, A: Allocator>(
             Ok(true) => {}
             Ok(false) => return Ok(count),
             Err(kind) => {
-                return Err(FileFault {
+                return Err(LineFileFault {
                     line: count + 1,
                     kind,
                 });

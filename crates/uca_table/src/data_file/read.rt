@@ -5,7 +5,7 @@ ghost use Rattle.uca_values.specs.Content.{Properties, properties_of};
 ghost use Rattle.uca_lines.specs.FileStops.{IsStop, is_read};
 ghost use Rattle.uca_table.specs.DataSoFar.{Means, Refuses};
 
-use crate::data_file::begun::Begun;
+use crate::data_file::so_far::DataSoFar;
 use std::alloc::Allocator;
 use std::io::Read;
 use uca_lines::files::read_lines;
@@ -62,12 +62,12 @@ fn read_to_end<A: Allocator + Copy, R: Read>(
     ensures fault { IfSome source.old.remaining (λ bytes. IfErr result (Refuses bytes source.new.remaining)) }
     ensures failed { source.new.failed ≡ (source.old.failed || is_read result) }
 {
-    let mut begun = Begun {
+    let mut so_far = DataSoFar {
         started: false,
         data: Data::new(alloc),
     };
-    let count = read_lines(alloc, source, &mut begun)?;
-    let Begun { started, data } = begun;
+    let count = read_lines(alloc, source, &mut so_far)?;
+    let DataSoFar { started, data } = so_far;
     if !started {
         return Err(TableFault {
             line: count + 1,

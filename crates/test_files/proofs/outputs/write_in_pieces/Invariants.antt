@@ -1,4 +1,4 @@
--- What was handed over and the rest are the text.
+-- What was written and the rest are the text.
 use Rattle.std.proofs.Common.{◌≡◌, ◌+◌, length}
 use Rattle.test_files.proofs.outputs.write_in_pieces.Given as goal
 

@@ -1,7 +1,7 @@
--- The texts of the three levels are handed over one after the other.
+-- The texts of the three levels are written one after the other.
 use Rattle.std.proofs.Common.{[], ap, subst, ◌∙◌, arith}
 use Rattle.uca_weights.specs.declared.Level.TheVariants.{One, Two, Three}
-use Rattle.uca_lines.proofs.HandingLemmas.{part, written_none, part_fits, part_written, part_fails, all_handed, nothing_handed, nothing_counted, fault_writes, fault_leaves_some, flush_leaves_some}
+use Rattle.uca_lines.proofs.BufferedLemmas.{part, written_none, part_fits, part_written, part_fails, all_parts_written, none_buffered, nothing_counted, fault_writes, fault_leaves_some, flush_leaves_some}
 use Rattle.uca_certificates.specs.Certificates.{CertificateContent, IsCertificate}
 use Rattle.uca_certificates.specs.Texts.{certificate_text}
 use Rattle.uca_certificates.specs.Steps.{level_text}
@@ -121,9 +121,9 @@ returns-clause-text g c =
     let one = part_written part parts 0 [] first (omega arith) none c.in_ok-write_runs.ensures in
     let two = part_written part parts 1 [] second (omega arith) one c.in_ok-write_runs-2.ensures in
     let three = part_written part parts 2 [] third (omega arith) two c.in_ok-write_runs-3.ensures in
-    let all = all_handed part parts 3 _ whole (omega arith) three in
+    let all = all_parts_written part parts 3 _ whole (omega arith) three in
     c.flush.ensures.text c.args.out.now.contents (certificate_text c.args.certificate.now)
-    (all.hands c.args.out.now.contents [] (nothing_handed c.args.out.now.contents c.new-buffer.result c.new-buffer.ensures.held c.new-buffer.ensures.written))
+    (all.writes c.args.out.now.contents [] (none_buffered c.args.out.now.contents c.new-buffer.result c.new-buffer.ensures.held c.new-buffer.ensures.written))
 
 pub returns-clause-not_all : goal.returns-clause-not_all
 returns-clause-not_all g c =
@@ -137,4 +137,4 @@ returns-clause-not_all g c =
     let two = part_written part parts 1 [] second (omega arith) one c.in_ok-write_runs-2.ensures in
     let three = part_written part parts 2 [] third (omega arith) two c.in_ok-write_runs-3.ensures in
     flush_leaves_some c.flush.result c.new-buffer.ensures.held c.new-buffer.ensures.written
-    (all_handed part parts 3 _ whole (omega arith) three) c.flush.ensures.not_all
+    (all_parts_written part parts 3 _ whole (omega arith) three) c.flush.ensures.not_all

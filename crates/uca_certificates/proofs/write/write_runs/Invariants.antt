@@ -1,4 +1,4 @@
--- The lines of the runs so far were handed over.
+-- The lines of the runs so far were written.
 use Rattle.std.proofs.Common.{take}
 use Rattle.uca_lines.specs.Buffered.{HasWrittenThrough}
 use Rattle.uca_certificates.specs.Steps.{level_text}

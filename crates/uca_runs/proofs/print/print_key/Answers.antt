@@ -1,5 +1,5 @@
 use Rattle.std.proofs.Common.{[], refl, arith}
-use Rattle.uca_lines.proofs.HandingLemmas.{part, written_none, part_fits, part_written, returns_fault, returns_last}
+use Rattle.uca_lines.proofs.BufferedLemmas.{part, written_none, part_fits, part_written, returns_fault, returns_last}
 use Rattle.uca_runs.proofs.PrintLemmas.{line_parts, line_is}
 use Rattle.uca_runs.proofs.print.print_key.Goals as goal
 
@@ -31,4 +31,4 @@ pub returns : goal.returns
 returns g c = returns_last part (line_parts c.args.depth c.args.key.now c.args.points.now) 2 [] _ _ _ _ c.write.result (line_is c.args.depth c.args.key.now c.args.points.now) refl (omega arith)
     (part_written part (line_parts c.args.depth c.args.key.now c.args.points.now) 1 [] refl (omega arith)
     (part_written part (line_parts c.args.depth c.args.key.now c.args.points.now) 0 [] refl (omega arith) (written_none c.args.buffer.now c.args.out.now) c.in_ok-write_groups.ensures)
-    c.in_ok-write_level.ensures) c.write.ensures.hands
+    c.in_ok-write_level.ensures) c.write.ensures.writes

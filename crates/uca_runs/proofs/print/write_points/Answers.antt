@@ -1,6 +1,6 @@
 use Rattle.std.proofs.Common.{refl, ap, ◌∙◌}
 use Rattle.uca_runs.specs.Print.{spaced_point}
-use Rattle.uca_lines.proofs.HandingLemmas.{part_fits, part_written, returns_fault, all_handed}
+use Rattle.uca_lines.proofs.BufferedLemmas.{part_fits, part_written, returns_fault, all_parts_written}
 use Rattle.uca_runs.proofs.print.write_points.Goals as goal
 
 pub write-requires : goal.write-requires
@@ -9,12 +9,12 @@ write-requires g c = part_fits spaced_point c.args.points.now c.loop-point.point
 
 pub loop-point-preserved : goal.loop-point-preserved
 loop-point-preserved g c = part_written spaced_point c.args.points.now c.loop-point.point-index c.point-item.result (c.spaced_point.ensures ∙ ap spaced_point c.point-item.is)
-    c.loop-point-test.true c.loop-point.invariant c.in_ok-write.ensures.hands
+    c.loop-point-test.true c.loop-point.invariant c.in_ok-write.ensures.writes
 
 pub returns-in_err-write : goal.returns-in_err-write
 returns-in_err-write g c = returns_fault spaced_point c.args.points.now c.loop-point.point-index c.point-item.result _ _
-    c.from_residual.result refl (c.spaced_point.ensures ∙ ap spaced_point c.point-item.is) c.loop-point-test.true c.loop-point.invariant c.in_err-write.ensures.hands
+    c.from_residual.result refl (c.spaced_point.ensures ∙ ap spaced_point c.point-item.is) c.loop-point-test.true c.loop-point.invariant c.in_err-write.ensures.writes
     c.from_residual.ensures.1
 
 pub returns : goal.returns
-returns g c = all_handed spaced_point c.args.points.now c.loop-point.point-index _ refl c.loop-point-test.false c.loop-point.invariant
+returns g c = all_parts_written spaced_point c.args.points.now c.loop-point.point-index _ refl c.loop-point-test.false c.loop-point.invariant

@@ -1,30 +1,30 @@
 use Rattle.std.proofs.Common.{Some, ap, subst, sym, ◌∙◌, length, arith}
-use Rattle.uca_match.specs.Tries.{target_of, node_at, AreRisingEdges, IsTree, AreHeads}
+use Rattle.uca_match.specs.Tries.{target_of, node_at, AreRisingEdges, IsTree, IsRootIndex}
 use Rattle.uca_match.proofs.TrieEdges.{none_at_new_place}
-use Rattle.uca_match.proofs.TrieLookups.{leads_on, leads_nowhere, is_node, head_some, head_none, branch_read, head_read}
+use Rattle.uca_match.proofs.TrieLookups.{leads_on, leads_nowhere, is_node, indexed_some, indexed_none, branch_read, indexed_read}
 use Rattle.uca_match.proofs.key_map.KeyMapKeySet.step.Goals as goal
 
 pub returns-then-number-eq0 : goal.returns-then-number-eq0
 returns-then-number-eq0 g c = λ key is.
     let nodes = c.args.self.now in
-    let heads = c.self.inside.heads.items in
-    let are = subst (λ t. AreHeads (node_at t 0).edges heads) c.self.view_is c.self.invariant.first_steps in
-    let there = head_read (node_at nodes 0).edges heads c.args.c c.index-number.result.now are
-    (omega (arith, c.if-code-len.true, c.len.ensures, c.self.inside.heads.ok.0)) c.index-number.ensures in
-    leads_nowhere nodes 0 c.args.c (head_none (node_at nodes 0).edges heads c.args.c c.index-number.result.now are
-    (omega (arith, c.if-code-len.true, c.len.ensures, c.self.inside.heads.ok.0)) there c.if-number-eq0.true) key (is ∙ ap Some c.if-node-eq0.true)
+    let root_index = c.self.inside.root_index.items in
+    let are = subst (λ t. IsRootIndex (node_at t 0).edges root_index) c.self.view_is c.self.invariant.first_steps in
+    let there = indexed_read (node_at nodes 0).edges root_index c.args.c c.index-number.result.now are
+    (omega (arith, c.if-code-len.true, c.len.ensures, c.self.inside.root_index.ok.0)) c.index-number.ensures in
+    leads_nowhere nodes 0 c.args.c (indexed_none (node_at nodes 0).edges root_index c.args.c c.index-number.result.now are
+    (omega (arith, c.if-code-len.true, c.len.ensures, c.self.inside.root_index.ok.0)) there c.if-number-eq0.true) key (is ∙ ap Some c.if-node-eq0.true)
 
 pub returns-then-code-len : goal.returns-then-code-len
 returns-then-code-len g c = λ key is.
     let nodes = c.args.self.now in
-    let heads = c.self.inside.heads.items in
+    let root_index = c.self.inside.root_index.items in
     let tree = subst (λ t. IsTree t) c.self.view_is c.self.invariant.tree in
-    let are = subst (λ t. AreHeads (node_at t 0).edges heads) c.self.view_is c.self.invariant.first_steps in
-    let there = head_read (node_at nodes 0).edges heads c.args.c c.index-number.result.now are
-    (omega (arith, c.if-code-len.true, c.len.ensures, c.self.inside.heads.ok.0)) c.index-number.ensures in
+    let are = subst (λ t. IsRootIndex (node_at t 0).edges root_index) c.self.view_is c.self.invariant.first_steps in
+    let there = indexed_read (node_at nodes 0).edges root_index c.args.c c.index-number.result.now are
+    (omega (arith, c.if-code-len.true, c.len.ensures, c.self.inside.root_index.ok.0)) c.index-number.ensures in
     leads_on nodes tree 0 c.args.c c.index-number.result.now
-    (head_some (node_at nodes 0).edges heads c.args.c c.index-number.result.now are
-    (omega (arith, c.if-code-len.true, c.len.ensures, c.self.inside.heads.ok.0)) there c.if-number-eq0.false) key (is ∙ ap Some c.if-node-eq0.true)
+    (indexed_some (node_at nodes 0).edges root_index c.args.c c.index-number.result.now are
+    (omega (arith, c.if-code-len.true, c.len.ensures, c.self.inside.root_index.ok.0)) there c.if-number-eq0.false) key (is ∙ ap Some c.if-node-eq0.true)
 
 pub index-requires : goal.index-requires
 index-requires g c =

@@ -1,4 +1,4 @@
--- Where no text was read, or its key was not handed over.
+-- Where no text was read, or its key was not written.
 use Rattle.std.specs.Prelude.{⊤}
 use Rattle.std.proofs.Common.{Bool, Err, ap₂, subst, ◌∙◌}
 use Rattle.std.proofs.lemmas.Result.{err_from_is_err_and}

@@ -1,4 +1,4 @@
--- The keys of the lines so far were handed over, and neither reader nor writer has failed since.
+-- The keys of the lines so far were written, and neither reader nor writer has failed since.
 use Rattle.std.proofs.Common.{◌≡◌, ℕ, ◌+◌, ◌-◌, ◌*◌, ◌^◌, ◌≤◌, List, Option, length}
 use Rattle.uca_runs.specs.Keys.{key_settings_of}
 use Rattle.uca_runs.specs.KeysSoFar.{HasPrinted}

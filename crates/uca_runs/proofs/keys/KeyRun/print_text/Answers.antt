@@ -1,4 +1,4 @@
--- The counts of what is handed over fit.
+-- The counts of what is written fit.
 use Rattle.std.proofs.Common.{◌≡◌, ◌+◌, ◌-◌, ◌^◌, ◌<◌, ◌≤◌, length, arith, subst, sym, ◌∙◌}
 use Rattle.uca_lines.specs.Buffered.{count_of}
 use Rattle.uca_runs.specs.Print.{print_line_at}

@@ -9,4 +9,4 @@ write-requires g c = rw (point_is c.args.point c.spare_digits.result c.six_digit
 
 pub returns : goal.returns
 returns g c = rw (point_is c.args.point c.spare_digits.result c.six_digits-digits.result c.spare_digits.ensures
-    (c.six_digits-digits.ensures ∙ ap (digits 6) c.from.ensures)) at c.write.ensures.hands
+    (c.six_digits-digits.ensures ∙ ap (digits 6) c.from.ensures)) at c.write.ensures.writes

@@ -2,7 +2,7 @@ use Rattle.std.proofs.Common.{refl}
 use Rattle.uca_lines.specs.Lines.{ended}
 use Rattle.uca_table.specs.Canonical.{range_line}
 use Rattle.uca_table.specs.CanonicalLineTexts.{range_lines}
-use Rattle.uca_lines.proofs.HandingLemmas.{part_fits, part_written, returns_fault, all_handed}
+use Rattle.uca_lines.proofs.BufferedLemmas.{part_fits, part_written, returns_fault, all_parts_written}
 use Rattle.uca_table.proofs.canonical.header.write_ranges.Goals as goal
 
 pub write_range-requires : goal.write_range-requires
@@ -21,4 +21,4 @@ returns-in_err-write_range g c = returns_fault (λ r. ended (range_line r)) c.ar
 
 pub returns : goal.returns
 unfolding range_lines
-returns g c = all_handed (λ r. ended (range_line r)) c.args.ranges.now c.loop-range.range-index _ refl c.loop-range-test.false c.loop-range.invariant
+returns g c = all_parts_written (λ r. ended (range_line r)) c.args.ranges.now c.loop-range.range-index _ refl c.loop-range-test.false c.loop-range.invariant

@@ -1,6 +1,6 @@
 use Rattle.std.proofs.Common.{refl, ap}
 use Rattle.uca_table.specs.Canonical.{key_point_text, key_text}
-use Rattle.uca_lines.proofs.HandingLemmas.{part_fits, part_written, returns_fault, all_handed}
+use Rattle.uca_lines.proofs.BufferedLemmas.{part_fits, part_written, returns_fault, all_parts_written}
 use Rattle.uca_table.proofs.canonical.rows.write_key.Goals as goal
 
 pub write_key_point-requires : goal.write_key_point-requires
@@ -20,4 +20,4 @@ returns-in_err-write_key_point g c = returns_fault key_point_text c.args.key.now
 
 pub returns : goal.returns
 unfolding key_text
-returns g c = all_handed key_point_text c.args.key.now c.loop-point.point-index _ refl c.loop-point-test.false c.loop-point.invariant
+returns g c = all_parts_written key_point_text c.args.key.now c.loop-point.point-index _ refl c.loop-point-test.false c.loop-point.invariant

@@ -1,5 +1,5 @@
 use Rattle.std.proofs.Common.{[], refl, arith}
-use Rattle.uca_lines.proofs.HandingLemmas.{part, written_none, part_fits, part_written, returns_fault, returns_last}
+use Rattle.uca_lines.proofs.BufferedLemmas.{part, written_none, part_fits, part_written, returns_fault, returns_last}
 use Rattle.uca_table.proofs.CanonicalTexts.{point_parts, key_point_text_is}
 use Rattle.uca_table.proofs.canonical.rows.write_key_point.Goals as goal
 
@@ -18,4 +18,4 @@ write-requires g c = part_fits part (point_parts c.args.point) 1 [] _ _ (key_poi
 pub returns : goal.returns
 returns g c = returns_last part (point_parts c.args.point) 1 [] _ _ _ _ c.write.result (key_point_text_is c.args.point) refl (omega arith)
     (part_written part (point_parts c.args.point) 0 [] refl (omega arith) (written_none c.args.buffer.now c.args.out.now) c.in_ok-write_point.ensures)
-    c.write.ensures.hands
+    c.write.ensures.writes

@@ -2,7 +2,7 @@ use Rattle.std.proofs.Common.{refl, ap}
 use Rattle.uca_lines.specs.Lines.{ended}
 use Rattle.uca_table.specs.Canonical.{row_line}
 use Rattle.uca_table.specs.CanonicalLineTexts.{row_lines}
-use Rattle.uca_lines.proofs.HandingLemmas.{part_fits, part_written, returns_fault, all_handed}
+use Rattle.uca_lines.proofs.BufferedLemmas.{part_fits, part_written, returns_fault, all_parts_written}
 use Rattle.uca_table.proofs.canonical.rows.write_rows.Goals as goal
 
 pub write_row-requires : goal.write_row-requires
@@ -22,4 +22,4 @@ returns-in_err-write_row g c = returns_fault (λ row. ended (row_line row)) c.ar
 
 pub returns : goal.returns
 unfolding row_lines
-returns g c = all_handed (λ row. ended (row_line row)) c.args.rows.now c.loop-row.row-index _ refl c.loop-row-test.false c.loop-row.invariant
+returns g c = all_parts_written (λ row. ended (row_line row)) c.args.rows.now c.loop-row.row-index _ refl c.loop-row-test.false c.loop-row.invariant

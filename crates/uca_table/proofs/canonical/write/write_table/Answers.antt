@@ -2,7 +2,7 @@ use Rattle.std.proofs.Common.{[], ap, sym, subst, ◌∙◌, arith}
 use Rattle.uca_values.specs.Content.{TableContent, AreRows}
 use Rattle.uca_table.specs.Canonical.{canonical}
 use Rattle.uca_table.specs.CanonicalLineTexts.{header_text, row_lines}
-use Rattle.uca_lines.proofs.HandingLemmas.{part, written_none, part_written, part_fails, all_handed, nothing_handed, nothing_counted, fault_writes, fault_leaves_some, flush_leaves_some}
+use Rattle.uca_lines.proofs.BufferedLemmas.{part, written_none, part_written, part_fails, all_parts_written, none_buffered, nothing_counted, fault_writes, fault_leaves_some, flush_leaves_some}
 use Rattle.uca_table.proofs.CanonicalTexts.{table_parts, canonical_is}
 use Rattle.uca_table.proofs.CanonicalSizes.{rows_fit}
 use Rattle.uca_table.proofs.canonical.write.write_table.Goals as goal
@@ -46,16 +46,16 @@ returns-in_err-write_rows-clause-not_all g c = fault_leaves_some c.from_residual
 pub returns-clause-text : goal.returns-clause-text
 returns-clause-text g c =
     c.flush.ensures.text c.args.out.now.contents (canonical c.args.table.now)
-    ((all_handed part (table_parts c.args.table.now) 2 _ (canonical_is c.args.table.now) (omega arith)
+    ((all_parts_written part (table_parts c.args.table.now) 2 _ (canonical_is c.args.table.now) (omega arith)
     (part_written part (table_parts c.args.table.now) 1 [] (ap row_lines
     (c.deref.ensures.value ∙ ap (λ (t : TableContent). t.rows) c.table.view_is)) (omega arith)
     (part_written part (table_parts c.args.table.now) 0 [] (ap (λ (t : TableContent). header_text t.header) c.table.view_is) (omega arith)
-    (written_none c.new-buffer.result c.args.out.now) c.in_ok-write_header.ensures.text) c.in_ok-write_rows.ensures)).hands c.args.out.now.contents
-    [] (nothing_handed c.args.out.now.contents c.new-buffer.result c.new-buffer.ensures.held c.new-buffer.ensures.written))
+    (written_none c.new-buffer.result c.args.out.now) c.in_ok-write_header.ensures.text) c.in_ok-write_rows.ensures)).writes c.args.out.now.contents
+    [] (none_buffered c.args.out.now.contents c.new-buffer.result c.new-buffer.ensures.held c.new-buffer.ensures.written))
 
 pub returns-clause-not_all : goal.returns-clause-not_all
 returns-clause-not_all g c = flush_leaves_some c.flush.result c.new-buffer.ensures.held c.new-buffer.ensures.written
-    (all_handed part (table_parts c.args.table.now) 2 _ (canonical_is c.args.table.now) (omega arith)
+    (all_parts_written part (table_parts c.args.table.now) 2 _ (canonical_is c.args.table.now) (omega arith)
     (part_written part (table_parts c.args.table.now) 1 [] (ap row_lines (c.deref.ensures.value ∙ ap (λ (t : TableContent). t.rows) c.table.view_is))
     (omega arith) (part_written part (table_parts c.args.table.now) 0 [] (ap (λ (t : TableContent). header_text t.header) c.table.view_is)
     (omega arith) (written_none c.new-buffer.result c.args.out.now) c.in_ok-write_header.ensures.text) c.in_ok-write_rows.ensures)) c.flush.ensures.not_all

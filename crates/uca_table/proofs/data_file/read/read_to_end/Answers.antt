@@ -7,4 +7,4 @@ use Rattle.uca_table.proofs.data_file.read.read_to_end.Goals as goal
 pub returns-in_err-count-clause-fault : goal.returns-in_err-count-clause-fault
 returns-in_err-count-clause-fault g c =
     let p = err_from_is_err_and c.from_residual.result c.from_residual.ensures.1 in
-    rw (p.1, p.2) (refused_view TABLE_FORM (λ begun. summary begun.started begun.«data») Says Cause IsUnfinished _ _ _ _ c.in_err-count.ensures.fault)
+    rw (p.1, p.2) (refused_view TABLE_FORM (λ so_far. summary so_far.started so_far.«data») Says Cause IsUnfinished _ _ _ _ c.in_err-count.ensures.fault)

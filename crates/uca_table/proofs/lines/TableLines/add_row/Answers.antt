@@ -2,13 +2,13 @@
 use Rattle.std.proofs.Common.{◌++◌, ◌∷◌, [], sym, ap, subst, ◌∙◌, inr, arith, refl}
 use Rattle.std.specs.Prelude.{IsSome}
 use Rattle.uca_values.specs.Content.{Entry}
-use Rattle.uca_table.specs.TableSoFar.{Begun}
+use Rattle.uca_table.specs.TableSoFar.{TableSoFar}
 use Rattle.uca_table.proofs.KeepingLaws.{with_rows, keeps_row, keeps_same, contained, not_contained, added_at}
 use Rattle.uca_table.proofs.lines.TableLines.add_row.Goals as goal
 
 pub returns-then-contains-clause-fault : goal.returns-then-contains-clause-fault
 returns-then-contains-clause-fault g c =
-    let rows = ap (λ (b : Begun). b.rows) c.self.view_is in
+    let rows = ap (λ (b : TableSoFar). b.rows) c.self.view_is in
     let key = ap (λ (r : Entry). r.key) c.row.view_is in
     inr (contained _ _ _ _ rows key ((c.self.invariant.keys c.row.inside.key).0 (sym c.contains.ensures ∙ c.if-contains.true)))
 
@@ -23,12 +23,12 @@ invariant_of-self-2 g c =
     keeps_row _ _ _ _ _ c.args.row c.self.invariant c.requires.entry
     (not_contained _ _ _ _ refl key _ (c.self.invariant.keys c.row.inside.key) (sym c.contains.ensures ∙ c.if-contains.false))
     (omega arith)
-    (let P : Begun → Type 0 = λ b. IsSome b.version in subst P (sym c.self.view_is) c.requires.versioned)
+    (let P : TableSoFar → Type 0 = λ b. IsSome b.version in subst P (sym c.self.view_is) c.requires.versioned)
     (ap (with_rows _ _ _) items)
     (λ q. added_at _ _ _ _ _ (c.in_ok-key.ensures.items ∙ c.as_slice.ensures.value ∙ key) (c.in_ok-insert.ensures.updates.0 q))
 
 pub returns-clause-new : goal.returns-clause-new
 returns-clause-new g c =
-    let rows = ap (λ (b : Begun). b.rows) c.self.view_is in
+    let rows = ap (λ (b : TableSoFar). b.rows) c.self.view_is in
     let key = ap (λ (r : Entry). r.key) c.row.view_is in
     not_contained _ _ _ _ rows key _ (c.self.invariant.keys c.row.inside.key) (sym c.contains.ensures ∙ c.if-contains.false)

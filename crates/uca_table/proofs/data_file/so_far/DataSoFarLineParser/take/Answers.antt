@@ -3,7 +3,7 @@ use Rattle.std.proofs.lemmas.Result.{on_ok_weaker}
 use Rattle.uca_table.specs.DataSoFar.{Cause, summary}
 use Rattle.uca_table.proofs.DataSoFarLemmas.{no_read, says_more}
 use Rattle.uca_table.proofs.KindLemmas.{never_read}
-use Rattle.uca_table.proofs.data_file.begun.BegunLineParser.take.Goals as goal
+use Rattle.uca_table.proofs.data_file.so_far.DataSoFarLineParser.take.Goals as goal
 
 pub returns-clause-ok : goal.returns-clause-ok
 returns-clause-ok g c =

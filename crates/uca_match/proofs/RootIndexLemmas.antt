@@ -4,7 +4,7 @@ use Rattle.std.proofs.Common.{⊎_elim, sym, ap, subst, refl, ◌∙◌, arith}
 use Rattle.std.proofs.lemmas.Bool.{cond-true, cond-false, cond_both, cases_eq, eq-eqb, ne_eqb}
 use Rattle.std.proofs.lemmas.List.{length-set, take_more, take_all, get_or-set_same, get_or-set_other, get_or-replicate, length-replicate}
 use Rattle.uca_values.proofs.Rising.{all_at}
-use Rattle.uca_match.specs.Tries.{target_of, AreRisingEdges, IsTree, node_at, NodeContent, head_target, AreHeads}
+use Rattle.uca_match.specs.Tries.{target_of, AreRisingEdges, IsTree, node_at, NodeContent, indexed_target, IsRootIndex}
 use Rattle.uca_match.specs.declared.key_map.Edge.{Edge}
 
 -- ---- Edges by their places
@@ -45,46 +45,46 @@ target_of_front (f ∷ edges) e c other = ap (cond (nat_eq f.point c) (Some f.ta
 
 -- ---- The heads
 
-target_of_head : (n : ℕ) → 0 < n → Some n ≡ head_target n
-target_of_head zero above = absurd (omega arith)
-target_of_head (suc n) above = refl
+target_of_indexed : (n : ℕ) → 0 < n → Some n ≡ indexed_target n
+target_of_indexed zero above = absurd (omega arith)
+target_of_indexed (suc n) above = refl
 
-pub heads_none : (heads : List ℕ) (n : ℕ) → heads ≡ replicate n 0 → AreHeads [] heads
-heads_none heads n same c below =
+pub root_index_none : (root_index : List ℕ) (n : ℕ) → root_index ≡ replicate n 0 → IsRootIndex [] root_index
+root_index_none root_index n same c below =
     let within : c < n = omega (arith, below, ap length same, length-replicate {A = ℕ} n 0) in
-    ap head_target (sym (ap (λ xs. get_or xs c 0) same ∙ get_or-replicate n c 0 0 within))
+    ap indexed_target (sym (ap (λ xs. get_or xs c 0) same ∙ get_or-replicate n c 0 0 within))
 
 -- an edge is put into its place
-heads_put : (edges : List Edge) (heads : List ℕ) (e : Edge) → AreHeads edges heads → target_of edges e.point ≡ None → 0 < e.target →
-    e.point < length heads → AreHeads (edges ++ e ∷ []) (set heads e.point e.target)
-heads_put edges heads e are none above below c within =
+root_index_put : (edges : List Edge) (root_index : List ℕ) (e : Edge) → IsRootIndex edges root_index → target_of edges e.point ≡ None → 0 < e.target →
+    e.point < length root_index → IsRootIndex (edges ++ e ∷ []) (set root_index e.point e.target)
+root_index_put edges root_index e are none above below c within =
     ⊎_elim
     (λ same.
-    subst (λ k. target_of (edges ++ e ∷ []) k ≡ head_target (get_or (set heads e.point e.target) k 0)) same
-    (target_of_last edges e none ∙ target_of_head e.target above ∙ ap head_target (sym (get_or-set_same heads e.point e.target 0 below))))
-    (λ other. target_of_front edges e c other ∙ are c (subst (λ n. c < n) (length-set heads e.point e.target) within)
-    ∙ ap head_target (sym (get_or-set_other heads e.point c e.target 0 (λ same. other (sym same)))))
+    subst (λ k. target_of (edges ++ e ∷ []) k ≡ indexed_target (get_or (set root_index e.point e.target) k 0)) same
+    (target_of_last edges e none ∙ target_of_indexed e.target above ∙ ap indexed_target (sym (get_or-set_same root_index e.point e.target 0 below))))
+    (λ other. target_of_front edges e c other ∙ are c (subst (λ n. c < n) (length-set root_index e.point e.target) within)
+    ∙ ap indexed_target (sym (get_or-set_other root_index e.point c e.target 0 (λ same. other (sym same)))))
     (cases_eq e.point c)
 
 -- an edge has no place there
-heads_kept : (edges : List Edge) (heads : List ℕ) (e : Edge) → AreHeads edges heads → length heads ≤ e.point → AreHeads (edges ++ e ∷ []) heads
-heads_kept edges heads e are beyond c within = target_of_front edges e c (λ same. omega (arith, same, within, beyond)) ∙ are c within
+root_index_kept : (edges : List Edge) (root_index : List ℕ) (e : Edge) → IsRootIndex edges root_index → length root_index ≤ e.point → IsRootIndex (edges ++ e ∷ []) root_index
+root_index_kept edges root_index e are beyond c within = target_of_front edges e c (λ same. omega (arith, same, within, beyond)) ∙ are c within
 
 -- where the edges of the root have been read
-pub heads_more_put : (nodes : List NodeContent) → IsTree nodes → (edges : List Edge) → edges ≡ (node_at nodes 0).edges →
-    (heads : List ℕ) (i : ℕ) (d : Edge) → i < length edges → AreHeads (take i edges) heads → (get_or edges i d).point < length heads →
-    AreHeads (take (i + 1) edges) (set heads (get_or edges i d).point (get_or edges i d).target)
-heads_more_put nodes tree edges same heads i d within are below =
+pub root_index_more_put : (nodes : List NodeContent) → IsTree nodes → (edges : List Edge) → edges ≡ (node_at nodes 0).edges →
+    (root_index : List ℕ) (i : ℕ) (d : Edge) → i < length edges → IsRootIndex (take i edges) root_index → (get_or edges i d).point < length root_index →
+    IsRootIndex (take (i + 1) edges) (set root_index (get_or edges i d).point (get_or edges i d).target)
+root_index_more_put nodes tree edges same root_index i d within are below =
     let e : Edge = get_or edges i d in
     let rising = subst (λ es. AreRisingEdges es) (sym same) (tree.shape.rising 0 tree.shape.some) in
     let there = ap (λ es. target_of es e.point) (sym same) ∙ target_at edges rising i d within in
-    subst (λ es. AreHeads es (set heads e.point e.target)) (sym (take_more edges i d within))
-    (heads_put (take i edges) heads e are (none_before edges rising i d within) (tree.shape.edges 0 e.point e.target tree.shape.some there).later below)
+    subst (λ es. IsRootIndex es (set root_index e.point e.target)) (sym (take_more edges i d within))
+    (root_index_put (take i edges) root_index e are (none_before edges rising i d within) (tree.shape.edges 0 e.point e.target tree.shape.some there).later below)
 
-pub heads_more_kept : (edges : List Edge) (heads : List ℕ) (i : ℕ) (d : Edge) → i < length edges → AreHeads (take i edges) heads →
-    length heads ≤ (get_or edges i d).point → AreHeads (take (i + 1) edges) heads
-heads_more_kept edges heads i d within are beyond =
-    subst (λ es. AreHeads es heads) (sym (take_more edges i d within)) (heads_kept (take i edges) heads (get_or edges i d) are beyond)
+pub root_index_more_kept : (edges : List Edge) (root_index : List ℕ) (i : ℕ) (d : Edge) → i < length edges → IsRootIndex (take i edges) root_index →
+    length root_index ≤ (get_or edges i d).point → IsRootIndex (take (i + 1) edges) root_index
+root_index_more_kept edges root_index i d within are beyond =
+    subst (λ es. IsRootIndex es root_index) (sym (take_more edges i d within)) (root_index_kept (take i edges) root_index (get_or edges i d) are beyond)
 
-pub heads_all : (root edges : List Edge) → edges ≡ root → (heads : List ℕ) (i : ℕ) → length edges ≤ i → AreHeads (take i edges) heads → AreHeads root heads
-heads_all root edges same heads i past are = subst (λ es. AreHeads es heads) (take_all i edges past ∙ same) are
+pub root_index_all : (root edges : List Edge) → edges ≡ root → (root_index : List ℕ) (i : ℕ) → length edges ≤ i → IsRootIndex (take i edges) root_index → IsRootIndex root root_index
+root_index_all root edges same root_index i past are = subst (λ es. IsRootIndex es root_index) (take_all i edges past ∙ same) are

@@ -1,6 +1,6 @@
 -- A line is read, is due, and its run is added.
 use Rattle.uca_certificates.proofs.TakeLaws.{line_fault, order_fault, denied, added_takes, add_fault}
-use Rattle.uca_certificates.proofs.lines.Lines.take_line.Goals as goal
+use Rattle.uca_certificates.proofs.lines.CertificateLines.take_line.Goals as goal
 
 pub returns-in_default-clause-fault : goal.returns-in_default-clause-fault
 returns-in_default-clause-fault g c = line_fault c.args.self.now c.args.line.now c.in_default.ensures

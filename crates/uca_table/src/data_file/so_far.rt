@@ -18,12 +18,12 @@ const HEADER: &[u8] = b"@data 1";
 
 /// What the lines so far say: whether the header stands, and the properties that the ranges give.
 #[derive(Drop)]
-pub struct Begun<A: Allocator> {
+pub struct DataSoFar<A: Allocator> {
     pub started: bool,
     pub data: Data<A>,
 }
 
-impl<A: Allocator> Begun<A> {
+impl<A: Allocator> DataSoFar<A> {
     // Takes the next line, without its LF.
     fn take_line(&mut self, line: &[u8]) -> Result<(), FaultKind>
         ensures ok { OnOk result (Takes (summary self.old.started self.old.«data») line.now
@@ -45,16 +45,16 @@ impl<A: Allocator> Begun<A> {
     }
 }
 
-impl<A: Allocator> LineParser for Begun<A> {
+impl<A: Allocator> LineParser for DataSoFar<A> {
     type Kind = FaultKind;
 
     ghost form = { TABLE_FORM };
 
     ghost is_read = { is_read_kind };
 
-    ghost says = { λ lines begun. Says lines (summary begun.started begun.«data») };
+    ghost says = { λ lines so_far. Says lines (summary so_far.started so_far.«data») };
 
-    ghost cause = { λ begun line kind. Cause (summary begun.started begun.«data») line kind };
+    ghost cause = { λ so_far line kind. Cause (summary so_far.started so_far.«data») line kind };
 
     fn form() -> FileForm<FaultKind> {
         TABLE_FORM

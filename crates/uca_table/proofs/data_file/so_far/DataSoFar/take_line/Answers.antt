@@ -3,7 +3,7 @@ use Rattle.std.proofs.lemmas.Result.{err_from_is_err_and}
 use Rattle.uca_table.specs.DataSoFar.{IsRangeDue, summary}
 use Rattle.uca_table.proofs.DataWords.{some_from_test}
 use Rattle.uca_table.proofs.DataTaken.{not_header, words_cause, added_takes, refused_cause}
-use Rattle.uca_table.proofs.data_file.begun.Begun.take_line.Goals as goal
+use Rattle.uca_table.proofs.data_file.so_far.DataSoFar.take_line.Goals as goal
 
 pub returns-in_err-range_line-clause-fault : goal.returns-in_err-range_line-clause-fault
 returns-in_err-range_line-clause-fault g c =

@@ -5,7 +5,7 @@ use Rattle.uca_weights.specs.declared.Level.TheVariants.{One, Two, Three}
 use Rattle.uca_weights.specs.Runs.{AreProperRuns}
 use Rattle.uca_certificates.specs.Certificates.{CertificateContent}
 use Rattle.uca_certificates.proofs.MapLaws.{refuses_primary, refuses_secondary, refuses_tertiary}
-use Rattle.uca_certificates.proofs.lines.Lines.into_certificate.Goals as goal
+use Rattle.uca_certificates.proofs.lines.CertificateLines.into_certificate.Goals as goal
 
 pub returns-in_err-primary-clause-fault : goal.returns-in_err-primary-clause-fault
 returns-in_err-primary-clause-fault g c =

@@ -1,7 +1,7 @@
 -- One more line is said; no line is to blame for a reader that failed; three levels have few lines.
 use Rattle.std.proofs.lemmas.Result.{on_ok_weaker}
 use Rattle.uca_certificates.proofs.TextsLemmas.{never_read, says_more, few_lines}
-use Rattle.uca_certificates.proofs.lines.LinesLineParser.take.Goals as goal
+use Rattle.uca_certificates.proofs.lines.CertificateLinesLineParser.take.Goals as goal
 
 pub returns-clause-ok : goal.returns-clause-ok
 returns-clause-ok g c =
