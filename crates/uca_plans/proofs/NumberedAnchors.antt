@@ -1,6 +1,7 @@
 -- Kinds of a plan's drafts are those of the numbered elements.
 use Rattle.std.proofs.Common.{◌≡◌, inl, inr, ℕ, true, false, List, [], ◌∷◌, map, refl, sym, ap, ◌∙◌, arith}
 use Rattle.std.specs.List.{AllByRecursion}
+use Rattle.std.proofs.lemmas.Bool.{and_parts}
 use Rattle.uca_weights.specs.declared.Level.{Level}
 use Rattle.uca_weights.specs.declared.Level.TheVariants.{One, Two, Three}
 use Rattle.uca_weights.specs.Kinds.{IsContinuation}
@@ -17,7 +18,6 @@ use Rattle.uca_plans.specs.Drafts.{is_zero, is_ignorable_to, draft_weight, reset
 use Rattle.uca_plans.specs.Lists.{fixed_weight}
 use Rattle.uca_plans.specs.ListLaws.{IsAmong}
 use Rattle.uca_plans.specs.Plans.{Plan}
-use Rattle.uca_plans.proofs.RisingNumbers.{both_true}
 use Rattle.uca_plans.proofs.DraftKinds.{IsZero, IsDraftContinuation, zero_or_not, ignorable_one, ignorable_two, ignorable_three, reset_cases}
 use Rattle.uca_plans.proofs.PlanCase.{IsCase}
 use Rattle.uca_plans.proofs.LevelImages.{members_in, number_of, number_within, fixed_number}
@@ -52,13 +52,13 @@ module _ (base : TableContent) (properties : Properties) (relations : List Relat
   pub ignorable_stays : (level : Level) (e : DraftElement) → is_ignorable_to level e ≡ true → IsIgnorableTo level (value base properties relations plan case e)
   ignorable_stays One e ignorable = kinds.zero_is base properties relations plan case One e.primary (zero_tested e.primary ignorable)
   ignorable_stays Two e ignorable =
-      let both = both_true (is_zero e.primary) (is_zero e.secondary) ignorable in (
+      let both = and_parts (is_zero e.primary) (is_zero e.secondary) ignorable in (
         kinds.zero_is base properties relations plan case One e.primary (zero_tested e.primary both.0),
         kinds.zero_is base properties relations plan case Two e.secondary (zero_tested e.secondary both.1),
       )
   ignorable_stays Three e ignorable =
-      let first = both_true (is_zero e.primary) (is_ignorable_to Three (record e { primary = Base 0 })) ignorable in
-      let rest = both_true (is_zero e.secondary) (is_zero e.tertiary) first.1 in (
+      let first = and_parts (is_zero e.primary) (is_ignorable_to Three (record e { primary = Base 0 })) ignorable in
+      let rest = and_parts (is_zero e.secondary) (is_zero e.tertiary) first.1 in (
         kinds.zero_is base properties relations plan case One e.primary (zero_tested e.primary first.0),
         kinds.zero_is base properties relations plan case Two e.secondary (zero_tested e.secondary rest.0),
         kinds.zero_is base properties relations plan case Three e.tertiary (zero_tested e.tertiary rest.1),

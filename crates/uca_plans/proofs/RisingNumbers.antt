@@ -1,6 +1,7 @@
 -- The numbers of a level with room rise along its list.
 use Rattle.std.proofs.Common.{◌≡◌, inl, inr, ℕ, zero, suc, ◌+◌, ◌-◌, ◌<◌, ◌≤◌, Bool, true, false, ◌&&◌, List, [], ◌∷◌, ◌++◌, length, map, refl, sym, ap}
 use Rattle.std.proofs.Common.{arith}
+use Rattle.std.proofs.lemmas.Bool.{and_parts}
 use Rattle.std.proofs.lemmas.Bool.Decides.{nat_tests}
 use Rattle.std.proofs.lemmas.List.{length-append}
 use Rattle.std.proofs.lemmas.List.FromFn.{length-map-range_with_len}
@@ -125,11 +126,6 @@ number_at w (m ∷ ms) (low ∷ lows) n highs among same = elim (same_or_other w
 
 -- ---- The numbers of a level
 
--- two tests that succeed together
-pub both_true : (a b : Bool) → (a && b) ≡ true → (a ≡ true) × (b ≡ true)
-both_true true b h = (refl, h)
-both_true false b h = absurd (cc)
-
 -- a segment with room has places for its members
 pub room_places : (segment : Segment) (ms : List DraftWeight) → has_room segment ms ≡ true → segment.below + length ms ≤ segment.top
 room_places segment ms room = grind (arith, nat_tests)
@@ -141,7 +137,7 @@ pub level_places : (level : Level) (ms : List DraftWeight) → level_has_room le
 level_places level ms room =
     let low = has_room (low_segment level) (low_members level ms) in
     let high = has_room (high_segment level) (high_members level ms) in
-    let both = both_true low high room in
+    let both = and_parts low high room in
     (room_places (low_segment level) (low_members level ms) both.0, room_places (high_segment level) (high_members level ms) both.1)
 
 -- the numbers of the lower members, and of the higher ones
@@ -168,13 +164,13 @@ low_numbers level ms room =
 pub high_numbers : (level : Level) (ms : List DraftWeight) → level_has_room level ms ≡ true
     → AllByRecursion (λ n. (fixed_weight level < n) × (n ≤ top_weight level)) (highs level ms)
 high_numbers level ms room =
-    let high = (both_true (has_room (low_segment level) (low_members level ms)) (has_room (high_segment level) (high_members level ms)) room).1 in
+    let high = (and_parts (has_room (low_segment level) (low_members level ms)) (has_room (high_segment level) (high_members level ms)) room).1 in
     segment_numbers (high_segment level) (high_members level ms) (room_places (high_segment level) (high_members level ms) high)
 
 -- with room the numbers of a level rise
 pub level_rising : (level : Level) (ms : List DraftWeight) → level_has_room level ms ≡ true → IsRising (level_numbers level ms)
 level_rising level ms room =
-    let both = both_true (has_room (low_segment level) (low_members level ms)) (has_room (high_segment level) (high_members level ms)) room in
+    let both = and_parts (has_room (low_segment level) (low_members level ms)) (has_room (high_segment level) (high_members level ms)) room in
     let low = room_places (low_segment level) (low_members level ms) both.0 in
     let high = room_places (high_segment level) (high_members level ms) both.1 in
     rising_joined (lows level ms) (fixed_weight level) (highs level ms)

@@ -3,7 +3,7 @@ use Rattle.std.proofs.Common.{◌≡◌, ℕ, ◌^◌, ◌<◌, ◌≤◌, ◌&&
 use Rattle.std.specs.Prelude.{nat_lt, not}
 use Rattle.std.specs.List.{list_all}
 use Rattle.std.specs.Char.{IsScalar}
-use Rattle.std.proofs.lemmas.Bool.{false≢true}
+use Rattle.std.proofs.lemmas.Bool.{false≢true, and_parts}
 use Rattle.std.proofs.lemmas.Bool.Decides.{nat_tests}
 use borrow.Table.Char.{scalar_below}
 use borrow.Author.Tests.{ltb-true}
@@ -83,11 +83,7 @@ halves_are (a ∷ b ∷ bs) ys h = rw (h.0, halves_are (b ∷ bs) ys h.1) refl
 
 pub lacks_digits : (p : ℕ → Bool) → ((b : ℕ) → is_hex_digit b ≡ true → p b ≡ false) → (xs : List ℕ) → list_all is_hex_digit xs ≡ true → Lacks p xs
 lacks_digits p each [] h = tt
-lacks_digits p each (x ∷ xs) h = let k = both _ _ h in (each x k.0, lacks_digits p each xs k.1)
-  where
-    both : (a b : Bool) → (a && b) ≡ true → (a ≡ true) × (b ≡ true)
-    both true b e = (refl, e)
-    both false b e = absurd (false≢true e)
+lacks_digits p each (x ∷ xs) h = let k = and_parts _ _ h in (each x k.0, lacks_digits p each xs k.1)
 
 pub digit_no_blank : (b : ℕ) → is_hex_digit b ≡ true → is_blank b ≡ false
 digit_no_blank b h = grind (arith, nat_tests)
