@@ -20,11 +20,8 @@ import kit
 
 IDLE = ""
 
-# Each further processor at one crate shortens its check less, and costs more processor time.
-MOST_JOBS = 2
-
-# A crate of so many lines of code gets all of these at once: it is proved for so long that others end meanwhile.
-LARGE = 1_700
+# A check by two processes takes about as long as one by one process, and half as much processor time again.
+JOBS = ["--jobs", "1"]
 
 
 def digest(folder):
@@ -63,13 +60,13 @@ class Builder:
         path = crate.rlib if crate.makes_rlib() else f"{crate.folder}/out/{crate.name}"
         return path, f"{os.path.dirname(path)}/{crate.name}.statements"
 
-    def prove(self, crate, jobs):
+    def prove(self, crate):
         """Proves a crate from nothing, and returns whether it is proved."""
         crate = copy.copy(crate)
         path, kept = self.made(crate)
         os.makedirs(f"{crate.folder}/out", exist_ok=True)
         with tempfile.TemporaryFile("a+", errors="replace") as crate.out:
-            status = self.program(crate, jobs) if crate.is_program else crate.ci(["--jobs", str(jobs)], False)
+            status = self.program(crate) if crate.is_program else crate.ci(JOBS, False)
             crate.out.seek(0)
             said = crate.out.read()
         if status:
@@ -79,9 +76,9 @@ class Builder:
             it.write(self.stamp(crate))
         return True
 
-    def program(self, crate, jobs):
+    def program(self, crate):
         """Proves a program and compiles it by LLVM."""
-        words = crate.words(["--jobs", str(jobs)], keeps=False)
+        words = crate.words(JOBS, keeps=False)
         with tempfile.TemporaryDirectory(prefix="build-") as room:
             status = crate.prove(["check", *words, "-o", f"{room}/checked"])
             for flag in ("--logic-built", "--jobs"):
@@ -90,13 +87,13 @@ class Builder:
             words += ["--crate-checked", f"{room}/checked", "--toolchain", f"{self.rtlib.KIT}/toolchain"]
             return status or crate.compile_by("llvm", words, f"out/{crate.name}")
 
-    def work(self, crate, given, jobs):
+    def work(self, crate, given):
         if not all(given[it.name, "proof"] for it in crate.below()):
             return False
         path, kept = self.made(crate)
         if os.path.exists(path) and self.rtlib.text_of(kept) == self.stamp(crate):
             return True
-        is_proved = self.prove(crate, jobs)
+        is_proved = self.prove(crate)
         seconds = self.times.processor.get(crate.name, 0.0)
         print(f"{crate.name}: {'proved' if is_proved else 'NOT PROVED'}, {seconds:.0f} s of processor time, at {time.time() - self.begun:.0f} s", flush=True)
         return is_proved
@@ -117,8 +114,7 @@ def build(rt, crates):
     held = rt.rtlib.lock(crates)
 
     def task(crate):
-        is_large = crate.count(rb"\n") >= LARGE
-        work = lambda given, jobs: builder.work(crate, given, MOST_JOBS if is_large else min(jobs, MOST_JOBS))
+        work = lambda given, jobs: builder.work(crate, given)
         return [(it.name, "proof") for it in crate.below()], crate.count(rb"\n"), rt.need(crate), builder.times.task(crate.name, IDLE, work)
 
     proved = rt.in_lanes({(it.name, "proof"): task(it) for it in sorted(crates, key=lambda it: len(it.below()))})
