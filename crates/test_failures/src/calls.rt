@@ -89,7 +89,7 @@ make trie
 printed \x1C\x58\x1C\x90\x1C\x50\x1C\x60\x00\x00\x00\x20\x00\x20\x00\x20\x00\x20
 printed \x00\x00\x00\x02\x00\x02\x00\x02\x00\x02
 end done
-asks 17
+asks 19
 memory memory
 
 make key
@@ -117,7 +117,7 @@ memory memory
 
 make audit
 end done
-asks 30
+asks 34
 memory refused 12 Memory
 
 make plan
@@ -125,7 +125,7 @@ file 1 1C47 1C47 0001\n2 0020 0020 0001\n2 0024 0024 0001\n3 0002 0002 0001\n
 printed @version 1\n0061 ; [.1C47.0020.0002]\n0301 ; [.0000.0024.0002]\n
 printed 0078 ; [.1C48.0020.0002]\n
 end done
-asks 54
+asks 42
 memory Memory; done; Memory; done; Memory; done; Memory";
 
 /// The calls behind the commands.
@@ -154,7 +154,7 @@ printed 0000 0000\n
 printed 1C47 0000 0020 0024 0000 0002 0002\n
 printed 1C47 0000 0020 0000 0002\n
 end done
-asks 29
+asks 31
 memory table line @ 1 2 3; data line @ 1 2; memory; input line @ 1 2
 
 run keys
@@ -162,7 +162,7 @@ reads table data input
 input a\n\xFF\n
 printed 1C47 0000 0020 0000 0002\n
 end input line 2: Utf8, status 1
-asks 25
+asks 27
 memory table line @ 1 2 3; data line @ 1 2; memory; input line @ 1
 
 run identical keys
@@ -170,7 +170,7 @@ reads table data input
 input a\n
 printed 1C47 0000 0020 0000 0002 0000 000061\n
 end done
-asks 25
+asks 27
 memory table line @ 1 2 3; data line @ 1 2; memory; input line @ 1
 
 run sort
@@ -178,7 +178,7 @@ reads table data input
 input b\na\n\xC3\xA1\n\na
 printed \na\na\n\xC3\xA1\nb\n
 end done
-asks 36
+asks 38
 memory table line @ 1 2 3; data line @ 1 2; memory; input line @ 1; memory; input line @ 2 3 4 5; memory
 
 run sort
@@ -186,7 +186,7 @@ reads table data input
 input u\na\nb\nc\nd\ne\nf\ng\nh\ni\nj\nk\nl\nm\nn\no\np\nq\nr\ns\nt\n
 printed a\nb\nc\nd\ne\nf\ng\nh\ni\nj\nk\nl\nm\nn\no\np\nq\nr\ns\nt\nu\n
 end done
-asks 72
+asks 74
 memory table line @ 1 2 3; data line @ 1 2; memory; input line @ 1; memory; input line @ 2 3 4 5; memory
 memory input line @ 6 7 8 9; memory; input line @ 10 11 12 13 14 15 16 17; memory; input line @ 18 19 20 21; memory
 
@@ -194,7 +194,7 @@ run compare
 reads table data
 printed < 1\n
 end done
-asks 20
+asks 22
 memory table line @ 1 2 3; data line @ 1 2; memory
 
 run tailor
@@ -203,7 +203,7 @@ file 1 1C47 1C47 0001\n2 0020 0020 0001\n2 0024 0024 0001\n3 0002 0002 0001\n
 printed @version 1\n0061 ; [.1C47.0020.0002]\n0301 ; [.0000.0024.0002]\n
 printed 0078 ; [.1C48.0020.0002]\n
 end done
-asks 76
+asks 64
 memory table line @ 1 2 3; data line @ 1 2; rules: Memory; rules byte @ 0 4 1 6; memory; done
 memory memory; done; memory; done; memory
 
@@ -215,7 +215,7 @@ printed @version 1\n0061 ; [.1C47.0020.0002]\n0301 ; [.0000.0024.0002]\n
 printed 0062 ; [.1C48.0020.0002]\n0063 ; [.1C49.0020.0002]\n0064 ; [.1C4A.0020.0002]\n
 printed 0065 ; [.1C4B.0020.0002]\n0066 ; [.1C4C.0020.0002]\n0067 ; [.1C4D.0020.0002]\n
 end done
-asks 118
+asks 91
 memory table line @ 1 2 3; data line @ 1 2; rules: Memory; rules byte @ 0 4 8 1 6 9; memory; done
 memory memory; done; memory; done; memory; done; memory; done; memory; done; memory; done; memory; done; memory
 
@@ -223,14 +223,14 @@ run tailor
 reads table data rules
 rules &\\u0301 < x
 end tailor relation 1: Anchor, status 1
-asks 47
+asks 35
 memory table line @ 1 2 3; data line @ 1 2; rules: Memory; rules byte @ 0 4 8 1 11; memory
 
 run audit
 reads base data rules tailored certificate
 printed accepted\n
 end true
-asks 70
+asks 74
 memory base line @ 1 2 3; data line @ 1 2; rules: Memory; rules byte @ 0 4 1 6
 memory tailored line @ 1 2 3 4; certificate line @ 1 2 4; memory
 
@@ -245,7 +245,7 @@ tailored 006E ; [.1C54.0020.0002]\n006F ; [.1C55.0020.0002]\n0070 ; [.1C56.0020.
 tailored 0072 ; [.1C58.0020.0002]\n
 printed accepted\n
 end true
-asks 171
+asks 175
 memory base line @ 1 2 3; data line @ 1 2; rules: Memory; rules byte @ 0 4 8 1 6 9
 memory tailored line @ 1 2 3 4 5 6 7 8 9 10 11 12 13 14 15 16 17 18 19 20
 memory certificate line @ 1 2 4; memory
@@ -255,7 +255,7 @@ reads base data rules tailored certificate
 rules &a <<< x
 printed refused 9 NotPlaced relation 1\n
 end false
-asks 60
+asks 64
 memory base line @ 1 2 3; data line @ 1 2; rules: Memory; rules byte @ 0 4 1 8
 memory tailored line @ 1 2 3 4; certificate line @ 1 2 4; memory";
 

@@ -25,7 +25,7 @@ fn said<L: Lookup>(alloc: Global, lookup: &L, points: &[char]) -> Result<String,
 }
 
 /// Some code points, each in hexadecimal digits.
-fn points_of(alloc: Global, numbers: &str) -> Result<Vec<char>, Fail> {
+pub fn points_of(alloc: Global, numbers: &str) -> Result<Vec<char>, Fail> {
     let mut points = Vec::new(alloc);
     for digits in numbers.split_whitespace() {
         points.push(code_point(digits)?)?;

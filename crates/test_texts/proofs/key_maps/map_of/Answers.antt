@@ -6,7 +6,7 @@ use Rattle.uca_match.proofs.PlacedKeys.{distinct_keys}
 use Rattle.test_texts.proofs.key_maps.map_of.Goals as goal
 
 pub new-requires : goal.new-requires
-new-requires g c =
+new-requires c =
     let rows = c.deref.ensures.value ∙ ap (λ (t : TableContent). t.rows) c.table.view_is in
     let are : AreRows c.args.table.now.rows = subst (λ (t : TableContent). AreRows t.rows) c.table.view_is c.table.invariant in
     let keys : points_of c.deref-2.result.now ≡ keys_of c.args.table.now.rows =
