@@ -1,0 +1,62 @@
+#!/usr/bin/env python3
+"""Runs the commands that the pages show, and compares what they print with what stands there.
+
+    tools/pages.py [PAGE..]       at the top of the repository; all pages that show commands, unless some are named
+
+A command is a line of a block ```console that begins with `$ `; what follows it up to the next one is its output. The blocks
+of a page run one after the other in one shell, in a fresh folder that has a copy of examples/ (a page of examples/ runs in that
+copy). The program is crates/uca/out/uca, which tools/build.py builds. The last line is `N passed, M failed`.
+"""
+import os
+import re
+import shutil
+import subprocess
+import sys
+import tempfile
+
+TOP = os.path.dirname(os.path.dirname(os.path.realpath(__file__)))
+PAGES = ["README.md", "examples/README.md", *(f"docs/{it}" for it in sorted(os.listdir(f"{TOP}/docs")) if it.endswith(".md"))]
+END = "== end of output"
+
+
+def commands_of(page):
+    """The commands of a page, each with the output that stands after it."""
+    with open(f"{TOP}/{page}", encoding="utf-8") as it:
+        text = it.read()
+    found = []
+    for block in re.findall(r"^```console\n(.*?)^```", text, re.M | re.S):
+        for part in re.split(r"^\$ ", block, flags=re.M)[1:]:
+            command, _, output = part.partition("\n")
+            found.append((command, output.rstrip("\n")))
+    return found
+
+
+def outputs_of(commands, folder):
+    """What each command prints, on both streams."""
+    script = "".join(f"{command}\necho '{END}'\n" for command, _ in commands)
+    path = f"{TOP}/crates/uca/out:{os.environ['PATH']}"
+    ran = subprocess.run(["bash", "-c", script], cwd=folder, env={**os.environ, "PATH": path}, text=True, stdout=subprocess.PIPE, stderr=subprocess.STDOUT)
+    return [it.strip("\n") for it in ran.stdout.split(f"{END}\n")[:-1]]
+
+
+def main(pages):
+    if not os.path.exists(f"{TOP}/crates/uca/out/uca"):
+        sys.exit("there is no crates/uca/out/uca: run tools/build.py first")
+    passed = failed = 0
+    for page in pages or PAGES:
+        commands = commands_of(page)
+        with tempfile.TemporaryDirectory(prefix="uca-page-") as room:
+            shutil.copytree(f"{TOP}/examples", f"{room}/examples")
+            given = outputs_of(commands, f"{room}/examples" if page.startswith("examples/") else room)
+        for (command, wanted), got in zip(commands, given + [None] * len(commands)):
+            if got == wanted:
+                passed += 1
+            else:
+                failed += 1
+                print(f"{page}: $ {command}\n-- printed:\n{got}\n-- stands there:\n{wanted}")
+    print(f"{passed} passed, {failed} failed")
+    return 1 if failed else 0
+
+
+if __name__ == "__main__":
+    sys.exit(main(sys.argv[1:]))
