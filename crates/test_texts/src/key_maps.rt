@@ -1,6 +1,7 @@
 //! Maps of keys to their positions, and what texts are matched as by them.
 
-use crate::cases::{code_point, halves, holds, same};
+use crate::cases::{halves, holds, same};
+use crate::lookups::points_of;
 use crate::samples::{CLASSES, data_of, normal_of, table_of};
 use std::alloc::{AllocError, Global};
 use std::test::Fail;
@@ -19,15 +20,6 @@ fn said(alloc: Global, keys: &KeyMap, key: &[char]) -> Result<String, AllocError
         Some(position) => format!(in alloc; "{position}"),
         None => String::from_str(alloc, "none"),
     }
-}
-
-/// Some code points, each in hexadecimal digits.
-fn points_of(alloc: Global, numbers: &str) -> Result<Vec<char>, Fail> {
-    let mut points = Vec::new(alloc);
-    for digits in numbers.split_whitespace() {
-        points.push(code_point(digits)?)?;
-    }
-    Ok(points)
 }
 
 /// Some code points and their position, a case a line.
@@ -119,56 +111,36 @@ fn finds_positions(rt: HostRuntime) -> Result<(), Fail> {
     Ok(())
 }
 
-/// A table file in the making, and the positions of its keys.
+/// A table file in the making, and cases of its keys.
 #[derive(Drop)]
 struct Made {
     file: String,
     cases: String,
-    count: u32,
 }
 
-impl Made {
-    fn new(alloc: Global) -> Result<Made, AllocError> {
-        Ok(Made {
-            file: String::from_str(alloc, "@version 1\n")?,
-            cases: String::new(alloc),
-            count: 0,
-        })
-    }
-
-    /// Adds a key.
-    fn add(&mut self, key: &str) -> Result<(), AllocError> {
-        let alloc = *self.file.allocator();
-        let row = format!(in alloc; "{key} ; [.0001.0020.0002]\n")?;
-        self.file.push_str(&row)?;
-        let case = format!(in alloc; "{key} | {}\n", self.count)?;
-        self.count = self.count.saturating_add(1);
-        self.cases.push_str(&case)
-    }
-
-    /// Adds what is no key.
-    fn leave_out(&mut self, points: &str) -> Result<(), AllocError> {
-        self.cases.push_str(points)?;
-        self.cases.push_str(" | none\n")
-    }
+/// Adds two keys, of which the longer one has this position: a letter, and the letter with U+0061 behind it. With U+0062
+/// it is no key, and the next code point begins none.
+fn add_letter(made: &mut Made, position: u32, code: u32) -> Result<(), AllocError> {
+    let alloc = *made.file.allocator();
+    let (next, beside) = (position.saturating_add(1), code.saturating_add(1));
+    made.file.push_str(&format!(in alloc;
+        "{code:04X} 0061 ; [.0001.0020.0002]\n{code:04X} ; [.0002.0020.0002]\n"
+    )?)?;
+    made.cases.push_str(&format!(in alloc;
+        "{code:04X} 0061 | {position}\n{code:04X} | {next}\n{code:04X} 0062 | none\n{beside:04X} | none\n"
+    )?)
 }
 
-/// Keys of one letter, which shares its beginning with one before it: the letter is a key, and with U+0061 behind it
-/// too. The next code point begins no key.
-fn add_letter(made: &mut Made, alloc: Global, code: u32) -> Result<(), AllocError> {
-    made.add(&format!(in alloc; "{code:04X} 0061")?)?;
-    made.add(&format!(in alloc; "{code:04X}")?)?;
-    made.leave_out(&format!(in alloc; "{code:04X} 0062")?)?;
-    made.leave_out(&format!(in alloc; "{:04X}", code.saturating_add(1))?)
-}
-
-/// Every other of 900 code points from U+3000 on, in mixed order: 907 is a prime, so each number below it comes once at
-/// most. The list of first steps has 16 places for each of these letters, but none from U+3400 on; 388 or more of them
-/// stand there, and are found by a search.
+/// 900 letters, each two code points after another from U+3000 on, in mixed order: 907 is a prime, so no remainder comes
+/// twice. The list of first steps has 16 places for each letter, but none from U+3400 on: at most 512 letters stand
+/// below it, and the others are found by a search.
 fn many_letters(alloc: Global) -> Result<Made, AllocError> {
-    let mut made = Made::new(alloc)?;
+    let mut made = Made {
+        file: String::from_str(alloc, "@version 1\n")?,
+        cases: String::new(alloc),
+    };
     for number in 0..900 {
-        add_letter(&mut made, alloc, 0x3000 + 2 * (7 * number % 907))?;
+        add_letter(&mut made, 2 * number, 0x3000 + 2 * (7 * number % 907))?;
     }
     Ok(made)
 }
@@ -179,7 +151,7 @@ fn finds_positions_of_many_keys(rt: HostRuntime) -> Result<(), Fail> {
     check(rt.alloc(), &made.file, &made.cases)
 }
 
-/// Keys, each with `;` behind it.
+/// Keys, each with `;` after it.
 fn listed(alloc: Global, keys: &[&[char]]) -> Result<String, AllocError> {
     let mut list = String::new(alloc);
     for key in keys {
@@ -239,7 +211,7 @@ const MATCHED: &str = r" |
 0061 0323 0301 0300 | 1 5
 -- 0300 is skipped, since 0061 0300 is no key, and blocks 0301, which has the same class
 0061 0300 0301 | 6 7 3
--- no key takes a mark from behind another starter
+-- no key takes a mark that stands after another starter
 0061 0323 0062 0301 | 6 5 0 3
 0061 0301 0061 0323 0301 | 4 4 5
 -- a code point that no key covers takes no marks
@@ -270,15 +242,27 @@ fn check_match(alloc: Global, keys: &KeyMap, data: &Data, case: &str) -> Result<
     same(&matched(alloc, keys, &text)?, wanted, case)
 }
 
-/// Cases over the keys of a table file.
-fn check_matches(alloc: Global, file: &str, cases: &str) -> Result<(), Fail> {
-    let table = table_of(alloc, file)?;
-    let data = data_of(alloc, CLASSES)?;
-    let keys = map_of(alloc, &table)?;
+/// Nothing comes after the last match, however often it is asked for. No key covers the code point.
+fn check_end(alloc: Global, keys: &KeyMap, data: &Data) -> Result<(), Fail> {
+    let text = normal_of(alloc, "4E00", data)?;
+    let mut matches = Matches::new(keys, &text);
+    holds(matches.next().is_some(), "the match")?;
+    holds(matches.next().is_none(), "after the last match")?;
+    holds(matches.next().is_none(), "and again")
+}
+
+/// Cases over keys, and the end of the matches.
+fn check_cases(alloc: Global, keys: &KeyMap, data: &Data, cases: &str) -> Result<(), Fail> {
     for case in cases.lines() {
-        check_match(alloc, &keys, &data, case)?;
+        check_match(alloc, keys, data, case)?;
     }
-    Ok(())
+    check_end(alloc, keys, data)
+}
+
+/// Cases over the keys of a table file.
+fn check_matches(alloc: Global, data: &Data, file: &str, cases: &str) -> Result<(), Fail> {
+    let table = table_of(alloc, file)?;
+    check_cases(alloc, &map_of(alloc, &table)?, data, cases)
 }
 
 /// Where there are no keys, each code point is matched alone.
@@ -287,22 +271,7 @@ const UNMATCHED: &str = r" |
 
 #[test]
 fn matches_texts(rt: HostRuntime) -> Result<(), Fail> {
-    check_matches(rt.alloc(), KEYS, MATCHED)?;
-    check_matches(rt.alloc(), NO_KEYS, UNMATCHED)
-}
-
-/// Nothing comes after the last match, however often it is asked for.
-fn check_end(keys: &KeyMap, text: &Normal) -> Result<(), Fail> {
-    let mut matches = Matches::new(keys, text);
-    holds(matches.next().is_some(), "the match")?;
-    holds(matches.next().is_none(), "after the last match")?;
-    holds(matches.next().is_none(), "and again")
-}
-
-#[test]
-fn ends_after_the_last_match(rt: HostRuntime) -> Result<(), Fail> {
-    let table = table_of(rt.alloc(), KEYS)?;
     let data = data_of(rt.alloc(), CLASSES)?;
-    let text = normal_of(rt.alloc(), "0061 0301", &data)?;
-    check_end(&map_of(rt.alloc(), &table)?, &text)
+    check_matches(rt.alloc(), &data, KEYS, MATCHED)?;
+    check_matches(rt.alloc(), &data, NO_KEYS, UNMATCHED)
 }
