@@ -9,11 +9,12 @@ use crate::values::{
 use std::alloc::{AllocError, Allocator, Global};
 use std::fmt::Display;
 use std::test::Fail;
+use test_kit_allocator::Refusing;
 use uca_audit::audit;
 use uca_certificates::{Certificate, CertificateFault, read_certificate, write_certificate};
 use uca_key::{KeyBuffer, key, key_of};
 use uca_lines::{LineFault, LineReader, NextLine};
-use uca_match::{Collator, Lookup, RowList, Trie};
+use uca_match::{Collator, KeyMap, Lookup, RowList, Trie, key_list};
 use uca_rules::{Relation, RuleFault, Rules, read_rules_in};
 use uca_table::{read_data, read_table, write_table};
 use uca_tailor::{TailorFault, tailor};
@@ -237,6 +238,66 @@ fn makes_trie(memory: Memory, streams: &mut Streams, table: &Table) -> Result<St
     }
 }
 
+// The keys of a table, each with `;` after it.
+fn text_of_keys(ample: Global, keys: &[&[char]]) -> Result<String, AllocError> {
+    let mut text = String::new(ample);
+    for key in keys {
+        for point in *key {
+            text.push(*point)?;
+        }
+        text.push(';')?;
+    }
+    Ok(text)
+}
+
+// The keys of a table, lent.
+fn makes_key_list(memory: Memory, streams: &mut Streams, table: &Table) -> Result<(), AllocError> {
+    let keys = key_list(memory.tried, &table.rows)?;
+    let text = text_of_keys(memory.ample, &keys)?;
+    show(streams, text.as_bytes());
+    Ok(())
+}
+
+// A map of the keys of a table to their positions. Of the seven keys of `contractions` it asks for 10 allocations: their
+// sorted list, the nine nodes (for 4, 8 and 16), the edges of the root (for 4 and 8) and of three other nodes, and the
+// first steps. A trie of that table asks for the list of the keys, that of the rows, and each of these too.
+fn map_of<'a>(memory: Memory<'a>, table: &Table) -> Result<KeyMap<&'a Refusing>, AllocError> {
+    let keys = key_list(memory.ample, &table.rows)?;
+    KeyMap::new(memory.tried, &keys)
+}
+
+// The position of a key as a byte; there are fewer than 255.
+fn position_of<A: Allocator>(map: &KeyMap<A>, key: &[char]) -> u8 {
+    match map.position(key) {
+        Some(position) => u8::try_from(position).unwrap_or(0xFF),
+        None => 0xFF,
+    }
+}
+
+// Writes the position of each key of a table, and that of one that is no key.
+fn makes_key_map(memory: Memory, streams: &mut Streams, table: &Table) -> Result<(), AllocError> {
+    let map = map_of(memory, table)?;
+    for row in &table.rows {
+        show(streams, &[position_of(&map, &row.key)]);
+    }
+    show(streams, &[position_of(&map, &['x'])]);
+    Ok(())
+}
+
+fn makes_key_positions(
+    memory: Memory,
+    streams: &mut Streams,
+    table: &Table,
+    is_map: bool,
+) -> Result<String, Fail> {
+    let answer = if is_map {
+        makes_key_map(memory, streams, table)
+    } else {
+        makes_key_list(memory, streams, table)
+    };
+    said_of_memory(memory.ample, answer)
+}
+
 // A key as it is made at once.
 fn makes_key(
     memory: Memory,
@@ -333,6 +394,8 @@ fn makes_tailoring(memory: Memory, streams: &mut Streams, is_plan: bool) -> Resu
 pub fn makes(memory: Memory, streams: &mut Streams, name: &str) -> Result<String, Fail> {
     match name {
         "trie" => makes_trie(memory, streams, &contractions(memory.ample)?),
+        "key list" => makes_key_positions(memory, streams, &contractions(memory.ample)?, false),
+        "key map" => makes_key_positions(memory, streams, &contractions(memory.ample)?, true),
         "key" | "key in a buffer" | "key of elements" => makes_keys(memory, streams, name),
         "properties" => said(memory.ample, makes_properties(memory, streams)),
         "audit" => makes_tailoring(memory, streams, false),
