@@ -1,0 +1,66 @@
+"""What the scripts of this folder share about the program's help: its parts, read from what `--help` prints."""
+import os
+import re
+import subprocess
+import sys
+
+TOP = os.path.dirname(os.path.dirname(os.path.realpath(__file__)))
+PROGRAM = f"{TOP}/crates/uca/out/uca"
+HEADINGS = ["Usage", "Arguments", "Commands", "Options"]
+
+
+def program_of(arguments):
+    """The program, which `--program PATH` may name, and the other arguments."""
+    program = PROGRAM
+    if arguments[:1] == ["--program"] and len(arguments) > 1:
+        program, arguments = os.path.abspath(arguments[1]), arguments[2:]
+    if not os.path.exists(program):
+        sys.exit(f"there is no {program}: run tools/build.py first")
+    return program, arguments
+
+
+def printed(program, *arguments):
+    """What the program prints to standard output."""
+    ran = subprocess.run([program, *arguments], stdout=subprocess.PIPE, encoding="utf-8", check=True)
+    return ran.stdout
+
+
+class Help:
+    """One help text: what it says, the usage, the items of each list as pairs of a name and a text, and what comes last."""
+
+    def __init__(self, text):
+        self.about, self.last = [], []
+        self.lists = {heading: [] for heading in HEADINGS}
+        heading = None
+        for line in text.splitlines():
+            found = re.match(r"(\w+):(?: (.*))?$", line)
+            if found and found[1] in HEADINGS:
+                heading = found[1]
+                self.usage = found[2] if heading == "Usage" else self.usage
+            elif line.startswith(" ") and heading in self.lists:
+                self.add_to_list(self.lists[heading], line)
+            else:
+                (self.about if heading is None else self.last).append(line)
+
+    @staticmethod
+    def add_to_list(items, line):
+        """Adds an item, or a line of the text of the last item. Texts that have lines of their own begin at column 10."""
+        if line.startswith(" " * 10):
+            name, text = items.pop()
+            items.append((name, f"{text} {line.strip()}".strip()))
+        else:
+            name, _, text = line.strip().partition("  ")
+            items.append((name, text.strip()))
+
+    def names(self, heading):
+        return [name for name, _ in self.lists[heading]]
+
+    def options(self):
+        """The option names, `-h` and `--help` as two."""
+        return {word for name in self.names("Options") for word in re.findall(r"(?<![\w-])--?[a-zA-Z][\w-]*", name)}
+
+
+def helps_of(program):
+    """The help of the program, and that of each command but `help`, which has none of its own."""
+    whole = Help(printed(program, "--help"))
+    return whole, {name: Help(printed(program, name, "--help")) for name in whole.names("Commands") if name != "help"}

@@ -1,0 +1,105 @@
+#!/usr/bin/env python3
+"""Prints the manual page of uca, made from the program's own help.
+
+    tools/man_page.py [--program PATH] > man/uca.1
+
+The names, usages, texts and options are those that `uca --help`, `uca COMMAND --help` and `uca --version` print. The sections
+after them come from man/sections.roff, which is written by hand. The program is crates/uca/out/uca, which tools/build.py builds.
+Debian's help2man makes a page of one help text; this page has a section for each command. tools/packaging.py checks that
+man/uca.1 is what this script prints.
+"""
+import re
+import sys
+import textwrap
+
+from command_help import TOP, helps_of, printed, program_of
+
+DATE = "2026-11-25"
+
+
+def plain(text):
+    """A text in which no character means anything to roff."""
+    for character, escape in [("\\", r"\e"), ("-", r"\-"), ("^", r"\(ha"), ("~", r"\(ti"), ("'", r"\(aq"), ('"', r"\(dq")]:
+        text = text.replace(character, escape)
+    return text
+
+
+def prose(text):
+    """A text as lines of at most 80 characters, in which what stands between backticks is bold."""
+    parts = text.split("`")
+    text = "".join(rf"\fB{plain(part)}\fR" if at % 2 else plain(part) for at, part in enumerate(parts))
+    lines = textwrap.wrap(text, 80, break_on_hyphens=False, break_long_words=False)
+    return "\n".join(rf"\&{line}" if line.startswith(".") else line for line in lines)
+
+
+def paragraphs(lines):
+    """The paragraphs of a text, of which an empty line ends each."""
+    texts = "\n".join(lines).strip("\n").split("\n\n")
+    return [it for text in texts if text for it in (".PP", prose(text))]
+
+
+def usage(text):
+    """A usage: `<TABLE>` as an argument in italics, all else in bold."""
+    words = []
+    for word in text.split():
+        name = re.fullmatch(r"<(\w+)>", word)
+        words.append(rf"\fI{name[1]}\fR" if name else word if word == "[OPTIONS]" else rf"\fB{plain(word)}\fR")
+    return " ".join(words)
+
+
+def option(name):
+    """The name of an option: `--weighting <W>` with its value in italics."""
+    return ", ".join(usage(part) for part in name.split(", "))
+
+
+def items(pairs, name_of):
+    return [line for name, text in pairs for line in (".TP", name_of(name), prose(f"{text}."))]
+
+
+def last_words(lines):
+    """What a help ends with: an example on a line of its own, and other lines as a paragraph."""
+    made = []
+    for line in filter(None, lines):
+        found = re.match(r"(Examples?:) ?(.*)", line)
+        made += [".PP", found[1], ".PP", ".RS 4", ".EX", plain(found[2]), ".EE", ".RE"] if found else [".PP", prose(line)]
+    return made
+
+
+def command_section(name, text, help_text):
+    made = [f".SS uca {name}", prose(f"{text}."), ".PP", usage(help_text.usage), *paragraphs(help_text.about)]
+    made += items(help_text.lists["Arguments"], usage)
+    made += items([it for it in help_text.lists["Options"] if "--help" not in it[0]], option)
+    return made + last_words(help_text.last)
+
+
+def page(program):
+    whole, commands = helps_of(program)
+    version = printed(program, "--version").strip()
+    name, number = version.split()[:2]
+    made = [
+        '.\\" Written by tools/man_page.py from the help of the program. Do not edit.',
+        f'.TH UCA 1 {DATE} "{name} {number}" "User Commands"',
+        *(".SH NAME", r"uca \- sort text in any language, and make sort keys"),
+        ".SH SYNOPSIS",
+        "\n.br\n".join(usage(it.usage) for it in commands.values()),
+        *(".SH DESCRIPTION", *paragraphs(whole.about)[1:]),
+        *last_words(whole.last),
+        ".SH OPTIONS",
+        *items(whole.lists["Options"], option),
+        *(".SH COMMANDS", r"Each command also has the option \fB\-\-help\fR."),
+    ]
+    for command, text in whole.lists["Commands"]:
+        if command in commands:
+            made += command_section(command, text, commands[command])
+        else:
+            made += [f".SS uca {command}", prose(f"{text}.")]
+    with open(f"{TOP}/man/sections.roff", encoding="utf-8") as file:
+        sections = file.read()
+    return "\n".join(made) + "\n" + sections + ".SH VERSION\n" + prose(version) + "\n"
+
+
+if __name__ == "__main__":
+    program, others = program_of(sys.argv[1:])
+    if others:
+        sys.exit(__doc__)
+    print(page(program), end="")
