@@ -1,0 +1,79 @@
+# Completion of the command uca for bash: commands, options, the two weightings, and files.
+# tools/packaging.py checks it against the help of the program.
+
+_uca_files() {
+    mapfile -t COMPREPLY < <(compgen -f -- "$1")
+    compopt -o filenames 2> /dev/null
+}
+
+_uca_words() {
+    mapfile -t COMPREPLY < <(compgen -W "$2" -- "$1")
+}
+
+# The options of a command. An option that takes part in the line is not offered twice.
+_uca_options() {
+    local command=$1 current=$2 line=$3 offered=() option
+    for option in $(_uca_options_of "$command"); do
+        [[ $line == *" $option "* ]] || offered+=("$option")
+    done
+    _uca_words "$current" "${offered[*]}"
+}
+
+_uca_options_of() {
+    case $1 in
+        '') echo "-h --help -V --version" ;;
+        keys) echo "--weighting --identical --lines -h --help" ;;
+        sort | compare) echo "--weighting --identical -h --help" ;;
+        check | tailor | audit | affected) echo "-h --help" ;;
+    esac
+}
+
+_uca_file_count() {
+    case $1 in
+        check | keys | sort | compare | affected) echo 2 ;;
+        tailor) echo 4 ;;
+        audit) echo 5 ;;
+        *) echo 0 ;;
+    esac
+}
+
+# Reads the words before the current one: sets the command, how many arguments it has, and whether `--` stands there.
+_uca_read() {
+    local at
+    command='' count=0 ended=''
+    for ((at = 1; at < COMP_CWORD; at++)); do
+        case ${COMP_WORDS[at]} in
+            *[\<\>]) ((at++)) ;;
+            --weighting)
+                [[ ${COMP_WORDS[at + 1]} == = ]] && ((at++))
+                ((at++))
+                ;;
+            --) ended=1 ;;
+            -?*) [[ $ended ]] && ((count++)) ;;
+            *) if [[ $command ]]; then ((count++)); else command=${COMP_WORDS[at]}; fi ;;
+        esac
+    done
+}
+
+_uca() {
+    local current=${COMP_WORDS[COMP_CWORD]} before=" ${COMP_WORDS[*]:0:COMP_CWORD} " command count ended
+    local commands="check keys sort compare tailor audit affected help" weightings="non-ignorable shifted"
+    COMPREPLY=()
+    _uca_read
+    case $before in
+        *[\<\>]' ') _uca_files "$current" ;;
+        *' --weighting ') _uca_words "${current#=}" "$weightings" ;;
+        *' --weighting = ') _uca_words "$current" "$weightings" ;;
+        *)
+            if [[ $current == -* && ! $ended ]]; then
+                _uca_options "$command" "$current" "$before"
+            elif [[ ! $command || $command == help && $count -eq 0 ]]; then
+                _uca_words "$current" "$commands"
+            elif ((count < $(_uca_file_count "$command"))); then
+                _uca_files "$current"
+            fi
+            ;;
+    esac
+}
+
+complete -F _uca uca

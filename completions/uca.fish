@@ -1,0 +1,55 @@
+# Completion of the command uca for fish: commands, options, the two weightings, and files.
+# tools/packaging.py checks it against the help of the program.
+
+# The command and its arguments, without options. The file of a redirection counts too, since fish does not tell it apart.
+function __uca_arguments
+    set -l skip 0
+    for word in (commandline -opc)[2..-1]
+        if test $skip = 1
+            set skip 0
+        else if test "$word" = --weighting
+            set skip 1
+        else if not string match -q -- '-*' $word
+            echo $word
+        end
+    end
+end
+
+# Whether the command is one of these.
+function __uca_has_command
+    set -l words (__uca_arguments)
+    contains -- "$words[1]" $argv
+end
+
+# Whether the command is one of these, and has no option of this name yet.
+function __uca_wants_option
+    __uca_has_command $argv[2..-1]; and not __fish_contains_opt $argv[1]
+end
+
+# Whether the command is one of these, and has fewer than so many arguments.
+function __uca_wants_file
+    set -l words (__uca_arguments)
+    test (count $words) -gt 0; and test (count $words) -le $argv[1]; and contains -- $words[1] $argv[2..-1]
+end
+
+complete -c uca -f
+complete -c uca -n 'not __uca_has_command check keys sort compare tailor audit affected help' -s V -l version -d 'Print the version'
+complete -c uca -n 'not __uca_has_command help' -s h -l help -d 'Print help'
+
+complete -c uca -n __fish_use_subcommand -a check -d 'Say whether a weight table is well-formed'
+complete -c uca -n __fish_use_subcommand -a keys -d 'Print the sort key of each line of standard input'
+complete -c uca -n __fish_use_subcommand -a sort -d 'Sort the lines of standard input by their sort keys'
+complete -c uca -n __fish_use_subcommand -a compare -d 'Say how two texts compare, and at which level they differ'
+complete -c uca -n __fish_use_subcommand -a tailor -d 'Tailor a weight table by rules'
+complete -c uca -n __fish_use_subcommand -a audit -d 'Say whether a tailored table is what its rules say'
+complete -c uca -n __fish_use_subcommand -a affected -d 'Print the lines of standard input that rules may move'
+complete -c uca -n __fish_use_subcommand -a help -d 'Print the help of a command'
+complete -c uca -n '__uca_wants_file 1 help' -a 'check keys sort compare tailor audit affected help'
+
+complete -c uca -n '__uca_has_command keys sort compare' -l weighting -x -a 'non-ignorable shifted' -d 'How spaces and punctuation count'
+complete -c uca -n '__uca_wants_option identical keys sort compare' -l identical -d 'Order texts of equal weight by their code points'
+complete -c uca -n '__uca_wants_option lines keys' -l lines -d 'Print the line after its key'
+
+complete -c uca -n '__uca_wants_file 2 check keys sort compare affected' -F
+complete -c uca -n '__uca_wants_file 4 tailor' -F
+complete -c uca -n '__uca_wants_file 5 audit' -F

@@ -1,0 +1,202 @@
+#!/usr/bin/env python3
+"""Checks what is installed: the manual page, the completions of three shells, and tools/install.sh.
+
+    tools/packaging.py [--program PATH]
+
+The manual page and each completion name the commands and options that the program's help names, and no others. The page is what
+tools/man_page.py prints, and renders without a warning. Each completion is run by its shell. tools/install.sh puts all files
+into a temporary folder, and the program there runs.
+
+Debian packages: man-db, mandoc, zsh and fish (bash and coreutils are always there). What needs a missing one is not run, and
+the script says so. The last line is `N passed, M failed`.
+"""
+import os
+import re
+import shutil
+import subprocess
+import sys
+import tempfile
+
+import command_help
+from command_help import TOP, helps_of, program_of
+from completion_shells import Zsh, bash_offers, fish_offers
+
+PACKAGES = {"man": "man-db", "mandoc": "mandoc", "zsh": "zsh", "fish": "fish"}
+WEIGHTINGS = {"non-ignorable", "shifted"}
+FILES = {"data.txt", "table.txt", "my table.txt", "rules"}
+INSTALLED = [
+    "bin/uca",
+    "share/man/man1/uca.1",
+    "share/bash-completion/completions/uca",
+    "share/zsh/site-functions/_uca",
+    "share/fish/vendor_completions.d/uca.fish",
+    *(f"share/doc/uca/{it}" for it in ["LICENSE", "LICENSE-MIT", "LICENSE-APACHE", "NOTICE", "README.md", "CHANGELOG.md", "SECURITY.md"]),
+    *(f"share/doc/uca/{it}" for it in ["docs/FORMATS.md", "docs/MESSAGES.md", "examples/table.txt", "tools/unicode_files.py"]),
+]
+
+# Lines and what is offered at their ends. Where nothing is typed yet, options that a shell offers too do not count.
+LINES = [
+    ("uca keys --weighting ", WEIGHTINGS),
+    ("uca sort --weighting=", WEIGHTINGS),
+    ("uca compare --weighting=sh", {"shifted"}),
+    ("uca keys t", {"table.txt"}),
+    ("uca keys m", {"my table.txt"}),
+    ("uca check table.txt ", FILES),
+    ("uca check table.txt data.txt ", set()),
+    ("uca compare --weighting shifted table.txt ", FILES),
+    ("uca compare --weighting shifted table.txt data.txt ", set()),
+    ("uca tailor table.txt data.txt rules ", FILES),
+    ("uca tailor table.txt data.txt rules new ", set()),
+    ("uca audit table.txt data.txt rules new ", FILES),
+    ("uca sort table.txt data.txt < ", FILES),
+    ("uca keys -- table.txt ", FILES),
+    ("uca help ke", {"keys"}),
+    ("uca help keys ", set()),
+    ("uca sort --identical --i", set()),
+]
+
+# fish counts the file of a redirection as an argument.
+LINES_BUT_FISH = [("uca sort < table.txt table.txt ", FILES)]
+
+
+class Counts:
+    """How many checks passed and failed. One that fails is printed."""
+
+    def __init__(self):
+        self.passed = self.failed = 0
+
+    def check(self, what, holds, more=""):
+        if holds:
+            self.passed += 1
+        else:
+            self.failed += 1
+            print(f"failed: {what} {more}".rstrip())
+
+    def same(self, what, given, wanted):
+        self.check(what, given == wanted, f"\n  has    {sorted(given)}\n  wanted {sorted(wanted)}")
+
+
+def is_there(command):
+    found = shutil.which(command) is not None
+    if not found:
+        print(f"not run, since there is no {command} (Debian package {PACKAGES[command]})")
+    return found
+
+
+def unescaped(text):
+    return re.sub(r"\\f[BIR]", "", text).replace("\\-", "-")
+
+
+def options_in(text):
+    """The option names at the heads of items."""
+    heads = re.findall(r"^\.TP\n(.*)$", text, re.M)
+    return {word for head in heads for word in re.findall(r"(?<![\w-])--?[a-zA-Z][\w-]*", unescaped(head))}
+
+
+def check_man_page(counts, program, whole, helps):
+    """The page has a section for each command and each option, and no other; it is what the script prints."""
+    path = f"{TOP}/man/uca.1"
+    with open(path, encoding="utf-8") as file:
+        page = file.read()
+    sections = dict(re.findall(r"^\.SS uca (\S+)\n(.*?)(?=^\.S[SH] )", page, re.M | re.S))
+    counts.same("man/uca.1: commands", set(sections), set(whole.names("Commands")))
+    for name, text in helps.items():
+        counts.same(f"man/uca.1: options of {name}", options_in(sections.get(name, "")), text.options() - {"-h", "--help"})
+    top = re.search(r"^\.SH OPTIONS\n(.*?)(?=^\.SH )", page, re.M | re.S)
+    counts.same("man/uca.1: options", options_in(top[1] if top else ""), whole.options())
+    made = subprocess.run([sys.executable, f"{TOP}/tools/man_page.py", "--program", program], stdout=subprocess.PIPE, text=True, check=False).stdout
+    counts.check("man/uca.1 is what tools/man_page.py prints", made == page)
+    locale = {**os.environ, "LC_ALL": "C.UTF-8", "MANWIDTH": "80"}
+    for command in (["man", "--warnings", "-l", path], ["mandoc", "-Tlint", "-Wwarning", path]):
+        if is_there(command[0]):
+            ran = subprocess.run(command, stdout=subprocess.PIPE, stderr=subprocess.PIPE, text=True, env=locale, check=False)
+            said = ran.stdout if command[0] == "mandoc" else ran.stderr
+            counts.check(f"{command[0]} renders man/uca.1", ran.returncode == 0 and not said, said)
+
+
+def check_shell(counts, name, offers, room, whole, helps):
+    """A shell offers each command, each option of each command, and what the table of lines says."""
+    commands = set(whole.names("Commands"))
+    counts.same(f"{name}: `uca `", {it for it in offers("uca ", room) if not it.startswith("-")}, commands)
+    counts.same(f"{name}: `uca -`", offers("uca -", room), whole.options())
+    for command, text in helps.items():
+        counts.same(f"{name}: `uca {command} -`", offers(f"uca {command} -", room), text.options())
+    lines = LINES + ([("uca help ", commands)] if "help" in commands else []) + ([] if name == "fish" else LINES_BUT_FISH)
+    for line, wanted in lines:
+        given = offers(line, room)
+        if line.endswith(" "):
+            given = {it for it in given if not it.startswith("-")}
+        counts.same(f"{name}: `{line}`", given, wanted)
+
+
+def check_completions(counts, whole, helps):
+    with tempfile.TemporaryDirectory(prefix="uca-room-") as room:
+        for name in FILES - {"rules"}:
+            open(f"{room}/{name}", "w", encoding="utf-8").close()
+        os.mkdir(f"{room}/rules")
+        check_shell(counts, "bash", bash_offers, room, whole, helps)
+        if is_there("fish"):
+            check_shell(counts, "fish", fish_offers, room, whole, helps)
+        if is_there("zsh"):
+            zsh = Zsh(room)
+            check_shell(counts, "zsh", zsh.offers, room, whole, helps)
+            zsh.close()
+
+
+def install(*arguments, **variables):
+    run = ["sh", f"{TOP}/tools/install.sh", *arguments]
+    return subprocess.run(run, stdout=subprocess.PIPE, stderr=subprocess.STDOUT, text=True, env={**os.environ, **variables}, check=False)
+
+
+def check_installed(counts, folder):
+    """All files are there, and the program prints keys with the files that were installed beside it."""
+    for name in INSTALLED:
+        counts.check(f"install.sh: {name}", os.path.isfile(f"{folder}/{name}"))
+    for name in ["bin/uca", "share/doc/uca/tools/unicode_files.py"]:
+        counts.check(f"install.sh: {name} may be run", os.access(f"{folder}/{name}", os.X_OK))
+    examples = f"{folder}/share/doc/uca/examples"
+    if os.path.isfile(f"{folder}/bin/uca"):
+        run = [f"{folder}/bin/uca", "sort", f"{examples}/table.txt", f"{examples}/data.txt"]
+        ran = subprocess.run(run, input="b\na\n", stdout=subprocess.PIPE, text=True, check=False)
+        counts.check("the installed program sorts", ran.stdout == "a\nb\n")
+
+
+def check_links(counts, folder):
+    """Each relative link of an installed page leads to an installed file."""
+    for place, _, names in os.walk(f"{folder}/share/doc/uca"):
+        for name in sorted(it for it in names if it.endswith(".md")):
+            with open(f"{place}/{name}", encoding="utf-8") as file:
+                links = re.findall(r"\]\(([^)#:]+)[^):]*\)", file.read())
+            missing = sorted({it for it in links if not os.path.exists(f"{place}/{it}")})
+            counts.check(f"links of {os.path.relpath(f'{place}/{name}', folder)}", not missing, f"lead nowhere: {missing}")
+
+
+def check_install(counts, program):
+    with tempfile.TemporaryDirectory(prefix="uca-install-") as room:
+        ran = install(f"{room}/a", PROGRAM=program)
+        counts.check("install.sh PREFIX ends well", ran.returncode == 0, ran.stdout)
+        check_installed(counts, f"{room}/a")
+        check_links(counts, f"{room}/a")
+        ran = install(PROGRAM=program, DESTDIR=f"{room}/b")
+        counts.check("install.sh with DESTDIR ends well", ran.returncode == 0, ran.stdout)
+        check_installed(counts, f"{room}/b/usr/local")
+        ran = install(f"{room}/c", PROGRAM=f"{room}/none")
+        counts.check("install.sh without a program fails", ran.returncode == 1 and "tools/build.py" in ran.stdout, ran.stdout)
+        counts.check("install.sh without a program installs nothing", not os.path.exists(f"{room}/c"))
+
+
+def main(arguments):
+    program, others = program_of(arguments)
+    if others:
+        sys.exit(__doc__)
+    counts = Counts()
+    whole, helps = helps_of(program)
+    check_man_page(counts, program, whole, helps)
+    check_completions(counts, whole, helps)
+    check_install(counts, program)
+    print(f"{counts.passed} passed, {counts.failed} failed")
+    return 1 if counts.failed else 0
+
+
+if __name__ == "__main__":
+    sys.exit(main(sys.argv[1:]))
