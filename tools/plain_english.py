@@ -1,0 +1,107 @@
+#!/usr/bin/env python3
+"""Finds long sentences and words that this project does not use, in its Markdown pages outside of code.
+
+    tools/plain_english.py [PAGE..]       at any place of the repository; all pages, unless some are named
+
+A sentence has at most 30 words, where code counts as one word. A cell of a table, an item of a list and a heading each end a
+sentence. Each finding is one line, `PAGE:LINE: ..`. A page passes if it has none. The last line is `N passed, M failed`.
+"""
+import glob
+import os
+import re
+import sys
+
+TOP = os.path.dirname(os.path.dirname(os.path.realpath(__file__)))
+MOST_WORDS = 30
+CODE = "CODE"
+
+# What is not written, and what is. Code is not looked at, so names keep these words.
+OTHER_WORDS = [
+    (r"behind", "after"),
+    (r"faults?|faulty", "error"),
+    (r"refus\w+", "reject, rejected"),
+    (r"answer\w*", "return, proof"),
+    (r"growth", "how it grows"),
+    (r"(?<!closed )forms?(?= of (a |the )?(file|CODE|allkeys))", "format"),
+    (r"stands? nearest", "is next to"),
+    (r"(a|its|the) yes", "acceptance"),
+    (r"want of", "lack of"),
+    (r"of which|of whom", "two sentences"),
+    (r"one after the other", "in turn"),
+    (r"what becomes? of|what became of", "how it changed"),
+    (r"the same of", "the same for"),
+    (r"never so|first so many", "a number"),
+    (r"words?(?= (of|on) the command line)|(?<=wrong )words|(?<=their )words(?= are (read|rejected))", "argument"),
+    (r"(handed|hands) in", "give"),
+    (r"^(nothing of|not that)", "no guarantee"),
+]
+
+
+def without_code(text):
+    """The text without its code blocks and comments, with as many lines."""
+    text = re.sub(r"^ *```.*?^ *```$|<!--.*?-->", lambda it: "\n" * it[0].count("\n"), text, flags=re.M | re.S)
+    text = re.sub(r"`[^`\n]+`", CODE, text)
+    text = re.sub(r"!?\[([^\]]*)\]\([^)]*\)", r"\1", text)
+    return text.replace("*", "").replace("&nbsp;", " ")
+
+
+def blocks_of(text):
+    """The paragraphs, items, headings and cells, each as a list of lines with their numbers."""
+    block = []
+    for number, line in enumerate([*without_code(text).split("\n"), ""], 1):
+        is_start = re.match(r"\s*(- |\d+\. |#|\||>)", line)
+        if block and (is_start or not line.strip()):
+            yield block
+            block = []
+        if re.match(r"\s*\|", line):
+            yield from ([(number, cell)] for cell in line.strip().strip("|").split("|"))
+        elif re.match(r"\s*#", line):
+            yield [(number, line.strip("# "))]
+        elif line.strip():
+            block.append((number, re.sub(r"^\s*(- |\d+\. |>)", "", line)))
+
+
+def sentences_of(text):
+    """Each sentence, with the line that it begins in."""
+    for block in blocks_of(text):
+        words = [(number, word) for number, line in block for word in line.split()]
+        sentence = []
+        for at, (number, word) in enumerate(words):
+            sentence.append((number, word))
+            after = words[at + 1][1] if at + 1 < len(words) else ""
+            ends = re.search(r"[.!?][)\"”]*$", word) and not re.match(r"[a-z]", after)
+            if ends or not after:
+                yield sentence[0][0], " ".join(it for _, it in sentence)
+                sentence = []
+
+
+def findings_of(text):
+    """The line of each finding, and what it is."""
+    for number, sentence in sentences_of(text):
+        count = len(re.findall(r"\S*\w\S*", sentence))
+        if count > MOST_WORDS:
+            yield number, f"{count} words: {sentence[:60]}.."
+        for pattern, better in OTHER_WORDS:
+            for found in re.finditer(rf"(?<!\w)({pattern})(?!\w)", sentence, re.I):
+                yield number, f"`{found[0]}` ({better}): {sentence[max(0, found.start() - 30):found.end() + 30]}"
+
+
+def all_pages():
+    patterns = ["*.md", "docs/*.md", "bench/*.md", "examples/**/*.md"]
+    return sorted(os.path.relpath(it, TOP) for pattern in patterns for it in glob.glob(f"{TOP}/{pattern}", recursive=True))
+
+
+def main(pages):
+    passed = failed = 0
+    for page in [os.path.relpath(it, TOP) for it in pages] or all_pages():
+        with open(f"{TOP}/{page}", encoding="utf-8") as file:
+            found = list(findings_of(file.read()))
+        for number, what in found:
+            print(f"{page}:{number}: {what}")
+        passed, failed = (passed, failed + 1) if found else (passed + 1, failed)
+    print(f"{passed} passed, {failed} failed")
+    return 1 if failed else 0
+
+
+if __name__ == "__main__":
+    sys.exit(main(sys.argv[1:]))
