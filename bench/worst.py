@@ -28,7 +28,7 @@ ROWS, LINES, RELATIONS, LINE_BYTES = 200000, 1000000, 5000, 4096
 POINTS = 1048576  # code points of one text, and bytes of rules
 WORD_BYTES = 131071  # of one word of the command line, without its end
 FAR = 0x40000  # code points from here on stand for themselves in Normalization Form D, and are in no Han range
-TARGETS = 0x80000  # behind all code points of keys but marks
+TARGETS = 0x80000  # after all code points of keys but marks
 MARKS = 0x90000  # those from here on get classes by data files below
 HEAD, DATA = "@version 1\n", "@data 1\n"
 OUT_OF_ORDER = "\u0345\u0315\u0301\u0323"  # of classes 240, 232, 230 and 220
@@ -135,11 +135,11 @@ def texts(folder):
     folder.write("data", [DATA] + ["ccc %X..%X %d\n" % (mark, mark, n + 1) for n, mark in enumerate(marks)])
     folder.write("line", ("a" + "".join(map(chr, marks))) * (POINTS // 65))
     folder.table(([first, FAR + n], LETTER) for first in [0x61] + marks for n in range(3000))
-    yield Run("64 marks behind each letter, each tried behind each in vain", bound, "keys table data", "line")
+    yield Run("64 marks after each letter, each tried after each in vain", bound, "keys table data", "line")
     folder.table((points, LETTER) for first in range(48) for points in [[0x61] + marks[first : first + length] for length in range(1, 16)])
-    yield Run("64 marks behind each letter, keys of 15 of them", bound, "keys table data", "line")
+    yield Run("64 marks after each letter, keys of 15 of them", bound, "keys table data", "line")
     folder.write("line", ("a" + OUT_OF_ORDER * 16) * (POINTS // 65))
-    yield Run("64 marks behind each letter, out of order", bound, "keys table data", "line")
+    yield Run("64 marks after each letter, out of order", bound, "keys table data", "line")
 
 
 def ranges(folder):
@@ -181,11 +181,11 @@ def comparing(folder):
     folder.table([([0x61], of_row(0, FULL))] + [([0x62 + n], kind * 32) for n, kind in enumerate(kinds)])
     third = WORD_BYTES // 3
     for name, left, right in (
-        ("equal words, 32 elements for each code point", "a" * WORD_BYTES, "a" * WORD_BYTES),
+        ("equal texts, 32 elements for each code point", "a" * WORD_BYTES, "a" * WORD_BYTES),
         ("weights of three levels in opposite orders", "b" * third + "c" * third + "d" * third, "d" * third + "c" * third + "b" * third),
-        ("weights of three levels, behind one another or in turn", "b" * third + "c" * third + "d" * third, "dcb" * third),
+        ("weights of three levels, after one another or in turn", "b" * third + "c" * third + "d" * third, "dcb" * third),
     ):
-        yield Run(name, "words of 131,071 bytes (Linux)", "compare --identical table data %s %s" % (left, right))
+        yield Run(name, "texts of 131,071 bytes (Linux)", "compare --identical table data %s %s" % (left, right))
 
 
 def rules(folder):
