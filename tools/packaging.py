@@ -155,7 +155,7 @@ def check_installed(counts, folder):
     for name in ["bin/uca", "share/doc/uca/tools/unicode_files.py"]:
         counts.check(f"install.sh: {name} may be run", os.access(f"{folder}/{name}", os.X_OK))
     examples = f"{folder}/share/doc/uca/examples"
-    if os.path.isfile(f"{folder}/bin/uca"):
+    if os.access(f"{folder}/bin/uca", os.X_OK):
         run = [f"{folder}/bin/uca", "sort", f"{examples}/table.txt", f"{examples}/data.txt"]
         ran = subprocess.run(run, input="b\na\n", stdout=subprocess.PIPE, text=True, check=False)
         counts.check("the installed program sorts", ran.stdout == "a\nb\n")
@@ -172,17 +172,22 @@ def check_links(counts, folder):
 
 
 def check_install(counts, program):
+    """PREFIX alone, PREFIX below DESTDIR, and no program. The default PREFIX is only used once DESTDIR is known to be respected."""
     with tempfile.TemporaryDirectory(prefix="uca-install-") as room:
         ran = install(f"{room}/a", PROGRAM=program)
         counts.check("install.sh PREFIX ends well", ran.returncode == 0, ran.stdout)
         check_installed(counts, f"{room}/a")
         check_links(counts, f"{room}/a")
-        ran = install(PROGRAM=program, DESTDIR=f"{room}/b")
-        counts.check("install.sh with DESTDIR ends well", ran.returncode == 0, ran.stdout)
-        check_installed(counts, f"{room}/b/usr/local")
-        ran = install(f"{room}/c", PROGRAM=f"{room}/none")
+        ran = install(f"{room}/b", PROGRAM=program, DESTDIR=f"{room}/staged")
+        respected = ran.returncode == 0 and os.path.isdir(f"{room}/staged{room}/b") and not os.path.exists(f"{room}/b")
+        counts.check("install.sh respects DESTDIR", respected, ran.stdout)
+        if respected:
+            ran = install(PROGRAM=program, DESTDIR=f"{room}/c")
+            counts.check("install.sh with the default PREFIX ends well", ran.returncode == 0, ran.stdout)
+            check_installed(counts, f"{room}/c/usr/local")
+        ran = install(f"{room}/d", PROGRAM=f"{room}/none")
         counts.check("install.sh without a program fails", ran.returncode == 1 and "tools/build.py" in ran.stdout, ran.stdout)
-        counts.check("install.sh without a program installs nothing", not os.path.exists(f"{room}/c"))
+        counts.check("install.sh without a program installs nothing", not os.path.exists(f"{room}/d"))
 
 
 def main(arguments):
