@@ -4,7 +4,8 @@
 #     tools/install.sh [PREFIX]       PREFIX is /usr/local, unless it is given
 #
 # DESTDIR, if it is set, comes before PREFIX. The program is crates/uca/out/uca, which tools/build.py builds; PROGRAM names
-# another one. A command that fails ends the script.
+# another one. A command that fails ends the script. bash, fish and man find their files below /usr/local and ~/.local by
+# themselves; zsh finds its completion if PREFIX/share/zsh/site-functions is in fpath, as it is for /usr/local.
 set -eu
 
 top=$(dirname "$0")/..
