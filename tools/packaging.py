@@ -17,7 +17,6 @@ import subprocess
 import sys
 import tempfile
 
-import command_help
 from command_help import TOP, helps_of, program_of
 from completion_shells import Zsh, bash_offers, fish_offers
 
@@ -33,6 +32,13 @@ INSTALLED = [
     *(f"share/doc/uca/{it}" for it in ["LICENSE", "LICENSE-MIT", "LICENSE-APACHE", "NOTICE", "README.md", "CHANGELOG.md", "SECURITY.md"]),
     *(f"share/doc/uca/{it}" for it in ["docs/FORMATS.md", "docs/MESSAGES.md", "examples/table.txt", "tools/unicode_files.py"]),
 ]
+
+# How each completion names the commands, and the long options.
+NAMES = {
+    "uca.bash": (r'commands="([a-z ]+)"', r"(?<![\w-])--([a-z][\w-]*)"),
+    "_uca": (r"^ +'([a-z]+):", r"(?<![\w-])--([a-z][\w-]*)"),
+    "uca.fish": (r"-n __fish_use_subcommand -a (\w+)", r" -l (\w+)"),
+}
 
 # Lines and what is offered at their ends. Where nothing is typed yet, options that a shell offers too do not count.
 LINES = [
@@ -129,7 +135,19 @@ def check_shell(counts, name, offers, room, whole, helps):
         counts.same(f"{name}: `{line}`", given, wanted)
 
 
+def check_names(counts, whole, helps):
+    """Each completion has the names of all commands and options in its text, also where its shell is not installed."""
+    options = {it[2:] for text in [whole, *helps.values()] for it in text.options() if it.startswith("--")}
+    for name, (commands_in, options_in_text) in NAMES.items():
+        with open(f"{TOP}/completions/{name}", encoding="utf-8") as file:
+            text = file.read()
+        commands = {it for found in re.findall(commands_in, text, re.M) for it in found.split()}
+        counts.same(f"completions/{name}: commands", commands, set(whole.names("Commands")))
+        counts.same(f"completions/{name}: options", set(re.findall(options_in_text, text)), options)
+
+
 def check_completions(counts, whole, helps):
+    check_names(counts, whole, helps)
     with tempfile.TemporaryDirectory(prefix="uca-room-") as room:
         for name in FILES - {"rules"}:
             open(f"{room}/{name}", "w", encoding="utf-8").close()
