@@ -37,7 +37,7 @@ INSTALLED = [
 NAMES = {
     "uca.bash": (r'commands="([a-z ]+)"', r"(?<![\w-])--([a-z][\w-]*)"),
     "_uca": (r"^ +'([a-z]+):", r"(?<![\w-])--([a-z][\w-]*)"),
-    "uca.fish": (r"-n __fish_use_subcommand -a (\w+)", r" -l (\w+)"),
+    "uca.fish": (r"-n __fish_use_subcommand -a (\w+)", r"^complete .* -l (\w+)"),
 }
 
 # Lines and what is offered at their ends. Where nothing is typed yet, options that a shell offers too do not count.
@@ -143,7 +143,7 @@ def check_names(counts, whole, helps):
             text = file.read()
         commands = {it for found in re.findall(commands_in, text, re.M) for it in found.split()}
         counts.same(f"completions/{name}: commands", commands, set(whole.names("Commands")))
-        counts.same(f"completions/{name}: options", set(re.findall(options_in_text, text)), options)
+        counts.same(f"completions/{name}: options", set(re.findall(options_in_text, text, re.M)), options)
 
 
 def check_completions(counts, whole, helps):
