@@ -29,7 +29,7 @@ class Help:
     """One help text: what it says, the usage, the items of each list as pairs of a name and a text, and what comes last."""
 
     def __init__(self, text):
-        self.about, self.last = [], []
+        self.about, self.last, self.usage = [], [], ""
         self.lists = {heading: [] for heading in HEADINGS}
         heading = None
         for line in text.splitlines():
@@ -39,8 +39,11 @@ class Help:
                 self.usage = found[2] if heading == "Usage" else self.usage
             elif line.startswith(" ") and heading in self.lists:
                 self.add_to_list(self.lists[heading], line)
-            else:
-                (self.about if heading is None else self.last).append(line)
+            elif heading is None:
+                self.about.append(line)
+            elif line:
+                self.last.append(line)
+                heading = "last"
 
     @staticmethod
     def add_to_list(items, line):

@@ -57,11 +57,12 @@ def items(pairs, name_of):
 
 
 def last_words(lines):
-    """What a help ends with: an example on a line of its own, and other lines as a paragraph."""
+    """What a help ends with: an example, or an indented line, on a line of its own; any other line as a paragraph."""
     made = []
-    for line in filter(None, lines):
-        found = re.match(r"(Examples?:) ?(.*)", line)
-        made += [".PP", found[1], ".PP", ".RS 4", ".EX", plain(found[2]), ".EE", ".RE"] if found else [".PP", prose(line)]
+    for line in lines:
+        found = re.match(r"(Examples?:|)\s+(.*)", line)
+        heading = [".PP", found[1]] if found and found[1] else []
+        made += [*heading, ".PP", ".RS 4", ".EX", plain(found[2]), ".EE", ".RE"] if found else [".PP", prose(line)]
     return made
 
 
