@@ -31,7 +31,7 @@ uca_is_free = refl
 
 -- where it has no fault at the words, one of its subcommands was met, with its words
 uca_taken : (words : List Text) → fault_of uca_app words ≡ [] → option_map_or (λ (p : Text × List Row). is_met p.0 p.1) (subcommand_of uca_app words) false ≡ true
-uca_taken words passes = taken uca_app words refl refl passes
+uca_taken words passes = taken uca_app words refl refl refl passes
 
 -- what a parse met, as `subcommand` answers it
 abbrev pub Met : Type 0

@@ -14,9 +14,9 @@ word_rule id = record (new_rule id) { required = true; value_names = 1 }
 abbrev pub weighting_rule : Rule
 weighting_rule = record (new_rule (codes "weighting")) { long = Some (codes "weighting"); value_names = 1 }
 
--- `--identical`
-abbrev pub identical_rule : Rule
-identical_rule = record (new_rule (codes "identical")) { long = Some (codes "identical"); action = Some SetTrue }
+-- an option without a value, such as `--identical`
+abbrev pub flag_rule : Text → Rule
+flag_rule id = record (new_rule id) { long = Some id; action = Some SetTrue }
 
 -- `TABLE DATA` come next
 abbrev pub with_files : App → App
@@ -24,13 +24,14 @@ with_files app = with_rule (with_rule app (word_rule (codes "table"))) (word_rul
 
 -- `[--weighting W] [--identical] TABLE DATA` come next
 abbrev pub with_options : App → App
-with_options app = with_files (with_rule (with_rule app weighting_rule) identical_rule)
+with_options app = with_files (with_rule (with_rule app weighting_rule) (flag_rule (codes "identical")))
 
 abbrev pub check_app : App
 check_app = with_files (new_app (codes "check"))
 
+-- `keys [--weighting W] [--identical] [--lines] TABLE DATA`
 abbrev pub keys_app : App
-keys_app = with_options (new_app (codes "keys"))
+keys_app = with_rule (with_options (new_app (codes "keys"))) (flag_rule (codes "lines"))
 
 abbrev pub sort_app : App
 sort_app = with_options (new_app (codes "sort"))
@@ -50,20 +51,25 @@ with_audit_files app = with_rule (with_rule (with_rule (with_rule (with_rule app
 abbrev pub audit_app : App
 audit_app = with_audit_files (new_app (codes "audit"))
 
--- the command before its subcommands: one of them has to be named, and none is `help`
+-- `affected DATA RULES`
+abbrev pub affected_app : App
+affected_app = with_rule (with_rule (new_app (codes "affected")) (word_rule (codes "data"))) (word_rule (codes "rules"))
+
+-- The command before its subcommands: one of them has to be named. It has a version, so `clap` adds `--version`, and it
+-- adds the subcommand `help`, at which the command always has a fault.
 abbrev pub bare_app : App
-bare_app = on_top (λ s. record s { subcommand_required = true; disable_help_subcommand = true }) (new_app (codes "uca"))
+bare_app = on_top (λ s. record s { subcommand_required = true; has_version = true }) (new_app (codes "uca"))
 
 -- the subcommands, in the order of the help
 abbrev pub subcommands : List App
-subcommands = check_app ∷ keys_app ∷ sort_app ∷ compare_app ∷ tailor_app ∷ audit_app ∷ []
+subcommands = check_app ∷ keys_app ∷ sort_app ∷ compare_app ∷ tailor_app ∷ audit_app ∷ affected_app ∷ []
 
 abbrev pub uca_app : App
 uca_app = fold (λ app sub. with_subcommand app sub.top) bare_app subcommands
 
--- the command with its first three subcommands: only private contracts cite this
+-- the command with its first four subcommands: only private contracts cite this
 abbrev pub line_app : App
-line_app = with_subcommand (with_subcommand (with_subcommand bare_app check_app.top) keys_app.top) sort_app.top
+line_app = with_subcommand (with_subcommand (with_subcommand (with_subcommand bare_app check_app.top) keys_app.top) sort_app.top) compare_app.top
 
 -- a parse reads the command so, and no argument of it is global: only private contracts cite this
 pub record StandsFor (app : App) (command : Command) : Type 0 where

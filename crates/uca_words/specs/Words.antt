@@ -14,7 +14,7 @@ use Rattle.uca_words.specs.declared.WordFault.{WordFault}
 use Rattle.uca_words.specs.declared.WordFault.TheVariants.{Refused, Weighting, Memory}
 use Rattle.uca_words.specs.Command.{uca_app}
 use Rattle.uca_words.specs.declared.Words.{Words}
-use Rattle.uca_words.specs.declared.Words.TheVariants.{Check, Keys, Sort, Compare, Tailor, Audit}
+use Rattle.uca_words.specs.declared.Words.TheVariants.{Check, Keys, Sort, Compare, Tailor, Audit, Affected}
 
 -- `--weighting` is given this value, or is not given
 abbrev pub HasWeighting : List Row → Option WeightingType → Type 0
@@ -35,8 +35,8 @@ HasFiles rows table properties = HasWord rows (codes "table") table × HasWord r
 -- the subcommand of this name, with these rows of its arguments, says these words
 abbrev pub Says : Text → List Row → Words → Type 0
 Says name rows (Check table properties) = (name ≡ codes "check") × HasFiles rows table properties
-Says name rows (Keys weighting depth table properties) =
-    (name ≡ codes "keys") × HasWeighting rows weighting × HasDepth rows depth × HasFiles rows table properties
+Says name rows (Keys weighting depth lines table properties) =
+    (name ≡ codes "keys") × HasWeighting rows weighting × HasDepth rows depth × (is_given (codes "lines") rows ≡ lines) × HasFiles rows table properties
 Says name rows (Sort weighting depth table properties) =
     (name ≡ codes "sort") × HasWeighting rows weighting × HasDepth rows depth × HasFiles rows table properties
 Says name rows (Compare weighting depth table properties left right) =
@@ -47,6 +47,8 @@ Says name rows (Tailor table properties rules certificate) =
 Says name rows (Audit base properties rules tailored certificate) =
     (name ≡ codes "audit") × HasWord rows (codes "base") base × HasWord rows (codes "data") properties × HasWord rows (codes "rules") rules
     × HasWord rows (codes "tailored") tailored × HasWord rows (codes "certificate") certificate
+Says name rows (Affected properties rules) =
+    (name ≡ codes "affected") × HasWord rows (codes "data") properties × HasWord rows (codes "rules") rules
 
 -- the subcommand that was met, with the rows of its arguments, says these words
 abbrev pub SayWords : Option (Text × List Row) → Words → Type 0

@@ -2,10 +2,14 @@
 
 ghost use Rattle.std.specs.Prelude.{◌≡◌, codes, false, IfOk};
 ghost use Rattle.clap.specs.Words.{App, new_app, rule_of, with_rule, with_subcommand};
-ghost use Rattle.uca_words.specs.Command.{StandsFor, word_rule, weighting_rule, identical_rule, with_files, with_options, with_audit_files, check_app, keys_app, sort_app, compare_app, tailor_app, audit_app, bare_app, line_app, uca_app};
+ghost use Rattle.uca_words.specs.Command.{StandsFor, word_rule, weighting_rule, flag_rule, with_files, with_options, with_audit_files, check_app, keys_app, sort_app, compare_app, tailor_app, audit_app, affected_app, bare_app, line_app, uca_app};
 
 use clap::{Arg, ArgAction, Command};
 use std::alloc::{AllocError, Global};
+
+// What `--version` prints after the name: the version, the Unicode edition of the normalization, and the kit that proves it.
+// `tools/packaging.py` compares the kit with that of the machine.
+const VERSION: &str = "0.1.0 (normalization of Unicode 18.0.0, proved with rattle-kit-13f)";
 
 fn word<'a>(alloc: Global, id: &'a str, name: &'a str, help: &'a str) -> Arg<'a>
     ensures rule { rule_of result ≡ word_rule id.entry.now }
@@ -27,14 +31,15 @@ fn weighting_option<'a>(alloc: Global) -> Arg<'a>
         .help("non-ignorable or shifted [default: what the table's @variable says, else shifted]")
 }
 
-fn identical_option<'a>(alloc: Global) -> Arg<'a>
-    ensures rule { rule_of result ≡ identical_rule }
+// An option without a value.
+fn flag<'a>(alloc: Global, id: &'a str, help: &'a str) -> Arg<'a>
+    ensures rule { rule_of result ≡ flag_rule id.entry.now }
     ensures local { result.global ≡ false }
 {
-    Arg::new(alloc, "identical")
-        .long("identical")
+    Arg::new(alloc, id)
+        .long(id)
         .action(ArgAction::SetTrue)
-        .help("Compare texts that weigh the same by their code points too")
+        .help(help)
 }
 
 // One more argument. Each step takes what the step before returned, and returns its error.
@@ -62,6 +67,18 @@ fn take_word<'a>(
     ensures { (app : App) → IfOk command.entry (StandsFor app) → IfOk result (StandsFor (with_rule app (word_rule id.entry.now))) }
 {
     take_argument(command, word(alloc, id, name, help))
+}
+
+// One more option, which has no value.
+fn take_flag<'a>(
+    alloc: Global,
+    command: Result<Command<'a>, AllocError>,
+    id: &'a str,
+    help: &'a str,
+) -> Result<Command<'a>, AllocError>
+    ensures { (app : App) → IfOk command.entry (StandsFor app) → IfOk result (StandsFor (with_rule app (flag_rule id.entry.now))) }
+{
+    take_argument(command, flag(alloc, id, help))
 }
 
 // `DATA` comes next.
@@ -105,7 +122,8 @@ fn take_options<'a>(
     ensures { (app : App) → IfOk command.entry (StandsFor app) → IfOk result (StandsFor (with_options app)) }
 {
     let command = take_argument(command, weighting_option(alloc));
-    take_files(alloc, take_argument(command, identical_option(alloc)))
+    let identical = "Compare texts that weigh the same by their code points too";
+    take_files(alloc, take_flag(alloc, command, "identical", identical))
 }
 
 // A subcommand before its arguments: its name, what it does in one line and in full, and an example.
@@ -146,11 +164,15 @@ fn keys_command<'a>(alloc: Global) -> Result<Command<'a>, AllocError>
         "keys",
         "Print the sort key of each line of standard input",
         "Prints the sort key (UTS #10, S3) of each line of standard input on a line of its own, in groups\n\
-         of four hexadecimal digits. `0000` stands between two levels. With `--identical` the code points\n\
-         of Normalization Form D follow as one more level, six digits each.",
-        "Example: uca keys allkeys.txt data.txt < lines.txt",
+         of four hexadecimal digits. `0000` is between two levels. With `--identical` the code points\n\
+         of Normalization Form D follow as one more level, six digits each. With `--lines` each key has no\n\
+         blanks, and after it come a tab and the line: a database or `sort` can read that.",
+        "Examples:\n\
+         \x20 uca keys allkeys.txt data.txt < lines.txt\n\
+         \x20 uca keys --lines allkeys.txt data.txt < lines.txt > keyed.tsv",
     );
-    take_options(alloc, Ok(keys))
+    let keys = take_options(alloc, Ok(keys));
+    take_flag(alloc, keys, "lines", "Print the key without blanks, a tab and the line")
 }
 
 fn sort_command<'a>(alloc: Global) -> Result<Command<'a>, AllocError>
@@ -235,6 +257,21 @@ fn audit_command<'a>(alloc: Global) -> Result<Command<'a>, AllocError>
     take_audit_files(alloc, Ok(audit))
 }
 
+fn affected_command<'a>(alloc: Global) -> Result<Command<'a>, AllocError>
+    ensures { IfOk result (StandsFor affected_app) }
+{
+    let affected = named(
+        alloc,
+        "affected",
+        "Print the lines of standard input that rules may move",
+        "Prints those lines of standard input in which a target of RULES occurs, as they are. Other characters\n\
+         may be between those of the target: `bh` occurs in `bach`. These lines may move when a table is\n\
+         tailored by RULES. All other lines keep their order among themselves.",
+        "Example: uca affected data.txt rules.txt < lines.txt > moved.txt",
+    );
+    take_rules(alloc, take_data(alloc, Ok(affected)))
+}
+
 // The command with one more subcommand, which may have an error.
 fn with_below<'a>(
     command: Command<'a>,
@@ -272,24 +309,25 @@ fn bare_command<'a>(alloc: Global) -> Command<'a>
             "Unicode collation (UTS #10): checks tables of weights, prints sort keys, sorts, compares, tailors, audits",
         )
         .after_help("`uca COMMAND --help` says more of each, with an example.")
+        .version(VERSION)
         .subcommand_required(true)
-        .disable_help_subcommand(true)
 }
 
-// The command with its first three subcommands.
+// The command with its first four subcommands.
 fn line_commands<'a>(alloc: Global) -> Result<Command<'a>, AllocError>
     ensures { IfOk result (StandsFor line_app) }
 {
     let command = take_subcommand(Ok(bare_command(alloc)), check_command(alloc));
     let command = take_subcommand(command, keys_command(alloc));
-    take_subcommand(command, sort_command(alloc))
+    let command = take_subcommand(command, sort_command(alloc));
+    take_subcommand(command, compare_command(alloc))
 }
 
 /// The command with all its subcommands.
 pub(crate) fn uca_command<'a>(alloc: Global) -> Result<Command<'a>, AllocError>
     ensures { IfOk result (StandsFor uca_app) }
 {
-    let command = take_subcommand(line_commands(alloc), compare_command(alloc));
-    let command = take_subcommand(command, tailor_command(alloc));
-    take_subcommand(command, audit_command(alloc))
+    let command = take_subcommand(line_commands(alloc), tailor_command(alloc));
+    let command = take_subcommand(command, audit_command(alloc));
+    take_subcommand(command, affected_command(alloc))
 }

@@ -3,7 +3,7 @@
 //! `read_words` is proved against the specification of `clap`, which says what a command accepts:
 //!
 //! - At `Ok` the command accepts the arguments, and the result has those of the subcommand that they name. The depth is
-//!   `Identical` exactly where `--identical` is given.
+//!   `Identical` exactly where `--identical` is given, and `lines` is true exactly where `--lines` is given.
 //! - `Refused` has an error of a kind that the specification gives for the arguments. It is never returned for arguments
 //!   that the command accepts.
 //! - `Weighting` is returned only for arguments that the command accepts and whose weighting has no known name.
@@ -14,7 +14,7 @@ ghost use Rattle.std.specs.Prelude.{◌≡◌, Some, IfOk, IfErr, IfSome, IfNone
 ghost use Rattle.clap.specs.Words.{found_of, rows_of, first_of};
 ghost use Rattle.clap.specs.Takes.{is_given};
 ghost use Rattle.clap.specs.Walk.{texts};
-ghost use Rattle.uca_words.specs.Command.{check_app, keys_app, sort_app, compare_app, tailor_app, audit_app};
+ghost use Rattle.uca_words.specs.Command.{check_app, keys_app, sort_app, compare_app, tailor_app, audit_app, affected_app};
 ghost use Rattle.uca_words.specs.Met.{has_words, is_met, IsWeightingFault};
 ghost use Rattle.uca_words.specs.Words.{HasFiles, HasWord, HasWeighting, HasDepth, Says, AreRead, IsFaultOf};
 
@@ -38,12 +38,14 @@ pub enum Words<'a> {
         /// The name of the data file.
         properties: &'a str,
     },
-    /// `keys [--weighting W] [--identical] TABLE DATA`: print the sort key of each line of standard input.
+    /// `keys [--weighting W] [--identical] [--lines] TABLE DATA`: print the sort key of each line of standard input.
     Keys {
         /// The weighting, if one is given.
         weighting: Option<Weighting>,
         /// How far texts are compared: `Identical` where `--identical` is given.
         depth: Depth,
+        /// Whether the line is printed after its key: `--lines` is given.
+        lines: bool,
         /// The name of the table file.
         table: &'a str,
         /// The name of the data file.
@@ -99,12 +101,19 @@ pub enum Words<'a> {
         /// The name of the file of the certificate.
         certificate: &'a str,
     },
+    /// `affected DATA RULES`: print the lines of standard input in which a target of the rules occurs.
+    Affected {
+        /// The name of the data file.
+        properties: &'a str,
+        /// The name of the file of rules.
+        rules: &'a str,
+    },
 }
 
 /// Why a command line is rejected.
 #[derive(Debug, Drop, Error)]
 pub enum WordFault {
-    /// `clap` rejects the arguments, or help was asked for.
+    /// `clap` rejects the arguments, or help or the version was asked for.
     #[error("{0}")]
     Refused(clap::Error),
     /// The value of `--weighting` is neither `non-ignorable` nor `shifted`.
@@ -216,6 +225,7 @@ fn keys_words<'a>(found: &ArgMatches<'a>) -> Result<Words<'a>, WordFault>
     Ok(Words::Keys {
         weighting: given_weighting(found)?,
         depth: given_depth(found),
+        lines: is_in_words(found, "lines"),
         table,
         properties,
     })
@@ -277,6 +287,16 @@ fn audit_words<'a>(found: &ArgMatches<'a>) -> Words<'a>
     }
 }
 
+fn affected_words<'a>(found: &ArgMatches<'a>) -> Words<'a>
+    requires { has_words affected_app (rows_of (found_of found.now)) ≡ true }
+    ensures { Says (codes "affected") (rows_of (found_of found.now)) result }
+{
+    Words::Affected {
+        properties: word_of(found, "data"),
+        rules: word_of(found, "rules"),
+    }
+}
+
 // The arguments of the subcommand of this name.
 fn subcommand_words<'a>(name: &str, found: &ArgMatches<'a>) -> Result<Words<'a>, WordFault>
     requires { is_met name.now (rows_of (found_of found.now)) ≡ true }
@@ -290,6 +310,7 @@ fn subcommand_words<'a>(name: &str, found: &ArgMatches<'a>) -> Result<Words<'a>,
         "compare" => compare_words(found),
         "tailor" => Ok(tailor_words(found)),
         "audit" => Ok(audit_words(found)),
+        "affected" => Ok(affected_words(found)),
         _ => unreachable!(),
     }
 }
@@ -299,8 +320,8 @@ fn subcommand_words<'a>(name: &str, found: &ArgMatches<'a>) -> Result<Words<'a>,
 ///
 /// # Errors
 ///
-/// `Refused` with the error of `clap` where it rejects the arguments or help is asked for; `Weighting` where it accepts
-/// them and the value of `--weighting` is not known; `Memory` where an allocation failed.
+/// `Refused` with the error of `clap` where it rejects the arguments, or help or the version is asked for; `Weighting` where
+/// it accepts them and the value of `--weighting` is not known; `Memory` where an allocation failed.
 pub fn read_words<'a>(alloc: Global, words: &'a [&'a str]) -> Result<Words<'a>, WordFault>
     ensures ok { IfOk result (AreRead (texts words.entry.now)) }
     ensures err { IfErr result (IsFaultOf (texts words.entry.now)) }

@@ -1,7 +1,7 @@
 -- The subcommand that was met is one of those that are told apart.
 use Rattle.std.proofs.Common.{sym, true≢false}
 use Rattle.clap.specs.Words.{found_of, rows_of}
-use Rattle.uca_words.specs.Command.{check_app, keys_app, sort_app, compare_app, tailor_app, audit_app}
+use Rattle.uca_words.specs.Command.{check_app, keys_app, sort_app, compare_app, tailor_app, audit_app, affected_app}
 use Rattle.uca_words.proofs.SubcommandWords.{is_of_rest}
 use Rattle.uca_words.proofs.subcommand_words.Goals as goal
 
@@ -14,4 +14,5 @@ unreachable-requires c =
     let three = is_of_rest sort_app name rows _ two c.in_default.not-sort in
     let four = is_of_rest compare_app name rows _ three c.in_default.not-compare in
     let five = is_of_rest tailor_app name rows _ four c.in_default.not-tailor in
-    true≢false (sym (is_of_rest audit_app name rows _ five c.in_default.not-audit))
+    let six = is_of_rest audit_app name rows _ five c.in_default.not-audit in
+    true≢false (sym (is_of_rest affected_app name rows _ six c.in_default.not-affected))
