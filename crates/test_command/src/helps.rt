@@ -16,15 +16,18 @@ const WHOLE: &str =
     Usage: uca <COMMAND>\n\
     \n\
     Commands:\n\
-    \x20 check    Say whether a weight table is well-formed\n\
-    \x20 keys     Print the sort key of each line of standard input\n\
-    \x20 sort     Sort the lines of standard input by their sort keys\n\
-    \x20 compare  Say how two texts compare, and at which level they differ\n\
-    \x20 tailor   Tailor a weight table by rules\n\
-    \x20 audit    Say whether a tailored table is what its rules say\n\
+    \x20 check     Say whether a weight table is well-formed\n\
+    \x20 keys      Print the sort key of each line of standard input\n\
+    \x20 sort      Sort the lines of standard input by their sort keys\n\
+    \x20 compare   Say how two texts compare, and at which level they differ\n\
+    \x20 tailor    Tailor a weight table by rules\n\
+    \x20 audit     Say whether a tailored table is what its rules say\n\
+    \x20 affected  Print the lines of standard input that rules may move\n\
+    \x20 help      Print this message or the help of the given subcommand(s)\n\
     \n\
     Options:\n\
-    \x20 -h, --help  Print help\n\
+    \x20 -h, --help     Print help\n\
+    \x20 -V, --version  Print version\n\
     \n\
     `uca COMMAND --help` says more of each, with an example.\n";
 
@@ -50,8 +53,9 @@ pub const CHECK: &str =
 
 const KEYS: &str =
     "Prints the sort key (UTS #10, S3) of each line of standard input on a line of its own, in groups\n\
-    of four hexadecimal digits. `0000` stands between two levels. With `--identical` the code points\n\
-    of Normalization Form D follow as one more level, six digits each.\n\
+    of four hexadecimal digits. `0000` is between two levels. With `--identical` the code points\n\
+    of Normalization Form D follow as one more level, six digits each. With `--lines` each key has no\n\
+    blanks, and after it come a tab and the line: a database or `sort` can read that.\n\
     \n\
     Usage: uca keys [OPTIONS] <TABLE> <DATA>\n\
     \n\
@@ -69,10 +73,15 @@ const KEYS: &str =
     \x20     --identical\n\
     \x20         Compare texts that weigh the same by their code points too\n\
     \n\
+    \x20     --lines\n\
+    \x20         Print the key without blanks, a tab and the line\n\
+    \n\
     \x20 -h, --help\n\
     \x20         Print help (see a summary with '-h')\n\
     \n\
-    Example: uca keys allkeys.txt data.txt < lines.txt\n";
+    Examples:\n\
+    \x20 uca keys allkeys.txt data.txt < lines.txt\n\
+    \x20 uca keys --lines allkeys.txt data.txt < lines.txt > keyed.tsv\n";
 
 const SORT: &str =
     "Sorts the lines of standard input by their sort keys. Lines of equal keys keep their order.\n\
@@ -188,6 +197,29 @@ const AUDIT: &str =
     \n\
     Example: uca audit table.txt data.txt rules.txt tailored.txt certificate.txt\n";
 
+const AFFECTED: &str =
+    "Prints those lines of standard input in which a target of RULES occurs, as they are. Other characters\n\
+    may be between those of the target: `bh` occurs in `bach`. These lines may move when a table is\n\
+    tailored by RULES. All other lines keep their order among themselves.\n\
+    \n\
+    Usage: uca affected <DATA> <RULES>\n\
+    \n\
+    Arguments:\n\
+    \x20 <DATA>\n\
+    \x20         A data file: combining classes and Han ranges\n\
+    \n\
+    \x20 <RULES>\n\
+    \x20         The tailoring rules\n\
+    \n\
+    Options:\n\
+    \x20 -h, --help\n\
+    \x20         Print help (see a summary with '-h')\n\
+    \n\
+    Example: uca affected data.txt rules.txt < lines.txt > moved.txt\n";
+
+/// What `--version` prints.
+pub const VERSION: &str = "uca 0.1.0 (normalization of Unicode 18.0.0, proved with rattle-kit-13f)\n";
+
 // No file is opened.
 fn end_of(status: u8, out: &'static str, err: &'static str) -> End<'static> {
     End {
@@ -212,7 +244,24 @@ fn whole_help_texts(rt: HostRuntime) -> Result<(), Fail> {
     check_help(rt.alloc(), "sort,--help", SORT)?;
     check_help(rt.alloc(), "compare,--help", COMPARE)?;
     check_help(rt.alloc(), "tailor,--help", TAILOR)?;
-    check_help(rt.alloc(), "audit,--help", AUDIT)
+    check_help(rt.alloc(), "audit,--help", AUDIT)?;
+    check_help(rt.alloc(), "affected,--help", AFFECTED)
+}
+
+#[test]
+fn help_as_a_subcommand(rt: HostRuntime) -> Result<(), Fail> {
+    check_help(rt.alloc(), "help", WHOLE)?;
+    check_help(rt.alloc(), "help,check", CHECK)?;
+    check_help(rt.alloc(), "help,keys", KEYS)?;
+    check_help(rt.alloc(), "help,affected", AFFECTED)?;
+    check_refused(rt.alloc(), "help,other", OTHER_SUBCOMMAND)
+}
+
+#[test]
+fn version_texts(rt: HostRuntime) -> Result<(), Fail> {
+    check_help(rt.alloc(), "--version", VERSION)?;
+    check_help(rt.alloc(), "-V", VERSION)?;
+    check_help(rt.alloc(), "--version,keys,t,d", VERSION)
 }
 
 // Words that are refused, and what is said.
@@ -221,7 +270,7 @@ fn check_refused(alloc: Global, words: &str, err: &'static str) -> Result<(), Fa
 }
 
 const NO_SUBCOMMAND: &str = "error: 'uca' requires a subcommand but one was not provided\n\
-    \x20 [subcommands: check, keys, sort, compare, tailor, audit]\n\
+    \x20 [subcommands: check, keys, sort, compare, tailor, audit, affected, help]\n\
     \n\
     Usage: uca <COMMAND>\n\
     \n\
@@ -288,6 +337,27 @@ fn refused_subcommands(rt: HostRuntime) -> Result<(), Fail> {
     check_refused(rt.alloc(), "keys,t", NO_DATA)?;
     check_refused(rt.alloc(), "keys,t,d,l", MORE_WORDS)?;
     check_refused(rt.alloc(), "tailor,t,d,r", NO_CERTIFICATE)
+}
+
+const LINES_OF_SORT: &str = "error: unexpected argument '--lines' found\n\
+    \n\
+    \x20 tip: to pass '--lines' as a value, use '-- --lines'\n\
+    \n\
+    Usage: uca sort [OPTIONS] <TABLE> <DATA>\n\
+    \n\
+    For more information, try '--help'.\n";
+
+const NO_RULES: &str = "error: the following required arguments were not provided:\n\
+    \x20 <RULES>\n\
+    \n\
+    Usage: uca affected <DATA> <RULES>\n\
+    \n\
+    For more information, try '--help'.\n";
+
+#[test]
+fn refused_of_keyed_and_affected_lines(rt: HostRuntime) -> Result<(), Fail> {
+    check_refused(rt.alloc(), "sort,--lines,t,d", LINES_OF_SORT)?;
+    check_refused(rt.alloc(), "affected,d", NO_RULES)
 }
 
 #[test]

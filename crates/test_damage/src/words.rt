@@ -13,19 +13,22 @@ use uca_words::{WordFault, Words, read_words};
 const LINES: &str = "check t d
 keys t d
 keys --weighting shifted t d --identical
+keys --lines t d
 sort --weighting=non-ignorable --identical t d
 compare t d a b
 compare --identical t d --weighting non-ignorable -- -a --b
 tailor t d r -- c
-audit b d r t c";
+audit b d r t c
+affected d r";
 
 /// Words that are put in.
 const PUT_IN: &str =
-    "check keys sort compare tailor audit help order t - -- --- --weighting --weighting= --weighting=shifted \
-    --weightings shifted non-ignorable Shifted --identical --identical= --identically -i -h --help --version \u{E9} =";
+    "check keys sort compare tailor audit affected help order t - -- --- --weighting --weighting= --weighting=shifted \
+    --weightings shifted non-ignorable Shifted --identical --identical= --identically --lines --lines= --line -i -h --help \
+    -V --version \u{E9} =";
 
 /// The names of the subcommands.
-const NAMES: &[&str] = &["check", "keys", "sort", "compare", "tailor", "audit"];
+const NAMES: &[&str] = &["check", "keys", "sort", "compare", "tailor", "audit", "affected"];
 
 /// Names of files, and texts.
 const TEXTS: &[&str] = &["t", "d", "", "-", "--identical"];
@@ -60,6 +63,8 @@ struct Asked<'a> {
     weightings: usize,
     /// How often all levels are asked for.
     identicals: usize,
+    /// How often the lines are asked for.
+    lines: usize,
     /// Whether a value is due.
     is_due: bool,
     /// Whether all that follows is a name or a text.
@@ -75,6 +80,7 @@ const NOTHING: Asked = Asked {
     weighting: None,
     weightings: 0,
     identicals: 0,
+    lines: 0,
     is_due: false,
     are_texts: false,
     is_strange: false,
@@ -107,6 +113,7 @@ fn take_option<'a>(asked: &mut Asked<'a>, word: &'a str) {
             asked.is_due = true;
         }
         "--identical" => asked.identicals = asked.identicals.saturating_add(1),
+        "--lines" => asked.lines = asked.lines.saturating_add(1),
         _ => asked.is_strange = true,
     }
 }
@@ -127,14 +134,39 @@ fn take_word<'a>(asked: &mut Asked<'a>, word: &'a str, has_options: bool) {
     }
 }
 
-/// How many names and texts stand behind a subcommand's name, and whether it takes options.
-fn form_of(name: &str) -> Option<(usize, bool)> {
+/// What a subcommand takes.
+#[derive(Clone, Copy)]
+struct Form {
+    /// How many names and texts.
+    texts: usize,
+    /// Whether it takes options.
+    has_options: bool,
+    /// How often it takes `--lines`.
+    lines: usize,
+}
+
+/// A subcommand of so many names and texts, with options or not.
+fn form(texts: usize, has_options: bool) -> Form {
+    Form {
+        texts,
+        has_options,
+        lines: 0,
+    }
+}
+
+/// What the subcommand of this name takes.
+fn form_of(name: &str) -> Option<Form> {
     match name {
-        "check" => Some((2, false)),
-        "keys" | "sort" => Some((2, true)),
-        "compare" => Some((4, true)),
-        "tailor" => Some((4, false)),
-        "audit" => Some((5, false)),
+        "check" | "affected" => Some(form(2, false)),
+        "keys" => Some(Form {
+            texts: 2,
+            has_options: true,
+            lines: 1,
+        }),
+        "sort" => Some(form(2, true)),
+        "compare" => Some(form(4, true)),
+        "tailor" => Some(form(4, false)),
+        "audit" => Some(form(5, false)),
         _ => None,
     }
 }
@@ -161,15 +193,15 @@ struct Model<'a> {
     asked: Asked<'a>,
 }
 
-/// Whether this is all that a subcommand with so many names and texts asks for.
-fn is_whole(asked: &Asked, texts: usize) -> bool {
-    let is_once = asked.weightings < 2 && asked.identicals < 2;
-    is_once && asked.count == texts && !asked.is_due && !asked.is_strange
+/// Whether this is all that a subcommand of this form asks for.
+fn is_whole(asked: &Asked, form: Form) -> bool {
+    let is_once = asked.weightings < 2 && asked.identicals < 2 && asked.lines <= form.lines;
+    is_once && asked.count == form.texts && !asked.is_due && !asked.is_strange
 }
 
 /// What is said where this is asked for of a subcommand of this form.
-fn said_of(asked: &Asked, (texts, _): (usize, bool)) -> Said {
-    if !is_whole(asked, texts) {
+fn said_of(asked: &Asked, form: Form) -> Said {
+    if !is_whole(asked, form) {
         return Said::Refused;
     }
     match asked.weighting {
@@ -186,19 +218,18 @@ fn model_of<'a>(words: &[&'a str]) -> Model<'a> {
         let said = Said::Refused;
         return Model { said, name, asked };
     };
-    let (_, has_options) = form;
     for word in words.iter().skip(2) {
-        take_word(&mut asked, *word, has_options);
+        take_word(&mut asked, *word, form.has_options);
     }
     let said = said_of(&asked, form);
     Model { said, name, asked }
 }
 
-/// The words of a subcommand with these options and names.
+/// The words of a subcommand with these options and names: the weighting, the depth, and whether lines are asked for.
 fn with_options<'a>(
     alloc: Global,
     name: &'a str,
-    (weighting, depth): (Option<Weighting>, Depth),
+    (weighting, depth, lines): (Option<Weighting>, Depth, bool),
     texts: &[&'a str],
 ) -> Result<Vec<&'a str>, AllocError> {
     let mut line = Vec::new(alloc);
@@ -212,6 +243,9 @@ fn with_options<'a>(
     if depth == Depth::Identical {
         line.push("--identical")?;
     }
+    if lines {
+        line.push("--lines")?;
+    }
     line.push("--")?;
     for text in texts {
         line.push(*text)?;
@@ -221,7 +255,7 @@ fn with_options<'a>(
 
 /// One line that says what was read.
 fn line_of<'a>(alloc: Global, words: Words<'a>) -> Result<Vec<&'a str>, AllocError> {
-    let none = (None, Depth::Weights);
+    let none = (None, Depth::Weights, false);
     match words {
         Words::Check { table, properties } => with_options(
             alloc,
@@ -232,15 +266,26 @@ fn line_of<'a>(alloc: Global, words: Words<'a>) -> Result<Vec<&'a str>, AllocErr
         Words::Keys {
             weighting,
             depth,
+            lines,
             table,
             properties,
-        } => with_options(alloc, "keys", (weighting, depth), &[table, properties]),
+        } => with_options(
+            alloc,
+            "keys",
+            (weighting, depth, lines),
+            &[table, properties],
+        ),
         Words::Sort {
             weighting,
             depth,
             table,
             properties,
-        } => with_options(alloc, "sort", (weighting, depth), &[table, properties]),
+        } => with_options(
+            alloc,
+            "sort",
+            (weighting, depth, false),
+            &[table, properties],
+        ),
         Words::Compare {
             weighting,
             depth,
@@ -251,7 +296,7 @@ fn line_of<'a>(alloc: Global, words: Words<'a>) -> Result<Vec<&'a str>, AllocErr
         } => with_options(
             alloc,
             "compare",
-            (weighting, depth),
+            (weighting, depth, false),
             &[table, properties, left, right],
         ),
         Words::Tailor {
@@ -277,6 +322,9 @@ fn line_of<'a>(alloc: Global, words: Words<'a>) -> Result<Vec<&'a str>, AllocErr
             none,
             &[base, properties, rules, tailored, certificate],
         ),
+        Words::Affected { properties, rules } => {
+            with_options(alloc, "affected", none, &[properties, rules])
+        }
     }
 }
 
@@ -295,7 +343,8 @@ fn meant<'a>(alloc: Global, model: &Model<'a>) -> Result<Vec<&'a str>, AllocErro
     };
     let texts: &[&str] = &asked.texts;
     let texts = texts.get(..asked.count).unwrap_or(texts);
-    with_options(alloc, model.name, (weighting, depth), texts)
+    let settings = (weighting, depth, asked.lines > 0);
+    with_options(alloc, model.name, settings, texts)
 }
 
 /// Whether what is read of a line is written out as this line again.
@@ -420,9 +469,9 @@ fn random_line<'a>(
     words: &[&'a str],
     numbers: &mut Numbers,
 ) -> Result<Vec<&'a str>, Fail> {
-    let (texts, _) = form_of(name).ok_or("no name")?;
+    let form = form_of(name).ok_or("no name")?;
     let mut line = words_of(alloc, name)?;
-    for _ in 0..texts.saturating_add(numbers.below(3)) {
+    for _ in 0..form.texts.saturating_add(numbers.below(3)) {
         let some = if numbers.below(4) == 0 { words } else { TEXTS };
         line.push(one_of(numbers, some)?)?;
     }
