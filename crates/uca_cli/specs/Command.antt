@@ -7,7 +7,7 @@ use Rattle.uca_weights.specs.Streams.{SourceState, SinkState}
 use Rattle.uca_values.specs.Content.{TableContent}
 use Rattle.uca_certificates.specs.Certificates.{CertificateContent}
 use Rattle.uca_words.specs.declared.Words.{Words as WordsType}
-use Rattle.uca_words.specs.declared.Words.TheVariants.{Check, Keys, Sort, Compare, Tailor, Audit}
+use Rattle.uca_words.specs.declared.Words.TheVariants.{Check, Keys, Sort, Compare, Tailor, Audit, Affected}
 use Rattle.uca_words.specs.Words.{AreRead, IsFaultOf}
 use Rattle.uca_words.specs.declared.WordFault.{WordFault}
 use Rattle.uca_runs.specs.declared.faults.Role.{Role}
@@ -16,7 +16,8 @@ use Rattle.uca_runs.specs.declared.faults.RunFault.{RunFault}
 use Rattle.uca_runs.specs.declared.faults.RunFault.TheVariants.{CertificateWrite, Open, Words}
 use Rattle.uca_runs.specs.CheckRun.{Checks}
 use Rattle.uca_runs.specs.CompareRun.{Compares, Comparing, comparing}
-use Rattle.uca_runs.specs.KeysRun.{PrintsKeys}
+use Rattle.uca_runs.specs.KeysRun.{PrintsKeys, PrintsKeyedLines}
+use Rattle.uca_runs.specs.AffectedRun.{PrintsAffected}
 use Rattle.uca_runs.specs.SortRun.{SortsLines}
 use Rattle.uca_runs.specs.Runs.{ended_by_output}
 use Rattle.uca_cli.specs.declared.command.OpenFault.{OpenFault}
@@ -67,6 +68,11 @@ abbrev pub tailor_files : List ℕ → List ℕ → List ℕ → List NamedFile
 tailor_files table properties rules =
     record { role = roles.Table; name = table } ∷ record { role = roles.Data; name = properties }
     ∷ record { role = roles.Rules; name = rules } ∷ []
+
+-- the two files that `affected` reads
+abbrev pub data_and_rules : List ℕ → List ℕ → List NamedFile
+data_and_rules properties rules =
+    record { role = roles.Data; name = properties } ∷ record { role = roles.Rules; name = rules } ∷ []
 
 -- the five files of `audit`
 abbrev pub audit_files : List ℕ → List ℕ → List ℕ → List ℕ → List ℕ → List NamedFile
@@ -140,13 +146,21 @@ DoesCheck files old new table properties out out_new result =
     OpensAndRuns files old new (table_and_data table properties) (out_new ≡ out)
     (λ olds news. Ran check_result (Checks olds news out out_new) result) result
 
+-- what `keys` prints: with `--lines` the key of each line and the line, else the key alone
+abbrev pub Prints : Bool → Option Weighting → Depth → List SourceState → List SourceState → SourceState → SourceState
+    → SinkState → SinkState → Result (Unit {0}) RunFault → Type 0
+Prints true weighting depth olds news input input_new out out_new run =
+    PrintsKeyedLines weighting depth olds news input input_new out out_new run
+Prints false weighting depth olds news input input_new out out_new run =
+    PrintsKeys weighting depth olds news input input_new out out_new run
+
 -- what `keys` does
-abbrev pub DoesKeys : {O F M : Type 0} → FileSystem O F M → O → O → Option Weighting → Depth → List ℕ → List ℕ
+abbrev pub DoesKeys : {O F M : Type 0} → FileSystem O F M → O → O → Option Weighting → Depth → Bool → List ℕ → List ℕ
     → Streams → Streams → Result ℕ RunFault → Type 0
-DoesKeys files old new weighting depth table properties start end result =
+DoesKeys files old new weighting depth lines table properties start end result =
     OpensAndRuns files old new (table_and_data table properties) (end ≡ start)
     (λ olds news. Ran (done_result {A = Unit {0}})
-    (PrintsKeys weighting depth olds news start.input end.input start.out end.out) result) result
+    (Prints lines weighting depth olds news start.input end.input start.out end.out) result) result
 
 -- what `sort` does
 abbrev pub DoesSort : {O F M : Type 0} → FileSystem O F M → O → O → Option Weighting → Depth → List ℕ → List ℕ
@@ -218,6 +232,16 @@ DoesAudit files old new base properties rules tailored certificate out out_new r
     OpensAndRuns files old new (audit_files base properties rules tailored certificate) (out_new ≡ out)
     (λ olds news. Ran check_result (Audits olds news out out_new) result) result
 
+-- ---- Affected
+
+-- what `affected` does
+abbrev pub DoesAffected : {O F M : Type 0} → FileSystem O F M → O → O → List ℕ → List ℕ → Streams → Streams
+    → Result ℕ RunFault → Type 0
+DoesAffected files old new properties rules start end result =
+    OpensAndRuns files old new (data_and_rules properties rules) (end ≡ start)
+    (λ olds news. Ran (done_result {A = Unit {0}})
+    (PrintsAffected olds news start.input end.input start.out end.out) result) result
+
 -- ---- The command
 
 -- what a subcommand does with its words, given what it reads and writes before and after
@@ -225,8 +249,8 @@ abbrev pub DoesWords : {O F M : Type 0} → FileSystem O F M → O → O → Wor
     → Result ℕ RunFault → Type 0
 DoesWords files old new (Check table properties) start end result =
     (end.input ≡ start.input) × DoesCheck files old new table.now properties.now start.out end.out result
-DoesWords files old new (Keys weighting depth table properties) start end result =
-    DoesKeys files old new weighting depth table.now properties.now start end result
+DoesWords files old new (Keys weighting depth lines table properties) start end result =
+    DoesKeys files old new weighting depth lines table.now properties.now start end result
 DoesWords files old new (Sort weighting depth table properties) start end result =
     DoesSort files old new weighting depth table.now properties.now start end result
 DoesWords files old new (Compare weighting depth table properties left right) start end result =
@@ -239,6 +263,8 @@ DoesWords files old new (Tailor table properties rules certificate) start end re
 DoesWords files old new (Audit base properties rules tailored certificate) start end result =
     (end.input ≡ start.input)
     × DoesAudit files old new base.now properties.now rules.now tailored.now certificate.now start.out end.out result
+DoesWords files old new (Affected properties rules) start end result =
+    DoesAffected files old new properties.now rules.now start end result
 
 -- how the command ends after a run: with its status, or with what its fault reports
 abbrev pub EndsWith : Result ℕ RunFault → ℕ → SinkState → SinkState → SinkState → SinkState → Type 0

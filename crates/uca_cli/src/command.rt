@@ -2,7 +2,7 @@
 
 ghost use Rattle.std.specs.Prelude.{◌∷◌, [], ⊤, ℕ, List, Result, MatchResult, ◌≡◌, ◌⊎◌};
 ghost use Rattle.clap.specs.Walk.{texts};
-ghost use Rattle.uca_cli.specs.Command.{AreOpened, DoesAudit, DoesCheck, DoesCommand, DoesCompare, DoesKeys, DoesNotMake, DoesNotOpen, DoesSort, DoesTailor, DoesWords, MakesFile, audit_files, check_result, done_result, file_system, streams, table_and_data, tailor_files};
+ghost use Rattle.uca_cli.specs.Command.{AreOpened, DoesAffected, DoesAudit, DoesCheck, DoesCommand, DoesCompare, DoesKeys, DoesNotMake, DoesNotOpen, DoesSort, DoesTailor, DoesWords, MakesFile, Prints, audit_files, check_result, data_and_rules, done_result, file_system, streams, table_and_data, tailor_files};
 ghost use Rattle.uca_runs.specs.CompareRun.{comparing};
 ghost use Rattle.uca_cli.specs.declared.command.OpenFault.{OpenFault};
 
@@ -14,7 +14,7 @@ use std::io::{Read, Write};
 use thiserror::Error;
 use uca_certificates::Certificate;
 use uca_runs::faults::{Role, RunFault};
-use uca_runs::{run_check, run_compare, run_keys, run_sort};
+use uca_runs::{run_affected, run_check, run_compare, run_keyed_lines, run_keys, run_sort};
 use uca_values::Table;
 use uca_weights::{Depth, Sink, Source, Weighting};
 use uca_words::{Words, read_words};
@@ -96,6 +96,27 @@ fn open_tailor_files<O: Opens>(
         return Err(Role::Rules);
     };
     Ok((table, properties, Source::new(file)))
+}
+
+// The sources of a data file and of a file of rules, which are opened in this order, or the first that does not open.
+fn open_data_and_rules<O: Opens>(
+    opener: &mut O,
+    properties: &str,
+    rules: &str,
+) -> Result<(Source<O::File>, Source<O::File>), Role>
+    ensures { MatchResult result
+        (λ files. AreOpened (file_system O.open_gives O.create_gives O.File.remaining O.Made.contents)
+        opener.old opener.new (data_and_rules properties.now rules.now) (files.0 ∷ files.1 ∷ []))
+        (DoesNotOpen (file_system O.open_gives O.create_gives O.File.remaining O.Made.contents)
+        opener.old opener.new (data_and_rules properties.now rules.now)) }
+{
+    let Ok(properties) = opener.open(properties) else {
+        return Err(Role::Data);
+    };
+    let Ok(rules) = opener.open(rules) else {
+        return Err(Role::Rules);
+    };
+    Ok((Source::new(properties), Source::new(rules)))
 }
 
 // The sources of the files of an audit.
@@ -192,20 +213,21 @@ fn keys<O: Opens, I: Read, W: Write>(
     opener: &mut O,
     weighting: Option<Weighting>,
     depth: Depth,
+    lines: bool,
     table: &str,
     properties: &str,
     input: &mut Source<I>,
     out: &mut Sink<W>,
 ) -> Result<u8, RunFault>
     ensures { DoesKeys (file_system O.open_gives O.create_gives O.File.remaining O.Made.contents)
-        opener.old opener.new weighting depth table.now properties.now
+        opener.old opener.new weighting depth lines table.now properties.now
         (streams input.old out.old) (streams input.new out.new) result }
 {
     let (mut table, mut properties) = match open_files(opener, table, properties) {
         Ok(files) => files,
         Err(role) => return Err(RunFault::Open(role)),
     };
-    done(run_keys(
+    done(print(
         alloc,
         &mut table,
         &mut properties,
@@ -213,7 +235,29 @@ fn keys<O: Opens, I: Read, W: Write>(
         out,
         weighting,
         depth,
+        lines,
     ))
+}
+
+// The run of `keys`: with or without the lines.
+fn print<T: Read, D: Read, I: Read, W: Write>(
+    alloc: Global,
+    table: &mut Source<T>,
+    properties: &mut Source<D>,
+    input: &mut Source<I>,
+    out: &mut Sink<W>,
+    weighting: Option<Weighting>,
+    depth: Depth,
+    lines: bool,
+) -> Result<(), RunFault>
+    ensures { Prints lines weighting depth (table.old ∷ properties.old ∷ []) (table.new ∷ properties.new ∷ [])
+        input.old input.new out.old out.new result }
+{
+    if lines {
+        run_keyed_lines(alloc, table, properties, input, out, weighting, depth)
+    } else {
+        run_keys(alloc, table, properties, input, out, weighting, depth)
+    }
 }
 
 // `sort`.
@@ -351,6 +395,26 @@ fn audit<O: Opens, W: Write>(
     ))
 }
 
+// `affected`.
+fn affected<O: Opens, I: Read, W: Write>(
+    alloc: Global,
+    opener: &mut O,
+    properties: &str,
+    rules: &str,
+    input: &mut Source<I>,
+    out: &mut Sink<W>,
+) -> Result<u8, RunFault>
+    ensures { DoesAffected (file_system O.open_gives O.create_gives O.File.remaining O.Made.contents)
+        opener.old opener.new properties.now rules.now
+        (streams input.old out.old) (streams input.new out.new) result }
+{
+    let (mut properties, mut rules) = match open_data_and_rules(opener, properties, rules) {
+        Ok(files) => files,
+        Err(role) => return Err(RunFault::Open(role)),
+    };
+    done(run_affected(alloc, &mut properties, &mut rules, input, out))
+}
+
 // Does what the words say, and returns the status of what was done.
 fn run_words<O: Opens, I: Read, W: Write>(
     alloc: Global,
@@ -368,10 +432,11 @@ fn run_words<O: Opens, I: Read, W: Write>(
         Words::Keys {
             weighting,
             depth,
+            lines,
             table,
             properties,
         } => keys(
-            alloc, opener, weighting, depth, table, properties, input, out,
+            alloc, opener, weighting, depth, lines, table, properties, input, out,
         ),
         Words::Sort {
             weighting,
@@ -413,6 +478,9 @@ fn run_words<O: Opens, I: Read, W: Write>(
             certificate,
             out,
         ),
+        Words::Affected { properties, rules } => {
+            affected(alloc, opener, properties, rules, input, out)
+        }
     }
 }
 

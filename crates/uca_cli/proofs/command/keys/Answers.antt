@@ -5,7 +5,7 @@ use Rattle.uca_cli.proofs.command.keys.Goals as goal
 pub returns : goal.returns
 returns g c = inr (record {
   before = c.in-Ok.files.0 ∷ c.in-Ok.files.1 ∷ [];
-  after = c.run_keys.new.table ∷ c.run_keys.new.properties ∷ [];
+  after = c.print.new.table ∷ c.print.new.properties ∷ [];
   opened = c.in-Ok.ensures;
-  runs = record { run = c.run_keys.result; runs = c.run_keys.ensures; status = c.done.ensures };
+  runs = record { run = c.print.result; runs = c.print.ensures; status = c.done.ensures };
 })

@@ -19,3 +19,6 @@ returns-in-Tailor g c = rw c.in-Tailor.is (refl, c.tailor.ensures)
 
 pub returns-in-Audit : goal.returns-in-Audit
 returns-in-Audit g c = rw c.in-Audit.is (refl, c.audit.ensures)
+
+pub returns-in-Affected : goal.returns-in-Affected
+returns-in-Affected g c = rw c.in-Affected.is c.affected.ensures
