@@ -1,11 +1,11 @@
 #!/usr/bin/env python3
-"""Checks what is installed: the manual page, the completions of three shells, and tools/install.sh.
+"""Checks what is installed: the manual page, the completions of three shells, tools/install.sh, and the version.
 
     tools/packaging.py [--program PATH]
 
 The manual page and each completion name the commands and options that the program's help names, and no others. The page is what
 tools/man_page.py prints, and renders without a warning. Each completion is run by its shell. tools/install.sh puts all files
-into a temporary folder, and the program there runs.
+into a temporary folder, and the program there runs. `uca --version` names the kit of this machine, and docs/FORMATS.md shows its line.
 
 Debian packages: man-db, mandoc, zsh and fish (bash and coreutils are always there). What needs a missing one is not run, and
 the script says so. The last line is `N passed, M failed`.
@@ -17,7 +17,7 @@ import subprocess
 import sys
 import tempfile
 
-from command_help import TOP, helps_of, program_of
+from command_help import TOP, helps_of, printed, program_of
 from completion_shells import Zsh, bash_offers, fish_offers
 
 PACKAGES = {"man": "man-db", "mandoc": "mandoc", "zsh": "zsh", "fish": "fish"}
@@ -208,12 +208,24 @@ def check_install(counts, program):
         counts.check("install.sh without a program installs nothing", not os.path.exists(f"{room}/d"))
 
 
+def check_version(counts, program):
+    """The version is one line. It names the kit that `rt version` names, so the kit that built the program."""
+    said = printed(program, "--version")
+    kit = subprocess.run(["rt", "version"], stdout=subprocess.PIPE, text=True, check=True).stdout.split()[0]
+    counts.check("`uca --version`: one line", said.count("\n") == 1 and said.endswith("\n"), said)
+    counts.check(f"`uca --version`: the kit {kit}", said.endswith(f"proved with {kit})\n"), said)
+    counts.check("`uca -V` is `uca --version`", printed(program, "-V") == said)
+    with open(f"{TOP}/docs/FORMATS.md", encoding="utf-8") as file:
+        counts.check("docs/FORMATS.md shows the version", f"$ uca --version\n{said}" in file.read(), said)
+
+
 def main(arguments):
     program, others = program_of(arguments)
     if others:
         sys.exit(__doc__)
     counts = Counts()
     whole, helps = helps_of(program)
+    check_version(counts, program)
     check_man_page(counts, program, whole, helps)
     check_completions(counts, whole, helps)
     check_install(counts, program)

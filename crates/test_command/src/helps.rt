@@ -3,6 +3,8 @@
 use crate::fakes::{End, Files, check, check_words};
 use std::alloc::Global;
 use std::test::Fail;
+use test_kit::holds;
+use unicode_normalization::UNICODE_VERSION;
 
 const NONE: Files<'static> = Files {
     table: None,
@@ -262,6 +264,15 @@ fn version_texts(rt: HostRuntime) -> Result<(), Fail> {
     check_help(rt.alloc(), "--version", VERSION)?;
     check_help(rt.alloc(), "-V", VERSION)?;
     check_help(rt.alloc(), "--version,keys,t,d", VERSION)
+}
+
+/// The version names the edition of the library that normalizes.
+#[test]
+fn edition_of_the_normalization(rt: HostRuntime) -> Result<(), Fail> {
+    let (major, minor, update) = UNICODE_VERSION;
+    let edition =
+        format!(in rt.alloc(); "(normalization of Unicode {major}.{minor}.{update}, ")?;
+    holds(VERSION.contains(edition.as_str()), "the edition of Unicode")
 }
 
 // Words that are refused, and what is said.

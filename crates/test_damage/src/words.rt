@@ -12,8 +12,7 @@ use uca_words::{WordFault, Words, read_words};
 /// Lines that are read.
 const LINES: &str = "check t d
 keys t d
-keys --weighting shifted t d --identical
-keys --lines t d
+keys --weighting shifted t d --identical --lines
 sort --weighting=non-ignorable --identical t d
 compare t d a b
 compare --identical t d --weighting non-ignorable -- -a --b
@@ -24,8 +23,7 @@ affected d r";
 /// Words that are put in.
 const PUT_IN: &str =
     "check keys sort compare tailor audit affected help order t - -- --- --weighting --weighting= --weighting=shifted \
-    --weightings shifted non-ignorable Shifted --identical --identical= --identically --lines --lines= --line -i -h --help \
-    -V --version \u{E9} =";
+    --weightings shifted non-ignorable Shifted --identical --identical= --lines --linest -i -h --help -V --version \u{E9} =";
 
 /// The names of the subcommands.
 const NAMES: &[&str] = &["check", "keys", "sort", "compare", "tailor", "audit", "affected"];
@@ -136,7 +134,7 @@ fn take_word<'a>(asked: &mut Asked<'a>, word: &'a str, has_options: bool) {
 
 /// What a subcommand takes.
 #[derive(Clone, Copy)]
-struct Form {
+struct Wanted {
     /// How many names and texts.
     texts: usize,
     /// Whether it takes options.
@@ -145,9 +143,9 @@ struct Form {
     lines: usize,
 }
 
-/// A subcommand of so many names and texts, with options or not.
-fn form(texts: usize, has_options: bool) -> Form {
-    Form {
+/// So many names and texts, with options or not, and no `--lines`.
+fn names(texts: usize, has_options: bool) -> Wanted {
+    Wanted {
         texts,
         has_options,
         lines: 0,
@@ -155,18 +153,18 @@ fn form(texts: usize, has_options: bool) -> Form {
 }
 
 /// What the subcommand of this name takes.
-fn form_of(name: &str) -> Option<Form> {
+fn wanted_of(name: &str) -> Option<Wanted> {
     match name {
-        "check" | "affected" => Some(form(2, false)),
-        "keys" => Some(Form {
+        "check" | "affected" => Some(names(2, false)),
+        "keys" => Some(Wanted {
             texts: 2,
             has_options: true,
             lines: 1,
         }),
-        "sort" => Some(form(2, true)),
-        "compare" => Some(form(4, true)),
-        "tailor" => Some(form(4, false)),
-        "audit" => Some(form(5, false)),
+        "sort" => Some(names(2, true)),
+        "compare" => Some(names(4, true)),
+        "tailor" => Some(names(4, false)),
+        "audit" => Some(names(5, false)),
         _ => None,
     }
 }
@@ -193,15 +191,15 @@ struct Model<'a> {
     asked: Asked<'a>,
 }
 
-/// Whether this is all that a subcommand of this form asks for.
-fn is_whole(asked: &Asked, form: Form) -> bool {
-    let is_once = asked.weightings < 2 && asked.identicals < 2 && asked.lines <= form.lines;
-    is_once && asked.count == form.texts && !asked.is_due && !asked.is_strange
+/// Whether this is all that a subcommand wants.
+fn is_whole(asked: &Asked, wanted: Wanted) -> bool {
+    let is_once = asked.weightings < 2 && asked.identicals < 2 && asked.lines <= wanted.lines;
+    is_once && asked.count == wanted.texts && !asked.is_due && !asked.is_strange
 }
 
-/// What is said where this is asked for of a subcommand of this form.
-fn said_of(asked: &Asked, form: Form) -> Said {
-    if !is_whole(asked, form) {
+/// What is said where this is asked for of a subcommand that wants so much.
+fn said_of(asked: &Asked, wanted: Wanted) -> Said {
+    if !is_whole(asked, wanted) {
         return Said::Refused;
     }
     match asked.weighting {
@@ -214,14 +212,14 @@ fn said_of(asked: &Asked, form: Form) -> Said {
 fn model_of<'a>(words: &[&'a str]) -> Model<'a> {
     let mut asked = NOTHING;
     let name = words.get(1).copied().unwrap_or("");
-    let Some(form) = form_of(name) else {
+    let Some(wanted) = wanted_of(name) else {
         let said = Said::Refused;
         return Model { said, name, asked };
     };
     for word in words.iter().skip(2) {
-        take_word(&mut asked, *word, form.has_options);
+        take_word(&mut asked, *word, wanted.has_options);
     }
-    let said = said_of(&asked, form);
+    let said = said_of(&asked, wanted);
     Model { said, name, asked }
 }
 
@@ -362,9 +360,11 @@ fn is_read(alloc: Global, words: Words, model: &Model) -> Result<bool, Fail> {
     Ok(is_kept(alloc, &line)? && line.as_slice() == wanted.as_slice())
 }
 
-/// Whether a text may be what is printed where words are refused.
+/// Whether a text may be what is printed where words are refused: an error, a help or the version.
 fn is_refusal(text: &str) -> bool {
-    text.ends_with("\n") && (text.starts_with("error: ") || text.contains("Usage: uca"))
+    let is_version = text.starts_with("uca 0.1.0 (") && text.ends_with(")\n");
+    text.ends_with("\n")
+        && (text.starts_with("error: ") || text.contains("Usage: uca") || is_version)
 }
 
 /// Whether what is said of a line is what the model says.
@@ -469,9 +469,9 @@ fn random_line<'a>(
     words: &[&'a str],
     numbers: &mut Numbers,
 ) -> Result<Vec<&'a str>, Fail> {
-    let form = form_of(name).ok_or("no name")?;
+    let wanted = wanted_of(name).ok_or("no name")?;
     let mut line = words_of(alloc, name)?;
-    for _ in 0..form.texts.saturating_add(numbers.below(3)) {
+    for _ in 0..wanted.texts.saturating_add(numbers.below(3)) {
         let some = if numbers.below(4) == 0 { words } else { TEXTS };
         line.push(one_of(numbers, some)?)?;
     }

@@ -6,7 +6,7 @@ use Rattle.std.specs.List.{list_all, list_any}
 use Rattle.std.specs.Option.{option_map_or}
 use Rattle.std.specs.Str.{bytes_eq}
 use Rattle.std.proofs.lemmas.Slice.Eq.{bytes_eq-Decides}
-use Rattle.clap.specs.Walk.{Row, Text, answers_to, is_empty, nothing_held, rows_after, settled, walk, walk_from}
+use Rattle.clap.specs.Walk.{Row, Text, answers_to, nothing_held, rows_after, settled, walk, walk_from}
 use Rattle.clap.specs.Simple.{App, Shape, argument_words, built, entered, label_of, names_of, rows_at, subcommand_of}
 use Rattle.clap.specs.Kinds.{check_kinds}
 use Rattle.clap.specs.Faults.{defaults_fault, entered_fault, fault_of, level_fault, settle_fault, walk_fault}
@@ -51,15 +51,19 @@ passes_test p (y ∷ ys) x is = go (p y) refl (passes_test p ys x) is
     go true here there e = let same : y ≡ x = cc in ap p (sym same) ∙ here
     go false here there e = there e
 
+abbrev pub has_none : List Text → Bool
+has_none [] = true
+has_none (x ∷ xs) = false
+
 -- the subcommand is known by its name alone, and each use of an argument has a value, but for `help`
 abbrev pub is_usual : Shape → Bool
-is_usual s = is_empty s.aliases && (is_help s.name || want_values s.rules)
+is_usual s = has_none s.aliases && (is_help s.name || want_values s.rules)
 
 -- so it has the name that it is found by
-named_so : (name : Text) (s : Shape) → is_empty s.aliases ≡ true → answers_to name (label_of s) ≡ true → s.name ≡ name
-named_so name s alone found = (bytes_eq-Decides s.name name).0 (go s.aliases alone found)
+named_so : (name : Text) (s : Shape) → has_none s.aliases ≡ true → answers_to name (label_of s) ≡ true → s.name ≡ name
+named_so name s alone called = (bytes_eq-Decides s.name name).0 (go s.aliases alone called)
   where
-    go : (aliases : List Text) → is_empty aliases ≡ true → (bytes_eq s.name name || list_any (λ alias. bytes_eq alias name) aliases) ≡ true → bytes_eq s.name name ≡ true
+    go : (aliases : List Text) → has_none aliases ≡ true → (bytes_eq s.name name || list_any (λ alias. bytes_eq alias name) aliases) ≡ true → bytes_eq s.name name ≡ true
     go [] e f = or_false (bytes_eq s.name name) f
       where
         or_false : (b : Bool) → (b || false) ≡ true → b ≡ true
@@ -81,7 +85,7 @@ module _ (a : App) (usual : list_all is_usual a.subs ≡ true) where
       go None is passes has = absurd (true≢false (sym has))
       go (Some s) is passes has =
           let rows = rows_after s.rules [] p.1 in
-          let parts = both (is_empty s.aliases) _ (found _ is_usual a.subs s usual is) in
+          let parts = both (has_none s.aliases) _ (found _ is_usual a.subs s usual is) in
           let same = named_so p.0 s parts.0 (passes_test (λ s. answers_to p.0 (label_of s)) a.subs s is) in
           let other = ap (λ name. not (is_help name)) same ∙ past in
           any_found (λ s. answers_to p.0 (label_of s)) (λ (x : Shape). not (is_help x.name) && (bytes_eq x.name s.name && list_all (has_required rows) x.rules)) a.subs s is
