@@ -185,6 +185,50 @@ end done
 asks 27
 memory table line @ 1 2 3; data line @ 1 2; memory; input line @ 1
 
+run keyed lines
+reads table data input
+input a\naaaaa\n\n\xC3\xA1\na
+printed 1C470000002000000002\ta\n
+printed 1C471C471C471C471C47000000200020002000200020000000020002000200020002\taaaaa\n
+printed 00000000\t\n
+printed 1C47000000200024000000020002\t\xC3\xA1\n
+printed 1C470000002000000002\ta\n
+end done
+asks 31
+memory table line @ 1 2 3; data line @ 1 2; memory; input line @ 1 2
+
+run keyed lines
+reads table data input
+input a\n\xFF\n
+printed 1C470000002000000002\ta\n
+end input line 2: Utf8, status 1
+asks 27
+memory table line @ 1 2 3; data line @ 1 2; memory; input line @ 1
+
+run identical keyed lines
+reads table data input
+input a\n
+printed 1C4700000020000000020000000061\ta\n
+end done
+asks 28
+memory table line @ 1 2 3; data line @ 1 2; memory; input line @ 1
+
+run affected
+reads data rules input
+input x\nxaaaaaaaaaaaaaaaaaa\na\na
+printed x\nxaaaaaaaaaaaaaaaaaa\n
+end done
+asks 15
+memory data line @ 1 2; rules: Memory; rules byte @ 0 4 1 6; input line @ 1 2
+
+run affected
+reads data rules input
+input x\n\xFF\n
+printed x\n
+end input line 2: Utf8, status 1
+asks 14
+memory data line @ 1 2; rules: Memory; rules byte @ 0 4 1 6; input line @ 1
+
 run sort
 reads table data input
 input b\na\n\xC3\xA1\n\na

@@ -119,7 +119,14 @@ impl<'a> Case<'a> {
 
     /// Whether lines go out one after the other.
     pub fn prints_lines(&self) -> bool {
-        self.name.ends_with("keys") && self.name.starts_with("run")
+        let each = [
+            "run keys",
+            "run identical keys",
+            "run keyed lines",
+            "run identical keyed lines",
+            "run affected",
+        ];
+        each.contains(&self.name)
     }
 
     /// Whether its writers are tried: a call that reads or makes something shows it by a writer that does not fail.

@@ -6,8 +6,8 @@ use std::alloc::{Allocator, Global};
 use std::test::Fail;
 use uca_certificates::Certificate;
 use uca_cli::{
-    RunFault, report, run_audit_in, run_check, run_compare_in, run_keys_in, run_sort_in,
-    run_tailor_in, write_tailored,
+    RunFault, report, run_affected_in, run_audit_in, run_check, run_compare_in, run_keyed_lines_in,
+    run_keys_in, run_sort_in, run_tailor_in, write_tailored,
 };
 use uca_values::Table;
 use uca_weights::Depth::{Identical, Weights};
@@ -24,6 +24,31 @@ fn keys(memory: Memory, streams: &mut Streams, depth: Depth) -> Result<(), RunFa
         &mut streams.out,
         Some(NonIgnorable),
         depth,
+    )
+}
+
+fn keyed_lines(memory: Memory, streams: &mut Streams, depth: Depth) -> Result<(), RunFault> {
+    run_keyed_lines_in(
+        memory.tried,
+        memory.ample,
+        &mut streams.table,
+        &mut streams.properties,
+        &mut streams.text,
+        &mut streams.out,
+        Some(NonIgnorable),
+        depth,
+    )
+}
+
+// Its files stand one place further to the front: it has no table.
+fn affected(memory: Memory, streams: &mut Streams) -> Result<(), RunFault> {
+    run_affected_in(
+        memory.tried,
+        memory.ample,
+        &mut streams.table,
+        &mut streams.properties,
+        &mut streams.text,
+        &mut streams.out,
     )
 }
 
@@ -140,6 +165,11 @@ pub fn runs(memory: Memory, streams: &mut Streams, name: &str) -> Result<String,
         "audit" => end_of_verdict(memory.ample, &audit(memory, streams)),
         "keys" => end_of(memory.ample, &keys(memory, streams, Weights)),
         "identical keys" => end_of(memory.ample, &keys(memory, streams, Identical)),
+        "keyed lines" => end_of(memory.ample, &keyed_lines(memory, streams, Weights)),
+        "identical keyed lines" => {
+            end_of(memory.ample, &keyed_lines(memory, streams, Identical))
+        }
+        "affected" => end_of(memory.ample, &affected(memory, streams)),
         "sort" => end_of(memory.ample, &sort(memory, streams)),
         "compare" => end_of(memory.ample, &compare(memory, streams)),
         "tailor" => end_of(memory.ample, &tailor(memory, streams)),

@@ -82,9 +82,9 @@ impl AllCalls {
 /// The streams of a call, which uses some of them.
 #[derive(Drop)]
 pub struct Streams<'a> {
-    /// The table, the base of an audit, or the one file of a call.
+    /// The table, the base of an audit, the data file of a run without a table, or the one file of a call.
     pub table: Source<FakeReader<'a>>,
-    /// The data file.
+    /// The data file, or the rules of a run without a table.
     pub properties: Source<FakeReader<'a>>,
     /// The lines of an input, or rules.
     pub text: Source<FakeReader<'a>>,

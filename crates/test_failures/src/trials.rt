@@ -87,7 +87,8 @@ impl<'a> Trial<'a> {
         }
     }
 
-    // What goes out before this end: of keys the lines before the one of the input that it names, and else nothing.
+    // What goes out before this end: of a run that prints line after line the lines before the one of the input that it
+    // names, and else nothing.
     fn begun(self, end: &str) -> &'a [u8] {
         let before = if self.case.prints_lines() {
             lines_before(end)

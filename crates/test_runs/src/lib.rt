@@ -3,6 +3,8 @@
 #![tactic(auto)]
 
 #[cfg(test)]
+mod affected;
+#[cfg(test)]
 mod checks;
 #[cfg(test)]
 mod comparisons;
@@ -10,6 +12,8 @@ mod comparisons;
 mod differences;
 #[cfg(test)]
 mod files;
+#[cfg(test)]
+mod keyed_lines;
 #[cfg(test)]
 mod keys;
 #[cfg(test)]

@@ -99,6 +99,16 @@ pub const IDENTICAL_KEYS: Case = Case {
     end: "done",
 };
 
+/// The same lines after keys with an identical level.
+pub const KEYED_LINES: Case = Case {
+    run: Run::KeyedLines(Some(NonIgnorable), Identical),
+    files: LINES,
+    printed: "1C4700000020000000020000000061\ta\n\
+        1C470000002000240000000200020000000061000301\t\u{E1}\n\
+        1C4700000020000000020000000061\ta\n",
+    end: "done",
+};
+
 pub const SORT: Case = Case {
     run: Run::Sort(Some(NonIgnorable), Weights),
     files: LINES,

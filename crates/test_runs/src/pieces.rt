@@ -2,7 +2,8 @@
 
 use crate::files::push_key;
 use crate::paces::{
-    CHECK, COMPARE, Case, FAILED_CHECK, IDENTICAL_KEYS, KEYS, SORT, is_whole, run_at, with_input,
+    CHECK, COMPARE, Case, FAILED_CHECK, IDENTICAL_KEYS, KEYED_LINES, KEYS, SORT, is_whole, run_at,
+    with_input,
 };
 use crate::runs::Run;
 use std::alloc::{AllocError, Global};
@@ -15,7 +16,7 @@ const STEPS: [usize; 6] = [1, 2, 3, 7, 4096, usize::MAX];
 // The streams that a run has a use for, of the table, the data file, the input and the output.
 fn used_by(run: Run) -> [bool; 4] {
     match run {
-        Run::Keys(..) | Run::Sort(..) => [true; 4],
+        Run::Keys(..) | Run::KeyedLines(..) | Run::Sort(..) => [true; 4],
         Run::Check | Run::Compare(..) => [true, true, false, true],
     }
 }
@@ -41,6 +42,7 @@ fn check_pieces(alloc: Global, case: &Case) -> Result<(), Fail> {
 fn any_number_of_bytes_a_call(rt: HostRuntime) -> Result<(), Fail> {
     check_pieces(rt.alloc(), &KEYS)?;
     check_pieces(rt.alloc(), &IDENTICAL_KEYS)?;
+    check_pieces(rt.alloc(), &KEYED_LINES)?;
     check_pieces(rt.alloc(), &SORT)?;
     check_pieces(rt.alloc(), &CHECK)?;
     check_pieces(rt.alloc(), &FAILED_CHECK)?;

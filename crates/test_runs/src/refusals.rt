@@ -31,6 +31,7 @@ fn check_runs(alloc: Global, files: &Files, end: &str) -> Result<(), Fail> {
     let files = files.with_input(b"a\n\xFF");
     let by_three = Some(NonIgnorable);
     check(alloc, &files, Run::Keys(by_three, Weights), "", end)?;
+    check(alloc, &files, Run::KeyedLines(None, Weights), "", end)?;
     check(alloc, &files, Run::Sort(None, Identical), "", end)?;
     check(alloc, &files, Run::Check, "", end)?;
     check(

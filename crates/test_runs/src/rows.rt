@@ -90,6 +90,9 @@ impl<'a> Library<'a> {
     fn output(self, run: Run, input: &[u8], count: usize) -> Option<Vec<u8>> {
         match run {
             Run::Keys(asked, depth) => self.key_lines(self.chosen(asked), depth, input, count),
+            Run::KeyedLines(asked, depth) => {
+                self.lines_with_keys(self.chosen(asked), depth, input, count)
+            }
             Run::Sort(asked, depth) => self.sorted_lines(self.chosen(asked), depth, input),
             Run::Compare(left, right, asked, depth) => {
                 self.comparison(self.chosen(asked), depth, left, right)
@@ -151,6 +154,27 @@ impl<'a> Library<'a> {
                 let digits = format!(in self.alloc; "{space}{byte:02X}").ok()?;
                 text.extend_from_slice(digits.as_bytes()).ok()?;
             }
+            text.push(b'\n').ok()?;
+        }
+        Some(text)
+    }
+
+    // The lines, each after the digits of its key and a tab.
+    fn lines_with_keys(
+        self,
+        weighting: Weighting,
+        depth: Depth,
+        input: &[u8],
+        count: usize,
+    ) -> Option<Vec<u8>> {
+        let mut text = Vec::new(self.alloc);
+        for keyed in &self.keyed_lines(weighting, depth, input, count)? {
+            for byte in &keyed.key {
+                let digits = format!(in self.alloc; "{byte:02X}").ok()?;
+                text.extend_from_slice(digits.as_bytes()).ok()?;
+            }
+            text.push(b'\t').ok()?;
+            text.extend_from_slice(keyed.line).ok()?;
             text.push(b'\n').ok()?;
         }
         Some(text)

@@ -4,7 +4,7 @@ use crate::files::Files;
 use std::alloc::{AllocError, Global};
 use std::io::{Read, Write};
 use test_kit::{Streams, joined};
-use uca_cli::{RunFault, run_check, run_compare, run_keys, run_sort};
+use uca_cli::{RunFault, run_check, run_compare, run_keyed_lines, run_keys, run_sort};
 use uca_weights::{Depth, Sink, Source, Weighting};
 
 /// A run, the weighting that it is asked for, if any, and its depth.
@@ -12,6 +12,8 @@ use uca_weights::{Depth, Sink, Source, Weighting};
 pub enum Run<'a> {
     /// It prints the keys of the lines of the input.
     Keys(Option<Weighting>, Depth),
+    /// It prints the lines of the input, each after its key.
+    KeyedLines(Option<Weighting>, Depth),
     /// It prints the lines of the input in the order of their keys.
     Sort(Option<Weighting>, Depth),
     /// It says whether the table is well-formed.
@@ -72,6 +74,9 @@ pub fn run_over<T: Read, D: Read, I: Read, W: Write>(
     } = streams;
     match run {
         Run::Keys(asked, depth) => done(run_keys(
+            alloc, table, properties, input, out, asked, depth,
+        )),
+        Run::KeyedLines(asked, depth) => done(run_keyed_lines(
             alloc, table, properties, input, out, asked, depth,
         )),
         Run::Sort(asked, depth) => done(run_sort(

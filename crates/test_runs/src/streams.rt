@@ -2,8 +2,8 @@
 
 use crate::files::KEY_OF_A;
 use crate::paces::{
-    CHECK, COMPARE, Case, FAILED_CHECK, IDENTICAL_KEYS, KEYS, LINES, SORT, Stream, is_whole,
-    run_at, with_input,
+    CHECK, COMPARE, Case, FAILED_CHECK, IDENTICAL_KEYS, KEYED_LINES, KEYS, LINES, SORT, Stream,
+    is_whole, run_at, with_input,
 };
 use std::alloc::{AllocError, Global};
 use std::io::ErrorKind;
@@ -120,6 +120,28 @@ fn readers_of_keys_that_fail(rt: HostRuntime) -> Result<(), Fail> {
     Ok(())
 }
 
+/// The same of the run of lines with their keys.
+const KEYED_READ_FAULTS: &str = r"10 |  | table line 1: Read
+8 |  | data line 2: Read
+1 |  | input line 1: Read
+2 | 1C4700000020000000020000000061\ta\n | input line 2: Read
+4 | 1C4700000020000000020000000061\ta\n | input line 2: Read
+5 | 1C4700000020000000020000000061\ta\n1C470000002000240000000200020000000061000301\t\xC3\xA1\n | input line 3: Read";
+
+fn check_keyed_fault(alloc: Global, case: &str) -> Result<(), Fail> {
+    let (good, printed, end) = thirds(case)?;
+    let from = (stream_of(end), good.parse::<usize>()?);
+    check_read_fault(alloc, &KEYED_LINES, from, end, &bytes_of(alloc, printed)?)
+}
+
+#[test]
+fn readers_of_keyed_lines_that_fail(rt: HostRuntime) -> Result<(), Fail> {
+    for case in KEYED_READ_FAULTS.lines() {
+        check_keyed_fault(rt.alloc(), case)?;
+    }
+    Ok(())
+}
+
 // A run that prints nothing where a reader fails after so many bytes of a text. The line of the next byte is told.
 fn check_byte(alloc: Global, case: &Case, from: (Stream, usize), line: u32) -> Result<(), Fail> {
     let end = format!(in alloc; "{} line {line}: Read", from.0.name())?;
@@ -206,6 +228,16 @@ fn writers_of_keys_that_fail(rt: HostRuntime) -> Result<(), Fail> {
 }
 
 #[test]
+fn writers_of_keyed_lines_that_fail(rt: HostRuntime) -> Result<(), Fail> {
+    check_write_faults(rt.alloc(), &KEYED_LINES, WHOLE)?;
+    let line = "1C4700000020000000020000000061\ta\n";
+    let faulty = with_input(&KEYED_LINES, b"a\n\xFF\n", line);
+    check_write_faults(rt.alloc(), &faulty, WHOLE)?;
+    let unread = with_input(&KEYED_LINES, b"a\nb\n", line);
+    check_write_faults(rt.alloc(), &unread, BROKEN)
+}
+
+#[test]
 fn writers_of_sorted_lines_that_fail(rt: HostRuntime) -> Result<(), Fail> {
     let begun = with_input(&SORT, b"b\na\n", "a\nb");
     check_write_fault(rt.alloc(), &begun, 3, WHOLE)?;
@@ -260,6 +292,7 @@ fn a_writer_that_fails_too_late(rt: HostRuntime) -> Result<(), Fail> {
     };
     check_late_writer(rt.alloc(), &faulty)?;
     check_late_writer(rt.alloc(), &KEYS)?;
+    check_late_writer(rt.alloc(), &KEYED_LINES)?;
     check_late_writer(rt.alloc(), &SORT)?;
     check_late_writer(rt.alloc(), &CHECK)?;
     check_late_writer(rt.alloc(), &FAILED_CHECK)?;

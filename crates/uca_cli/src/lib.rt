@@ -11,9 +11,11 @@ pub use command::{OpenFault, Opens, run_command};
 pub use reporting::report;
 pub use tailor::{run_tailor, run_tailor_in, write_tailored};
 pub use uca_runs::{
-    FileFault, InputKind, Role, RunFault, canonically_equivalent_lines_have_one_key_line,
-    compare_words, identical_line_keys_are_of_equivalent_lines, key_order_is_one,
-    line_keys_compare_as_lines, print_keys, run_check, run_compare, run_compare_in, run_keys,
-    run_keys_in, run_sort, run_sort_in, sort_lines, untouched_lines_keep_their_order,
+    FileFault, InputKind, Role, RunFault, affected_texts_are_the_others,
+    canonically_equivalent_lines_have_one_key_line, compare_words,
+    identical_line_keys_are_of_equivalent_lines, key_order_is_one, line_keys_compare_as_lines,
+    print_affected, print_keyed_lines, print_keys, run_affected, run_affected_in, run_check,
+    run_compare, run_compare_in, run_keyed_lines, run_keyed_lines_in, run_keys, run_keys_in,
+    run_sort, run_sort_in, sort_lines, untouched_lines_keep_their_order,
 };
 pub use uca_words::{WordFault, Words, read_words};

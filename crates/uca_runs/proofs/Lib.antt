@@ -17,3 +17,5 @@ pub mod OneOrder
 pub mod RuleBytes
 pub mod FilesLemmas
 pub mod ReadFilesLemmas
+pub mod WholeRuns
+pub mod AffectedLines

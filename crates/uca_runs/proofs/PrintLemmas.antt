@@ -7,10 +7,14 @@ use Rattle.std.specs.List.{flat_map, join_with_byte}
 use Rattle.uca_weights.specs.Streams.{SinkState}
 use Rattle.uca_weights.specs.declared.Depth.{Depth}
 use Rattle.uca_weights.specs.declared.Depth.TheVariants.{Weights, Identical}
+use Rattle.uca_lines.specs.Lines.{ended}
 use Rattle.uca_lines.specs.OutputBuffer.{BufferState}
 use Rattle.uca_lines.specs.Buffered.{HasRoom, HasWrittenThrough}
-use Rattle.uca_lines.proofs.BufferedLemmas.{part, written_none}
-use Rattle.uca_runs.specs.Print.{byte_digits, groups, printed_groups, spaced_groups, spaced_point, identical_level, printed_behind, print_line_at}
+use Rattle.uca_lines.proofs.BufferedLemmas.{part, written_none, written_then}
+use Rattle.uca_runs.specs.Print.{byte_digits, groups, printed_groups, spaced_groups, spaced_point, identical_level, printed_behind, print_line_at, keyed_line_of}
+use Rattle.uca_runs.specs.declared.keys.KeyForm.{KeyForm}
+use Rattle.uca_runs.specs.declared.keys.KeyForm.TheVariants.{Alone, BeforeLine}
+use Rattle.uca_runs.specs.KeyForms.{printed_as}
 
 -- ---- The groups
 
@@ -288,3 +292,92 @@ level_parts points = (32 ∷ 48 ∷ 48 ∷ 48 ∷ 48 ∷ []) ∷ flat_map spaced
 
 pub level_is : (points : List ℕ) → identical_level points ≡ flat_map part (level_parts points)
 level_is points = ap (λ l. 32 ∷ 48 ∷ 48 ∷ 48 ∷ 48 ∷ l) (sym (append-nil (flat_map spaced_point points)))
+
+-- ---- A key before a line
+
+-- two digits for each byte
+length-digits : (key : List ℕ) → length (flat_map byte_digits key) ≡ 2 * length key
+length-digits [] = refl
+length-digits (b ∷ key) = omega (arith, length-digits key)
+
+-- one more byte has its digits
+pub digits_of_one_more : (digits : List (List ℕ)) (part pair : List ℕ) (n : ℕ) → n < length part → n < length digits
+    → flat_map (λ d. d) (take n digits) ≡ flat_map byte_digits (take n part) → pair ≡ byte_digits (get_or part n 0)
+    → flat_map (λ d. d) (take (n + 1) (set digits n pair)) ≡ flat_map byte_digits (take (n + 1) part)
+digits_of_one_more digits part pair n below within written is =
+    let text = flat_map byte_digits (take n part) in
+    let b = get_or part n 0 in
+    written_more digits n pair text within written ∙ ap (λ p. text ++ p) is
+    ∙ sym (ap (flat_map byte_digits) (take_more part n 0 below) ∙ flat_map-append byte_digits (take n part) (b ∷ []) ∙ ap (λ l. text ++ l) (append-nil (byte_digits b)))
+
+-- all bytes have them
+pub digits_of_all : (digits : List (List ℕ)) (part : List ℕ) (n len : ℕ) → n ≡ length part → len ≡ 2 * length part
+    → flat_map (λ d. d) (take n digits) ≡ flat_map byte_digits (take n part) → take len (flat_map (λ d. d) digits) ≡ flat_map byte_digits part
+digits_of_all digits part n len all twice written =
+    let text = flat_map byte_digits part in
+    written_front digits n len text [] (written ∙ ap (flat_map byte_digits) (take_all n part (omega (arith, all))) ∙ sym (append-nil text))
+    (length-digits part ∙ sym twice)
+
+-- the digits of a key of which so much is left were written that far
+pub record HasDigitsUpTo (key rest : List ℕ) (out now : SinkState) (buffer held : BufferState) : Type 0 where
+  pub done : List ℕ
+  pub key_is : key ≡ done ++ rest
+  pub written_through : HasWrittenThrough (flat_map byte_digits done) buffer held out now
+
+pub digits_start : (key rest : List ℕ) (out : SinkState) (buffer : BufferState) → rest ≡ key → HasDigitsUpTo key rest out out buffer buffer
+digits_start key rest out buffer is = record { done = []; key_is = sym is; written_through = written_none buffer out }
+
+-- a part and what is left after it go on with the digits
+pub digits_go_on : (key rest part left : List ℕ) (out now : SinkState) (buffer held : BufferState) (upto : HasDigitsUpTo key rest out now buffer held) → rest ≡ part ++ left
+    → flat_map byte_digits key ≡ (flat_map byte_digits upto.done ++ flat_map byte_digits part) ++ flat_map byte_digits left
+digits_go_on key rest part left out now buffer held upto cut =
+    let front = flat_map byte_digits upto.done in
+    ap (flat_map byte_digits) (upto.key_is ∙ ap (λ l. upto.done ++ l) cut) ∙ flat_map-append byte_digits upto.done (part ++ left)
+    ∙ ap (λ l. front ++ l) (flat_map-append byte_digits part left)
+    ∙ sym (append_assoc front (flat_map byte_digits part) (flat_map byte_digits left))
+
+pub digits_fit : (key rest part left : List ℕ) (out now : SinkState) (buffer held : BufferState) → HasDigitsUpTo key rest out now buffer held → rest ≡ part ++ left
+    → HasRoom buffer (length (flat_map byte_digits key)) → HasRoom held (length (flat_map byte_digits part))
+digits_fit key rest part left out now buffer held upto cut room =
+    let front = flat_map byte_digits upto.done in
+    let piece = flat_map byte_digits part in
+    omega (
+      arith,
+      upto.written_through.count,
+      room,
+      ap length (digits_go_on key rest part left out now buffer held upto cut),
+      length-append (front ++ piece) (flat_map byte_digits left),
+      length-append front piece,
+    )
+
+pub digits_more : (key rest part left : List ℕ) (out now next : SinkState) (buffer held kept : BufferState) (upto : HasDigitsUpTo key rest out now buffer held) → rest ≡ part ++ left
+    → HasWrittenThrough (flat_map byte_digits part) held kept now next → HasDigitsUpTo key left out next buffer kept
+digits_more key rest part left out now next buffer held kept upto cut written = record {
+  done = upto.done ++ part;
+  key_is = upto.key_is ∙ ap (λ l. upto.done ++ l) cut ∙ sym (append_assoc upto.done part left);
+  written_through = subst (λ (text : List ℕ). HasWrittenThrough text buffer kept out next) (sym (flat_map-append byte_digits upto.done part))
+      (written_then upto.written_through written);
+}
+
+pub all_digits : (key rest : List ℕ) (out now : SinkState) (buffer held : BufferState) → HasDigitsUpTo key rest out now buffer held → length rest ≡ 0
+    → HasWrittenThrough (flat_map byte_digits key) buffer held out now
+all_digits key [] out now buffer held upto none =
+    subst (λ (l : List ℕ). HasWrittenThrough (flat_map byte_digits l) buffer held out now) (sym (upto.key_is ∙ append-nil upto.done)) upto.written_through
+all_digits key (a ∷ rest) out now buffer held upto none = absurd (omega arith)
+
+-- the parts of such a line
+abbrev pub keyed_parts : List ℕ → List ℕ → List (List ℕ)
+keyed_parts key line = flat_map byte_digits key ∷ (9 ∷ []) ∷ ended line ∷ []
+
+pub keyed_is : (key line : List ℕ) → keyed_line_of key line ≡ flat_map part (keyed_parts key line)
+keyed_is key line = ap (λ l. flat_map byte_digits key ++ 9 ∷ l) (sym (append-nil (ended line)))
+
+keyed_is_short : (key line : List ℕ) → length key < 2 ^ 40 → length line ≤ 4194304 → length (keyed_line_of key line) < 2 ^ 42
+keyed_is_short key line short few =
+    omega (arith, short, few, length-digits key, length-append (flat_map byte_digits key) (9 ∷ ended line), length-append line (10 ∷ []))
+
+-- a line of either form is short
+pub printed_is_short : (form : KeyForm) (depth : Depth) (key points line : List ℕ) → length key < 2 ^ 40 → length points ≤ 1048576 → length line ≤ 4194304
+    → length (printed_as form depth key points line) < 2 ^ 42
+printed_is_short Alone depth key points line short few line_short = line_is_short depth key points short few
+printed_is_short BeforeLine depth key points line short few line_short = keyed_is_short key line short line_short

@@ -14,7 +14,7 @@ use Rattle.uca_tailorings.specs.Inputs.{tailoring_of}
 use Rattle.uca_runs.specs.declared.faults.RunFault.{RunFault}
 use Rattle.uca_runs.specs.declared.faults.Role.{Role}
 use Rattle.uca_runs.specs.declared.faults.Role.TheVariants as roles
-use Rattle.uca_runs.specs.Files.{TailorContent, Reading, Done, Then, then_table, OfLines, Over, RefusesRules, RefusesCertificate, audit_files, fault_of, is_role, rules_over, table_and_data, table_with, tailor_content}
+use Rattle.uca_runs.specs.Files.{TailorContent, Reading, Done, Then, then_table, OfLines, Over, RefusesRules, RefusesCertificate, audit_files, data_and_rules, data_with, fault_of, is_role, rules_over, table_and_data, table_with, tailor_content}
 use Rattle.uca_runs.specs.ReadFiles.{IsRefused}
 use Rattle.uca_runs.proofs.FilesLemmas.{no_other_fault, over_rejected, over_value}
 
@@ -57,6 +57,29 @@ module _ (table table_new points_file points_new : SourceState) where
       over_value {A = ⊤} roles.Table table table_new tables.Means (OfLines tables.Refuses) _ (Err fault) content
       (no_other_fault ⊤ roles.Data roles.Table points_file points_new (OfLines data_files.Refuses) fault is refl) is_table
       (over_rejected ⊤ roles.Data points_file points_new data_files.Means (OfLines data_files.Refuses) _ fault is)
+
+-- ---- A data file and rules
+
+module _ (points_file points_new rules rules_new : SourceState) where
+  -- both mean something
+  pub rules_read : (points : Properties) (relations : List Relation) → IsData points_file points → AreRules points rules relations
+      → Over {A = ⊤} data_and_rules (points_file ∷ rules ∷ []) (points_new ∷ rules_new ∷ []) (λ files. data_with points relations ≡ files) (Ok tt)
+  rules_read points relations is_data are_rules =
+      over_value {A = ⊤} roles.Data points_file points_new data_files.Means (OfLines data_files.Refuses) _ (Ok tt) points refl is_data
+      (over_value {A = ⊤} roles.Rules rules rules_new (rule_files.Means points) (RefusesRules points) _ (Ok tt) relations refl are_rules refl)
+
+  -- the data file is rejected
+  pub no_data : (fault : RunFault) → IsRefused roles.Data points_file points_new (OfLines data_files.Refuses) fault
+      → Over {A = ⊤} data_and_rules (points_file ∷ rules ∷ []) (points_new ∷ rules_new ∷ []) (λ files. ⊥) (Err fault)
+  no_data fault is = over_rejected ⊤ roles.Data points_file points_new data_files.Means (OfLines data_files.Refuses) _ fault is
+
+  -- the rules are, after a data file
+  pub no_rules : (points : Properties) (fault : RunFault) → IsData points_file points → IsRefused roles.Rules rules rules_new (RefusesRules points) fault
+      → Over {A = ⊤} data_and_rules (points_file ∷ rules ∷ []) (points_new ∷ rules_new ∷ []) (λ files. ⊥) (Err fault)
+  no_rules points fault is_data is =
+      over_value {A = ⊤} roles.Data points_file points_new data_files.Means (OfLines data_files.Refuses) _ (Err fault) points
+      (no_other_fault ⊤ roles.Rules roles.Data rules rules_new (RefusesRules points) fault is refl) is_data
+      (over_rejected ⊤ roles.Rules rules rules_new (rule_files.Means points) (RefusesRules points) _ fault is)
 
 -- ---- A table, a data file and rules
 

@@ -9,7 +9,7 @@ use Rattle.uca_runs.specs.declared.faults.RunFault.{RunFault}
 use Rattle.uca_runs.specs.declared.faults.RunFault.TheVariants.{File, Memory}
 use Rattle.uca_runs.specs.Files.{TableAndData, ended_by_file}
 use Rattle.uca_runs.specs.Keys.{KeySettings, key_settings, collation, weighting_by}
-use Rattle.uca_runs.specs.KeysRun.{ended_before_input}
+use Rattle.uca_runs.specs.EachLine.{ended_before_input}
 use Rattle.uca_runs.specs.ReadFiles.{IsCollation, collation_in}
 use Rattle.uca_runs.specs.Runs.{is_input_read, ended_by_output}
 

@@ -175,6 +175,23 @@ table_and_data = then_table roles.Table (λ table. then_data (λ properties. Don
 abbrev pub table_and_data_roles : List Role
 table_and_data_roles = roles.Table ∷ roles.Data ∷ []
 
+-- ---- A data file and rules
+
+-- what they mean
+pub record DataAndRules : Type 0 where
+  pub properties : Properties
+  pub relations : List Relation
+
+-- the same from its parts
+abbrev pub data_with : Properties → List Relation → DataAndRules
+data_with properties relations = record { properties = properties; relations = relations }
+
+abbrev pub data_and_rules : Reading DataAndRules
+data_and_rules = then_data (λ properties. then_rules properties (λ relations. Done (data_with properties relations)))
+
+abbrev pub data_and_rules_roles : List Role
+data_and_rules_roles = roles.Data ∷ roles.Rules ∷ []
+
 -- ---- The files that a tailoring is made by
 
 -- what they mean

@@ -3,10 +3,13 @@ pub mod Keys
 pub mod Files
 pub mod ReadFiles
 pub mod Runs
+pub mod EachLine
 pub mod KeysRun
+pub mod AffectedRun
 pub mod LinesSoFar
 pub mod Texts
-pub mod KeysSoFar
+pub mod EachLineSoFar
+pub mod KeyForms
 pub mod SortRun
 pub mod SortSoFar
 pub mod Verdicts

@@ -43,3 +43,7 @@ printed_behind Identical points = identical_level points
 -- the line of a text whose weights have this key, and whose code points in Normalization Form D are these
 abbrev pub print_line_at : Depth → List ℕ → List ℕ → List ℕ
 print_line_at depth key points = printed_groups key ++ (printed_behind depth points ++ 10 ∷ [])
+
+-- a key before a line: the digits of the key without spaces, a tab, the line, and LF
+abbrev pub keyed_line_of : List ℕ → List ℕ → List ℕ
+keyed_line_of key line = flat_map byte_digits key ++ (9 ∷ (line ++ 10 ∷ []))

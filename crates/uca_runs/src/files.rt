@@ -8,7 +8,7 @@ ghost use Rattle.uca_match.specs.Rows.{rows_of};
 ghost use Rattle.uca_key.specs.Lengths.{HasShortRows};
 ghost use Rattle.uca_runs.specs.Files.{HaveFailed, IsStop, OfLines, Over, ended_by_file, is_file_read, table_and_data, table_and_data_roles, table_with};
 ghost use Rattle.uca_runs.specs.ReadFiles.{IsCollation, IsRead, IsRefused, ReadsThat, collation_in};
-ghost use Rattle.uca_runs.specs.KeysRun.{ended_before_input};
+ghost use Rattle.uca_runs.specs.EachLine.{ended_before_input};
 ghost use Rattle.uca_match.specs.Collations.{collation_of};
 ghost use Rattle.uca_runs.specs.Keys.{weighting_by};
 

@@ -3,43 +3,84 @@
 ghost use Rattle.std.specs.Prelude.{◌≡◌, ◌∷◌, [], ℕ, ◌+◌, ◌-◌, ◌*◌, ◌^◌, ◌<◌, ◌≤◌, ◌||◌, true, false, List, Option, IfSome, OnOk, length};
 ghost use Rattle.uca_weights.specs.Writes.{WentOut};
 ghost use Rattle.uca_lines.specs.OutputBuffer.{IsBuffered};
+ghost use Rattle.uca_lines.specs.Buffered.{HasRoom, WritesThrough};
 ghost use Rattle.uca_match.specs.Collations.{collation_of};
-ghost use Rattle.uca_weights.specs.declared.Depth.TheVariants.{Weights};
 ghost use Rattle.uca_key.specs.Lengths.{HasShortRows};
-ghost use Rattle.uca_runs.specs.Keys.{key_settings_of, text_line};
+ghost use Rattle.uca_runs.specs.Keys.{key_settings_of};
 ghost use Rattle.uca_runs.specs.Runs.{is_input_read, ended_by_output};
-ghost use Rattle.uca_runs.specs.KeysRun.{ended_before_input, PrintsKeys, WritesKeys};
-ghost use Rattle.uca_runs.specs.KeysSoFar.{HasPrinted, PrintsText, PrintsRest};
+ghost use Rattle.uca_runs.specs.EachLine.{WritesEach, ended_before_input};
+ghost use Rattle.uca_runs.specs.EachLineSoFar.{HasWritten, WritesText, WritesRest};
+ghost use Rattle.uca_runs.specs.KeysRun.{PrintsKeys, WritesKeys};
+ghost use Rattle.uca_runs.specs.KeyForms.{depth_as, line_as, printed_as, text_as};
 
 use crate::faults::{InputKind, RunFault};
 use crate::files::read_collation;
 use crate::input::InputTexts;
-use crate::print::print_key;
+use crate::output::end_output;
+use crate::print::{print_key, print_keyed_line};
 use std::alloc::{Allocator, Global};
 use std::io::{Read, Write};
 use uca_key::KeyBuffer;
 use uca_lines::OutputBuffer;
 use uca_match::{Collator, Lookup};
-use uca_weights::{Depth, Sink, Source, Weighting};
+use uca_weights::{Depth, Sink, Source, Weighting, WriteFault};
+
+/// What the output has of a line of the input.
+#[derive(Clone, Copy)]
+pub(crate) enum KeyForm {
+    /// Its key, in groups.
+    Alone,
+    /// The digits of its key, a tab, and the line.
+    BeforeLine,
+}
+
+// Writes the line of output of a line. The key is at the depth that the form asks for.
+fn print_as<W: Write>(
+    buffer: &mut OutputBuffer,
+    out: &mut Sink<W>,
+    form: KeyForm,
+    depth: Depth,
+    key: &[u8],
+    points: &[char],
+    line: &[u8],
+) -> Result<(), WriteFault>
+    requires { HasRoom buffer.old (length (printed_as form depth key.now points.now line.now)) }
+    ensures { WritesThrough (printed_as form depth key.now points.now line.now) buffer.old buffer.new out.old out.new result }
+{
+    match form {
+        KeyForm::Alone => print_key(buffer, out, depth, key, points),
+        KeyForm::BeforeLine => print_keyed_line(buffer, out, key, line),
+    }
+}
+
+// The depth of the key that is made for a form.
+fn depth_of(form: KeyForm, depth: Depth) -> Depth
+    ensures { result ≡ depth_as form depth }
+{
+    match form {
+        KeyForm::Alone => Depth::Weights,
+        KeyForm::BeforeLine => depth,
+    }
+}
 
 // The lines of the input, and what is used for one after the other.
 #[derive(Drop)]
 struct KeyRun<A: Allocator> {
     texts: InputTexts<A>,
-    // the key of the weights; an identical level is printed after it
     key: KeyBuffer<A>,
+    form: KeyForm,
     depth: Depth,
     output: OutputBuffer,
 }
 
 impl<A: Allocator> KeyRun<A> {
-    // Writes the key of the line that was read.
+    // Writes what the output has of the line that was read.
     fn print_text<L: Lookup, T: Allocator, W: Write>(
         &mut self,
         collator: &Collator<L, T>,
         out: &mut Sink<W>,
     ) -> Result<(), RunFault>
-        requires weights { self.old.key.depth ≡ Weights }
+        requires key_depth { self.old.key.depth ≡ depth_as self.old.form self.old.depth }
         requires short_rows { HasShortRows (collation_of L.content collator.now).rows }
         requires few { 0 < self.old.texts.reader.number }
         requires small { self.old.output.written + length self.old.output.held
@@ -47,13 +88,14 @@ impl<A: Allocator> KeyRun<A> {
         ensures prints { (begun : Option (List ℕ)) (before : List ℕ) →
             let c = key_settings_of L.content collator.now self.old.key.weighting self.old.depth in
             IsBuffered begun out.old.contents before self.old.output →
-            PrintsText begun before (text_line c self.old.texts.text) self.old.texts.reader.number
-            self.old.output out.old self.new.output out.new result }
+            WritesText begun before (text_as self.old.form c self.old.texts.text self.old.texts.line)
+            self.old.texts.reader.number self.old.output out.old self.new.output out.new result }
         ensures small { OnOk result (self.new.output.written + length self.new.output.held
             ≤ self.old.texts.reader.number * 2 ^ 42) }
         ensures texts { self.new.texts ≡ self.old.texts }
         ensures weighting { self.new.key.weighting ≡ self.old.key.weighting }
-        ensures weights { self.new.key.depth ≡ self.old.key.depth }
+        ensures key_depth { self.new.key.depth ≡ self.old.key.depth }
+        ensures form { self.new.form ≡ self.old.form }
         ensures depth { self.new.depth ≡ self.old.depth }
         ensures not_read { is_input_read result ≡ false }
         ensures failed { out.new.failed ≡ (out.old.failed || ended_by_output result) }
@@ -66,30 +108,32 @@ impl<A: Allocator> KeyRun<A> {
                 kind: InputKind::Memory,
             });
         }
-        Ok(print_key(
+        Ok(print_as(
             &mut self.output,
             out,
+            self.form,
             self.depth,
             self.key.bytes(),
             text.chars(),
+            self.texts.line(),
         )?)
     }
 
-    // Writes the keys of all lines that are left.
+    // Writes what the output has of all lines that are left.
     fn print_rest<L: Lookup, T: Allocator, I: Read, W: Write>(
         &mut self,
         collator: &Collator<L, T>,
         input: &mut Source<I>,
         out: &mut Sink<W>,
     ) -> Result<(), RunFault>
-        requires weights { self.old.key.depth ≡ Weights }
+        requires key_depth { self.old.key.depth ≡ depth_as self.old.form self.old.depth }
         requires short_rows { HasShortRows (collation_of L.content collator.now).rows }
         requires small { self.old.output.written + length self.old.output.held
             ≤ self.old.texts.reader.number * 2 ^ 42 }
         ensures prints { (start begun : Option (List ℕ)) (before : List (List ℕ)) →
             let c = key_settings_of L.content collator.now self.old.key.weighting self.old.depth in
-            HasPrinted c start begun before self.old.texts input.old self.old.output out.old →
-            PrintsRest c start begun input.new self.new.output out.new result }
+            HasWritten c.collation.properties (line_as self.old.form c) start begun before self.old.texts input.old self.old.output out.old →
+            WritesRest c.collation.properties (line_as self.old.form c) start begun input.new self.new.output out.new result }
         ensures input_failed { input.new.failed ≡ (input.old.failed || is_input_read result) }
         ensures out_failed { out.new.failed ≡ (out.old.failed || ended_by_output result) }
     {
@@ -100,13 +144,39 @@ impl<A: Allocator> KeyRun<A> {
     }
 }
 
-fn is_write_fault(end: &Result<(), RunFault>) -> bool
-    ensures { result ≡ ended_by_output end.now }
+/// Writes what the output has of each line of the input, until its end or its first faulty line.
+///
+/// # Errors
+///
+/// Those of `print_keys`.
+pub(crate) fn print_lines<L: Lookup, T: Allocator, A: Allocator + Copy, I: Read, W: Write>(
+    alloc: A,
+    global: Global,
+    collator: &Collator<L, T>,
+    weighting: Weighting,
+    depth: Depth,
+    form: KeyForm,
+    input: &mut Source<I>,
+    out: &mut Sink<W>,
+) -> Result<(), RunFault>
+    requires { HasShortRows (collation_of L.content collator.now).rows }
+    ensures writes { IfSome input.old.remaining (λ bytes.
+        let c = key_settings_of L.content collator.now weighting depth in
+        WritesEach c.collation.properties (line_as form c) bytes input.new.remaining out.old.contents out.new.contents result) }
+    ensures of_lines { ended_before_input result ≡ false }
+    ensures input_failed { ended_by_output result ≡ false →
+        input.new.failed ≡ (input.old.failed || is_input_read result) }
+    ensures out_failed { out.new.failed ≡ (out.old.failed || ended_by_output result) }
 {
-    match end {
-        Err(RunFault::Write { .. }) => true,
-        _ => false,
-    }
+    let mut run = KeyRun {
+        texts: InputTexts::new(alloc, global),
+        key: KeyBuffer::new(alloc, weighting, depth_of(form, depth)),
+        form,
+        depth,
+        output: OutputBuffer::new(),
+    };
+    let end = run.print_rest(collator, input, out);
+    end_output(&mut run.output, out, end)
 }
 
 /// Prints the sort key of each line of the input, until its end or its first faulty line.
@@ -133,18 +203,16 @@ pub fn print_keys<L: Lookup, T: Allocator, A: Allocator + Copy, I: Read, W: Writ
         input.new.failed ≡ (input.old.failed || is_input_read result) }
     ensures out_failed { out.new.failed ≡ (out.old.failed || ended_by_output result) }
 {
-    let mut run = KeyRun {
-        texts: InputTexts::new(alloc, global),
-        key: KeyBuffer::new(alloc, weighting, Depth::Weights),
+    print_lines(
+        alloc,
+        global,
+        collator,
+        weighting,
         depth,
-        output: OutputBuffer::new(),
-    };
-    let end = run.print_rest(collator, input, out);
-    if is_write_fault(&end) {
-        return end;
-    }
-    run.output.flush(out)?;
-    end
+        KeyForm::Alone,
+        input,
+        out,
+    )
 }
 
 /// Prints the sort key of each line of `input`, under the table and the data file that are read first:

@@ -1,6 +1,7 @@
 //! What holds of lines and their keys in all runs. The functions at most call the laws of keys that theirs follow
 //! from: their contracts are the laws.
 
+ghost use Rattle.uca_runs.specs.AffectedRun.{AffectedTextsAreTheOthers};
 ghost use Rattle.uca_runs.specs.Laws.{LineKeysCompareAsLines, CanonicallyEquivalentLinesHaveOneKeyLine, IdenticalLineKeysAreOfEquivalentLines, KeyOrderIsOne, UntouchedLinesKeepTheirOrder};
 
 use uca_key::laws::{identical_keys_are_of_equivalent_texts, keys_compare_as_texts};
@@ -44,3 +45,9 @@ pub fn untouched_lines_keep_their_order()
     accepted_tailorings_are_faithful();
     line_keys_compare_as_lines();
 }
+
+/// The lines that a run of affected lines prints are all but those that the rules leave as they are: a target occurs in order
+/// in the text of each of them, and in the text of no other.
+pub fn affected_texts_are_the_others()
+    ensures { AffectedTextsAreTheOthers }
+{}

@@ -1,13 +1,16 @@
-//! The runs over files of the command that need neither the planner nor the auditor: the keys of lines, their order,
-//! the check of a table, the comparison of two texts; and the reading of the files of all runs.
+//! The runs over files of the command that need neither the planner nor the auditor: the keys of lines, alone or before the
+//! lines, their order, the lines that rules affect, the check of a table, the comparison of two texts; and the reading of
+//! the files of all runs.
 #![tactic(auto)]
 
+pub mod affected;
 pub mod audit_files;
 pub mod check;
 pub mod compare;
 pub mod faults;
 mod files;
 mod input;
+pub mod keyed_lines;
 pub mod keys;
 pub mod laws;
 pub mod output;
@@ -16,12 +19,15 @@ mod rule_file;
 pub mod sort;
 pub mod tailor_files;
 
+pub use affected::{print_affected, run_affected, run_affected_in};
 pub use check::run_check;
 pub use compare::{compare_words, run_compare, run_compare_in};
 pub use faults::{FileFault, InputKind, Role, RunFault};
+pub use keyed_lines::{print_keyed_lines, run_keyed_lines, run_keyed_lines_in};
 pub use keys::{print_keys, run_keys, run_keys_in};
 pub use laws::{
-    canonically_equivalent_lines_have_one_key_line, identical_line_keys_are_of_equivalent_lines,
-    key_order_is_one, line_keys_compare_as_lines, untouched_lines_keep_their_order,
+    affected_texts_are_the_others, canonically_equivalent_lines_have_one_key_line,
+    identical_line_keys_are_of_equivalent_lines, key_order_is_one, line_keys_compare_as_lines,
+    untouched_lines_keep_their_order,
 };
 pub use sort::{run_sort, run_sort_in, sort_lines};

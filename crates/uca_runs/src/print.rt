@@ -4,8 +4,9 @@ ghost use Rattle.std.specs.Prelude.{◌≡◌, ◌≤◌, length};
 ghost use Rattle.std.specs.List.{flat_map};
 ghost use Rattle.uca_lines.specs.Buffered.{HasRoom, WritesThrough};
 ghost use Rattle.uca_runs.specs.Print;
-ghost use Rattle.uca_runs.specs.Print.{byte_digits, printed_groups, spaced_groups, identical_level, printed_behind, print_line_at};
+ghost use Rattle.uca_runs.specs.Print.{byte_digits, printed_groups, spaced_groups, identical_level, printed_behind, print_line_at, keyed_line_of};
 
+use crate::output::write_line;
 use std::io::Write;
 use uca_lines::OutputBuffer;
 use uca_lines::fields::hexadecimal_digit;
@@ -34,6 +35,49 @@ pub fn print_key<W: Write>(
     write_groups(buffer, out, key)?;
     write_level(buffer, out, depth, points)?;
     buffer.write(out, b"\n")
+}
+
+/// Writes a key before a line: the key as upper-case hexadecimal digits without spaces, a tab, the line, and LF. It takes no
+/// memory. An error says how many bytes went out of all that was written to the buffer.
+pub fn print_keyed_line<W: Write>(
+    buffer: &mut OutputBuffer,
+    out: &mut Sink<W>,
+    key: &[u8],
+    line: &[u8],
+) -> Result<(), WriteFault>
+    requires { HasRoom buffer.old (length (keyed_line_of key.now line.now)) }
+    ensures { WritesThrough (keyed_line_of key.now line.now) buffer.old buffer.new out.old out.new result }
+{
+    write_digits(buffer, out, key)?;
+    buffer.write(out, b"\t")?;
+    write_line(buffer, out, line)
+}
+
+// Writes the digits of a key.
+fn write_digits<W: Write>(
+    buffer: &mut OutputBuffer,
+    out: &mut Sink<W>,
+    key: &[u8],
+) -> Result<(), WriteFault>
+    requires { HasRoom buffer.old (length (flat_map byte_digits key.now)) }
+    ensures { WritesThrough (flat_map byte_digits key.now) buffer.old buffer.new out.old out.new result }
+{
+    let mut digits = [[0; 2]; PART];
+    for part in key.chunks(PART) {
+        buffer.write(out, digits_in(&mut digits, part))?;
+    }
+    Ok(())
+}
+
+// The digits of a part of a key. They lie in the array.
+fn digits_in<'a>(digits: &'a mut [[u8; 2]; PART], part: &[u8]) -> &'a [u8]
+    requires { length part.now ≤ PART }
+    ensures { result.now ≡ flat_map byte_digits part.now }
+{
+    for (number, byte) in part.iter().enumerate() {
+        digits[number] = digits_of(*byte);
+    }
+    &digits.as_flattened()[..2 * part.len()]
 }
 
 // Writes what stands behind the weights: nothing, or the identical level.

@@ -1,36 +1,31 @@
 -- The whole run, from what its two files mean and what is printed of its lines.
 use Rattle.std.specs.Prelude.{⊤}
-use Rattle.std.proofs.Common.{◌≡◌, [], ◌∷◌, Err, IfSome, refl, subst, sym}
+use Rattle.std.proofs.Common.{◌≡◌, [], ◌∷◌, Err, subst, sym}
 use Rattle.std.proofs.lemmas.Result.{err_from_is_err_and}
 use Rattle.uca_values.specs.Content.{properties_of}
 use Rattle.uca_match.specs.NumberedKeys.{rows_at}
 use Rattle.uca_match.specs.Collations.{collation_of}
-use Rattle.uca_runs.specs.declared.faults.RunFault.TheVariants.{Memory}
-use Rattle.uca_runs.specs.Files.{table_and_data, table_and_data_roles, table_with}
-use Rattle.uca_runs.specs.ReadFiles.{IsCollation, collation_in}
 use Rattle.uca_key.specs.Lengths.{HasShortRows}
-use Rattle.uca_runs.specs.KeysRun.{RunsKeys, WritesKeys}
-use Rattle.uca_runs.proofs.Finishing.{before_file}
-use Rattle.uca_runs.proofs.FilesLemmas.{failed_by_files, failed_by_no_file, over_weaker, runs_over_all, same_fault}
-use Rattle.uca_runs.proofs.Running.{as_before, no_input_before, no_write_before, not_both, same_keying, whatever_bytes}
+use Rattle.uca_runs.specs.declared.faults.RunFault.TheVariants.{Memory}
+use Rattle.uca_runs.specs.EachLine.{RunsEach}
+use Rattle.uca_runs.specs.Files.{table_and_data, table_and_data_roles, table_with}
+use Rattle.uca_runs.specs.Keys.{KeySettings, printed_key}
+use Rattle.uca_runs.specs.KeysRun.{RunsUnder}
+use Rattle.uca_runs.specs.ReadFiles.{IsCollation, collation_in}
+use Rattle.uca_runs.proofs.Running.{same_keying}
+use Rattle.uca_runs.proofs.WholeRuns.{ended_before, ended_by_lines, runs_under}
 use Rattle.uca_runs.proofs.keys.run_keys_in.Goals as goal
 
 pub returns-in_err-read : goal.returns-in_err-read
 returns-in_err-read g c =
     let p = err_from_is_err_and c.from_residual.result c.from_residual.ensures.1 in
     let fault = c.in_err-read.field-0.0 in
-    let before = c.in_err-read.ensures.before_input in
-    let olds = c.args.table.now ∷ c.args.properties.now ∷ [] in
-    let news = c.read_collation.new.table ∷ c.read_collation.new.properties ∷ [] in
-    rw (p.1, p.2) (record {
-      runs = over_weaker {A = ⊤} {B = ⊤} table_and_data olds news (λ content. fault ≡ Memory) (RunsKeys {A = ⊤} c.args.weighting c.args.depth c.args.input.now c.args.input.now c.args.out.now c.args.out.now (Err fault)) (Err fault) (Err fault)
-          (λ role. same_fault ⊤ ⊤ role fault)
-          (λ content is. subst (λ f. RunsKeys {A = ⊤} c.args.weighting c.args.depth c.args.input.now c.args.input.now c.args.out.now c.args.out.now (Err f) content) (sym is) (whatever_bytes c.args.input.now.remaining)) c.in_err-read.ensures.read;
-      nothing_written = λ before. (refl, refl);
-      input_failed = λ none. as_before c.args.input.now.failed _ (no_input_before ⊤ ⊤ fault before);
-      failed = failed_by_files ⊤ ⊤ table_and_data_roles olds news fault c.in_err-read.ensures.failed;
-      out_failed = as_before c.args.out.now.failed _ (no_write_before ⊤ ⊤ fault before);
-    })
+    rw (p.1, p.2) (ended_before table_and_data table_and_data_roles (λ content. fault ≡ Memory)
+    (RunsUnder {A = ⊤} printed_key c.args.weighting c.args.depth c.args.input.now c.args.input.now c.args.out.now c.args.out.now (Err fault))
+    (c.args.table.now ∷ c.args.properties.now ∷ []) (c.read_collation.new.table ∷ c.read_collation.new.properties ∷ [])
+    ⊤ ⊤ c.args.input.now c.args.out.now fault
+    (λ content is. subst (λ f. RunsUnder {A = ⊤} printed_key c.args.weighting c.args.depth c.args.input.now c.args.input.now c.args.out.now c.args.out.now (Err f) content) (sym is) tt)
+    c.in_err-read.ensures.read c.in_err-read.ensures.before_input c.in_err-read.ensures.failed)
 
 pub print_keys-requires : goal.print_keys-requires
 print_keys-requires g c = subst (λ made. HasShortRows made.rows) (sym c.collator-collator.ensures) c.in_ok-read.ensures.short
@@ -39,17 +34,13 @@ pub returns : goal.returns
 returns g c =
     let read = c.in_ok-read.read in
     let files = table_with read.files.table (properties_of read.files.properties) in
-    let olds = c.args.table.now ∷ c.args.properties.now ∷ [] in
-    let news = c.read_collation.new.table ∷ c.read_collation.new.properties ∷ [] in
-    record {
-      runs = runs_over_all {B = ⊤} table_and_data olds news
-          (λ content. IsCollation c.args.weighting (collation_in (rows_at read.rows) files) read.weighting content) _ tt c.print_keys.result (before_file c.print_keys.result c.print_keys.ensures.of_lines)
-          (λ content is. subst (λ d. IfSome c.args.input.now.remaining (λ bytes. WritesKeys d bytes c.print_keys.new.input.remaining c.args.out.now.contents c.print_keys.new.out.contents c.print_keys.result))
-          (same_keying c.args.weighting c.args.depth (collation_of rows_at c.collator-collator.result) (collation_in (rows_at read.rows) files) read.weighting content c.collator-collator.ensures is)
-          c.print_keys.ensures.writes)
-          c.in_ok-read.ensures.read;
-      nothing_written = not_both _ c.print_keys.ensures.of_lines;
-      input_failed = c.print_keys.ensures.input_failed;
-      failed = failed_by_no_file {B = ⊤} table_and_data_roles olds news tt c.print_keys.result c.in_ok-read.ensures.failed (before_file c.print_keys.result c.print_keys.ensures.of_lines);
-      out_failed = c.print_keys.ensures.out_failed;
-    }
+    let made = collation_in (rows_at read.rows) files in
+    ended_by_lines table_and_data table_and_data_roles (λ content. IsCollation c.args.weighting made read.weighting content)
+    (RunsUnder printed_key c.args.weighting c.args.depth c.args.input.now c.print_keys.new.input c.args.out.now c.print_keys.new.out c.print_keys.result)
+    (c.args.table.now ∷ c.args.properties.now ∷ []) (c.read_collation.new.table ∷ c.read_collation.new.properties ∷ []) {B = ⊤}
+    c.args.input.now c.print_keys.new.input c.args.out.now c.print_keys.new.out tt c.print_keys.result c.print_keys.ensures.of_lines
+    (λ content is. runs_under printed_key c.args.weighting c.args.depth c.args.input.now c.print_keys.new.input c.args.out.now c.print_keys.new.out c.print_keys.result content c.print_keys.ensures.of_lines
+    (subst (λ (d : KeySettings). RunsEach d.collation.properties (printed_key d) c.args.input.now c.print_keys.new.input c.args.out.now c.print_keys.new.out c.print_keys.result)
+    (same_keying c.args.weighting c.args.depth (collation_of rows_at c.collator-collator.result) made read.weighting content c.collator-collator.ensures is)
+    c.print_keys.ensures.writes))
+    c.in_ok-read.ensures.read c.in_ok-read.ensures.failed c.print_keys.ensures.input_failed c.print_keys.ensures.out_failed

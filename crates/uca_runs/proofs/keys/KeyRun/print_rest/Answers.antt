@@ -1,10 +1,12 @@
--- Where no text was read, or its key was not written.
+-- Where no text was read, or what the output has of its line was not written.
 use Rattle.std.specs.Prelude.{⊤}
-use Rattle.std.proofs.Common.{Bool, Err, ap₂, subst, ◌∙◌}
+use Rattle.std.proofs.Common.{◌≡◌, List, ℕ, Bool, Err, ap, ap₂, ◌∙◌}
+use Rattle.std.specs.List.{flat_map}
 use Rattle.std.proofs.lemmas.Result.{err_from_is_err_and}
-use Rattle.uca_runs.specs.Keys.{key_settings_of, key_lines, text_line}
-use Rattle.uca_runs.specs.KeysSoFar.{PrintsText}
-use Rattle.uca_runs.proofs.Printing.{not_printed, no_write}
+use Rattle.uca_values.specs.Content.{properties_of}
+use Rattle.uca_runs.specs.Keys.{key_settings_of}
+use Rattle.uca_runs.specs.KeyForms.{line_as, text_as}
+use Rattle.uca_runs.proofs.Printing.{not_written, no_write}
 use Rattle.uca_runs.proofs.Running.{as_before}
 use Rattle.uca_runs.proofs.keys.KeyRun.print_rest.Goals as goal
 
@@ -16,15 +18,21 @@ returns-in_err-next-clause-out_failed g c =
 pub returns-in_err-print_text-clause-prints : goal.returns-in_err-print_text-clause-prints
 returns-in_err-print_text-clause-prints g c = λ start begun before p.
     let q = err_from_is_err_and c.from_residual-in_err-print_text.result c.from_residual-in_err-print_text.ensures.1 in
-    let key_settings = key_settings_of g.L.Lookup.content c.args.collator.now c.args.self.now.key.weighting c.args.self.now.depth in
-    let same = ap₂ (λ weighting depth. key_settings_of g.L.Lookup.content c.args.collator.now weighting depth) c.loop-self.invariant.weighting c.loop-self.invariant.depth in
-    let i = c.loop-self.invariant.printed start begun before p in
+    let properties = properties_of c.args.collator.now.data.now in
+    let form = c.args.self.now.form in
+    let by = λ weighting depth. key_settings_of g.L.Lookup.content c.args.collator.now weighting depth in
+    let settings = by c.args.self.now.key.weighting c.args.self.now.depth in
+    let texts = c.next.new.self in
+    let inv = c.loop-self.invariant in
+    let i = inv.written start begun before p in
     let next = rw c.if-branch.true at c.in_ok-next.ensures in
-    let stops = subst (λ k. PrintsText {A = Unit {0}} begun (key_lines key_settings i.0) (text_line k c.next.new.self.text) c.next.new.self.reader.number
-    c.loop-self.self.output c.loop-self.out c.print_text.new.self.output c.print_text.new.out (Err c.in_err-print_text.field-0.0)) same
-    (c.in_err-print_text.ensures.prints begun (key_lines key_settings i.0) i.1.printed) in
+    let t = next.reads start i.0 i.1.read in
+    let same = ap (λ f. text_as f (by c.loop-self.self.key.weighting c.loop-self.self.depth) texts.text texts.line) inv.form
+    ∙ ap₂ (λ weighting depth. text_as form (by weighting depth) texts.text texts.line) inv.weighting inv.depth
+    ∙ ap (λ text. text_as form settings text texts.line) t.text in
     rw (q.1, q.2) (
       i.0,
-      not_printed key_settings start begun i.0 c.next.new.self c.next.new.input (next.reads start i.0 i.1.read) c.loop-self.self.output c.print_text.new.self.output
-          c.loop-self.out c.print_text.new.out c.in_err-print_text.field-0.0 i.1.printed stops,
+      not_written properties (line_as form settings) start begun i.0 texts c.next.new.input t _ same c.loop-self.self.output c.print_text.new.self.output
+          c.loop-self.out c.print_text.new.out c.in_err-print_text.field-0.0 i.1.written
+          (c.in_err-print_text.ensures.prints begun (flat_map (line_as form settings) i.0) i.1.written),
     )

@@ -1,0 +1,29 @@
+-- The forms of a line of output that has a key. Only contracts of private functions cite this: no promise of the crate
+-- rests on it.
+use Rattle.std.specs.Prelude.{ℕ, List, chars}
+use Rattle.uca_weights.specs.declared.Depth.{Depth}
+use Rattle.uca_weights.specs.declared.Depth.TheVariants.{Weights}
+use Rattle.uca_text.specs.Texts.{NfdText, nfd_text}
+use Rattle.uca_key.specs.Depths.{read_text, key_at}
+use Rattle.uca_runs.specs.declared.keys.KeyForm.{KeyForm}
+use Rattle.uca_runs.specs.declared.keys.KeyForm.TheVariants.{Alone, BeforeLine}
+use Rattle.uca_runs.specs.Keys.{KeySettings}
+use Rattle.uca_runs.specs.Print.{print_line_at, keyed_line_of}
+
+-- the depth of the key that is made for a form: a key alone shows its identical level otherwise than the weights
+abbrev pub depth_as : KeyForm → Depth → Depth
+depth_as Alone depth = Weights
+depth_as BeforeLine depth = depth
+
+-- the line of output, by that key, the code points of the text, and the line of the input
+abbrev pub printed_as : KeyForm → Depth → List ℕ → List ℕ → List ℕ → List ℕ
+printed_as Alone depth key points line = print_line_at depth key points
+printed_as BeforeLine depth key points line = keyed_line_of key line
+
+-- that of a line with its text
+abbrev pub text_as : KeyForm → KeySettings → NfdText → List ℕ → List ℕ
+text_as form c text line = printed_as form c.depth (key_at (depth_as form c.depth) c.weighting (read_text c.collation text)) text.points line
+
+-- that of a line of the input, which is UTF-8
+abbrev pub line_as : KeyForm → KeySettings → List ℕ → List ℕ
+line_as form c line = text_as form c (nfd_text c.collation.properties (chars line)) line

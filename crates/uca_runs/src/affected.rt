@@ -1,0 +1,176 @@
+//! The run that prints the lines that rules affect.
+
+ghost use Rattle.std.specs.Prelude.{◌≡◌, ◌∷◌, [], ℕ, ◌+◌, ◌-◌, ◌*◌, ◌^◌, ◌<◌, ◌≤◌, ◌||◌, false, is_err, List, Option, IfSome, OnOk, length};
+ghost use Rattle.uca_values.specs.Content.{properties_of};
+ghost use Rattle.uca_lines.specs.OutputBuffer.{IsBuffered};
+ghost use Rattle.uca_runs.specs.Files.{HaveFailed, Over, data_and_rules, data_and_rules_roles, data_with, ended_by_file};
+ghost use Rattle.uca_runs.specs.ReadFiles.{IsRead};
+ghost use Rattle.uca_runs.specs.Runs.{is_input_read, ended_by_output};
+ghost use Rattle.uca_runs.specs.EachLine.{WritesEach, ended_before_input};
+ghost use Rattle.uca_runs.specs.EachLineSoFar.{HasWritten, WritesText, WritesRest};
+ghost use Rattle.uca_runs.specs.AffectedRun.{PrintsAffected, affected_line, if_affected};
+
+use crate::faults::RunFault;
+use crate::files::read_data_file;
+use crate::input::InputTexts;
+use crate::output::{end_output, write_line};
+use crate::rule_file::read_rule_file;
+use std::alloc::{Allocator, Global};
+use std::io::{Read, Write};
+use uca_lines::OutputBuffer;
+use uca_rules::Rules;
+use uca_values::Data;
+use uca_weights::{Sink, Source};
+
+// The lines of the input, and what waits to be written.
+#[derive(Drop)]
+struct AffectedRun<A: Allocator> {
+    texts: InputTexts<A>,
+    output: OutputBuffer,
+}
+
+impl<A: Allocator> AffectedRun<A> {
+    // Writes the line that was read, where the rules affect it.
+    fn print_text<R: Allocator, W: Write>(
+        &mut self,
+        rules: &Rules<R>,
+        out: &mut Sink<W>,
+    ) -> Result<(), RunFault>
+        requires few { 0 < self.old.texts.reader.number }
+        requires small { self.old.output.written + length self.old.output.held
+            ≤ (self.old.texts.reader.number - 1) * 2 ^ 42 }
+        ensures prints { (begun : Option (List ℕ)) (before : List ℕ) →
+            IsBuffered begun out.old.contents before self.old.output →
+            WritesText begun before (if_affected rules.now self.old.texts.text.points self.old.texts.line)
+            self.old.texts.reader.number self.old.output out.old self.new.output out.new result }
+        ensures small { OnOk result (self.new.output.written + length self.new.output.held
+            ≤ self.old.texts.reader.number * 2 ^ 42) }
+        ensures texts { self.new.texts ≡ self.old.texts }
+        ensures not_read { is_input_read result ≡ false }
+        ensures failed { out.new.failed ≡ (out.old.failed || ended_by_output result) }
+    {
+        if rules.untouched(self.texts.text()) {
+            return Ok(());
+        }
+        Ok(write_line(&mut self.output, out, self.texts.line())?)
+    }
+
+    // Writes those of the lines that are left.
+    fn print_rest<D: Allocator, R: Allocator, I: Read, W: Write>(
+        &mut self,
+        properties: &Data<D>,
+        rules: &Rules<R>,
+        input: &mut Source<I>,
+        out: &mut Sink<W>,
+    ) -> Result<(), RunFault>
+        requires small { self.old.output.written + length self.old.output.held
+            ≤ self.old.texts.reader.number * 2 ^ 42 }
+        ensures prints { (start begun : Option (List ℕ)) (before : List (List ℕ)) →
+            let points = properties_of properties.now in
+            HasWritten points (affected_line points rules.now) start begun before self.old.texts input.old self.old.output out.old →
+            WritesRest points (affected_line points rules.now) start begun input.new self.new.output out.new result }
+        ensures input_failed { input.new.failed ≡ (input.old.failed || is_input_read result) }
+        ensures out_failed { out.new.failed ≡ (out.old.failed || ended_by_output result) }
+    {
+        while self.texts.next(input, properties)? {
+            self.print_text(rules, out)?;
+        }
+        Ok(())
+    }
+}
+
+/// Prints the lines of the input that the rules affect, as they stand and in their order, until the end of the input or its
+/// first faulty line: those in whose text in Normalization Form D a target of the rules occurs, all its code points in
+/// their order, whatever stands between.
+///
+/// # Errors
+///
+/// `Input` for the first faulty line, where the affected lines before it were written; `Write` where the writer failed, also
+/// where a later line is faulty.
+pub fn print_affected<D: Allocator, R: Allocator, A: Allocator, I: Read, W: Write>(
+    alloc: A,
+    global: Global,
+    properties: &Data<D>,
+    rules: &Rules<R>,
+    input: &mut Source<I>,
+    out: &mut Sink<W>,
+) -> Result<(), RunFault>
+    ensures writes { IfSome input.old.remaining (λ bytes.
+        let points = properties_of properties.now in
+        WritesEach points (affected_line points rules.now) bytes input.new.remaining out.old.contents out.new.contents result) }
+    ensures of_lines { ended_before_input result ≡ false }
+    ensures input_failed { ended_by_output result ≡ false →
+        input.new.failed ≡ (input.old.failed || is_input_read result) }
+    ensures out_failed { out.new.failed ≡ (out.old.failed || ended_by_output result) }
+{
+    let mut run = AffectedRun {
+        texts: InputTexts::new(alloc, global),
+        output: OutputBuffer::new(),
+    };
+    let end = run.print_rest(properties, rules, input, out);
+    end_output(&mut run.output, out, end)
+}
+
+/// Prints the lines of `input` that rules affect, under the data file and the rules that are read first: those in which a
+/// target of the rules occurs in order, as they stand, each with LF, in their order. Under each accepted tailoring by the
+/// rules the other lines keep their order among themselves.
+///
+/// # Errors
+///
+/// `File` where the data file, or else the rules, are rejected: nothing was written, and nothing of the input was read.
+/// `Input` for the first faulty line, where the affected lines before it were written. `Write` where the writer failed, also
+/// where a later line is faulty: the first `written` bytes of the whole output went out.
+pub fn run_affected<D: Read, U: Read, I: Read, W: Write>(
+    alloc: Global,
+    properties: &mut Source<D>,
+    rules: &mut Source<U>,
+    input: &mut Source<I>,
+    out: &mut Sink<W>,
+) -> Result<(), RunFault>
+    ensures { PrintsAffected (properties.old ∷ rules.old ∷ []) (properties.new ∷ rules.new ∷ [])
+        input.old input.new out.old out.new result }
+{
+    run_affected_in(alloc, alloc, properties, rules, input, out)
+}
+
+/// The same with the allocations of the two files and the lines in memory of any allocator; those of Normalization Form D
+/// are in `global`.
+pub fn run_affected_in<A: Allocator + Copy, D: Read, U: Read, I: Read, W: Write>(
+    alloc: A,
+    global: Global,
+    properties: &mut Source<D>,
+    rules: &mut Source<U>,
+    input: &mut Source<I>,
+    out: &mut Sink<W>,
+) -> Result<(), RunFault>
+    ensures { PrintsAffected (properties.old ∷ rules.old ∷ []) (properties.new ∷ rules.new ∷ [])
+        input.old input.new out.old out.new result }
+{
+    let files = read_data_and_rules(alloc, global, properties, rules)?;
+    print_affected(alloc, global, &files.properties, &files.rules, input, out)
+}
+
+// What the two files mean.
+#[derive(Drop)]
+struct DataAndRules<A: Allocator> {
+    properties: Data<A>,
+    rules: Rules<A>,
+}
+
+// Reads the data file, and then the rules, each to its end or its first error.
+fn read_data_and_rules<A: Allocator + Copy, D: Read, U: Read>(
+    alloc: A,
+    global: Global,
+    properties: &mut Source<D>,
+    rules: &mut Source<U>,
+) -> Result<DataAndRules<A>, RunFault>
+    ensures read { Over data_and_rules (properties.old ∷ rules.old ∷ []) (properties.new ∷ rules.new ∷ [])
+        (IsRead (λ files. data_with (properties_of files.properties) files.rules) result) result }
+    ensures of_files { ended_by_file result ≡ is_err result }
+    ensures failed { HaveFailed data_and_rules_roles (properties.old ∷ rules.old ∷ [])
+        (properties.new ∷ rules.new ∷ []) result }
+{
+    let properties = read_data_file(alloc, properties)?;
+    let rules = read_rule_file(alloc, global, rules, &properties)?;
+    Ok(DataAndRules { properties, rules })
+}
