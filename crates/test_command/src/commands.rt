@@ -61,6 +61,8 @@ const SUBCOMMANDS: &str = r"check,allkeys.txt,data.txt | well-formed\n
 keys,allkeys.txt,data.txt | 1C60 0000 0020 0000 0002 0000 FFFF\n0000 0000 0000 0209\n1C47 0000 0020 0000 0002 0000 FFFF\n
 keys,--weighting,shifted,allkeys.txt,data.txt | 1C60 0000 0020 0000 0002 0000 FFFF\n0000 0000 0000 0209\n1C47 0000 0020 0000 0002 0000 FFFF\n
 keys,--weighting,non-ignorable,allkeys.txt,data.txt | 1C60 0000 0020 0000 0002\n0209 0000 0020 0000 0002\n1C47 0000 0020 0000 0002\n
+keys,--lines,allkeys.txt,data.txt | 1C6000000020000000020000FFFF\tb\n0000000000000209\t\x20\n1C4700000020000000020000FFFF\ta\n
+keys,allkeys.txt,data.txt,--lines,--weighting=non-ignorable | 1C600000002000000002\tb\n02090000002000000002\t\x20\n1C470000002000000002\ta\n
 sort,allkeys.txt,data.txt | \x20\na\nb\n
 sort,allkeys.txt,data.txt,--weighting=non-ignorable | \x20\na\nb\n
 compare,allkeys.txt,data.txt,a b,ab | < 4\n
@@ -77,6 +79,7 @@ fn each_subcommand(rt: HostRuntime) -> Result<(), Fail> {
 /// The space and the accent behind it weigh the same as the space.
 const TO_THE_IDENTICAL_LEVEL: &str =
     r"keys,--identical,allkeys.txt,data.txt | 0000 0000 0000 0209 0000 000020 000301\n0000 0000 0000 0209 0000 000020\n
+keys,--identical,--lines,allkeys.txt,data.txt | 00000000000002090000000020000301\t\x20\xCC\x81\n00000000000002090000000020\t\x20\n
 sort,allkeys.txt,data.txt | \x20\xCC\x81\n\x20\n
 sort,--identical,allkeys.txt,data.txt | \x20\n\x20\xCC\x81\n
 compare,allkeys.txt,data.txt, \xCC\x81,\x20 | = 0\n
@@ -141,6 +144,7 @@ fn check_subcommand(alloc: Global, words: &str) -> Result<(), Fail> {
 
 const EACH: &str = "check,allkeys.txt,data.txt
 keys,allkeys.txt,data.txt
+keys,--lines,allkeys.txt,data.txt
 sort,allkeys.txt,data.txt
 compare,allkeys.txt,data.txt,a,b";
 
@@ -195,6 +199,9 @@ fn lines_that_are_refused(rt: HostRuntime) -> Result<(), Fail> {
     let key = "1C47 0000 0020 0000 0002 0000 FFFF\n";
     let files = (ROWS, CLASSES);
     check_refused(rt.alloc(), files, (KEYS, b"a\n\xFF\n"), (key, err))?;
+    let keyed = "1C4700000020000000020000FFFF\ta\n";
+    let lines = "keys,--lines,allkeys.txt,data.txt";
+    check_refused(rt.alloc(), files, (lines, b"a\n\xFF\n"), (keyed, err))?;
     let sort = "sort,allkeys.txt,data.txt";
     check_refused(rt.alloc(), files, (sort, b"a\n\xFF\n"), ("", err))
 }

@@ -220,7 +220,8 @@ const AFFECTED: &str =
     Example: uca affected data.txt rules.txt < lines.txt > moved.txt\n";
 
 /// What `--version` prints.
-pub const VERSION: &str = "uca 0.1.0 (normalization of Unicode 18.0.0, proved with rattle-kit-13f)\n";
+pub const VERSION: &str =
+    "uca 0.1.0 (normalization of Unicode 18.0.0, proved with rattle-kit-13f)\n";
 
 // No file is opened.
 fn end_of(status: u8, out: &'static str, err: &'static str) -> End<'static> {
@@ -270,8 +271,7 @@ fn version_texts(rt: HostRuntime) -> Result<(), Fail> {
 #[test]
 fn edition_of_the_normalization(rt: HostRuntime) -> Result<(), Fail> {
     let (major, minor, update) = UNICODE_VERSION;
-    let edition =
-        format!(in rt.alloc(); "(normalization of Unicode {major}.{minor}.{update}, ")?;
+    let edition = format!(in rt.alloc(); "(normalization of Unicode {major}.{minor}.{update}, ")?;
     holds(VERSION.contains(edition.as_str()), "the edition of Unicode")
 }
 

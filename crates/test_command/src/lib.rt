@@ -2,6 +2,8 @@
 #![tactic(auto)]
 
 #[cfg(test)]
+mod affected;
+#[cfg(test)]
 mod audits;
 #[cfg(test)]
 mod commands;

@@ -26,7 +26,9 @@ const PUT_IN: &str =
     --weightings shifted non-ignorable Shifted --identical --identical= --lines --linest -i -h --help -V --version \u{E9} =";
 
 /// The names of the subcommands.
-const NAMES: &[&str] = &["check", "keys", "sort", "compare", "tailor", "audit", "affected"];
+const NAMES: &[&str] = &[
+    "check", "keys", "sort", "compare", "tailor", "audit", "affected",
+];
 
 /// Names of files, and texts.
 const TEXTS: &[&str] = &["t", "d", "", "-", "--identical"];

@@ -172,7 +172,12 @@ fn keys_command<'a>(alloc: Global) -> Result<Command<'a>, AllocError>
          \x20 uca keys --lines allkeys.txt data.txt < lines.txt > keyed.tsv",
     );
     let keys = take_options(alloc, Ok(keys));
-    take_flag(alloc, keys, "lines", "Print the key without blanks, a tab and the line")
+    take_flag(
+        alloc,
+        keys,
+        "lines",
+        "Print the key without blanks, a tab and the line",
+    )
 }
 
 fn sort_command<'a>(alloc: Global) -> Result<Command<'a>, AllocError>
