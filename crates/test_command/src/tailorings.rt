@@ -224,7 +224,13 @@ fn check_overwriting(alloc: Global, arguments: &str, role: &str) -> Result<(), F
         err: &err,
         opened: 0,
     };
-    check_tailor(alloc, texts, (&words, Pace::steps(64)), (&disk, false), &end)?;
+    check_tailor(
+        alloc,
+        texts,
+        (&words, Pace::steps(64)),
+        (&disk, false),
+        &end,
+    )?;
     holds(disk.holds("rules.txt", "&a < x"), arguments)
 }
 

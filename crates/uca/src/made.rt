@@ -1,11 +1,10 @@
 //! Files that are written under another name, and get their own once they are whole.
 
-use std::fs;
 use std::fs::{File, Metadata, OpenOptions};
-use std::io;
 use std::io::{ErrorKind, Write};
 use std::os::unix::fs::{MetadataExt, OpenOptionsExt, fchown};
 use std::path::PathBuf;
+use std::{fs, io};
 
 /// How many temporary names are tried. One is taken where a run was killed, or where another run makes a file in the folder.
 const TEMPORARY_NAMES: u8 = 100;

@@ -8,8 +8,8 @@ ghost use Rattle.uca_cli.specs.declared.command.OpenFault.{OpenFault};
 ghost use Rattle.uca_cli.specs.declared.command.MakeFault.{MakeFault};
 
 use crate::audit::run_audit;
-use crate::reporting::{DONE, REFUSED, report};
 use crate::keeping::{find_certificate, keep_certificate, print_table};
+use crate::reporting::{DONE, REFUSED, report};
 use crate::tailor::run_tailor;
 use std::alloc::Global;
 use std::io::{Read, Write};
