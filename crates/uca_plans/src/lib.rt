@@ -10,7 +10,7 @@ mod laws;
 pub use accepted::{
     plans_are_accepted, plans_are_faithful, plans_make_tailorings, room_is_counted,
 };
-pub use drafts::{DraftElement, DraftWeight, Segment};
+pub use drafts::{DraftElement, DraftWeight, Insertion, Segment};
 pub use faults::{TailorFault, TailorKind, level_number};
 pub use laws::{
     base_weights_of_elements, drafts_come_from_rows, drafts_read_as_rows,
