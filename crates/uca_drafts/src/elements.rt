@@ -23,7 +23,7 @@ pub(crate) fn level_of(strength: Strength) -> Option<Level>
     }
 }
 
-/// An element with its weights as they are.
+/// An element with its weights as they are. `implicit` says that the implicit weights of a code point gave it.
 pub fn as_draft(implicit: bool, element: Element) -> DraftElement
     ensures { result ≡ drafts.as_draft implicit element }
 {

@@ -45,7 +45,12 @@ impl<A: Allocator> Model for LevelNumbers<A> {
     ghost invariant = { λ n. AreTables n.members.items n.numbers.items n.by_base.items n.by_new.items };
 }
 
-/// The list of a level and its numbers, or `None` where the level has no room. All insertions are of relations below a number.
+/// The list of a level and its numbers, or `None` where the level has no room: then its weights are more than the places. All
+/// insertions are of relations below the number `relations`.
+///
+/// # Errors
+///
+/// An allocation that fails.
 pub fn level_numbers<A: Allocator + Copy, T: Allocator>(
     alloc: A,
     level: Level,
@@ -108,7 +113,8 @@ impl<A: Allocator + Copy> LevelNumbers<A> {
 }
 
 impl<A: Allocator> LevelNumbers<A> {
-    /// The number of a weight. The weight 0 keeps its value, and so do primary weights from 8000 up.
+    /// The number of a weight. The weight 0 keeps its value, and so do primary weights from 8000 up. Any other weight that the
+    /// list does not have gets 0.
     pub fn number(&self, level: Level, weight: DraftWeight) -> u16
         ensures { result ≡ numbered_weight level self.now weight }
     {
@@ -127,6 +133,10 @@ impl<A: Allocator> LevelNumbers<A> {
     }
 
     /// The base weights with their numbers, in runs as long as possible.
+    ///
+    /// # Errors
+    ///
+    /// An allocation that fails.
     pub fn runs(&self, alloc: A) -> Result<Vec<Run, A>, AllocError>
         ensures { IfOk result (λ runs. runs.items ≡ plans.runs_of self.now.members self.now.numbers) }
     {
