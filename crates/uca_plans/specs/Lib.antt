@@ -12,5 +12,4 @@ pub mod WorkedPlans
 pub mod Tailors
 pub mod FaultText
 pub mod PlanLaws
-pub mod Accepted
 pub mod Room

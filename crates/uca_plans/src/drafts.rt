@@ -1,4 +1,6 @@
-//! Weights and elements before they are numbered.
+//! Weights and elements before they are numbered, and where new weights go.
+
+use uca_weights::Level;
 
 /// A weight before weights are numbered.
 #[derive(Clone, Copy, Debug, PartialEq, Eq)]
@@ -22,6 +24,19 @@ pub struct DraftElement {
     pub mark: bool,
     /// Whether the implicit weights of a code point gave it, and no row.
     pub implicit: bool,
+}
+
+/// Where a relation's new weight goes: directly before or after a weight.
+#[derive(Clone, Copy)]
+pub struct Insertion {
+    /// The level whose list it goes into.
+    pub level: Level,
+    /// Whether it goes before the anchor's weight.
+    pub before: bool,
+    /// The anchor's weight.
+    pub anchor: DraftWeight,
+    /// The new weight.
+    pub new: DraftWeight,
 }
 
 /// The weights above one up to another: the places for the members of a list.

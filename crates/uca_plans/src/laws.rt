@@ -6,6 +6,7 @@ ghost use Rattle.uca_plans.specs.Runs.{RunsSendBaseWeights};
 ghost use Rattle.uca_plans.specs.Readings.{OneMoreRow, KeysReadAsTheirRows, DraftsReadByWhatOccurs, DraftsReadAsRows, DraftsComeFromRows};
 ghost use Rattle.uca_plans.specs.Keys.{RelationsReadOverAllKeys};
 ghost use Rattle.uca_plans.specs.Sizes.{PlansHaveSizedRows};
+ghost use Rattle.uca_plans.specs.Room.{RoomIsCounted};
 ghost use Rattle.uca_plans.specs.PlanLaws.{KeysOfPlans, OneOutcome, RunsAreLongest};
 ghost use Rattle.uca_plans.specs.WorkedPlans.{WorkedPlans};
 
@@ -111,4 +112,13 @@ pub fn keys_of_plans()
 /// refusals but that one are the same fault.
 pub fn one_outcome()
     ensures { OneOutcome }
+{}
+
+/// The base is a table and well-formed under the data for the code points, and the relations are rules of which none is
+/// rejected. Then a level has room exactly where, on each side of its fixed weight (0, 0020, 0002), the base weights that are
+/// numbered and the new weights that go there are at most as many as the places. A new weight goes to the side of its anchor's
+/// weight. Beside the fixed weight itself it goes low if it is put in before it, and high if after. So the insertions alone
+/// tell it.
+pub fn room_is_counted()
+    ensures { RoomIsCounted }
 {}

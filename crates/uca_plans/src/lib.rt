@@ -2,20 +2,16 @@
 //! definitions, as functions that compute a plan or the first refusal, and laws of them.
 #![tactic(auto)]
 
-mod accepted;
 mod drafts;
 mod faults;
 mod laws;
 
-pub use accepted::{
-    plans_are_accepted, plans_are_faithful, plans_make_tailorings, room_is_counted,
-};
-pub use drafts::{DraftElement, DraftWeight, Segment};
+pub use drafts::{DraftElement, DraftWeight, Insertion, Segment};
 pub use faults::{TailorFault, TailorKind, level_number};
 pub use laws::{
     base_weights_of_elements, drafts_come_from_rows, drafts_read_as_rows,
     drafts_read_by_what_occurs, keys_of_plans, keys_read_as_their_rows, new_weights_stand_nearest,
     new_weights_take_places, nothing_stands_between, numbers_are_proper, numbers_rise_along_lists,
     one_more_row, one_outcome, plans_have_sized_rows, relations_read_over_all_keys,
-    runs_are_longest, runs_send_base_weights, worked_plans,
+    room_is_counted, runs_are_longest, runs_send_base_weights, worked_plans,
 };

@@ -1,16 +1,3 @@
-pub mod MarkLaws
-pub mod PlaceLaws
-pub mod LevelLaws
-pub mod RunLaws
-pub mod AnchorParts
-pub mod PlaceKeys
-pub mod MatchReadings
-pub mod KeyLookups
-pub mod RowLookups
-pub mod Names
-pub mod DraftingSteps
-pub mod Readiness
 pub mod PartLaws
 pub mod RefusalLaws
-pub mod VariableLaws
 pub mod PlanAudits

@@ -1,9 +1,1 @@
-pub mod Marks
-pub mod MemberPlaces
-pub mod NumberTables
-pub mod RowDrafts
-pub mod MatchDrafts
-pub mod Places
-pub mod Ready
 pub mod PlanParts
-pub mod Variables

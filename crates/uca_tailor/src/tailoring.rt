@@ -11,9 +11,10 @@ ghost use Rattle.uca_plans.specs.Tailors.{IsPlanOf, TailorRefuses};
 
 use crate::plan::plan;
 use std::alloc::Allocator;
+use uca_acceptance::{plans_are_accepted, plans_are_faithful};
 use uca_certificates::Certificate;
 use uca_check::check;
-use uca_plans::{TailorFault, TailorKind, plans_are_accepted, plans_are_faithful};
+use uca_plans::{TailorFault, TailorKind};
 use uca_rules::Rules;
 use uca_values::{Data, Table};
 

@@ -1,0 +1,121 @@
+-- What the matches of a text give over drafts.
+use Rattle.std.proofs.Common.{◌≡◌, ℕ, zero, suc, ◌+◌, List, [], ◌∷◌, ◌++◌, get_or, map, Bool, true, false, cond, ◌||◌, Option, Some, None}
+use Rattle.std.proofs.Common.{is_some, unwrap_or, refl, sym, ap, ap₂, ◌∙◌, arith, append-nil}
+use Rattle.std.specs.List.{AllByRecursion, flat_map}
+use Rattle.std.proofs.lemmas.Bool.{false≢true}
+use Rattle.std.proofs.lemmas.List.Concat.{flat_map-append}
+use Rattle.uca_weights.specs.declared.Element.{Element}
+use Rattle.uca_values.specs.declared.ImplicitRange.{ImplicitRange}
+use Rattle.uca_values.specs.Content.{Properties}
+use Rattle.uca_values.specs.Implicit.{implicit}
+use Rattle.uca_values.proofs.ImplicitPairs.{of_pair}
+use Rattle.uca_text.specs.Texts.{NfdText, Text, letters_of}
+use Rattle.uca_match.specs.Rows.{same_key}
+use Rattle.uca_match.specs.Positions.{Positions, is_placed, place_at}
+use Rattle.uca_match.specs.Parts.{Part, Row, Implicit, IsPartOf}
+use Rattle.uca_match.specs.Reading.{parts}
+use Rattle.uca_match.specs.TextMatches.{match_of, matches_of}
+use Rattle.uca_match.specs.declared.matches.Match.{Match}
+use Rattle.uca_match.proofs.Parts.{each_part}
+use Rattle.uca_plans.specs.Drafts.{DraftRow, as_draft, draft_at, part_drafts}
+use Rattle.uca_plans.specs.Keys.{keys_in, is_among, read_over}
+use Rattle.uca_drafts.specs.MatchDrafts.{elements_at, match_drafts}
+use Rattle.uca_drafts.specs.Ready.{ArePlacesWith}
+
+-- ---- Places
+
+-- a key has a place exactly where it is among the keys
+pub placed_among : (place : ℕ) (keys : List (List ℕ)) (key : List ℕ) → is_some (place_at place keys key) ≡ is_among keys key
+placed_among place [] key = refl
+placed_among place (k ∷ keys) key = go (same_key k key) (placed_among (place + 1) keys key)
+  where
+    go : (b : Bool) → is_some (place_at (place + 1) keys key) ≡ is_among keys key →
+        is_some (cond b (Some place) (place_at (place + 1) keys key)) ≡ (b || is_among keys key)
+    go true later = refl
+    go false later = later
+
+-- ---- Reading
+
+-- a place is not before the first one
+later_place : (place : ℕ) (keys : List (List ℕ)) (key : List ℕ) (p : ℕ) → place_at place keys key ≡ Some p → (i : ℕ) × (p ≡ place + i)
+later_place place [] key p found = cc
+later_place place (k ∷ keys) key p found = go (same_key k key) found (later_place (place + 1) keys key p)
+  where
+    go : (b : Bool) → cond b (Some place) (place_at (place + 1) keys key) ≡ Some p →
+        (place_at (place + 1) keys key ≡ Some p → (i : ℕ) × (p ≡ place + 1 + i)) → (i : ℕ) × (p ≡ place + i)
+    go true found later = let same : place ≡ p = cc in (0, omega (arith, same))
+    go false found later = let l = later found in (suc l.0, omega (arith, l.1))
+
+-- a key without a place has no row
+no_row : (place : ℕ) (rows : List DraftRow) (more : List (List ℕ)) (key : List ℕ) → place_at place (keys_in rows ++ more) key ≡ None →
+    draft_at rows key ≡ None
+no_row place [] more key none = refl
+no_row place (row ∷ rows) more key none = go (same_key row.key key) none (no_row (place + 1) rows more key)
+  where
+    go : (b : Bool) → cond b (Some place) (place_at (place + 1) (keys_in rows ++ more) key) ≡ None →
+        (place_at (place + 1) (keys_in rows ++ more) key ≡ None → draft_at rows key ≡ None) → cond b (Some row.elements) (draft_at rows key) ≡ None
+    go true none later = cc
+    go false none later = later none
+
+-- one with a place has the row of the place
+row_there : (place : ℕ) (rows : List DraftRow) (more : List (List ℕ)) (key : List ℕ) (i : ℕ) → place_at place (keys_in rows ++ more) key ≡ Some (place + i) →
+    elements_at i rows ≡ unwrap_or (draft_at rows key) []
+row_there place [] more key zero found = refl
+row_there place [] more key (suc i) found = refl
+row_there place (row ∷ rows) more key i found = go (same_key row.key key) i found (λ k is. row_there (place + 1) rows more key k is)
+  where
+    go : (b : Bool) (i : ℕ) → cond b (Some place) (place_at (place + 1) (keys_in rows ++ more) key) ≡ Some (place + i) →
+        ((k : ℕ) → place_at (place + 1) (keys_in rows ++ more) key ≡ Some (place + 1 + k) → elements_at k rows ≡ unwrap_or (draft_at rows key) []) →
+        elements_at i (row ∷ rows) ≡ unwrap_or (cond b (Some row.elements) (draft_at rows key)) []
+    go true zero found later = refl
+    go true (suc i) found later = let same : place ≡ place + suc i = cc in absurd (omega (arith, same))
+    go false zero found later =
+        let past = later_place (place + 1) (keys_in rows ++ more) key (place + 0) found in absurd (omega (arith, past.1))
+    go false (suc i) found later = later i (found ∙ ap (λ p. Some p) (let same : place + suc i ≡ place + 1 + i = omega arith in same))
+
+module _ (places : Positions) (rows : List DraftRow) (more : List (List ℕ)) (are : ArePlacesWith places rows more) (ranges : List ImplicitRange)
+    (properties : Properties) where
+  -- a part that is a key, or a code point, gives what its match gives
+  match_stands : (t : Text) (p : Part) → IsPartOf (is_placed places) t p →
+      match_drafts ranges properties rows (match_of places p) ≡ part_drafts ranges properties rows p
+  match_stands t (Row key) is = go (places key) refl is.0
+    where
+      go : (place : Option ℕ) → places key ≡ place → is_some (places key) ≡ true →
+          elements_at (unwrap_or (places key) 0) rows ≡ unwrap_or (draft_at rows key) []
+      go None none some = absurd (false≢true (sym (ap is_some none) ∙ some))
+      go (Some p) found some =
+          ap (λ o. elements_at (unwrap_or o 0) rows) found
+          ∙ row_there 0 rows more key p (sym (are key) ∙ found ∙ ap (λ q. Some q) (let same : p ≡ 0 + p = omega arith in same))
+  match_stands t (Implicit c) is = refl
+
+  matches_stand : (t : Text) (ps : List Part) → AllByRecursion (IsPartOf (is_placed places) t) ps →
+      flat_map (match_drafts ranges properties rows) (matches_of places ps) ≡ flat_map (part_drafts ranges properties rows) ps
+  matches_stand t [] all = refl
+  matches_stand t (p ∷ ps) all = ap₂ (λ es fs. es ++ fs) (match_stands t p all.0) (matches_stand t ps all.1)
+
+  -- what the matches of a text give are its draft elements, read over the keys that have places
+  pub text_stands : (text : NfdText) →
+      flat_map (match_drafts ranges properties rows) (matches_of places (parts (is_placed places) (letters_of text)))
+      ≡ read_over ranges properties (is_placed places) rows text
+  text_stands text =
+      matches_stand (letters_of text) (parts (is_placed places) (letters_of text)) (each_part (is_placed places) (letters_of text))
+
+-- ---- One match
+
+-- the two implicit elements of a code point
+pub pair_stands : (ranges : List ImplicitRange) (properties : Properties) (c : ℕ) (pair : List Element) (d : Element) →
+    pair ≡ implicit ranges properties c →
+    as_draft true (get_or pair 0 d) ∷ as_draft true (get_or pair 1 d) ∷ [] ≡ map (as_draft true) (implicit ranges properties c)
+pair_stands ranges properties c pair d are =
+    ap (λ es. as_draft true (get_or es 0 d) ∷ as_draft true (get_or es 1 d) ∷ []) are
+    ∙ of_pair (λ es. as_draft true (get_or es 0 d) ∷ as_draft true (get_or es 1 d) ∷ [] ≡ map (as_draft true) es) ranges properties c (λ lead low _. refl)
+
+-- ---- One more match
+
+-- what one more match gives is put after what the others give
+pub one_more_match : (ranges : List ImplicitRange) (properties : Properties) (rows : List DraftRow) (ms : List (Match ℕ)) (m : Match ℕ) →
+    flat_map (match_drafts ranges properties rows) (ms ++ m ∷ [])
+    ≡ flat_map (match_drafts ranges properties rows) ms ++ match_drafts ranges properties rows m
+one_more_match ranges properties rows ms m =
+    flat_map-append (match_drafts ranges properties rows) ms (m ∷ [])
+    ∙ ap (λ es. flat_map (match_drafts ranges properties rows) ms ++ es) (append-nil (match_drafts ranges properties rows m))

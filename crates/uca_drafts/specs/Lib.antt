@@ -1,0 +1,5 @@
+pub mod RowDrafts
+pub mod MatchDrafts
+pub mod Places
+pub mod Ready
+pub mod Variables

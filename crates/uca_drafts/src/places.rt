@@ -1,0 +1,67 @@
+//! The places of the rows of a tailored table.
+
+ghost use Rattle.std.specs.Prelude.{◌≡◌, ℕ, List, false, MatchOption, IfOk};
+ghost use Rattle.uca_values.specs.Content.{keys_of};
+ghost use Rattle.uca_rules.specs.Relations.{AreRules};
+ghost use Rattle.uca_match.specs.Positions.{place_at, AreDistinctKeys};
+ghost use Rattle.uca_match.specs.Tries.{positions};
+ghost use Rattle.uca_match.specs.NumberedKeys.{points_of};
+ghost use Rattle.uca_plans.specs.Keys.{is_among};
+ghost use Rattle.uca_drafts.specs.Places.{IsPlaceOf, AreListed, ArePlaces};
+
+use std::alloc::{AllocError, Allocator};
+use uca_match::{KeyMap, key_list};
+use uca_rules::{Relation, Rules};
+use uca_values::Table;
+use uca_values::limits::MOST_ROWS;
+
+/// The place of each key: the keys of the base come first, in their order, and then the targets that are no base keys, in the
+/// order of the rules, as far as a table has room for them. So all relations can be read by one map: no text of a relation
+/// holds a later target.
+///
+/// # Errors
+///
+/// An allocation that fails.
+pub(crate) fn places_of<A: Allocator + Copy, T: Allocator>(
+    alloc: A,
+    base: &Table<T>,
+    rules: &Rules<T>,
+) -> Result<KeyMap<A>, AllocError>
+    ensures { IfOk result (λ places. ArePlaces (keys_of base.now.rows) rules.now (positions places)) }
+{
+    let keys = listed_keys(alloc, base, rules.relations())?;
+    KeyMap::new(alloc, &keys)
+}
+
+/// The place of a key, if it has one.
+pub(crate) fn place_of<A: Allocator>(places: &KeyMap<A>, key: &[char]) -> Option<usize>
+    ensures { (keys : List (List ℕ)) → ((k : List ℕ) → positions places.now k ≡ place_at 0 keys k) →
+        MatchOption result (is_among keys key.now ≡ false) (IsPlaceOf keys key.now) }
+{
+    places.position(key)
+}
+
+/// The keys that have places, in their order.
+fn listed_keys<'a, A: Allocator + Copy, T: Allocator>(
+    alloc: A,
+    base: &'a Table<T>,
+    relations: &'a [Relation],
+) -> Result<Vec<&'a [char], A>, AllocError>
+    requires { AreRules relations.now }
+    ensures listed { IfOk result (λ keys. AreListed (keys_of base.now.rows) relations.now (points_of keys.items)) }
+    ensures distinct { IfOk result (λ keys. AreDistinctKeys (points_of keys.items)) }
+{
+    let mut keys = key_list(alloc, &base.rows)?;
+    let base_keys = KeyMap::new(alloc, &keys)?;
+    for relation in relations {
+        let target = relation.target.chars();
+        if base_keys.position(target).is_some() {
+            continue;
+        }
+        if keys.len() >= MOST_ROWS {
+            return Ok(keys);
+        }
+        keys.push(target)?;
+    }
+    Ok(keys)
+}

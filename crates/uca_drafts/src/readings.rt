@@ -1,0 +1,111 @@
+//! Texts of relations, read over the rows so far.
+
+ghost use Rattle.std.specs.Prelude.{◌≡◌, ◌++◌, ℕ, List, OnOk, map, true};
+ghost use Rattle.std.specs.List.{flat_map};
+ghost use Rattle.uca_values.specs.Content.{properties_of};
+ghost use Rattle.uca_values.specs.Implicit.{implicit};
+ghost use Rattle.uca_text.specs.Texts.{letters_of};
+ghost use Rattle.uca_match.specs.Reading.{parts};
+ghost use Rattle.uca_match.specs.TextMatches.{matches_of};
+ghost use Rattle.uca_match.specs.Positions.{is_placed};
+ghost use Rattle.uca_match.specs.Tries.{positions};
+ghost use Rattle.uca_plans.specs.Drafts as drafts;
+ghost use Rattle.uca_plans.specs.Keys.{read_over};
+ghost use Rattle.uca_drafts.specs.Ready.{ArePlacesWith};
+ghost use Rattle.uca_drafts.specs.MatchDrafts.{match_drafts};
+
+use crate::elements::as_draft;
+use crate::row_drafts::RowDraft;
+use crate::variables::VariableSpan;
+use std::alloc::{AllocError, Allocator};
+use uca_match::{KeyMap, Match, Matches};
+use uca_plans::DraftElement;
+use uca_text::Normal;
+use uca_values::{Data, Table};
+
+/// What texts are read by.
+#[derive(Drop)]
+pub(crate) struct Reader<'r, A: Allocator, T: Allocator> {
+    /// The base, whose header has the ranges for implicit weights.
+    pub(crate) base: &'r Table<T>,
+    /// The combining classes and the Han ranges of code points.
+    pub(crate) properties: &'r Data<T>,
+    /// The places of keys.
+    pub(crate) places: &'r KeyMap<A>,
+    /// The primaries of the base's variable elements.
+    pub(crate) variables: Option<VariableSpan>,
+}
+
+impl<'r, A: Allocator, T: Allocator> Reader<'r, A, T> {
+    /// Puts the elements that a text has over some rows after those of a list. The text is matched against all keys that have
+    /// places.
+    ///
+    /// # Errors
+    ///
+    /// An allocation that fails.
+    pub(crate) fn read(
+        &self,
+        rows: &[RowDraft<A>],
+        text: &Normal,
+        elements: &mut Vec<DraftElement, A>,
+    ) -> Result<(), AllocError>
+        requires { (more : List (List ℕ)) × ArePlacesWith (positions self.now.places.now) rows.now more }
+        ensures { OnOk result (elements.new.items ≡ elements.old.items
+            ++ read_over self.now.base.now.header.ranges (properties_of self.now.properties.now)
+            (is_placed (positions self.now.places.now)) rows.now text.now) }
+    {
+        self.append_matches(rows, text, elements)
+    }
+
+    /// Puts the elements of all parts of a text after those of a list.
+    fn append_matches(
+        &self,
+        rows: &[RowDraft<A>],
+        text: &Normal,
+        elements: &mut Vec<DraftElement, A>,
+    ) -> Result<(), AllocError>
+        ensures { OnOk result (elements.new.items ≡ elements.old.items
+            ++ flat_map (match_drafts self.now.base.now.header.ranges (properties_of self.now.properties.now) rows.now)
+            (matches_of (positions self.now.places.now) (parts (is_placed (positions self.now.places.now)) (letters_of text.now)))) }
+    {
+        for part in Matches::new(self.places, text) {
+            self.append_match(rows, part, elements)?;
+        }
+        Ok(())
+    }
+
+    /// Puts the elements of a part of a text after those of a list: those of the row at a place, or implicit ones.
+    fn append_match(
+        &self,
+        rows: &[RowDraft<A>],
+        part: Match<usize>,
+        elements: &mut Vec<DraftElement, A>,
+    ) -> Result<(), AllocError>
+        ensures { OnOk result (elements.new.items ≡ elements.old.items
+            ++ match_drafts self.now.base.now.header.ranges (properties_of self.now.properties.now) rows.now part) }
+    {
+        match part {
+            Match::Key(place) => match rows.get(place) {
+                Some(row) => row.append_to(elements),
+                None => Ok(()),
+            },
+            Match::Unlisted(point) => self.append_implicit(point, elements),
+        }
+    }
+
+    /// Puts the implicit elements of a code point after those of a list.
+    fn append_implicit(
+        &self,
+        point: char,
+        elements: &mut Vec<DraftElement, A>,
+    ) -> Result<(), AllocError>
+        ensures { OnOk result (elements.new.items ≡ elements.old.items
+            ++ map (drafts.as_draft true) (implicit self.now.base.now.header.ranges (properties_of self.now.properties.now) point)) }
+    {
+        let base = self.base;
+        let [first, second] = base.header.implicit(self.properties, point);
+        elements.push(as_draft(true, first))?;
+        elements.push(as_draft(true, second))?;
+        Ok(())
+    }
+}

@@ -1,0 +1,119 @@
+//! What relations give their targets.
+
+ghost use Rattle.std.specs.Prelude.{◌≡◌, ◌++◌, ◌∷◌, [], ℕ, List, IfOk, OnOk, option_map};
+ghost use Rattle.uca_match.specs.Tries.{positions};
+ghost use Rattle.uca_plans.specs.declared.drafts.DraftElement.{DraftElement};
+ghost use Rattle.uca_plans.specs.Drafts.{anchor_part, accepted_part};
+ghost use Rattle.uca_plans.specs.Plans as plans;
+ghost use Rattle.uca_plans.specs.Plans.{placed_if_accepted, draft_expansion};
+ghost use Rattle.uca_drafts.specs.Ready.{basis_in, ArePlacesWith, ReadsAlike};
+
+use crate::elements::{draft_weight, level_of, reweighted, take_last, takes_no_weight};
+use crate::readings::Reader;
+use crate::row_drafts::RowDraft;
+use std::alloc::{AllocError, Allocator};
+use std::marker::Model;
+use uca_plans::{DraftElement, DraftWeight, Insertion};
+use uca_rules::Relation;
+use uca_weights::Level;
+
+/// What a relation gives its target.
+#[derive(Drop)]
+pub(crate) struct TargetDraft<A: Allocator> {
+    /// The elements.
+    pub(crate) elements: Vec<DraftElement, A>,
+    /// Where the new weight goes, if there is one.
+    pub(crate) insertion: Option<Insertion>,
+}
+
+impl<A: Allocator> Model for TargetDraft<A> {
+    ghost use Rattle.std.specs.Option.{option_to_list};
+    ghost use Rattle.uca_plans.specs.Plans as plans;
+
+    ghost Value = { plans.Drafted };
+
+    ghost view = { λ d. record { elements = d.elements.items; insertions = option_to_list d.insertion } };
+}
+
+/// What a relation gives its target, which is read over the rows so far; nothing where the anchor is refused. New weights are
+/// named by the index of their relation.
+///
+/// # Errors
+///
+/// An allocation that fails.
+pub(crate) fn draft_target<A: Allocator, T: Allocator>(
+    alloc: A,
+    reader: &Reader<A, T>,
+    rows: &[RowDraft<A>],
+    relation: &Relation,
+    index: u32,
+) -> Result<Option<TargetDraft<A>>, AllocError>
+    requires places { (more : List (List ℕ)) × ArePlacesWith (positions reader.now.places.now) rows.now more }
+    requires alike { ReadsAlike (basis_in reader.now) (positions reader.now.places.now) rows.now relation.now }
+    ensures { IfOk result (λ found. found
+        ≡ plans.drafted (basis_in reader.now) (record { rows = rows.now; insertions = [] }) (DraftWeight.New index) relation.now) }
+{
+    let mut elements = Vec::new(alloc);
+    reader.read(rows, &relation.anchor, &mut elements)?;
+    let Some(level) = level_of(relation.strength) else {
+        read_expansion(reader, rows, relation, &mut elements)?;
+        return Ok(Some(TargetDraft {
+            elements,
+            insertion: None,
+        }));
+    };
+    let new = DraftWeight::New(index);
+    let Some(insertion) = put_weight(level, relation.before, new, &mut elements)? else {
+        return Ok(None);
+    };
+    read_expansion(reader, rows, relation, &mut elements)?;
+    Ok(Some(TargetDraft {
+        elements,
+        insertion: Some(insertion),
+    }))
+}
+
+/// Puts a new weight on the last element of an anchor that has a weight at one of the levels from 1 to this one, cuts off what
+/// stands behind it, and tells where the new weight goes. There is none where no element can have it.
+fn put_weight<A: Allocator>(
+    level: Level,
+    before: bool,
+    new: DraftWeight,
+    elements: &mut Vec<DraftElement, A>,
+) -> Result<Option<Insertion>, AllocError>
+    ensures { (expansion : List DraftElement) → IfOk result (λ found.
+        option_map (λ i. record { elements = elements.new.items ++ expansion; insertions = i ∷ [] }) found
+        ≡ placed_if_accepted level before new (accepted_part level (anchor_part level elements.old.items)) expansion) }
+{
+    let Some(last) = take_last(level, elements) else {
+        return Ok(None);
+    };
+    if takes_no_weight(level, last) {
+        return Ok(None);
+    }
+    elements.push(reweighted(level, new, last))?;
+    Ok(Some(Insertion {
+        level,
+        before,
+        anchor: draft_weight(level, last),
+        new,
+    }))
+}
+
+/// Puts the elements of a relation's expansion, if it has one, behind those of a list.
+fn read_expansion<A: Allocator, T: Allocator>(
+    reader: &Reader<A, T>,
+    rows: &[RowDraft<A>],
+    relation: &Relation,
+    elements: &mut Vec<DraftElement, A>,
+) -> Result<(), AllocError>
+    requires places { (more : List (List ℕ)) × ArePlacesWith (positions reader.now.places.now) rows.now more }
+    requires alike { ReadsAlike (basis_in reader.now) (positions reader.now.places.now) rows.now relation.now }
+    ensures { OnOk result (elements.new.items ≡ elements.old.items
+        ++ draft_expansion (basis_in reader.now) (record { rows = rows.now; insertions = [] }) relation.now.expansion) }
+{
+    match &relation.expansion {
+        Some(text) => reader.read(rows, text, elements),
+        None => Ok(()),
+    }
+}

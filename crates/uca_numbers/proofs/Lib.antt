@@ -1,0 +1,4 @@
+pub mod MarkLaws
+pub mod PlaceLaws
+pub mod LevelLaws
+pub mod RunLaws

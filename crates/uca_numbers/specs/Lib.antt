@@ -1,0 +1,3 @@
+pub mod Marks
+pub mod MemberPlaces
+pub mod NumberTables

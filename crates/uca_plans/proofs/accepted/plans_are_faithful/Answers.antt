@@ -1,6 +1,0 @@
--- They are accepted tailorings.
-use Rattle.uca_plans.proofs.TailoringParts.{are_faithful}
-use Rattle.uca_plans.proofs.accepted.plans_are_faithful.Goals as goal
-
-pub returns : goal.returns
-returns c = are_faithful
