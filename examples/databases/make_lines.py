@@ -11,6 +11,7 @@ import sys
 import unicodedata
 
 WORDS = """
+    abhor bach Bhutan Bhopal bhang
     Ana Åsa Ægir Ärla Björn Bùi Čapek Chávez Çelik Đorđe Émile Eve Fjällräven François García Gödel Göteborg Håkon Ibáñez İpek Jürgen
     Krüger Łódź Lübeck Maçã Małgorzata Müller Nguyễn Ñandú O'Neill Öland Ørsted Pérez Québec Řehoř résumé Sørensen Şahin São Škoda
     Straße Tórshavn Ústí Václav Věra Wałęsa Žižka Zürich cafe café cafés Cafe côté cote coté côte deluge naïve co-op coop
