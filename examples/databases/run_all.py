@@ -179,22 +179,25 @@ def index_limits(bench):
             bench.check(f"postgresql: index on ({columns})", False, f"takes more than {most} bytes")
 
 
+def copy_lines(bench, lines):
+    """Adds lines without backslashes and tabs, with their keys, to the table `words`."""
+    rows = b"".join(b"\\\\x" + it + b"\n" for it in bench.uca("keys", "--lines", bench.table, bench.data, lines=lines).split(b"\n")[:-1])
+    bench.run(["psql", "-qv", "ON_ERROR_STOP=1", "-c", "\\copy words (key, word) from pstdin"], lines=rows)
+
+
 def long_texts(bench):
     """Texts whose keys the index rejects, and an index over the beginnings of the keys."""
     text = "".join(chr(0x61 + at * at * 7 % 26) + chr(0x61 + at // 26 % 26) + chr(0x61 + (at * 31 + at // 7) % 26) for at in range(2000))
-    long = [text, text[:-1] + "Z", text + " end", "é" + text, "e\u0301" + text, text]
-    lines = bench.content(bench.lines) + "".join(it + "\n" for it in long).encode()
-    with open(bench.path("long.txt"), "wb") as file:
-        file.write(lines)
-    bench.run(["psql", "-qc", "drop table words"])
+    lines = "".join(it + "\n" for it in [text, text[:-1] + "Z", text + " end", "é" + text, "e\u0301" + text, text]).encode()
     try:
-        bench.example("load_postgresql.sh", bench.table, bench.data, bench.path("long.txt"))
+        copy_lines(bench, lines)
         bench.check("postgresql: the index rejects long texts", False, "it takes them")
     except Failed as it:
         bench.check("postgresql: the index rejects long texts", "maximum 2704" in str(it), str(it).split("ERROR:")[1].split("\n")[0].strip())
-    bench.run(["psql", "-qv", "ON_ERROR_STOP=1", "-c", "drop index if exists words_key", "-f", f"{HERE}/long_texts.sql"])
+    bench.run(["psql", "-qv", "ON_ERROR_STOP=1", "-f", f"{HERE}/long_texts.sql"])
+    copy_lines(bench, lines)
     order = f"select word from words order by {BEGIN}, key, number"
-    wanted = bench.uca("sort", bench.table, bench.data, lines=lines)
+    wanted = bench.uca("sort", bench.table, bench.data, lines=bench.content(bench.lines) + lines)
     bench.check("postgresql: order of uca sort with long texts", bench.run(["psql", "-Atc", order]) == wanted)
     plan = bench.run(["psql", "-Atc", f"explain {order} limit 20"]).decode()
     bench.check("postgresql: that order comes from the index", "Presorted Key" in plan and "Index Scan using words_begin" in plan)
@@ -302,23 +305,41 @@ def tailored(bench, name, rules):
 
 def try_tailoring(bench):
     """Stored keys after a tailoring: which stay, and how the others are made again."""
+    database = bench.path("tailored.db")
+    with PostgreSQL(bench.room) as server:
+        bench.environment.update(server.environment)
+        bench.example("load_sqlite.sh", bench.table, bench.data, bench.lines, database)
+        bench.example("load_postgresql.sh", bench.table, bench.data, bench.lines)
+        mend(bench, "sqlite", ["sqlite3", database, BY_KEY], ["mend_sqlite.sh"], [database])
+        mend(bench, "postgresql", ["psql", "-Atc", BY_KEY], ["mend_postgresql.sh"], [])
+    others_keep_their_order(bench)
+
+
+def mend(bench, kind, query, script, database):
+    """Makes the keys of affected lines again in a database. Where weights move, the script changes nothing."""
+    lines = bench.content(bench.lines)
+    rules, table, certificate = tailored(bench, "moving", MOVING)
+    before = bench.run(query)
+    try:
+        bench.example(*script, bench.data, rules, table, certificate, *database)
+        bench.check(f"tailoring: {kind}: a certificate that moves weights is seen", False)
+    except Failed as it:
+        bench.check(f"tailoring: {kind}: a certificate that moves weights is seen", "make all keys again" in str(it) and bench.run(query) == before)
     rules, table, certificate = tailored(bench, "staying", STAYING)
-    lines, database = bench.content(bench.lines), bench.path("tailored.db")
-    bench.example("load_sqlite.sh", bench.table, bench.data, bench.lines, database)
     wanted = bench.uca("sort", table, bench.data, lines=lines)
-    bench.check("tailoring: the old keys give another order", bench.run(["sqlite3", database, BY_KEY]) != wanted)
-    bench.example("mend_sqlite.sh", bench.data, rules, table, certificate, database)
+    bench.check(f"tailoring: {kind}: the old keys give another order", before != wanted)
+    bench.example(*script, bench.data, rules, table, certificate, *database)
     affected = bench.uca("affected", bench.data, rules, lines=lines)
     said = f"{affected.count(10):,} of {lines.count(10):,} lines are affected"
-    bench.check("tailoring: with these keys made again it is that of uca sort", bench.run(["sqlite3", database, BY_KEY]) == wanted, said)
-    rules, table, certificate = tailored(bench, "moving", MOVING)
-    try:
-        bench.example("mend_sqlite.sh", bench.data, rules, table, certificate, database)
-        bench.check("tailoring: a certificate that moves weights is seen", False)
-    except Failed as it:
-        bench.check("tailoring: a certificate that moves weights is seen", "make all keys again" in str(it))
-    others = set(lines.split(b"\n")) - set(bench.uca("affected", bench.data, rules, lines=lines).split(b"\n"))
-    given = b"".join(it + b"\n" for it in lines.split(b"\n")[:-1] if it in others)
+    bench.check(f"tailoring: {kind}: with these keys made again it is that of uca sort", bench.run(query) == wanted, said)
+
+
+def others_keep_their_order(bench):
+    """Lines that are not affected have the same order under both tables, also where weights move."""
+    lines = bench.content(bench.lines)
+    rules, table, _ = tailored(bench, "moving", MOVING)
+    affected = set(bench.uca("affected", bench.data, rules, lines=lines).split(b"\n"))
+    given = b"".join(it + b"\n" for it in lines.split(b"\n")[:-1] if it not in affected)
     before, after = (bench.uca("sort", it, bench.data, lines=given) for it in (bench.table, table))
     keys = [bench.uca("keys", it, bench.data, lines=given).split(b"\n") for it in (bench.table, table)]
     other = sum(old != new for old, new in zip(*keys))
@@ -345,7 +366,7 @@ def try_page(bench):
 # ---- All
 
 EXAMPLES = {"sqlite": try_sqlite, "postgresql": try_postgresql, "parts": try_parts, "workers": try_workers, "tailoring": try_tailoring, "page": try_page}
-WANTED = {"sqlite": {"sqlite3": "sqlite3"}, "tailoring": {"sqlite3": "sqlite3"}, "postgresql": {"psql": "postgresql"},
+WANTED = {"sqlite": {"sqlite3": "sqlite3"}, "tailoring": {"sqlite3": "sqlite3", "psql": "postgresql"}, "postgresql": {"psql": "postgresql"},
           "workers": {"dask-scheduler": "python3-distributed"}, "page": {"sqlite3": "sqlite3", "psql": "postgresql"}}
 
 
