@@ -55,15 +55,54 @@ class PostgreSQL:
         shutil.rmtree(self.folder)
 
 
-class Workers:
-    """A scheduler on this machine, and workers that are processes of their own and reach it by TCP."""
+class Network:
+    """Network namespaces, which stand for machines: each has an address of its own, and reaches the others by a bridge. Needs root."""
 
-    def __init__(self, python, room, environment, count):
+    BRIDGE, ADDRESS = "uca-bridge", "10.78.61.{}"
+
+    def __init__(self, count):
+        self.names = [f"uca-{at}" for at in range(count)]
+        self.host = self.ADDRESS.format(1)
+
+    @staticmethod
+    def ip(words):
+        ran = subprocess.run(["ip", *words.split()], capture_output=True, text=True)
+        if ran.returncode:
+            raise OSError(f"ip {words}: {ran.stderr.strip()}")
+
+    def __enter__(self):
+        try:
+            self.ip(f"link add {self.BRIDGE} type bridge")
+            self.ip(f"address add {self.host}/24 dev {self.BRIDGE}")
+            self.ip(f"link set {self.BRIDGE} up")
+            for at, name in enumerate(self.names, 2):
+                self.ip(f"netns add {name}")
+                self.ip(f"link add {name}-end type veth peer name eth0 netns {name}")
+                self.ip(f"link set {name}-end master {self.BRIDGE} up")
+                self.ip(f"-n {name} address add {self.ADDRESS.format(at)}/24 dev eth0")
+                self.ip(f"-n {name} link set eth0 up")
+        except OSError:
+            self.__exit__()
+            raise
+        return self
+
+    def __exit__(self, *_):
+        for words in [*(f"netns delete {name}" for name in self.names), f"link delete {self.BRIDGE}"]:
+            subprocess.run(["ip", *words.split()], stderr=subprocess.DEVNULL)
+
+
+class Workers:
+    """A scheduler on this machine, and workers that are processes of their own and reach it by TCP, or each in a namespace of a network."""
+
+    def __init__(self, python, room, environment, count, network=None):
         self.python, self.folder, self.environment, self.count = python, os.path.join(room, "dask"), environment, count
+        self.host, self.names = (network.host, list(network.names)) if network else ("127.0.0.1", [])
         self.processes = []
 
-    def start(self, module, *given, environment=None):
+    def start(self, module, *given, environment=None, name=None):
         words = [self.python, "-m", f"distributed.cli.dask_{module}", *given]
+        if name:
+            words = ["ip", "netns", "exec", name, *words]
         with open(f"{self.folder}/log", "a", encoding="utf-8") as log:
             self.processes.append(subprocess.Popen(words, env=environment or self.environment, stdout=log, stderr=log, cwd=self.folder))
 
@@ -72,12 +111,14 @@ class Workers:
         path = f"{first}:{self.environment['PATH']}" if first else self.environment["PATH"]
         its = f"{self.folder}/worker-{len(self.processes)}"
         environment = {**self.environment, "PATH": path}
-        self.start("worker", self.address, "--nthreads", "1", "--nworkers", "1", "--no-dashboard", "--local-directory", its, environment=environment)
+        name = self.names.pop(0) if self.names else None
+        options = ["--nthreads", "1", "--nworkers", "1", "--no-dashboard", "--local-directory", its]
+        self.start("worker", self.address, *options, environment=environment, name=name)
 
     def __enter__(self):
         os.mkdir(self.folder)
         about = f"{self.folder}/scheduler.json"
-        self.start("scheduler", "--host", "127.0.0.1", "--port", "0", "--no-dashboard", "--scheduler-file", about)
+        self.start("scheduler", "--host", self.host, "--port", "0", "--no-dashboard", "--scheduler-file", about)
         for _ in range(600):
             if os.path.exists(about) and os.path.getsize(about):
                 break

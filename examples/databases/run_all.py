@@ -1,7 +1,8 @@
 #!/usr/bin/env python3
 """Runs the examples of this folder over the built program, and compares what they give with `uca sort`.
 
-    examples/databases/run_all.py [EXAMPLE..] [--uca PROGRAM] [--lines COUNT] [--part COUNT] [--table FILE --data FILE]
+    examples/databases/run_all.py [EXAMPLE..] [--uca PROGRAM] [--lines COUNT] [--part COUNT]
+        [--table FILE --data FILE] [--namespaces]
 
 The examples are sqlite, postgresql, parts, workers, tailoring and page; all of them, unless some are named. `--uca` is the program
 (crates/uca/out/uca), `--lines` how many lines are made (20,000). Without `--table` it is Unicode's table as Debian's Perl has it.
@@ -10,6 +11,7 @@ packages of Debian, and an example without its package has failed: sqlite3, post
 The last line is `N passed, M failed`.
 """
 import argparse
+import contextlib
 import glob
 import os
 import shutil
@@ -24,7 +26,7 @@ TOP = os.path.dirname(os.path.dirname(HERE))
 sys.dont_write_bytecode = True
 sys.path.insert(0, HERE)
 
-from local_servers import PostgreSQL, Workers  # noqa: E402
+from local_servers import Network, PostgreSQL, Workers  # noqa: E402
 
 MOST_LINES = 1_000_000
 ALLKEYS = "/usr/share/perl/*/Unicode/Collate/allkeys.txt"
@@ -277,7 +279,8 @@ def other_program(bench):
 def try_workers(bench):
     """The same file on workers that talk to a scheduler by TCP."""
     python, whole, out = python_with_dask(), whole_order(bench), bench.path("ranges.txt")
-    with Workers(python, bench.room, bench.environment, 2) as workers:
+    network = Network(3) if bench.given.namespaces else contextlib.nullcontext()
+    with network as its, Workers(python, bench.room, bench.environment, 2, its) as workers:
         command = [python, f"{HERE}/dask_sort.py", bench.table, bench.data, bench.lines, bench.path("ranges"), "--scheduler", workers.address]
         said = bench.path("said.txt")
         measured(bench, "two workers of Dask", [*command, "--part", str(bench.given.part)], said)
@@ -390,6 +393,7 @@ def arguments():
     parser.add_argument("--part", type=int, default=3_000, help="the lines of a part of a large file")
     parser.add_argument("--table", help="a table; otherwise Unicode's")
     parser.add_argument("--data", help="its data file")
+    parser.add_argument("--namespaces", action="store_true", help="each Dask worker in a network namespace of its own (root)")
     given = parser.parse_args()
     if set(given.examples) - set(EXAMPLES) or bool(given.table) != bool(given.data):
         parser.error(f"the examples are {', '.join(EXAMPLES)}; --table and --data go together")
