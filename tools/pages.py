@@ -5,7 +5,8 @@
 
 A command is a line of a block ```console that begins with `$ `; what follows it up to the next one is its output. The blocks
 of a page run one after the other in one shell, in a fresh folder that has a copy of examples/ (a page of examples/ runs in that
-copy). The program is crates/uca/out/uca, which tools/build.py builds. The last line is `N passed, M failed`.
+copy). The program is crates/uca/out/uca, which tools/build.py builds. docs/STORED_KEYS.md needs the Debian package sqlite3; its
+blocks ```console postgresql need a server, so examples/databases/run_all.py runs them. The last line is `N passed, M failed`.
 """
 import os
 import re

@@ -4,7 +4,7 @@
     examples/databases/make_lines.py COUNT > lines.txt
 
 The same COUNT gives the same lines each time. There are capitals, accents as one code point and as two, blanks, hyphens, quotes,
-backslashes and tabs, and texts that occur more than once.
+backslashes, tabs and carriage returns, empty lines, and texts that occur more than once.
 """
 import random
 import sys
@@ -16,8 +16,8 @@ WORDS = """
     Krüger Łódź Lübeck Maçã Małgorzata Müller Nguyễn Ñandú O'Neill Öland Ørsted Pérez Québec Řehoř résumé Sørensen Şahin São Škoda
     Straße Tórshavn Ústí Václav Věra Wałęsa Žižka Zürich cafe café cafés Cafe côté cote coté côte deluge naïve co-op coop
     resume rôle über ünder zebra Αθήνα Ελένη Θεσσαλονίκη Борис Київ Москва Ёлка שלום ירושלים القاهرة محمد दिल्ली हिन्दी ไทย กรุงเทพ
-    東京 大阪 日本語 漢字 서울 부산 𠀋 ﬁn ½ Ⅻ 2026 007 C++ a\\b "x" tab\there e\u0301te
-""".replace("\\t", "\t").replace("\\u0301", "\u0301").replace("\\\\", "\\").split(" ")
+    東京 大阪 日本語 漢字 서울 부산 𠀋 ﬁn ½ Ⅻ 2026 007 C++ a\\b "x" tab\there cr\rhere \\. e\u0301te
+""".replace("\\t", "\t").replace("\\r", "\r").replace("\\u0301", "\u0301").replace("\\\\", "\\").split(" ")
 WORDS = [word.strip("\n") for word in WORDS if word.strip("\n ")]
 BETWEEN = [" ", " ", " ", "-", ", ", "", " \u00ad", "/"]
 
@@ -32,6 +32,8 @@ def made_line(source):
         return text.upper()
     if kind == 1:
         return text.lower()
+    if kind == 2 and source.randrange(50) == 0:
+        return ""
     if kind == 2:
         return unicodedata.normalize("NFD", text)
     if kind < 6:
