@@ -11,14 +11,14 @@ import sys
 import unicodedata
 
 WORDS = """
-    abhor bach Bhutan Bhopal bhang
+    abhor bach bhang Bhopal Bhutan
     Ana Åsa Ægir Ärla Björn Bùi Čapek Chávez Çelik Đorđe Émile Eve Fjällräven François García Gödel Göteborg Håkon Ibáñez İpek Jürgen
     Krüger Łódź Lübeck Maçã Małgorzata Müller Nguyễn Ñandú O'Neill Öland Ørsted Pérez Québec Řehoř résumé Sørensen Şahin São Škoda
     Straße Tórshavn Ústí Václav Věra Wałęsa Žižka Zürich cafe café cafés Cafe côté cote coté côte deluge naïve co-op coop
     resume rôle über ünder zebra Αθήνα Ελένη Θεσσαλονίκη Борис Київ Москва Ёлка שלום ירושלים القاهرة محمد दिल्ली हिन्दी ไทย กรุงเทพ
     東京 大阪 日本語 漢字 서울 부산 𠀋 ﬁn ½ Ⅻ 2026 007 C++ a\\b "x" tab\there cr\rhere \\. e\u0301te
-""".replace("\\t", "\t").replace("\\r", "\r").replace("\\u0301", "\u0301").replace("\\\\", "\\").split(" ")
-WORDS = [word.strip("\n") for word in WORDS if word.strip("\n ")]
+"""
+WORDS = [word for line in WORDS.split("\n") for word in line.split(" ") if word]
 BETWEEN = [" ", " ", " ", "-", ", ", "", " \u00ad", "/"]
 
 
