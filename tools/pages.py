@@ -5,7 +5,8 @@
 
 A command is a line of a block ```console that begins with `$ `; what follows it up to the next one is its output. The blocks
 of a page run one after the other in one shell, in a fresh folder that has a copy of examples/ (a page of examples/ runs in that
-copy). The program is crates/uca/out/uca, which tools/build.py builds. The last line is `N passed, M failed`.
+copy). The program is crates/uca/out/uca, which tools/build.py builds. docs/STORED_KEYS.md needs the Debian package sqlite3; its
+blocks ```console postgresql need a server, so examples/databases/run_all.py runs them. The last line is `N passed, M failed`.
 """
 import os
 import re
@@ -19,23 +20,22 @@ PAGES = ["README.md", "examples/README.md", *(f"docs/{it}" for it in sorted(os.l
 END = "== end of output"
 
 
-def commands_of(page):
-    """The commands of a page, each with the output that stands after it."""
+def commands_of(page, head="console"):
+    """The commands of a page, each with the output that stands after it. The head is a pattern of what a block begins with."""
     with open(f"{TOP}/{page}", encoding="utf-8") as it:
         text = it.read()
     found = []
-    for block in re.findall(r"^```console\n(.*?)^```", text, re.M | re.S):
+    for block in re.findall(rf"^```{head}\n(.*?)^```", text, re.M | re.S):
         for part in re.split(r"^\$ ", block, flags=re.M)[1:]:
             command, _, output = part.partition("\n")
             found.append((command, output.rstrip("\n")))
     return found
 
 
-def outputs_of(commands, folder):
+def outputs_of(commands, folder, environment):
     """What each command prints, on both streams."""
     script = "".join(f"{command}\necho '{END}'\n" for command, _ in commands)
-    path = f"{TOP}/crates/uca/out:{os.environ['PATH']}"
-    ran = subprocess.run(["bash", "-c", script], cwd=folder, env={**os.environ, "PATH": path}, text=True, stdout=subprocess.PIPE, stderr=subprocess.STDOUT)
+    ran = subprocess.run(["bash", "-c", script], cwd=folder, env=environment, text=True, stdout=subprocess.PIPE, stderr=subprocess.STDOUT)
     return [it.strip("\n") for it in ran.stdout.split(f"{END}\n")[:-1]]
 
 
@@ -43,11 +43,12 @@ def main(pages):
     if not os.path.exists(f"{TOP}/crates/uca/out/uca"):
         sys.exit("there is no crates/uca/out/uca: run tools/build.py first")
     passed = failed = 0
+    environment = {**os.environ, "PATH": f"{TOP}/crates/uca/out:{os.environ['PATH']}"}
     for page in pages or PAGES:
         commands = commands_of(page)
         with tempfile.TemporaryDirectory(prefix="uca-page-") as room:
             shutil.copytree(f"{TOP}/examples", f"{room}/examples")
-            given = outputs_of(commands, f"{room}/examples" if page.startswith("examples/") else room)
+            given = outputs_of(commands, f"{room}/examples" if page.startswith("examples/") else room, environment)
         for (command, wanted), got in zip(commands, given + [None] * len(commands)):
             if got == wanted:
                 passed += 1
