@@ -30,7 +30,7 @@ import xml.etree.ElementTree
 from typing import NamedTuple
 
 import unicode_files
-from cldr_rules import Setting, chain, items_of, locale_and_kind, members, nfd
+from cldr_rules import Relation, chain, items_of, locale_and_kind, members, nfd
 from profile_rules import MOST_RELATIONS, Table, Translation, chains
 
 TOP = os.path.dirname(os.path.dirname(os.path.realpath(__file__)))
@@ -92,10 +92,9 @@ def write_by(call, path, *given):
 
 
 def translated(options, name, table):
-    """The relations of a locale over a table. A locale of more relations than `uca` takes is not translated at all."""
+    """The relations of a locale over a table. A locale of more relations than `uca` takes is not translated at all: None."""
     items = list(items_of(options.cldr, name))
-    count = sum(not isinstance(item, Setting) for item in items)
-    return None if count > 2 * MOST_RELATIONS or "private-kana" in name else Translation(items, table) if count < MOST_RELATIONS else None
+    return Translation(items, table) if sum(isinstance(it, Relation) for it in items) <= MOST_RELATIONS else None
 
 
 def head(name, translation):
