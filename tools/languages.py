@@ -29,6 +29,7 @@ import unicodedata
 import xml.etree.ElementTree
 from typing import NamedTuple
 
+sys.dont_write_bytecode = True
 import unicode_files
 from cldr_rules import Relation, chain, items_of, locale_and_kind, members, nfd
 from profile_rules import MOST_RELATIONS, Table, Translation, chains
@@ -178,14 +179,14 @@ def load_icu():
 
 
 def collator(icu, name, translation, is_whole):
-    """ICU's collator of a locale: as a whole, or without the settings that were left out. None if ICU has no such rules."""
-    locale, kind = locale_and_kind(name)
-    tag = locale.replace("_", "-").replace("root", "und") + (f"-u-co-{name.partition('-u-co-')[2]}" if kind else "")
+    """ICU's collator of a locale: as a whole, or without the settings that were left out. None if ICU has no rules for it."""
+    locale, _, kind = name.partition("-u-co-")
+    tag = locale.replace("_", "-") + (f"-u-co-{kind}" if kind else "")
     made = icu.Collator.createInstance(icu.Locale.forLanguageTag(tag))
     rules = made.getRules()
-    if bool(rules) != bool(list(translation.relations) or translation.left_out) and not (rules or translation.relations == []):
+    if translation.relations and not rules:
         return None
-    if not is_whole and rules:
+    if rules and not is_whole:
         made = icu.RuleBasedCollator(re.sub(r"\[(reorder|caseFirst|backwards) [^]]*\]", "", rules))
     made.setAttribute(icu.UCollAttribute.NORMALIZATION_MODE, icu.UCollAttributeValue.ON)
     if translation.weighting == "shifted":
@@ -224,6 +225,128 @@ class Row(NamedTuple):
         return "| " + " | ".join(str(it) for it in (f"`{self.name}`", *self[1:])) + " |"
 
 
+# ---- The page
+
+
+def names(folder):
+    """The locales that CLDR has collations for, and the collations that they do not take by default."""
+    found = sorted(name.removesuffix(".xml") for name in os.listdir(os.path.join(folder, "collation")) if name.endswith(".xml"))
+    return sorted([name for name in found if name != "root"] + OTHERS)
+
+
+def languages(folder):
+    """The English names of languages."""
+    root = xml.etree.ElementTree.parse(os.path.join(folder, "main", "en.xml")).getroot()
+    return {it.get("type"): it.text for it in root.iter("language") if it.get("alt") is None}
+
+
+def language_of(name, known):
+    """The name of a locale's language, with what else its identifier has."""
+    locale, _, kind = name.partition("-u-co-")
+    language, _, more = locale.partition("_")
+    more = ", ".join(it for it in (more.replace("_", " "), kind) if it)
+    return ("the root" if language == "und" else known[language]) + (f" ({more})" if more else "")
+
+
+class Bench(NamedTuple):
+    """What each locale is compared with."""
+
+    options: argparse.Namespace
+    icu: object
+    folder: str
+    table: Table
+    files: tuple
+    known: dict
+
+
+def row_of(bench, name):
+    """The row of a locale; None if it has too many relations."""
+    translation = translated(bench.options, name, bench.table)
+    if translation is None:
+        return None
+    made = planned(bench.options, bench.folder, rules_of(name, translation), *bench.files)
+    about = name, language_of(name, bench.known), len(translation.relations), "; ".join(translation.left_out)
+    if made.error:
+        return Row(*about, 0, made.error, "")
+    locale = locale_and_kind(name)[0]
+    letters = exemplars(bench.options.cldr, locale, None) * 2 + exemplars(bench.options.cldr, locale, "auxiliary")
+    words = made_words(name, letters, special_texts(translation), WORDS)
+    ours = keys_of(bench.options, made.table, bench.files[1], translation.weighting, words)
+    counts = []
+    for is_whole in (False, True):
+        theirs = collator(bench.icu, name, translation, is_whole)
+        counts.append(elsewhere(words, ours, {it: theirs.getSortKey(it) for it in words}) if theirs else "not in ICU")
+    return Row(*about, len(words), *counts)
+
+
+def head_of_tables(icu, files, cldr):
+    """What was compared with what."""
+    with open(files[0], encoding="utf-8") as file:
+        edition = re.search(r"^@version (\S+)", file.read(), re.M)[1]
+    with open(os.path.join(cldr, "dtd", "ldml.dtd"), encoding="utf-8") as file:
+        version = re.search(r'cldrVersion CDATA #FIXED "([^"]+)"', file.read())
+    return f"CLDR {version[1] if version else '?'}, the table of Unicode {edition}, ICU {icu.ICU_VERSION}."
+
+
+def run_all(options):
+    """The lines between the two marks of the page, from a new run."""
+    icu = load_icu()
+    with tempfile.TemporaryDirectory() as folder:
+        table = write_by(unicode_files.print_table, os.path.join(folder, "table"), os.path.join(unicode_files.FOLDER, "allkeys.txt"))
+        data = write_by(unicode_files.print_data, os.path.join(folder, "data"), unicode_files.FOLDER)
+        bench = Bench(options, icu, folder, Table(table), (table, data), languages(options.cldr))
+        yield head_of_tables(icu, bench.files, options.cldr)
+        yield ""
+        yield "| Locale | Language | Relations | Left out | Words | Elsewhere | With what was left out |"
+        yield "|---|---|--:|---|--:|--:|--:|"
+        large = []
+        for name in options.names or names(options.cldr):
+            row = row_of(bench, name)
+            if row is None:
+                large.append(name)
+            else:
+                yield row.line()
+        yield ""
+        yield "More than 5,000 relations: " + ", ".join(f"`{it}`" for it in large) + "."
+
+
+def parts_of_page():
+    with open(PAGE, encoding="utf-8") as file:
+        text = file.read()
+    before, rest = text.split(BEGIN + "\n")
+    inside, after = rest.split(END + "\n")
+    return before, inside, after
+
+
+def make_table(options):
+    before, _, after = parts_of_page()
+    lines = []
+    for line in run_all(options):
+        print(line, flush=True)
+        lines.append(line + "\n")
+    if not options.names:
+        with open(PAGE, "w", encoding="utf-8") as file:
+            file.write(before + BEGIN + "\n" + "".join(lines) + END + "\n" + after)
+
+
+def check(options):
+    """Compares each line of the page with a new run."""
+    written = [line for line in parts_of_page()[1].split("\n") if line]
+    passed = failed = 0
+    for line in filter(None, run_all(options)):
+        if line in written:
+            passed += 1
+            written.remove(line)
+        else:
+            failed += 1
+            print(f"docs/LANGUAGES.md does not have: {line}", flush=True)
+    for line in written if not options.names else []:
+        failed += 1
+        print(f"docs/LANGUAGES.md has, and the run has not: {line}")
+    print(f"{passed} passed, {failed} failed")
+    sys.exit(1 if failed else 0)
+
+
 def main():
     parser = argparse.ArgumentParser(description=__doc__.split("\n", maxsplit=1)[0])
     parser.add_argument("--cldr", default=CLDR, help=f"the folder of CLDR's files ({CLDR})")
@@ -232,10 +355,11 @@ def main():
     rules = commands.add_parser("rules", help="prints the rules of a locale")
     rules.add_argument("locale")
     rules.add_argument("table")
-    commands.add_parser("table", help="makes the tables of docs/LANGUAGES.md again")
-    commands.add_parser("check", help="compares docs/LANGUAGES.md with a new run")
+    for name, what in (("table", "makes the table of docs/LANGUAGES.md again"), ("check", "compares docs/LANGUAGES.md with a new run")):
+        command = commands.add_parser(name, help=what)
+        command.add_argument("names", nargs="*", help="these locales alone")
     options = parser.parse_args()
-    print_rules(options)
+    {"rules": print_rules, "table": make_table, "check": check}[options.command](options)
 
 
 if __name__ == "__main__":
