@@ -179,7 +179,7 @@ class Reader:
             return "'"
         end = self.text.index("'", self.at + 1)
         inside, self.at = self.text[self.at + 1 : end], end + 1
-        return escaped(inside) if "\\u" in inside.lower() else inside
+        return escaped(inside)  # CLDR means its escapes inside quotes too
 
     def characters(self):
         """The characters of a text, each with whether it was written as itself."""

@@ -16,6 +16,7 @@ Debian's packages: unicode-cldr-core has the files of CLDR, unicode-data the tab
 /usr/bin/python3 if another Python comes first. The program is crates/uca/out/uca, which tools/build.py builds, or else the command `uca`.
 """
 import argparse
+import bisect
 import contextlib
 import io
 import os
@@ -41,8 +42,8 @@ BEGIN, END = "<!-- made by tools/languages.py -->", "<!-- end -->"
 WORDS = 2000
 
 # Collations beside the one that a locale takes by default.
-OTHERS = ["de-u-co-phonebk", "de_AT-u-co-phonebk", "es-u-co-trad", "fi-u-co-trad", "sv-u-co-trad", "vi-u-co-trad", "ln-u-co-phonetic", "si-u-co-dict"]
-OTHERS += ["bn-u-co-trad", "kn-u-co-trad", "sa-u-co-trad", "und-u-co-eor", "ar-u-co-compat"]
+OTHERS = ["de-u-co-phonebk", "de_AT-u-co-phonebk", "es-u-co-trad", "fi-u-co-trad", "sv-u-co-standard", "vi-u-co-trad", "ln-u-co-phonetic", "si-u-co-dict"]
+OTHERS += ["bn-u-co-trad", "kn-u-co-trad", "und-u-co-eor", "ar-u-co-compat"]
 
 
 # ---- Running the program
@@ -195,12 +196,14 @@ def collator(icu, name, translation, is_whole):
 
 
 def elsewhere(words, ours, theirs):
-    """How many lines are at another place in the second order, or weigh as much as the line before in one order alone."""
+    """How many lines have to move so that the first order becomes the second, or else weigh as much as the line before in one order alone."""
     left, right = (sorted(words, key=lambda it, keys=keys: (keys[it], nfd(it))) for keys in (ours, theirs))
-    count = sum(a != b for a, b in zip(left, right))
-    if count == 0:
-        count = sum((ours[a] == ours[b]) != (theirs[a] == theirs[b]) for a, b in zip(left, left[1:]))
-    return count
+    places, ends = {it: at for at, it in enumerate(right)}, []
+    for it in left:  # the longest rising list of places
+        at = bisect.bisect_left(ends, places[it])
+        ends[at : at + 1] = [places[it]]
+    count = len(words) - len(ends)
+    return count or sum((ours[a] == ours[b]) != (theirs[a] == theirs[b]) for a, b in zip(left, left[1:]))
 
 
 def keys_of(options, table, data, weighting, words):

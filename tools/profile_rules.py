@@ -66,11 +66,28 @@ class Table:
 
     def same(self, anchor, strength):
         """Other keys of one code point whose elements are those of the anchor, at the levels up to the strength."""
-        levels = strength or 3
-        wanted = [it[1 : 1 + levels] for it in self.rows.get(anchor, [])]
+        wanted = [it[1 : 1 + strength] for it in self.rows.get(anchor, [])]
         for key, row in self.rows.items():
-            if wanted and key != anchor and len(key) == 1 and [it[1 : 1 + levels] for it in row] == wanted:
+            if wanted and key != anchor and len(key) == 1 and [it[1 : 1 + strength] for it in row] == wanted:
                 yield key
+
+    def below(self, anchor, strength):
+        """The keys of one code point with the next lower weight at the level of the strength, and equal ones at those before it."""
+        row = self.rows.get(anchor, [])
+        if len(row) != 1:
+            return []
+        weights = row[0][1 : 1 + strength]
+        found = [(other[0][1 : 1 + strength], key) for key, other in self.rows.items() if len(key) == len(other) == 1]
+        found = [(it, key) for it, key in found if it[:-1] == weights[:-1] and it < weights]
+        return [key for it, key in found if it == max(found)[0]]
+
+    def are_next(self, first, second):
+        """Whether two keys have one element each, with primaries that no other key has or lies between."""
+        ends = [self.rows.get(it, []) for it in (first, second)]
+        if any(len(row) != 1 or not row[0].primary for row in ends):
+            return False
+        low, high = ends[0][0].primary, ends[1][0].primary
+        return not any(low <= it.primary <= high for key, row in self.rows.items() if key not in (first, second) for it in row)
 
 
 def parts(text, keys):
@@ -111,16 +128,18 @@ class Translation:
     # Items
 
     def read(self, items):
-        anchor, before, lost = None, 0, False
+        anchor, before, position, lost, is_empty = None, 0, "", False, False
         for item in items:
             if isinstance(item, Setting):
                 self.setting(item.name)
             elif isinstance(item, Reset):
-                anchor = self.table.position(item.text) if item.is_position else item.text
-                before, lost = item.before, anchor is None
-                if lost:
-                    self.leave_out(f"relations after [{item.text}]")
-            elif not lost:
+                anchor, before, position = self.table.position(item.text) if item.is_position else item.text, item.before, item.text
+                is_empty = item.is_position and not any(self.table.rows[anchor][0][1:]) if anchor else item.is_position
+                lost = anchor is None
+            elif lost or is_empty and item.strength:
+                lost = True
+                self.leave_out(f"relations after [{position}]")
+            else:
                 anchor, before = self.relation(item, anchor, before)
 
     def setting(self, name):
@@ -189,8 +208,8 @@ class Translation:
             it, last = self.relations[at], {it.target: at for at, it in enumerate(self.relations)}
             if not self.is_late(at, last):
                 at += 1
-            elif other := self.untouched(it):
-                self.relations[at] = it._replace(anchor=other)
+            elif other := self.other_way(it, self.relations[:at]):
+                self.relations[at] = other
             elif it.target not in moved and not holds(it.anchor + it.expansion, it.target):
                 moved.add(it.target)
                 self.relations.append(self.relations.pop(at))
@@ -199,12 +218,25 @@ class Translation:
                 self.relations.pop(at)
                 self.leave_out(f"{it.anchor} {SIGNS[it.strength]} {it.target}")
 
-    def untouched(self, relation):
-        """Another anchor of the same weights in which no target occurs, if there is one."""
-        if relation.expansion:
-            return None
-        others = self.table.same(relation.anchor, relation.strength)
-        return next((key for key in others if not any(holds(key, it.target) for it in self.relations)), None)
+    def other_way(self, it, earlier):
+        """Another relation that says the same of its target, if one is known in which no target occurs."""
+        if it.strength == 0:
+            first, *rest = parts(it.anchor, {*self.table.rows, *(one.target for one in earlier)})
+            made = it._replace(anchor=first, expansion="".join(rest) + it.expansion)
+            return made if made != it and not self.touched(made, earlier) else None
+        ways = [it._replace(anchor=key) for key in self.table.same(it.anchor, it.strength)]
+        ways += [it._replace(anchor=key) for key in self.table.below(it.anchor, it.strength) if it.anchor in self.targets()]
+        ways += [Placed(it.target, it.strength, it.anchor, before=it.strength)] if self.table.are_next(it.anchor, it.target) else []
+        return next((way for way in ways if not it.expansion and not it.before and not self.touched(way, earlier)), None)
+
+    def targets(self):
+        return {it.target for it in self.relations}
+
+    def touched(self, it, earlier):
+        """Whether a target occurs in the anchor or the expansion of a relation, which no earlier target is itself."""
+        placed = {one.target for one in earlier}
+        texts = [text for text in (it.anchor, it.expansion) if text not in placed]
+        return it.anchor == it.target or any(holds(text, one) for text in texts for one in self.targets() - {it.anchor if it.before else None})
 
     # Beginnings of long targets (well-formedness, condition 5)
 
