@@ -1,5 +1,6 @@
 """Writes the rules of CLDR as rules of the profile that `uca` reads (docs/FORMATS.md), over a given table. Part of tools/languages.py."""
 import unicodedata
+from dataclasses import dataclass
 from typing import NamedTuple
 
 from cldr_rules import WHITE, Relation, Reset, Setting, members, nfd
@@ -109,6 +110,17 @@ def holds(text, target):
 # ---- From items to relations
 
 
+@dataclass
+class Chain:
+    """How far a chain has come: the anchor of its next relation (None where that is unknown), and the expansion of the last one."""
+
+    anchor: str | None = None
+    before: int = 0
+    expansion: str = ""
+    position: str = ""
+    is_empty: bool = False
+
+
 class Translation:
     """The relations of a locale over a table, and what had to be left out of its rules."""
 
@@ -128,19 +140,26 @@ class Translation:
     # Items
 
     def read(self, items):
-        anchor, before, position, lost, is_empty = None, 0, "", False, False
+        chain = Chain()
         for item in items:
             if isinstance(item, Setting):
                 self.setting(item.name)
             elif isinstance(item, Reset):
-                anchor, before, position = self.table.position(item.text) if item.is_position else item.text, item.before, item.text
-                is_empty = item.is_position and not any(self.table.rows[anchor][0][1:]) if anchor else item.is_position
-                lost = anchor is None
-            elif lost or is_empty and item.strength:
-                lost = True
-                self.leave_out(f"relations after [{position}]")
+                chain = self.reset(item)
+            elif chain.anchor is None or chain.is_empty and item.strength:
+                chain.anchor = None
+                self.leave_out(f"relations after [{chain.position}]")
+            elif chain.expansion not in ("", item.expansion):
+                self.leave_out("relations after an expansion")
             else:
-                anchor, before = self.relation(item, anchor, before)
+                self.relation(item, chain)
+
+    def reset(self, item):
+        if not item.is_position:
+            return Chain(item.text, item.before)
+        anchor = self.table.position(item.text)
+        is_empty = anchor is not None and not any(self.table.rows[anchor][0][1:])
+        return Chain(anchor, item.before, position=item.text, is_empty=is_empty)
 
     def setting(self, name):
         word, _, rest = name.partition(" ")
@@ -154,21 +173,18 @@ class Translation:
             known = {"reorder": "script order", "caseFirst": "case first", "backwards": "accents from the end"}
             self.leave_out(known.get(word, f"[{name}]"))
 
-    def relation(self, item, anchor, before):
-        """Adds one relation, and says which text the next one of the chain is after."""
+    def relation(self, item, chain):
         if item.prefix:
             self.leave_out("relations with a prefix")
         elif item.strength == 4:
             self.leave_out("relations at level 4")
-        elif max(map(len, (anchor, item.target, item.expansion))) > MOST_CODE_POINTS:
+        elif max(map(len, (chain.anchor, item.target, item.expansion))) > MOST_CODE_POINTS:
             self.leave_out("texts of more than 16 code points")
         else:
             # The anchor is read with its expansion, so an equal one is there already.
-            last = self.relations[-1] if self.relations else None
-            again = last and last.target == anchor and last.expansion == item.expansion
-            self.relations.append(Placed(anchor, item.strength, item.target, "" if again else item.expansion, before))
-            return item.target, 0
-        return anchor, before
+            expansion = "" if chain.expansion else item.expansion
+            self.relations.append(Placed(chain.anchor, item.strength, item.target, expansion, chain.before))
+            chain.anchor, chain.before, chain.expansion = item.target, 0, item.expansion
 
     # Contractions that the rules take away: each becomes a row of the elements of its characters.
 
