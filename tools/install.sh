@@ -51,3 +51,4 @@ for page in "$top"/docs/*.md "$top"/examples/* "$top"/examples/*/*; do
     put_documents 644 "${page#"$top"/}"
 done
 put_documents 755 tools/unicode_files.py tools/languages.py
+put_documents 644 tools/cldr_rules.py tools/profile_rules.py

@@ -1,18 +1,17 @@
 #!/usr/bin/env python3
-"""Runs the recipe of docs/UNICODE.md, and says what it saw.
+"""Runs the commands of docs/UNICODE.md, and says what it saw.
 
-    cd crates/uca && rt run              # proves and builds crates/uca/out/uca
+    tools/build.py                       # proves and builds crates/uca/out/uca
     tools/unicode_tables.py              # from the top of the repository
 
-It needs an `allkeys.txt`, which Debian has in the package perl-modules (Unicode::Collate); without one it says so and ends
-with status 2. It runs the commands of docs/UNICODE.md as they stand there, and then, step by step: it checks the table as it
-is published, with the rows that tools/unicode_files.py adds, and with two of these alone; counts the Tibetan texts whose keys
-these rows change; tailors the table by each alphabet of examples/, audits what came of that, says which weights moved and how
-many keys changed, and sorts words of that language, which stand in their order in examples/. `--keep FOLDER` keeps the files.
+It needs the files of Debian's package unicode-data. Without an `allkeys.txt` it says so and ends with status 2. It runs the commands of
+docs/UNICODE.md as they stand there, and then, step by step: it checks the table as it is published, with the rows that tools/unicode_files.py adds, and
+with two of these alone. It counts the Tibetan texts whose keys these rows change. It tailors the table by each alphabet of examples/, audits what came of
+that, says which weights moved and how many keys changed, and sorts words of that language, which stand in their order in examples/. `--keep FOLDER` keeps
+the files. The last line is `N passed, M failed`.
 """
 
 import argparse
-import glob
 import itertools
 import os
 import subprocess
@@ -23,23 +22,22 @@ import unicodedata
 
 DOCUMENT, PROGRAM = "docs/UNICODE.md", "crates/uca/out/uca"
 LANGUAGES = ("danish", "spanish", "swedish")
-PERL = "/usr/share/perl/*/Unicode/Collate/allkeys.txt"
-WRITTEN = "/usr/share/perl/5.36.0/Unicode/Collate/allkeys.txt"  # as the recipe has it
+PUBLISHED = "/usr/share/unicode/allkeys.txt"
+MAKES_TABLE = "tools/unicode_files.py table"  # as the page has it
 LETTERS, SIGN, REVERSED = "\u0fb2\u0fb3", "\u0f71", "\u0f80"
-# Short i and long ī behind the letters shr: they differ in U+0F71 alone.
+# Short i and long ī after the letters shr: they differ in U+0F71 alone.
 SHORT, LONG = "\u0f64\u0fb2\u0f72", "\u0f64\u0fb2\u0f71\u0f72"
-FAILED = []
+COUNTS = {True: 0, False: 0}
 
 
 def see(what, holds, said):
-    """Prints what was seen, and keeps in mind where it is not what the recipe says."""
+    """Prints what was seen, and counts it by whether it is what the page says."""
     print("%-4s %s: %s" % ("ok" if holds else "NOT", what, said))
-    if not holds:
-        FAILED.append(what)
+    COUNTS[holds] += 1
 
 
 def run(words, lines=b"", out=None, folder=None):
-    """The output of a command as a text, its complaint, and its seconds; the output goes to a file where one is named."""
+    """The output of a command, its errors, and its seconds; the output goes to a file where one is named."""
     start = time.perf_counter()
     done = subprocess.run(words, input=lines, stdout=subprocess.PIPE, stderr=subprocess.PIPE, check=False, cwd=folder)
     seconds = time.perf_counter() - start
@@ -60,16 +58,17 @@ def rows_of(text):
     return {" ".join(key.split()): elements.strip() for key, sign, elements in split if sign}
 
 
-# ---- The recipe as it stands
+# ---- The commands as they stand
 
 
-def recipe(options, folder):
-    """The first block of commands behind the head "The way", in a folder of its own that sees the repository."""
-    commands = content(DOCUMENT).split("\n## The way\n")[1].split("\n```\n")[1]
-    for written, given in ((PROGRAM, options.uca), (WRITTEN, options.allkeys)):
-        if given != written:
-            commands = commands.replace(written, os.path.abspath(given))
-    folder = os.path.join(folder, "recipe")
+def page(options, folder):
+    """The first block of commands of the page, in a folder of its own that sees the repository."""
+    commands = content(DOCUMENT).split("\n```\n")[1]
+    if options.uca != PROGRAM:
+        commands = commands.replace(PROGRAM, os.path.abspath(options.uca))
+    if options.allkeys != PUBLISHED:
+        commands = commands.replace(MAKES_TABLE, "%s %s" % (MAKES_TABLE, os.path.abspath(options.allkeys)))
+    folder = os.path.join(folder, "page")
     os.mkdir(folder)
     for name in ("crates", "examples", "tools"):
         os.symlink(os.path.abspath(name), os.path.join(folder, name))
@@ -82,7 +81,7 @@ def recipe(options, folder):
 
 
 def tibetan_texts():
-    """Each of the two letters with up to four Tibetan and other marks behind it, each text once."""
+    """Each of the two letters with up to four Tibetan and other marks after it, each text once."""
     block = [chr(code) for code in range(0x0F00, 0x1000) if unicodedata.combining(chr(code))]
     marks = block + list("\u0301\u0334\u05b0\u3099")
     found = (letter + "".join(more) for letter in LETTERS for count in range(5) for more in itertools.product(marks, repeat=count))
@@ -91,8 +90,8 @@ def tibetan_texts():
 
 def changed_by_rows(text):
     """Whether the added rows change the key of such a text, by what docs/UNICODE.md says."""
-    before, sign, behind = text.partition(SIGN)
-    return bool(sign) and (any(unicodedata.combining(mark) for mark in before) or SIGN + REVERSED in behind)
+    before, sign, after = text.partition(SIGN)
+    return bool(sign) and (any(unicodedata.combining(mark) for mark in before) or SIGN + REVERSED in after)
 
 
 def keys(options, table, data, texts):
@@ -103,7 +102,7 @@ def tibetan(options, folder, table, data):
     """Which keys change where rows are added to the published table: all of them, and two alone."""
     published, added = content(options.allkeys), os.path.join(folder, "two_rows.txt")
     more = content(table)[len(published) :].splitlines(True)
-    see("rows added", len(more) == 6 and content(table).startswith(published), "%d behind those of the file" % len(more))
+    see("rows added", len(more) == 6 and content(table).startswith(published), "%d after those of the file" % len(more))
     two = [row for row in more if len(row.split(";")[0].split()) == 2]
     with open(added, "w", encoding="utf-8") as file:
         file.writelines([published, *two])
@@ -131,7 +130,7 @@ def moves(certificate):
 
 
 def is_accented(letter):
-    """Whether this is a lower-case letter with a mark behind it in Normalization Form D."""
+    """Whether this is a lower-case letter with a mark after it in Normalization Form D."""
     return unicodedata.category(letter) == "Ll" and any(map(unicodedata.combining, unicodedata.normalize("NFD", letter)))
 
 
@@ -175,16 +174,15 @@ def tailor(options, folder, table, data, language):
 def main():
     parser = argparse.ArgumentParser(description=__doc__.split("\n")[0])
     parser.add_argument("--uca", default=PROGRAM, help="the program")
-    found = [name for name in [WRITTEN, *sorted(glob.glob(PERL))] if os.path.exists(name)]
-    parser.add_argument("--allkeys", default=(found or [None])[0], help="the table of Unicode")
+    parser.add_argument("--allkeys", default=PUBLISHED, help="the table of Unicode (%s)" % PUBLISHED)
     parser.add_argument("--keep", help="the folder to make the files in")
     options = parser.parse_args()
-    if not options.allkeys:
-        print("no allkeys.txt at %s: give one by --allkeys" % PERL)
+    if not os.path.exists(options.allkeys):
+        print("no %s: install Debian's unicode-data, or give another by --allkeys" % options.allkeys)
         sys.exit(2)
     with tempfile.TemporaryDirectory() as temporary:
         folder = options.keep or temporary
-        recipe(options, folder)
+        page(options, folder)
         data, table = os.path.join(folder, "data.txt"), os.path.join(folder, "table.txt")
         run([sys.executable, "tools/unicode_files.py", "data"], out=data)
         run([sys.executable, "tools/unicode_files.py", "table", options.allkeys], out=table)
@@ -195,8 +193,8 @@ def main():
         tibetan(options, folder, table, data)
         for language in LANGUAGES:
             tailor(options, folder, table, data, language)
-    print("as the recipe says" if not FAILED else "not so: " + ", ".join(FAILED))
-    sys.exit(1 if FAILED else 0)
+    print("%d passed, %d failed" % (COUNTS[True], COUNTS[False]))
+    sys.exit(1 if COUNTS[False] else 0)
 
 
 if __name__ == "__main__":

@@ -5,7 +5,7 @@ use std::test::Fail;
 
 const SPANISH: &str =
     "# Spanish, traditional order: the dictionaries of the Real Academia Española before the decision of 1994 of the
-# Association of Academies. ch and ll are letters of their own, behind c and l; ñ is one behind n, then as now.
+# Association of Academies. ch and ll are letters of their own, after c and l; ñ is one after n, then as now.
 #
 # For a table of all letters, as allkeys.txt. It leaves out the spellings cH and lL (a lower-case letter before an
 # upper-case one), which are read as two letters here.
@@ -20,10 +20,10 @@ const SPANISH_MEANS: &str =
     Ll <<< LL";
 
 const SWEDISH: &str =
-    "# Swedish: Svenska Akademiens ordlista, from its 13th edition (2006) on. å, ä and ö are letters of their own behind z, in
+    "# Swedish: Svenska Akademiens ordlista, from its 13th edition (2006) on. å, ä and ö are letters of their own after z, in
 # this order. æ is sorted as ä, ø as ö and ü as y: such letters differ at the second level alone.
 #
-# For a table of all letters, as allkeys.txt, which has further letters behind z, of which the click ǀ (U+01C0) begins
+# For a table of all letters, as allkeys.txt, which has further letters after z, of which the click ǀ (U+01C0) begins
 # another group: the three letters stand directly before it. v and w are two letters there, and stay so; in older editions
 # w was sorted as v.
 #
@@ -43,28 +43,35 @@ const SWEDISH_MEANS: &str =
     (C6) < o(308.230); o(308.230) <<< O(308.230); O(308.230) << (F8); (F8) <<< (D8)";
 
 const DANISH: &str =
-    "# Danish and Norwegian: Retskrivningsordbogen and Bokmålsordboka. æ, ø and å are letters of their own behind z, in this
-# order, and aa counts as å. ä is sorted as æ, ö as ø and ü as y.
+    "# Danish: Retskrivningsordbogen. æ, ø and å are letters of their own after z, in this order, and aa counts as å. ä is sorted
+# as æ, ö as ø and ü as y. Where two words differ in case alone, the upper-case letter comes first: the first rules say so of
+# each letter. Without them, and with each lower-case letter before its upper-case one below, it is Norwegian (Bokmålsordboka).
 #
-# For a table of all letters, as allkeys.txt; the letters stand directly before the click ǀ (U+01C0), behind all others that
-# such a table has behind z.
+# For a table of all letters, as allkeys.txt; the letters stand directly before the click ǀ (U+01C0), after all others that
+# such a table has after z.
 #
-# It leaves out that Danish dictionaries put an upper-case letter before its lower-case one, which is a setting and no
-# relation; that an aa which is two letters, as at the seam of a compound word, is sorted as such, which no rule can tell;
-# aA; and letters of other languages that CLDR's data for Danish names too, as đ, ð, þ, ű, ę, ő and œ.
+# It leaves out that an aa which is two letters, as at the seam of a compound word, is sorted as such, which no rule can tell;
+# aA; letters of other languages that CLDR's data for Danish names too, as đ, ð, þ, ű, ę, ő and œ, and their case.
 
-& Y << ü <<< Ü
+& A <<< a & B <<< b & C <<< c & D <<< d & E <<< e & F <<< f & G <<< g & H <<< h & I <<< i
+& J <<< j & K <<< k & L <<< l & M <<< m & N <<< n & O <<< o & P <<< p & Q <<< q & R <<< r
+& S <<< s & T <<< t & U <<< u & V <<< v & W <<< w & X <<< x & Y <<< y & Z <<< z
+
+& Y << Ü <<< ü
 &[before 1] ǀ
-    < æ <<< Æ << ä <<< Ä
-    < ø <<< Ø << ö <<< Ö
-    < å <<< Å <<< aa <<< Aa <<< AA
+    < Æ <<< æ << Ä <<< ä
+    < Ø <<< ø << Ö <<< ö
+    < Å <<< å <<< AA <<< Aa <<< aa
 ";
 
 const DANISH_MEANS: &str =
-    "Y << u(308.230); u(308.230) <<< U(308.230); before (1C0) < (E6); (E6) <<< (C6); (C6) << a(308.230); \
-    a(308.230) <<< A(308.230); A(308.230) < (F8); (F8) <<< (D8); (D8) << o(308.230); \
-    o(308.230) <<< O(308.230); O(308.230) < a(30A.230); a(30A.230) <<< A(30A.230); A(30A.230) <<< aa; \
-    aa <<< Aa; Aa <<< AA";
+    "A <<< a; B <<< b; C <<< c; D <<< d; E <<< e; F <<< f; G <<< g; H <<< h; I <<< i; \
+    J <<< j; K <<< k; L <<< l; M <<< m; N <<< n; O <<< o; P <<< p; Q <<< q; R <<< r; \
+    S <<< s; T <<< t; U <<< u; V <<< v; W <<< w; X <<< x; Y <<< y; Z <<< z; \
+    Y << U(308.230); U(308.230) <<< u(308.230); before (1C0) < (C6); (C6) <<< (E6); (E6) << A(308.230); \
+    A(308.230) <<< a(308.230); a(308.230) < (D8); (D8) <<< (F8); (F8) << O(308.230); \
+    O(308.230) <<< o(308.230); o(308.230) < A(30A.230); A(30A.230) <<< a(30A.230); a(30A.230) <<< AA; \
+    AA <<< Aa; Aa <<< aa";
 
 #[test]
 fn rules_of_three_alphabets(rt: HostRuntime) -> Result<(), Fail> {

@@ -1,0 +1,332 @@
+"""Writes the rules of CLDR as rules of the profile that `uca` reads (docs/FORMATS.md), over a given table. Part of tools/languages.py."""
+import unicodedata
+from dataclasses import dataclass
+from typing import NamedTuple
+
+from cldr_rules import WHITE, Relation, Reset, Setting, members, nfd
+
+SIGNS = {0: "=", 1: "<", 2: "<<", 3: "<<<"}
+IMPLICIT = 0x8000  # primaries from here on are those of implicit weights
+MOST_RELATIONS, MOST_CODE_POINTS = 5000, 16
+
+# Settings that ask for nothing which `uca` does not do anyway.
+DONE = ("normalization on", "strength 3", "caseFirst off", "reorder others")
+
+
+class Element(NamedTuple):
+    variable: bool
+    primary: int
+    secondary: int
+    tertiary: int
+
+
+class Placed(NamedTuple):
+    """A relation of the profile: a target after its anchor, or before it where `before` is not 0."""
+
+    anchor: str
+    strength: int
+    target: str
+    expansion: str = ""
+    before: int = 0
+
+
+# ---- The table
+
+
+class Table:
+    """The rows of a weight table whose keys are in Normalization Form D: only these are ever matched."""
+
+    def __init__(self, path):
+        self.rows = {}
+        with open(path, encoding="utf-8") as file:
+            for line in file:
+                key, sign, elements = line.split("#")[0].partition(";")
+                if sign and not key.startswith("@"):
+                    text = "".join(chr(int(code, 16)) for code in key.split())
+                    if nfd(text) == text:
+                        self.rows[text] = [self.element(it) for it in elements.strip()[1:-1].split("][")]
+
+    @staticmethod
+    def element(text):
+        return Element(text[0] == "*", *(int(weight, 16) for weight in text[1:].split(".")))
+
+    def position(self, name):
+        """A text at a logical position such as `last regular`: one that has a row of one element. None if there is none."""
+        end, _, group = name.partition(" ")
+        tests = {
+            "tertiary ignorable": lambda it: it[1:] == (0, 0, 0),
+            "secondary ignorable": lambda it: it[1:3] == (0, 0) and it.tertiary,
+            "primary ignorable": lambda it: it.primary == 0 and it.secondary,
+            "variable": lambda it: it.primary and it.variable,
+            "regular": lambda it: 0 < it.primary < IMPLICIT and not it.variable,
+        }
+        if group not in tests:
+            return None
+        found = [(row[0], key) for key, row in self.rows.items() if len(key) == len(row) == 1 and tests[group](row[0])]
+        return {"first": min, "last": max}[end](found)[1] if found else None
+
+    def same(self, anchor, strength):
+        """Other keys of one code point whose elements are those of the anchor, at the levels up to the strength."""
+        wanted = [it[1 : 1 + strength] for it in self.rows.get(anchor, [])]
+        for key, row in self.rows.items():
+            if wanted and key != anchor and len(key) == 1 and [it[1 : 1 + strength] for it in row] == wanted:
+                yield key
+
+    def below(self, anchor, strength):
+        """The keys of one code point with the next lower weight at the level of the strength, and equal ones at those before it."""
+        row = self.rows.get(anchor, [])
+        if len(row) != 1:
+            return []
+        weights = row[0][1 : 1 + strength]
+        found = [(other[0][1 : 1 + strength], key) for key, other in self.rows.items() if len(key) == len(other) == 1]
+        found = [(it, key) for it, key in found if it[:-1] == weights[:-1] and it < weights]
+        return [key for it, key in found if it == max(found)[0]]
+
+    def are_next(self, first, second):
+        """Whether two keys have one element each, with primaries that no other key has or lies between."""
+        ends = [self.rows.get(it, []) for it in (first, second)]
+        if any(len(row) != 1 or not row[0].primary for row in ends):
+            return False
+        low, high = ends[0][0].primary, ends[1][0].primary
+        return not any(low <= it.primary <= high for key, row in self.rows.items() if key not in (first, second) for it in row)
+
+
+def parts(text, keys):
+    """The keys that a text is read as, from left to right: the longest of each position, or one code point."""
+    found = []
+    while text:
+        size = next((n for n in range(len(text), 1, -1) if text[:n] in keys), 1)
+        found.append(text[:size])
+        text = text[size:]
+    return found
+
+
+def holds(text, target):
+    """Whether the code points of a target occur in a text in their order."""
+    rest = iter(text)
+    return all(character in rest for character in target)
+
+
+# ---- From items to relations
+
+
+@dataclass
+class Chain:
+    """How far a chain has come: the anchor of its next relation (None where that is unknown), and the expansion of the last one."""
+
+    anchor: str | None = None
+    before: int = 0
+    expansion: str = ""
+    position: str = ""
+    is_empty: bool = False
+
+
+class Translation:
+    """The relations of a locale over a table, and what had to be left out of its rules."""
+
+    def __init__(self, items, table):
+        self.table, self.left_out, self.relations, self.weighting = table, [], [], "non-ignorable"
+        self.suppressed = []
+        self.read(items)
+        self.suppress()
+        self.drop_repeated()
+        self.mend_late()
+        self.add_beginnings()
+
+    def leave_out(self, what):
+        if what not in self.left_out:
+            self.left_out.append(what)
+
+    # Items
+
+    def read(self, items):
+        chain = Chain()
+        for item in items:
+            if isinstance(item, Setting):
+                self.setting(item.name)
+            elif isinstance(item, Reset):
+                chain = self.reset(item)
+            elif chain.anchor is None or chain.is_empty and item.strength:
+                chain.anchor = None
+                self.leave_out(f"relations after [{chain.position}]")
+            elif chain.expansion not in ("", item.expansion):
+                self.leave_out("relations after an expansion")
+            else:
+                self.relation(item, chain)
+
+    def reset(self, item):
+        if not item.is_position:
+            return Chain(item.text, item.before)
+        anchor = self.table.position(item.text)
+        is_empty = anchor is not None and not any(self.table.rows[anchor][0][1:])
+        return Chain(anchor, item.before, position=item.text, is_empty=is_empty)
+
+    def setting(self, name):
+        word, _, rest = name.partition(" ")
+        if name in DONE or word == "optimize":
+            return
+        if word == "alternate":
+            self.weighting = rest
+        elif word == "suppressContractions":
+            self.suppressed += [it for it in members(rest.strip("[]"))]
+        else:
+            known = {"reorder": "script order", "caseFirst": "case first", "backwards": "accents from the end"}
+            self.leave_out(known.get(word, f"[{name}]"))
+
+    def relation(self, item, chain):
+        if item.prefix:
+            self.leave_out("relations with a prefix")
+        elif item.strength == 4:
+            self.leave_out("relations at level 4")
+        elif max(map(len, (chain.anchor, item.target, item.expansion))) > MOST_CODE_POINTS:
+            self.leave_out("texts of more than 16 code points")
+        else:
+            # The anchor is read with its expansion, so an equal one is there already.
+            expansion = "" if chain.expansion else item.expansion
+            self.relations.append(Placed(chain.anchor, item.strength, item.target, expansion, chain.before))
+            chain.anchor, chain.before, chain.expansion = item.target, 0, item.expansion
+
+    # Contractions that the rules take away: each becomes a row of the elements of its characters.
+
+    def suppress(self):
+        targets = {it.target for it in self.relations}
+        keys = [key for key in self.table.rows if len(key) > 1 and key[0] in self.suppressed and key not in targets]
+        self.relations[:0] = [Placed(key[0], 0, key, key[1:]) for key in keys]
+
+    # A target that comes again is where it comes last.
+
+    def drop_repeated(self):
+        seen, kept = {it.target: at for at, it in enumerate(self.relations)}, []
+        moved = {}
+        for at, it in enumerate(self.relations):
+            if it.anchor in moved and seen[it.anchor] > at:
+                dropped = moved[it.anchor]
+                strength = min(it.strength or 4, dropped.strength or 4) % 4
+                it = it._replace(anchor=dropped.anchor, strength=strength, before=dropped.before)
+            if seen[it.target] > at:
+                moved[it.target] = it
+            else:
+                kept.append(it)
+        self.relations = kept
+
+    # Late targets: `&a < b` after `&ab < c`.
+
+    def is_late(self, at, last):
+        """Whether the anchor or the expansion of a relation has a later target in it, or its own."""
+        it = self.relations[at]
+        texts = [text for text in (it.anchor, it.expansion) if text and last.get(text, at) >= at]
+        return any(holds(text, later.target) for text in texts for later in self.relations[at:])
+
+    def mend_late(self):
+        """Takes another anchor of the same weights, or else moves the relation to the end, or else leaves it out."""
+        at, moved = 0, set()
+        while at < len(self.relations):
+            it, last = self.relations[at], {it.target: at for at, it in enumerate(self.relations)}
+            if not self.is_late(at, last):
+                at += 1
+            elif other := self.other_way(it, self.relations[:at]):
+                self.relations[at] = other
+            elif it.target not in moved and not holds(it.anchor + it.expansion, it.target):
+                moved.add(it.target)
+                self.relations.append(self.relations.pop(at))
+                self.leave_out("old weights of anchors that other rules change")
+            else:
+                self.relations.pop(at)
+                self.leave_out(f"{it.anchor} {SIGNS[it.strength]} {it.target}")
+
+    def other_way(self, it, earlier):
+        """Another relation that says the same of its target, if one is known in which no target occurs."""
+        if it.strength == 0:
+            first, *rest = parts(it.anchor, {*self.table.rows, *(one.target for one in earlier)})
+            made = it._replace(anchor=first, expansion="".join(rest) + it.expansion)
+            return made if made != it and not self.touched(made, earlier) else None
+        ways = [it._replace(anchor=key) for key in self.table.same(it.anchor, it.strength)]
+        ways += [it._replace(anchor=key) for key in self.table.below(it.anchor, it.strength) if it.anchor in self.targets()]
+        ways += [Placed(it.target, it.strength, it.anchor, before=it.strength)] if self.table.are_next(it.anchor, it.target) else []
+        return next((way for way in ways if not it.expansion and not it.before and not self.touched(way, earlier)), None)
+
+    def targets(self):
+        return {it.target for it in self.relations}
+
+    def touched(self, it, earlier):
+        """Whether a target occurs in the anchor or the expansion of a relation, which no earlier target is itself."""
+        placed = {one.target for one in earlier}
+        texts = [text for text in (it.anchor, it.expansion) if text not in placed]
+        return it.anchor == it.target or any(holds(text, one) for text in texts for one in self.targets() - {it.anchor if it.before else None})
+
+    # Beginnings of long targets (well-formedness, condition 5)
+
+    def add_beginnings(self):
+        """Adds the beginning of each long target that ends in a non-starter, and what keeps the order of other texts."""
+        keys, made, added = set(self.table.rows), [], []
+        for it in self.relations:
+            for beginning in self.beginnings(it.target, keys):
+                made.append(self.as_now(beginning, keys))
+                keys.add(beginning)
+                added.append(beginning)
+            made.append(it)
+            keys.add(it.target)
+        before = keys - set(added)
+        for text in sorted(continuations(added, keys) - keys, key=lambda it: (len(it), it)):
+            if parts(text, keys) != parts(text, before):
+                made.append(self.as_now(text, before))
+        self.relations = made
+
+    @staticmethod
+    def beginnings(target, keys):
+        """The beginnings that are missing for a target, shortest first."""
+        found = []
+        while len(target) > 2 and unicodedata.combining(target[-1]) and target[:-1] not in keys:
+            target = target[:-1]
+            found.insert(0, target)
+        return found
+
+    @staticmethod
+    def as_now(text, keys):
+        """The relation that gives a text the elements which it has without a row of its own."""
+        first = parts(text, keys - {text})[0]
+        return Placed(first, 0, text, text[len(first) :])
+
+
+def continuations(beginnings, keys):
+    """The texts in which a new row for a beginning would part a key: the end of the beginning is a beginning of that key."""
+    by_first = {}
+    for key in keys:
+        by_first.setdefault(key[0], []).append(key)
+    found = set()
+    for beginning in beginnings:
+        for at in range(1, len(beginning)):
+            end = beginning[at:]
+            found.update(beginning[:at] + key for key in by_first.get(end[0], []) if key.startswith(end) and key != end)
+    return found
+
+
+# ---- Writing
+
+
+def written(text):
+    """A text of rules: letters, digits and marks as they are, the rest escaped."""
+    composed = unicodedata.normalize("NFC", text)
+    return "".join(written_character(it, at) for at, it in enumerate(composed if nfd(composed) == text else text))
+
+
+def written_character(character, at):
+    category = unicodedata.category(character)
+    is_plain = character.isalnum() if character < "\x80" else category[0] in "LNSP" or category[0] == "M" and at
+    if is_plain and character not in WHITE:
+        return character
+    return f"\\u{ord(character):04X}" if ord(character) < 0x10000 else f"\\U{ord(character):08X}"
+
+
+def chains(relations):
+    """The relations as lines, each a reset and what follows it."""
+    line, last = "", None
+    for it in relations:
+        if it.anchor != last or it.before or len(line) > 110:
+            if line:
+                yield line
+            line = "&" + (f"[before {it.before}] " if it.before else "") + written(it.anchor)
+        line += f" {SIGNS[it.strength]} {written(it.target)}" + (f" / {written(it.expansion)}" if it.expansion else "")
+        last = it.target
+    if line:
+        yield line
