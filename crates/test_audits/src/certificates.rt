@@ -10,7 +10,7 @@ use uca_audit::{
 };
 use uca_weights::{Sink, Source};
 
-/// The bytes of a certificate, and what is said of them: that they are accepted, or the fault.
+/// The bytes of a certificate, and what is said of them: that they are accepted, or the error.
 const CASES: &str = r"-- the least one, and runs of which each lies above the one before
 2 0020 0020 0001\n3 0002 0002 0001\n | accepted
 1 0001 0001 7FFF\n2 0001 0001 FFFF\n3 0001 0001 FFFF\n | accepted
@@ -74,7 +74,7 @@ fn accepted(alloc: Global, read: &Certificate, bytes: &[u8]) -> Result<String, F
     Ok(String::from_str(alloc, "accepted")?)
 }
 
-/// The fault. Where an allocation failed that is the error.
+/// The error. If an allocation failed, that is the error.
 fn refused(alloc: Global, fault: CertificateFault) -> Result<String, Fail> {
     if fault.kind == CertificateFaultKind::Memory {
         return Err(Fail::from(fault));
@@ -82,7 +82,7 @@ fn refused(alloc: Global, fault: CertificateFault) -> Result<String, Fail> {
     Ok(format!(in alloc; "{fault}")?)
 }
 
-/// What is said of the bytes. Where they are accepted they are written again.
+/// What is said of the bytes. If they are accepted, they are written again.
 fn said<R: Read>(alloc: Global, source: &mut Source<R>, bytes: &[u8]) -> Result<String, Fail> {
     match read_certificate(alloc, source) {
         Ok(read) => accepted(alloc, &read, bytes),

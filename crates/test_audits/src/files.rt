@@ -35,7 +35,7 @@ pub struct Files {
     pub certificate: Certificate,
 }
 
-/// A text with one change: `+LINE` adds a line, `-LINE` takes one away, `OLD => NEW` puts one text in place of another.
+/// A text with one change: `+LINE` adds a line, `-LINE` takes one away, `OLD => NEW` replaces a text.
 fn changed(alloc: Global, text: &str, change: &str) -> Result<String, Fail> {
     if let Some(line) = change.strip_prefix("+") {
         return Ok(joined(alloc, &[text, line, "\n"])?);
@@ -51,7 +51,8 @@ fn changed(alloc: Global, text: &str, change: &str) -> Result<String, Fail> {
     Ok(joined(alloc, &[front, str::from_utf8(&new)?, rest])?)
 }
 
-/// A text with changes, which `, ` parts; none where the field is `.`, and another text where it begins as a table does.
+/// A text with changes, which `, ` separates. There are none if the field is `.`, and it is another text if it begins
+/// as a table does.
 fn edited(alloc: Global, text: &str, field: &str) -> Result<Vec<u8>, Fail> {
     if field.starts_with("@version") {
         return Ok(bytes_of(alloc, field)?);
@@ -114,7 +115,7 @@ pub fn certificate_text(alloc: Global, certificate: &Certificate) -> Result<Vec<
     Ok(text.into_inner())
 }
 
-/// Why there is no plan. Where an allocation failed that is the error.
+/// Why there is no plan. If an allocation failed, that is the error.
 pub fn no_plan(alloc: Global, fault: TailorFault) -> Result<String, Fail> {
     if fault.kind == TailorKind::Memory {
         return Err(Fail::from(fault));
@@ -122,7 +123,7 @@ pub fn no_plan(alloc: Global, fault: TailorFault) -> Result<String, Fail> {
     Ok(format!(in alloc; "{fault}")?)
 }
 
-/// The verdict of an audit. Where an allocation failed that is the error.
+/// The verdict of an audit. If an allocation failed, that is the error.
 pub fn verdict(alloc: Global, files: &Files) -> Result<String, Fail> {
     let Files {
         base,

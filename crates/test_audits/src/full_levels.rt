@@ -1,5 +1,5 @@
-//! A plan that takes the last place of level 1, and one that finds none. `rt try`, which checks each step as it runs, takes a
-//! minute or two.
+//! A plan that takes the last position of level 1, and one that finds none. `rt try`, which checks each step as it
+//! runs, takes a minute or two.
 
 use crate::files::certificate_text;
 use std::alloc::Global;
@@ -11,7 +11,7 @@ use uca_tailor::{TailorFault, TailorKind, tailor};
 use uca_values::{Data, Table};
 use uca_weights::Source;
 
-/// A letter directly behind the first one.
+/// A letter directly after the first one.
 const RULES: &str = r"&\U00010001 < x";
 
 /// All weights but the first move up by one.
@@ -33,14 +33,14 @@ fn base(alloc: Global, end: u16) -> Result<Table, Fail> {
 /// The row of the new letter.
 const LETTER: &[u8] = b"\n0078 ; [.0002.0020.0002]\n";
 
-/// The last row is that of the new letter, and stands behind all others.
+/// The last row is that of the new letter, and comes after all others.
 fn check_letter(alloc: Global, table: &Table, count: usize) -> Result<(), Fail> {
     holds(table.rows.len() == count, "another number of rows")?;
     let text = table_text(alloc, table)?;
     holds(text.ends_with(LETTER), "another last row")
 }
 
-/// The new letter has the last place, and the weights behind the first one moved.
+/// The new letter has the last position, and the weights after the first one moved.
 fn check_made(alloc: Global, (tailored, certificate): &(Table, Certificate)) -> Result<(), Fail> {
     check_letter(alloc, tailored, 0x7FFF)?;
     let found = certificate_text(alloc, certificate)?;
@@ -54,13 +54,13 @@ fn check_plan(alloc: Global, base: &Table, data: &Data, rules: &Rules) -> Result
     Ok(audit(alloc, base, data, rules, &plan.0, &plan.1)?)
 }
 
-/// One place is left: the plan takes it, and is accepted.
+/// One position is left: the plan takes it, and is accepted.
 fn check_last_place(alloc: Global, data: &Data, rules: &Rules) -> Result<(), Fail> {
     let base = base(alloc, 0x7FFF)?;
     check_plan(alloc, &base, data, rules)
 }
 
-/// The fault says that level 1 has no room, and names no relation. Where an allocation failed that is the error.
+/// The error says that level 1 has no room, and names no relation. If an allocation failed, that is the error.
 fn check_fault(alloc: Global, fault: TailorFault) -> Result<(), Fail> {
     if fault.kind == TailorKind::Memory {
         return Err(Fail::from(fault));
@@ -77,7 +77,7 @@ fn check_no_plan(alloc: Global, base: &Table, data: &Data, rules: &Rules) -> Res
     }
 }
 
-/// No place is left.
+/// No position is left.
 fn check_no_place(alloc: Global, data: &Data, rules: &Rules) -> Result<(), Fail> {
     let base = base(alloc, 0x8000)?;
     check_no_plan(alloc, &base, data, rules)

@@ -34,7 +34,7 @@ const BEGIN: &str = "@version 1\n\
     0062 ; [.0001.0020.0002]\n\
     0063 ; [.0001.0020.0002]\n";
 
-/// A base with the rows of `a`, `b`, `c` and of so many letters from U+10000.
+/// A base with the rows of `a`, `b`, `c` and of this many letters from U+10000.
 fn base(alloc: Global, letters: u32) -> Result<Table, Fail> {
     let mut text = String::from_str(alloc, BEGIN)?;
     for number in 0..letters {
@@ -49,7 +49,7 @@ fn rows(alloc: Global, table: &Table) -> Result<String, Fail> {
     Ok(format!(in alloc; "{} rows", table.rows.len())?)
 }
 
-/// How many rows the table of the plan has, or the fault. Where an allocation failed that is the error.
+/// How many rows the table of the plan has, or the error. If an allocation failed, that is the error.
 fn planned(alloc: Global, base: &Table, data: &Data, rules: &Rules) -> Result<String, Fail> {
     match tailor(alloc, base, data, rules) {
         Ok(plan) => rows(alloc, &plan.0),
@@ -57,7 +57,7 @@ fn planned(alloc: Global, base: &Table, data: &Data, rules: &Rules) -> Result<St
     }
 }
 
-/// The same of rules that are text.
+/// The same for rules that are text.
 fn said(alloc: Global, base: &Table, data: &Data, rules: &str) -> Result<String, Fail> {
     let rules = read_rules(alloc, rules.as_bytes(), data)?;
     planned(alloc, base, data, &rules)
@@ -71,7 +71,7 @@ fn check(alloc: Global, base: &Table, data: &Data, case: &str) -> Result<(), Fai
     same(&said(alloc, base, data, rules)?, wanted, case)
 }
 
-/// The cases over a base with so many letters beside `a`, `b`, `c`.
+/// The cases over a base with this many letters and `a`, `b`, `c`.
 fn check_all(alloc: Global, letters: u32, cases: &str) -> Result<(), Fail> {
     let base = base(alloc, letters)?;
     let data = data_of(alloc, &mut Source::new(DATA.as_bytes()))?;

@@ -1,5 +1,5 @@
-//! Tests of plans, of audits, of certificates and of maps of weights: each condition at its first place and before the next one, and what a yes
-//! means for keys. Files are given as bytes, and cases as lines of text.
+//! Tests of plans, of audits, of certificates and of maps of weights: each condition at its first position and before
+//! the next one, and what acceptance means for keys. Files are given as bytes, and cases as lines of text.
 #![tactic(auto)]
 
 #[cfg(test)]

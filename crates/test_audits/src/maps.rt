@@ -5,7 +5,7 @@ use std::test::Fail;
 use test_kit::{is_remark, same, thirds};
 use uca_weights::{Level, Run, WeightMap};
 
-/// A level and its runs, weights, and their images; or the run with the first fault, and its kind.
+/// A level and its runs, weights, and their images; or the run with the first error, and its kind.
 const CASES: &str = r"-- consecutive weights with consecutive images
 1 0002 0005 0003, 0007 0009 0001 | 0000 0001 0002 0004 0005 0006 0007 0008 7FFF 8000 FFFF | 0000 - 0005 0007 - - 0009 - - 8000 FFFF
 2 0001 0001 0020 | 0000 0001 001F 0020 0021 8000 FFFF | 0000 0001 001F 0020 - - -

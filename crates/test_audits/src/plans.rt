@@ -76,8 +76,8 @@ const REFUSED: &str = r". | &\u4E00 < x | . | . | relation 1: Anchor
 @version 1\n0020 ; [*FB00.0020.0002]\n0021 ; [*FFFF.0020.0002]\n0061 ; [.1C47.0020.0002]\n | &[before 3]a <<< x <<< y &\u4E00 = z | . | . | relation 3: ImplicitVariable
 @version 1\n0020 ; [*FB00.0020.0002]\n0021 ; [*FFFF.0020.0002]\n4E00 ; [.FB40.0020.0002][.CE00.0000.0000]\n | &\u4E00 = x | . | . | BaseIllFormed";
 
-/// A base of primaries from 8000 up, which no plan moves, the rules, and the rows that come behind those of the base. Each is
-/// accepted by the audit.
+/// A base of primaries from 8000 up, which no plan moves, the rules, and the rows that come after those of the base.
+/// Each is accepted by the audit.
 const UNMOVED: &str =
     r"-- above the variable elements, below them, between the primaries of the two, and without variable elements
 @version 1\n0020 ; [*FB00.0020.0002]\n0021 ; [*FB3F.0020.0002]\n | &\u4E00 = x | 0078 ; [.FB40.0020.0002][.CE00.0000.0000]\n
@@ -121,7 +121,7 @@ fn same_plans(
     Ok(String::from_str(alloc, "planned")?)
 }
 
-/// What is planned: nothing different, or the fault. Where an allocation failed that is the error.
+/// What is planned: nothing different, or the error. If an allocation failed, that is the error.
 fn planned(alloc: Global, files: &Files) -> Result<String, Fail> {
     match tailor(alloc, &files.base, &files.data, &files.rules) {
         Ok(plan) => same_plans(alloc, &plan, files),

@@ -1,4 +1,4 @@
-//! What a yes means for texts: how they compare under the base and under the tailored table, and their keys.
+//! What acceptance means for texts: how they compare under the base and under the tailored table, and their keys.
 
 use crate::files::{Files, files_of, verdict};
 use std::alloc::Global;
@@ -11,8 +11,9 @@ use uca_rules::Rules;
 use uca_text::{Normal, normal};
 use uca_weights::{Depth, Weighting};
 
-/// The fields of an audit that is accepted, two texts, whether no target occurs in either, how they compare under the base and under
-/// the tailored table, and whether the keys of both stay. Of untouched texts each other comparison is looked at too.
+/// The fields of an audit that is accepted, and two texts. Then whether no target occurs in either, how they compare
+/// under the base and under the tailored table, and whether the keys of both stay. For untouched texts each other
+/// comparison is tested too.
 const CASES: &str = r"-- no text with `x` in it is a text of the base
 . | . | . | . | a / b | untouched, < 1, < 1, stay
 . | . | . | . | ab / aB | untouched, < 1, < 1, stay

@@ -1,10 +1,10 @@
-//! `audit` over five files, and those that do not open or are refused.
+//! `audit` over five files, and those that do not open or are rejected.
 
 use crate::fakes::{End, Files, check};
 use std::alloc::Global;
 use std::test::Fail;
 
-/// A letter, and another one behind it.
+/// A letter, and another one after it.
 const BASE: &str = "@version 1\n\
     0061 ; [.1C47.0020.0002]\n\
     0062 ; [.1C60.0020.0002]\n";
@@ -22,7 +22,7 @@ const CERTIFICATE: &str = "1 1C47 1C47 001A\n2 0020 0020 0001\n3 0002 0002 0001\
 
 const WORDS: &str = "audit,allkeys.txt,data.txt,rules.txt,tailored.txt,certificate.txt";
 
-// The five files in the order of the words.
+// The five files in the order of the arguments.
 type Texts<'a> = [Option<&'a str>; 5];
 
 const ALL: Texts<'static> = [
@@ -58,7 +58,7 @@ fn fault(status: u8, err: &str, opened: u32) -> End<'_> {
     }
 }
 
-// One of these files does not open: so many are opened, and this is said.
+// One of these files does not open: this many are opened, and this is said.
 fn check_closed(alloc: Global, texts: Texts, err: &str, opened: u32) -> Result<(), Fail> {
     check_audit(alloc, texts, &fault(3, err, opened))
 }
@@ -78,7 +78,7 @@ fn files_that_do_not_open(rt: HostRuntime) -> Result<(), Fail> {
     check_closed(rt.alloc(), texts, "base: Open\n", 0)
 }
 
-// Some of these files are refused, of which this is said.
+// Some of these files are rejected, and this is said.
 fn check_refused(alloc: Global, texts: Texts, err: &str) -> Result<(), Fail> {
     check_audit(alloc, texts, &fault(1, err, 5))
 }

@@ -30,7 +30,7 @@ fn done(out: &str) -> End<'_> {
     }
 }
 
-// A fault of this status, with this line.
+// An error of this status, with this line.
 fn fault(status: u8, err: &str, opened: u32) -> End<'_> {
     End {
         status,
@@ -40,8 +40,8 @@ fn fault(status: u8, err: &str, opened: u32) -> End<'_> {
     }
 }
 
-/// Checks commands over both files that end well. A case is the words, with commas between them, and what is written
-/// on standard output; `\xC3\xA1` in it is U+00E1, and `\xCC\x81` is an acute accent.
+/// Checks commands over both files that end well. A case is the arguments, with commas between them, and what is
+/// written on standard output; `\xC3\xA1` in it is U+00E1, and `\xCC\x81` is an acute accent.
 fn check_cases(alloc: Global, input: &[u8], cases: &str) -> Result<(), Fail> {
     for case in cases.lines() {
         check_case(alloc, input, case)?;
@@ -76,7 +76,7 @@ fn each_subcommand(rt: HostRuntime) -> Result<(), Fail> {
     check_cases(rt.alloc(), b"b\n \na", SUBCOMMANDS)
 }
 
-/// The space and the accent behind it weigh the same as the space.
+/// The space and the accent after it have the same weights as the space.
 const TO_THE_IDENTICAL_LEVEL: &str =
     r"keys,--identical,allkeys.txt,data.txt | 0000 0000 0000 0209 0000 000020 000301\n0000 0000 0000 0209 0000 000020\n
 keys,--identical,--lines,allkeys.txt,data.txt | 00000000000002090000000020000301\t\x20\xCC\x81\n00000000000002090000000020\t\x20\n
@@ -117,7 +117,7 @@ fn a_table_that_is_not_well_formed(rt: HostRuntime) -> Result<(), Fail> {
     check(rt.alloc(), &files, "check,allkeys.txt,data.txt", b"", &end)
 }
 
-// A file does not open: this is said, and so many files are opened.
+// A file does not open: this is said, and this many files are opened.
 fn check_closed(
     alloc: Global,
     words: &str,
@@ -132,7 +132,7 @@ fn check_closed(
     check(alloc, &files, words, b"a\n", &fault(3, err, opened))
 }
 
-// A table that is refused is read only once the data file is opened.
+// A table that is rejected is read only once the data file is opened.
 fn check_subcommand(alloc: Global, words: &str) -> Result<(), Fail> {
     let data = ("data: Open\n", 1);
     check_closed(alloc, words, (Some(ROWS), None), data)?;
@@ -156,7 +156,7 @@ fn files_that_do_not_open(rt: HostRuntime) -> Result<(), Fail> {
     Ok(())
 }
 
-// A file or a line is refused with status 1.
+// A file or a line is rejected with status 1.
 fn check_refused(
     alloc: Global,
     (table, properties): (&str, &str),
@@ -187,7 +187,7 @@ fn files_that_are_refused(rt: HostRuntime) -> Result<(), Fail> {
     let data = (ROWS, "@data 1\nccc 0301..0301 0\n");
     let said = ("", "data line 2: Weight\n");
     check_refused(rt.alloc(), data, (KEYS, b""), said)?;
-    // The names are those of the words: the data file as the table has no version.
+    // The names are those of the arguments: the data file as the table has no version.
     let swapped = "check,data.txt,allkeys.txt";
     let said = ("", "table line 1: Line\n");
     check_refused(rt.alloc(), (ROWS, CLASSES), (swapped, b""), said)

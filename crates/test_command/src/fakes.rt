@@ -97,7 +97,7 @@ impl Disk {
         Ok(disk)
     }
 
-    /// The same, and a file that is made takes so many bytes.
+    /// The same, and a file that is made takes this many bytes.
     pub fn with_room(
         alloc: Global,
         name: &str,
@@ -137,7 +137,7 @@ impl Disk {
 struct Seen {
     // How many files were opened.
     opened: Cell<u32>,
-    // How many files the words name.
+    // How many files the arguments name.
     wanted: u32,
     // How many reads there were before all files were opened.
     early: Cell<u32>,
@@ -316,7 +316,7 @@ pub const WHOLE: Pace = Pace {
     failure: Failure::Nothing,
 };
 
-/// What a command works with beside its files.
+/// What a command works with, other than its files.
 #[derive(Clone, Copy)]
 pub struct Around<'a> {
     /// The input.
@@ -366,14 +366,14 @@ fn run(
     }
 }
 
-/// The program's name, and the words of a line, one after each comma.
+/// The program's name, and the arguments of a line, one after each comma.
 fn words_of(alloc: Global, line: &str) -> Result<Vec<&str>, AllocError> {
     once("uca").chain(line.split(',')).collect(alloc)
 }
 
-/// The command of some words, with commas between them, ends so over these files and this input: all files are
-/// opened before one is read, each is read before the next, and the input is read only where all are opened. No
-/// file is made.
+/// The command of some arguments, with commas between them, ends so over these files and this input. All files
+/// are opened before one is read, each is read before the next, and the input is read only if all are opened. No file
+/// is made.
 pub fn check(
     alloc: Global,
     files: &Files,
@@ -384,7 +384,7 @@ pub fn check(
     check_words(alloc, files, &words_of(alloc, words)?, input, end)
 }
 
-/// The same of words that stand apart.
+/// The same for a list of arguments.
 pub fn check_words(
     alloc: Global,
     files: &Files,

@@ -1,4 +1,4 @@
-//! The whole text of each help and of refusals.
+//! The whole text of each help, and of errors in the arguments.
 
 use crate::fakes::{End, Files, check, check_words};
 use std::alloc::Global;
@@ -233,7 +233,7 @@ fn end_of(status: u8, out: &'static str, err: &'static str) -> End<'static> {
     }
 }
 
-// The help of some words.
+// The help of some arguments.
 fn check_help(alloc: Global, words: &str, out: &'static str) -> Result<(), Fail> {
     check(alloc, &NONE, words, b"", &end_of(0, out, ""))
 }
@@ -275,7 +275,7 @@ fn edition_of_the_normalization(rt: HostRuntime) -> Result<(), Fail> {
     holds(VERSION.contains(edition.as_str()), "the edition of Unicode")
 }
 
-// Words that are refused, and what is said.
+// Arguments that are rejected, and what is said.
 fn check_refused(alloc: Global, words: &str, err: &'static str) -> Result<(), Fail> {
     check(alloc, &NONE, words, b"", &end_of(2, "", err))
 }
@@ -293,7 +293,7 @@ const OTHER_SUBCOMMAND: &str = "error: unrecognized subcommand 'other'\n\
     \n\
     For more information, try '--help'.\n";
 
-/// What is said where the second word of `keys` is missing.
+/// What is said if the second argument of `keys` is missing.
 pub const NO_DATA: &str = "error: the following required arguments were not provided:\n\
     \x20 <DATA>\n\
     \n\

@@ -1,4 +1,4 @@
-//! Tests of the whole command over an opener in memory, and of all that it says of a fault.
+//! Tests of the whole command over an opener in memory, and of all that it says of an error.
 #![tactic(auto)]
 
 #[cfg(test)]

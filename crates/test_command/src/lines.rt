@@ -1,4 +1,4 @@
-//! The line of each fault, its status, and where it goes.
+//! The line of each error, its status, and where it goes.
 
 use std::alloc::Global;
 use std::io::{ErrorKind, Write};
@@ -13,7 +13,7 @@ use uca_text::TextFault;
 use uca_weights::{Level, MapFault, MapFaultKind, Sink};
 use uca_words::WordFault;
 
-// The status of a fault that is reported on standard error, if nothing goes to standard output.
+// The status of an error that is reported on standard error, if nothing goes to standard output.
 fn status_of<W: Write>(alloc: Global, fault: &RunFault, err: &mut Sink<W>) -> Option<u8> {
     let mut out = Sink::new(Vec::new(alloc));
     let status = report(alloc, fault, &mut out, err);
@@ -24,7 +24,7 @@ fn status_of<W: Write>(alloc: Global, fault: &RunFault, err: &mut Sink<W>) -> Op
     }
 }
 
-// The text of the fault is this line, without its LF. The fault is reported by this line and this status; and where the
+// The text of the error is this line, without its LF. The error is reported by this line and this status; and if the
 // writer fails before one of the bytes, by those before it and this status.
 fn check(alloc: Global, fault: &RunFault, line: &str, status: u8) -> Result<(), Fail> {
     let mut err = Sink::new(Vec::new(alloc));
@@ -60,7 +60,7 @@ fn check_cut(
     holds(found == Some(status) && is_told && is_begun, line)
 }
 
-// A fault of a line of a file.
+// An error of a line of a file.
 fn check_file(
     alloc: Global,
     (role, line, kind): (Role, u32, FaultKind),
@@ -105,7 +105,7 @@ fn other_faults_of_files(rt: HostRuntime) -> Result<(), Fail> {
     )
 }
 
-// A fault of rules or of a certificate.
+// An error of rules or of a certificate.
 fn check_other(
     alloc: Global,
     (role, fault): (Role, FileFault),
@@ -131,7 +131,7 @@ fn refused_rules(rt: HostRuntime) -> Result<(), Fail> {
     check_other(alloc, bytes, "rules: Memory\n", 4)
 }
 
-// A fault of a line of a certificate.
+// An error of a line of a certificate.
 fn check_certificate(
     alloc: Global,
     (line, kind): (u32, CertificateFaultKind),
@@ -161,7 +161,7 @@ fn refused_certificates(rt: HostRuntime) -> Result<(), Fail> {
     check_certificate(alloc, memory, "certificate line 6: Memory\n", 4)
 }
 
-// A fault of the planner, with the relation that is to blame, or 0.
+// An error of the planner, with its relation, or 0.
 fn check_plan(
     alloc: Global,
     (relation, kind): (u32, TailorKind),
@@ -225,7 +225,7 @@ fn certificates_over_files(rt: HostRuntime) -> Result<(), Fail> {
     check_same(rt.alloc(), Role::Rules, "certificate: SameAs rules\n")
 }
 
-// A fault of a line of the input.
+// An error of a line of the input.
 fn check_line(
     alloc: Global,
     (line, kind): (u32, InputKind),
@@ -252,7 +252,7 @@ fn faults_of_lines(rt: HostRuntime) -> Result<(), Fail> {
     check_line(alloc, longest, text, 1)
 }
 
-// A fault of a text, which is the right one or the left one.
+// An error of a text, which is the right one or the left one.
 fn check_text(
     alloc: Global,
     (right, fault): (bool, TextFault),

@@ -36,7 +36,7 @@ fn check(alloc: Global, words: &str, paces: [Pace; 3], end: &End) -> Result<(), 
     check_around(alloc, &FILES, words, &around, end)
 }
 
-// Standard input fails after so many bytes.
+// Standard input fails after this many bytes.
 fn check_input(
     alloc: Global,
     words: &str,
@@ -78,12 +78,12 @@ fn standard_input_that_fails(rt: HostRuntime) -> Result<(), Fail> {
     Ok(())
 }
 
-// The first so many bytes of a text.
+// The first `count` bytes of a text.
 fn first(text: &str, count: usize) -> Result<&str, Fail> {
     Ok(text.get(..count).ok_or("a text of other bytes")?)
 }
 
-// Standard output fails before each byte of what goes out where it does not.
+// Standard output fails before each byte of what goes out without a failure.
 fn check_output<'a>(
     alloc: Global,
     words: &str,
@@ -104,7 +104,7 @@ fn check_output<'a>(
     Ok(())
 }
 
-// The end of a command that opens so many files.
+// The end of a command that opens this many files.
 fn end_of(status: u8, out: &'static str, err: &'static str, opened: u32) -> End<'static> {
     End {
         status,
@@ -128,7 +128,7 @@ fn help_that_does_not_go_out(rt: HostRuntime) -> Result<(), Fail> {
     check_output(rt.alloc(), "check,--help", &help, &help)
 }
 
-// Standard error fails before each byte of what is said where it does not: the status is the same.
+// Standard error fails before each byte of what is said without a failure: the status is the same.
 fn check_error(alloc: Global, words: &str, whole: &End) -> Result<(), Fail> {
     check(alloc, words, [WHOLE, WHOLE, WHOLE], whole)?;
     for good in 0..whole.err.len() {

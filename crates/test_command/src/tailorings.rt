@@ -1,4 +1,5 @@
-//! `tailor` over three files, what it writes under the other commands, and files that are refused, do not open or cannot be made.
+//! `tailor` over three files, what it writes under the other commands, and files that are rejected, do not open or
+//! cannot be made.
 
 use crate::fakes::{Around, Disk, End, Fails, Files, WHOLE, check, check_around};
 use std::alloc::Global;
@@ -13,7 +14,7 @@ const WORDS: &str = "tailor,allkeys.txt,data.txt,rules.txt,certificate.txt";
 const OLD: &str = "1 0001 0001 0001\n1 0002 0002 0001\n1 0003 0003 0001\n1 0004 0004 0001\n\
     1 0005 0005 0001\n1 0006 0006 0001\n1 0007 0007 0001\n1 0008 0008 0001\n1 0009 0009 0001\n";
 
-/// The row of a letter directly behind the first.
+/// The row of a letter directly after the first.
 const ROW: &str = "0078 ; [.1C48.0020.0002]\n";
 
 /// The certificate of a tailoring of the table of the fakes that moves no weight.
@@ -58,7 +59,7 @@ const MOVED: &str = "1 0209 0209 0001\n\
     3 0002 0002 0001\n\
     3 0008 0008 0001\n";
 
-/// An accent that weighs no more than implicit weights do.
+/// An accent whose weight is not above those of implicit weights.
 const ILL_FORMED: &str = "@version 1\n\
     @implicitweights 17000..18AFF; FB00\n\
     0020 ; [*0209.0020.0002]\n\
@@ -72,7 +73,7 @@ const ILL_FORMED: &str = "@version 1\n\
 /// The table, the data file and the rules.
 type Texts<'a> = [Option<&'a str>; 3];
 
-/// A tailoring of these texts ends so, and makes a file on the disk just where this is said.
+/// A tailoring of these texts ends so, and makes a file on the disk exactly if this is said.
 fn check_tailor(
     alloc: Global,
     texts: Texts,
@@ -289,7 +290,7 @@ const REFUSED: &str = r"&[before 3]a <<< x <<< y | tailor: NoRoom 3
 &a < x / bbbbbbbbbbbbbbbb &x = y / bbbbbbbbbbbbbbbb | tailor relation 2: Limit
 &a <<<< x | rules byte 3: Syntax";
 
-/// These files are refused with a line.
+/// These files are rejected with a line.
 fn check_refused<'a>(
     alloc: Global,
     table: &'a str,
@@ -395,7 +396,7 @@ const MORE_WORDS: &str = "error: unexpected argument 'l' found\n\
     \n\
     For more information, try '--help'.\n";
 
-/// The words are refused, and nothing is opened.
+/// The arguments are rejected, and nothing is opened.
 fn check_words(alloc: Global, words: &str, err: &str) -> Result<(), Fail> {
     let files = Files {
         table: Some(TABLE),

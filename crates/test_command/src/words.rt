@@ -1,4 +1,4 @@
-//! Words that are read and words that are refused, each written as a line that is cut at its blanks.
+//! Arguments that are read and arguments that are rejected, each list written as a line that is cut at its blanks.
 
 use std::alloc::{AllocError, Global};
 use std::iter::once;
@@ -6,12 +6,12 @@ use std::test::Fail;
 use test_kit::{halves, holds, same};
 use uca_words::{WordFault, read_words};
 
-/// The program's name, and the words of a line.
+/// The program's name, and the arguments of a line.
 fn words_of(alloc: Global, line: &str) -> Result<Vec<&str>, AllocError> {
     once("uca").chain(line.split(' ')).collect(alloc)
 }
 
-/// What is read from some words, or the kind of their fault.
+/// What is read from some arguments, or the kind of their error.
 fn said(alloc: Global, words: &[&str]) -> Result<String, AllocError> {
     match read_words(alloc, words) {
         Ok(words) => format!(in alloc; "{words:?}"),
@@ -150,7 +150,7 @@ fn weightings_that_are_none(rt: HostRuntime) -> Result<(), Fail> {
     check_cases(rt.alloc(), NO_WEIGHTINGS)
 }
 
-/// What is printed for some words that are refused, and nothing for others.
+/// What is printed for some words that are rejected, and nothing for others.
 fn text_of(alloc: Global, words: &[&str]) -> Result<String, AllocError> {
     match read_words(alloc, words) {
         Err(fault) => format!(in alloc; "{fault}"),

@@ -24,9 +24,9 @@ pub enum Reader {
 /// What is said of a file.
 #[derive(Drop)]
 pub struct Answer {
-    /// The line or the byte that is refused. None where the file is accepted.
+    /// The line or the byte that is rejected. `None` if the file is accepted.
     pub place: Option<usize>,
-    /// Why it is refused. Where it is accepted, what it means: the file again, or its relations.
+    /// Why it is rejected. If it is accepted, what it means: the file again, or its relations.
     pub words: String,
 }
 
@@ -37,7 +37,7 @@ impl Answer {
     }
 }
 
-/// The text of a place and what is said there.
+/// The text of a position and what is said there.
 pub fn told(alloc: Global, answer: &Answer) -> Result<String, Fail> {
     Ok(format!(in alloc; "{:?} {}", answer.place, answer.words)?)
 }

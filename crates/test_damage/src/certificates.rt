@@ -71,7 +71,7 @@ fn most_runs(alloc: Global) -> Result<String, AllocError> {
     Ok(text)
 }
 
-/// Where a certificate of these runs and one line is refused, if it is.
+/// Where a certificate of these runs and one line is rejected, if it is.
 fn place_behind(alloc: Global, runs: &str, line: &str) -> Result<Option<usize>, Fail> {
     let text = joined(alloc, &[runs, line])?;
     let answer = certificate_answer(alloc, text.as_bytes())?;

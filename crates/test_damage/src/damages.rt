@@ -1,4 +1,4 @@
-//! Files with one byte less, one doubled or one changed at each place, and files that are random behind some beginning.
+//! Files with one byte less, one doubled or one changed at each position, and files that are random after some beginning.
 
 use crate::answers::{Reader, judge};
 use crate::counts::Counts;
@@ -8,13 +8,13 @@ use std::test::Fail;
 use test_kit::holds;
 use uca_values::Data;
 
-/// Bytes that mean something in some file: one of them is put in at each place.
+/// Bytes that mean something in some file: one of them is tried at each position.
 const TELLING: &[u8] = b"\0\t\n\r !\"#&'*+-./0129;<=@AFGZ[\\]afgz\x7F\x80\xC3\xFF";
 
-/// How many files come of each place.
+/// How many files are made for each position.
 const A_PLACE: usize = 4;
 
-/// How many bytes a random file has at most, behind its beginning.
+/// How many bytes a random file has at most, after its beginning.
 const RANDOM_BYTES: usize = 64;
 
 /// The files to be damaged, and how many random ones there are.
@@ -28,22 +28,22 @@ pub struct Trial<'a> {
     pub random: usize,
     /// The seed of the random bytes.
     pub seed: u64,
-    /// How many files there are in all, and which of them are accepted by the forms of docs/FORMATS.md.
+    /// How many files there are in all, and which of them are accepted by the formats of docs/FORMATS.md.
     pub counts: Counts,
 }
 
-/// How a file is damaged at a place.
+/// How a file is damaged at a position.
 #[derive(Clone, Copy)]
 enum Damage {
     /// The byte is left out.
     Dropped,
-    /// It stands twice.
+    /// It comes twice.
     Doubled,
-    /// Another stands there.
+    /// Another is there.
     Changed(u8),
 }
 
-/// A file that is damaged at a place.
+/// A file that is damaged at a position.
 fn damaged(
     alloc: Global,
     file: &[u8],
@@ -68,7 +68,7 @@ fn one_of(numbers: &mut Numbers, bytes: &[u8]) -> u8 {
     bytes.get(place).copied().unwrap_or(0)
 }
 
-/// A byte that means something, other than the one that stands there: in place of that one the next of them.
+/// A byte that means something, other than the one that is there, for which the next of them is taken.
 fn telling(numbers: &mut Numbers, own: u8) -> u8 {
     let place = numbers.below(TELLING.len());
     let byte = TELLING.get(place).copied().unwrap_or(0);
@@ -78,13 +78,14 @@ fn telling(numbers: &mut Numbers, own: u8) -> u8 {
     TELLING.get(place.saturating_add(1)).copied().unwrap_or(0)
 }
 
-/// Any byte other than the one that stands there.
+/// Any byte other than the one that is there.
 fn other(numbers: &mut Numbers, own: u8) -> u8 {
     let byte = numbers.byte();
     if byte == own { byte ^ 1 } else { byte }
 }
 
-/// Each damage of a place where this byte stands. The last but one is a byte that means something, and the last is any.
+/// Each damage of a position where this byte is. The last but one is a byte that means something, and the last is any
+/// byte.
 fn damages(numbers: &mut Numbers, own: u8) -> [Damage; A_PLACE] {
     [
         Damage::Dropped,
@@ -94,7 +95,7 @@ fn damages(numbers: &mut Numbers, own: u8) -> [Damage; A_PLACE] {
     ]
 }
 
-/// Judges the files that are damaged at a place, where this byte stands.
+/// Judges the files that are damaged at a position, where this byte is.
 fn judge_place(
     alloc: Global,
     trial: Trial,
@@ -110,7 +111,7 @@ fn judge_place(
     Ok(())
 }
 
-/// A beginning of the file, and bytes behind it: of each two about one is of the file, and the other is any.
+/// A beginning of the file, and bytes after it. About half of these are bytes of the file, and the others are any.
 fn random_file(alloc: Global, file: &[u8], numbers: &mut Numbers) -> Result<Vec<u8>, AllocError> {
     let kept = numbers.below(2).saturating_mul(numbers.below(file.len()));
     let mut made = Vec::new(alloc);

@@ -1,27 +1,28 @@
-//! Tests of the four readers over files that are damaged or random, and of the command's words over such lines:
-//! what is accepted means what it says, and what is refused is refused at a place that is to blame.
+//! Tests of the four readers over files that are damaged or random, and of the command's arguments over such
+//! lines. What is accepted means what it says, and what is rejected is rejected at a position that has an error.
 //!
-//! Which files are accepted, of those that are judged: their number, and the sum of their numbers, are those that a reader
-//! of docs/FORMATS.md gave which was written apart from these crates, in another language, and read the same files. So a
-//! reader that refuses all, or one file too many, does not pass, nor does one that takes a file too many. The files before
-//! they are damaged are accepted.
+//! Which files are accepted: another reader was written by docs/FORMATS.md, apart from these crates and in another
+//! language, and read the same files. The number of accepted files, and the sum of their numbers, are those that it
+//! gave. So a reader that rejects all, or one file too many, does not pass, nor does one that takes a file too many.
+//! The files before they are damaged are accepted.
 //!
 //! What an accepted file means:
 //!
 //! - A table: its canonical text is the one that is worked out here from the bytes, line by line (`meanings.rt`), and
 //!   reads as itself. So each digit of each row counts, and no line is passed over.
-//! - A data file: its ranges are those of the lines, no more and no fewer, in any order; and they read as themselves.
+//! - A data file: its ranges are those of the lines, no more and no fewer, in any order. They read as themselves.
 //! - A certificate: its text is the file.
-//! - Rules: the undamaged ones mean the relations that are written out beside them; with another letter in the place of
-//!   one, in an anchor, a target or an expansion, the same with this letter. Of other accepted rules only this is judged:
-//!   behind a chain of their own they mean the same relations.
+//! - Rules: the undamaged ones mean the relations that are written out next to them. With another letter in place of
+//!   one, in an anchor, a target or an expansion, they mean the same with this letter. Of other accepted rules only
+//!   this is judged: after another chain they mean the same relations.
 //!
-//! A refused file: the place is there and may have such a fault, the part of the file up to it is refused in the same way
-//! (of rules: so are the rules behind a chain), and the part before it is not. Which of the kinds that may stand there is
-//! named is judged by no model.
+//! A rejected file: the position is there and may have such an error. The part of the file up to it is rejected in the
+//! same way (and so are rules after a chain), and the part before it is not. No model judges which of the kinds that
+//! are possible there is named.
 //!
-//! Words: a small model says of each line whether it is taken, and with which weighting, depth, names and texts; whether
-//! its weighting is unknown; or whether it is refused. What is read is that, and reads as itself when it is written out.
+//! Arguments: for each line a small model says whether it is taken, whether its weighting is unknown, or whether it is
+//! rejected. Of a line that is taken it says the weighting, the depth, the names and the texts. What is read is the
+//! same, and reads as itself when it is written out.
 #![tactic(auto)]
 
 #[cfg(test)]

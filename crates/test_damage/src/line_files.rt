@@ -1,4 +1,4 @@
-//! Files of lines: a fault stands in a line that is there, whatever follows, and the lines before it have none.
+//! Files of lines: an error is in a line that is there, with anything after it, and the lines before it have none.
 
 use crate::answers::{Answer, Reader, answer_of};
 use std::alloc::Global;
@@ -32,7 +32,7 @@ fn first_lines(file: &[u8], count: usize) -> &[u8] {
     file.get(..end).unwrap_or(file)
 }
 
-/// Whether the file ends behind a line.
+/// Whether the file ends after a line.
 fn is_whole(file: &[u8]) -> bool {
     file.is_empty() || file.ends_with(b"\n")
 }
@@ -52,8 +52,8 @@ fn says_nothing(file: &[u8]) -> bool {
     true
 }
 
-/// Whether this may be said of a file that ends before the line in which a fault stands: it is accepted, or what
-/// makes it whole is missing behind its end. A certificate has faults also that are named once all lines are read.
+/// Whether this may be said of a file that ends before the line with an error. It is accepted, or what makes
+/// it whole is missing after its end. A certificate also has errors that are named after all lines are read.
 fn may_come_before(reader: Reader, before: &[u8], found: &Answer, earlier: &Answer) -> bool {
     let Some(line) = earlier.place else {
         return true;
@@ -68,7 +68,7 @@ fn may_come_before(reader: Reader, before: &[u8], found: &Answer, earlier: &Answ
     }
 }
 
-/// Whether a fault may stand behind the last line.
+/// Whether an error may come after the last line.
 fn may_end(reader: Reader, file: &[u8], words: &str) -> bool {
     match reader {
         Reader::Certificate => words == "Map Fixed",

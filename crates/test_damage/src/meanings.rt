@@ -4,7 +4,7 @@
 use std::alloc::{AllocError, Global};
 use std::test::Fail;
 
-/// What stands between words.
+/// What comes between words.
 const BLANKS: [char; 2] = [' ', '\t'];
 
 /// A line without its comment, and without the blanks around what is left.
@@ -45,7 +45,7 @@ fn push_words(text: &mut String, line: &str) -> Result<(), AllocError> {
     Ok(())
 }
 
-/// Adds a line of implicit weights, of which this stands behind the first word.
+/// Adds a line of implicit weights. This is the text after its first word.
 fn push_implicit(text: &mut String, line: &str) -> Result<(), Fail> {
     let (range, lead) = line.split_once(';').ok_or("no lead")?;
     text.push_str("@implicitweights ")?;
@@ -92,7 +92,7 @@ pub fn table_meaning(alloc: Global, file: &[u8]) -> Result<String, Fail> {
     Ok(text)
 }
 
-/// Adds a line of a data file: words, of which the second may be a range.
+/// Adds a line of a data file: words, the second of which may be a range.
 fn push_data_line(text: &mut String, line: &str) -> Result<(), Fail> {
     let mut is_first = true;
     for word in line.split(BLANKS) {
@@ -107,7 +107,7 @@ fn push_data_line(text: &mut String, line: &str) -> Result<(), Fail> {
     Ok(text.push('\n')?)
 }
 
-/// The lines of a data file, as they stand.
+/// The lines of a data file, in their order.
 pub fn data_meaning(alloc: Global, file: &[u8]) -> Result<String, Fail> {
     let mut text = String::new(alloc);
     for line in file.split(|byte| *byte == b'\n') {
@@ -129,7 +129,7 @@ fn has_line(text: &str, line: &str) -> bool {
     false
 }
 
-/// Fails unless each line of the wanted text stands in what is found, which has no more lines.
+/// Fails unless each line of the wanted text is in what is found, which has no more lines.
 pub fn same_lines(found: &str, wanted: &str) -> Result<(), Fail> {
     let mut is_so = found.lines().count() == wanted.lines().count();
     for line in wanted.lines() {

@@ -26,7 +26,7 @@ impl Numbers {
         (self.next() & 0xFF) as u8
     }
 
-    /// The next number, below a bound; 0 where the bound is.
+    /// The next number, below a bound; 0 if the bound is 0.
     pub fn below(&mut self, bound: usize) -> usize {
         match (self.next() >> 1).checked_rem(bound as u64) {
             Some(number) => number as usize,

@@ -1,4 +1,4 @@
-//! Rules: a fault stands at a byte that may have it, whatever comes before the rules.
+//! Rules: an error is at a byte that may have it, with anything before the rules.
 
 use crate::answers::{Answer, Reader};
 use crate::counts::Counts;
@@ -11,7 +11,7 @@ use uca_text::Normal;
 use uca_values::Data;
 use uca_weights::{Source, Strength};
 
-/// Adds a text: ASCII letters and digits as they stand, and other code points by their numbers.
+/// Adds a text: ASCII letters and digits unchanged, and other code points by their numbers.
 fn push_text(words: &mut String, text: &Normal) -> Result<(), AllocError> {
     let alloc = *words.allocator();
     for point in text.chars() {
@@ -25,7 +25,7 @@ fn push_text(words: &mut String, text: &Normal) -> Result<(), AllocError> {
     Ok(())
 }
 
-/// The sign of a relation, which is turned round where the target stands before the anchor.
+/// The sign of a relation, which is turned round if the target comes before the anchor.
 fn sign(relation: &Relation) -> &'static str {
     match (relation.strength, relation.before) {
         (Strength::Primary, false) => " < ",
@@ -81,8 +81,8 @@ const CHAIN_MEANS: &str = "(4E01) < (4E02)\n";
 /// A comment.
 const COMMENT: &str = "# \u{E9}\n";
 
-/// What may stand before rules: what is said of them stays. Rules that begin with a sign or an expansion would go on
-/// with a chain, so a comment stands there where such a fault is told.
+/// What may come before rules, so that what is said of them stays. Rules that begin with a sign or an expansion
+/// would go on with a chain, so a comment comes first if such an error is named.
 fn front(file: &[u8], found: &Answer) -> &'static str {
     let byte = file.get(found.place.unwrap_or(0)).copied();
     if found.words.as_str() == "Syntax" && matches!(byte, Some(b'<' | b'=' | b'/')) {
@@ -92,7 +92,7 @@ fn front(file: &[u8], found: &Answer) -> &'static str {
     }
 }
 
-/// What is said of rules behind such a front, where this is said of the rules alone.
+/// What is said of rules after such a front, if this is said of the rules alone.
 fn moved(alloc: Global, front: &str, found: &Answer) -> Result<Answer, Fail> {
     match found.place {
         Some(byte) => Ok(Answer {
@@ -106,7 +106,7 @@ fn moved(alloc: Global, front: &str, found: &Answer) -> Result<Answer, Fail> {
     }
 }
 
-/// Whether the same is said of rules behind such a front.
+/// Whether the same is said of rules after such a front.
 fn is_moved(alloc: Global, data: &Data, file: &[u8], found: &Answer) -> Result<bool, Fail> {
     let front = front(file, found);
     let mut longer = Vec::from_slice(alloc, front.as_bytes())?;
@@ -115,12 +115,12 @@ fn is_moved(alloc: Global, data: &Data, file: &[u8], found: &Answer) -> Result<b
     Ok(later.is(&moved(alloc, front, found)?))
 }
 
-/// Whether a text may be due at this byte and be missing, or at the end.
+/// Whether a text may be missing at this byte, or at the end.
 fn ends_text(byte: Option<u8>) -> bool {
     matches!(byte, None | Some(b'&' | b'<' | b'=' | b'/'))
 }
 
-/// Whether a fault of this kind may stand at this byte, or at the end.
+/// Whether an error of this kind may come at this byte, or at the end.
 fn may_stand(words: &str, byte: Option<u8>) -> bool {
     match words {
         "EmptyText" => ends_text(byte),
@@ -147,7 +147,7 @@ pub fn judge_rules(alloc: Global, data: &Data, file: &[u8], found: &Answer) -> R
     Ok(is_place && may && is_moved(alloc, data, file, found)?)
 }
 
-/// Each form of a reset, a relation, a text and a comment.
+/// Each kind of a reset, a relation, a text and a comment.
 const RULES: &str = "# a tailoring\n\
     &[before 1]B < X <<< Y\n\
     &C < DH / K <<< 'L M'\n\
@@ -191,13 +191,13 @@ fn damaged_rules(rt: HostRuntime) -> Result<(), Fail> {
     judge_all(rt.alloc(), trial, &data)
 }
 
-/// Letters that stand once in the rules, each in a text, and in what they mean in no range.
+/// Letters that occur once in the rules, each in a text. In what the rules mean they come in no range.
 const LETTERS: &str = "B X Y C D K L M N E P Q R S T";
 
-/// Letters and a digit that stand in no text of the rules.
+/// Letters and a digit that occur in no text of the rules.
 const OTHERS: &str = "A z W 0";
 
-/// The rules with another letter in the place of one mean the same with this letter.
+/// The rules with another letter in place of one mean the same with this letter.
 fn check_letter(alloc: Global, data: &Data, own: &str, other: &str) -> Result<(), Fail> {
     let rules = RULES.replace(alloc, own, other)?;
     let wanted = MEANS.replace(alloc, own, other)?;

@@ -11,7 +11,7 @@ use uca_table::write_table;
 use uca_values::{Data, FaultKind, Table, TableFault};
 use uca_weights::{Sink, Source};
 
-/// What is said where a file is refused.
+/// What is said if a file is rejected.
 fn refused(alloc: Global, fault: TableFault) -> Result<Answer, Fail> {
     let TableFault { line, kind } = fault;
     holds(

@@ -1,5 +1,5 @@
-//! Lines of words: what is read is what a small model reads, and means the same when it is written out; what is refused is
-//! refused with a text.
+//! Lines of arguments. What is read is what a small model reads, and means the same when it is written out. What is
+//! rejected is rejected with a text.
 
 use crate::counts::Counts;
 use crate::numbers::Numbers;
@@ -50,7 +50,7 @@ const RANDOM: Counts = Counts {
 /// How many names and texts a command has at most.
 const MOST: usize = 5;
 
-/// What the words behind a subcommand's name ask for.
+/// What the words after a subcommand's name ask for.
 #[derive(Clone, Copy)]
 struct Asked<'a> {
     /// The names and texts, of those that are too many none.
@@ -65,11 +65,11 @@ struct Asked<'a> {
     identicals: usize,
     /// How often the lines are asked for.
     lines: usize,
-    /// Whether a value is due.
+    /// Whether a value must come next.
     is_due: bool,
     /// Whether all that follows is a name or a text.
     are_texts: bool,
-    /// Whether a word has no meaning where it stands.
+    /// Whether an argument has no meaning where it is.
     is_strange: bool,
 }
 
@@ -189,7 +189,7 @@ struct Model<'a> {
     said: Said,
     /// The name of the subcommand.
     name: &'a str,
-    /// What the words behind the name ask for.
+    /// What the words after the name ask for.
     asked: Asked<'a>,
 }
 
@@ -210,7 +210,7 @@ fn said_of(asked: &Asked, wanted: Wanted) -> Said {
     }
 }
 
-/// What the model says of the words of a line, of which the first is the program's name.
+/// What the model says of the words of a line, whose first word is the program's name.
 fn model_of<'a>(words: &[&'a str]) -> Model<'a> {
     let mut asked = NOTHING;
     let name = words.get(1).copied().unwrap_or("");
@@ -390,7 +390,7 @@ fn judge(alloc: Global, line: &[&str]) -> Result<bool, Fail> {
     Err(Fail::new(format_args!("at {line:?}")))
 }
 
-/// The line with a word in place of the one at a place; behind it, if it stays.
+/// The line with a word in place of the one at a position, or after it if that one stays.
 fn changed<'a>(
     alloc: Global,
     line: &[&'a str],
@@ -415,7 +415,7 @@ fn one_of<'a>(numbers: &mut Numbers, words: &[&'a str]) -> Result<&'a str, Fail>
     Ok(words.get(place).copied().ok_or("no word")?)
 }
 
-/// The words of a text, behind the program's name.
+/// The words of a text, after the program's name.
 fn words_of(alloc: Global, line: &str) -> Result<Vec<&str>, AllocError> {
     let mut words = Vec::new(alloc);
     words.push("uca")?;
@@ -425,7 +425,7 @@ fn words_of(alloc: Global, line: &str) -> Result<Vec<&str>, AllocError> {
     Ok(words)
 }
 
-/// Judges a line with each of the other words in place of one, and behind it.
+/// Judges a line with each of the other words in place of one, and after it.
 fn judge_place(
     alloc: Global,
     line: &[&str],
@@ -441,7 +441,7 @@ fn judge_place(
     Ok(())
 }
 
-/// Judges a line that is read, its beginnings, and all that are made of it by one change behind the program's name.
+/// Judges a line that is read, its beginnings, and all that are made of it by one change after the program's name.
 fn judge_changes(alloc: Global, line: &str, counts: &mut Counts) -> Result<(), Fail> {
     let line = words_of(alloc, line)?;
     let is_accepted = judge(alloc, &line)?;
@@ -464,7 +464,7 @@ fn changed_lines(rt: HostRuntime) -> Result<(), Fail> {
     counts.check(CHANGED)
 }
 
-/// The name of a subcommand, and random words behind it: as many as it needs, or one or two more.
+/// The name of a subcommand, and random words after it: as many as it needs, or one or two more.
 fn random_line<'a>(
     alloc: Global,
     name: &'a str,

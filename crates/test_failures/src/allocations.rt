@@ -1,4 +1,4 @@
-//! Each allocation is refused in turn.
+//! Each allocation is rejected in turn.
 
 use crate::calls::{CALLS, COMMANDS};
 use crate::trials::{Failing, check_cases};

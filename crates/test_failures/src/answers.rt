@@ -12,9 +12,9 @@ use test_kit_allocator::Refusing;
 /// What a call works in.
 #[derive(Clone, Copy)]
 pub struct Memory<'a> {
-    /// Ample memory.
+    /// Enough memory.
     pub ample: Global,
-    /// Memory in which an allocation may be refused.
+    /// Memory in which an allocation may be rejected.
     pub tried: &'a Refusing,
 }
 
@@ -33,7 +33,7 @@ pub struct Answer {
     pub is_broken: bool,
 }
 
-/// What comes of a call where nothing fails, or is to come.
+/// What comes of a call if nothing fails, or what should come of it.
 #[derive(Clone, Copy)]
 pub struct Wanted<'a> {
     /// What is said of its end.

@@ -140,7 +140,7 @@ end done
 asks 42
 memory Memory; done; Memory; done; Memory; done; Memory";
 
-/// The calls behind the commands.
+/// The calls after the commands.
 pub const COMMANDS: &str = r"run check
 reads table data
 printed well-formed\n
@@ -316,7 +316,7 @@ memory base line @ 1 2 3; data line @ 1 2; rules: Memory; rules byte @ 0 4 1 8
 memory tailored line @ 1 2 3 4; certificate line @ 1 2 4; memory";
 
 /// What is documented of failures, a case for each. `fails` names the stream and the number of bytes that go well.
-/// `refused after` has an end of the call: of the allocations from the first on that is refused with it, one is refused
+/// `refused after` has an end of the call: of the allocations from the first on that is rejected with it, one is rejected
 /// with the end of the case. What goes out is what goes out then.
 pub const ROWS: &str = r"run keys
 reads table data input

@@ -1,14 +1,15 @@
 //! Cases as text. A case is a block of lines, and an empty line parts it from the next. Its first line is the name of a
-//! call; each line behind it begins with a word that says what the rest is. Several lines with one word are joined.
+//! call; each line after it begins with a word that says what the rest is. Several lines with the same word are joined.
 //!
 //! - `reads`: the files that are read, in their order, by their roles.
-//! - a role: the text of that file, in place of the small one that it has.
+//! - a role: the text of that file, instead of the small one that it has.
 //! - `printed`, `file`: what goes out, and what goes out to the file of a certificate.
 //! - `end`: what is said of the end.
-//! - `asks`: how many allocations it asks for where none fails.
-//! - `memory`: what is said of the end where an allocation is refused, in the order of the allocations. `; ` parts
-//!   these; numbers behind ` @ ` are the lines or the bytes of one role. `done` stands where the answer is whole all
-//!   the same: a list that is collected asks for its whole length first, and where that is refused for less at a time.
+//! - `asks`: how many allocations it asks for if none fails.
+//! - `memory`: what is said of the end where an allocation is rejected, in the order of the allocations. `; ` parts
+//!   these; numbers after ` @ ` are the lines or the bytes of one role. `done` means that the result is whole
+//!   all the same. A list that is collected asks for its whole length first, and then, if that is rejected, for less at
+//!   a time.
 
 use std::alloc::{AllocError, Global};
 use std::test::Fail;
@@ -50,7 +51,7 @@ pub struct Case<'a> {
     pub texts: Vec<Vec<u8>>,
 }
 
-/// The rest of the first line that begins with this word; nothing where there is none.
+/// The rest of the first line that begins with this word; nothing if there is none.
 pub fn field<'a>(block: &'a str, word: &str) -> &'a str {
     for line in block.lines() {
         if let Some((first, rest)) = line.split_once(' ') {
@@ -117,7 +118,7 @@ impl<'a> Case<'a> {
         })
     }
 
-    /// Whether lines go out one after the other.
+    /// Whether lines go out in turn.
     pub fn prints_lines(&self) -> bool {
         let each = [
             "run keys",
@@ -139,7 +140,7 @@ impl<'a> Case<'a> {
         self.name.starts_with("run")
     }
 
-    /// Whether it is refused for the last line of the file of this role: no more of it is read then, and not its end.
+    /// Whether it is rejected for the last line of the file of this role: no more of it is read then, and not its end.
     pub fn is_refused_for(&self, role: &str) -> bool {
         let place = if self.is_run() { role } else { "line " };
         field(self.block, "end").starts_with(place)
@@ -176,7 +177,7 @@ fn push_ends(
     Ok(())
 }
 
-/// What is said of the ends where an allocation is refused, in their order.
+/// What is said of the ends where an allocation is rejected, in their order.
 pub fn refused_ends(ample: Global, case: &Case) -> Result<Vec<String>, AllocError> {
     let status = if case.is_run() { ", status 4" } else { "" };
     let mut ends = Vec::new(ample);
@@ -200,7 +201,7 @@ pub fn lines_of(ample: Global, texts: &[String]) -> Result<String, AllocError> {
     Ok(lines)
 }
 
-/// The line that is being read behind the first bytes of a text.
+/// The line that is being read after the first bytes of a text.
 pub fn line_behind(text: &[u8], good: usize) -> usize {
     let mut line = 1_usize;
     for byte in text.iter().take(good) {

@@ -1,10 +1,10 @@
 //! Tests of calls in which one allocation, one read or one write fails. Each is tried in turn over one table of calls,
-//! and the same call is made afterwards, over fresh streams and with ample memory.
+//! and the same call is made afterwards, over fresh streams and with enough memory.
 //!
-//! Each public call that takes memory of any allocator stands in the table. Normalization Form D, the words of the
-//! command line and what is said of them take from the global allocator alone, so their allocations are not among those
-//! that fail here: `tools/refusals.py` refuses these in the whole program. Comparing without keys and checking a table
-//! take no memory, and printing a key takes none beyond the key: no allocator is handed to them.
+//! Each public call that takes memory of any allocator is in the table. Normalization Form D, the arguments of
+//! the command line and their errors take memory only from the global allocator. So their allocations are not among
+//! those that fail here: `tools/refusals.py` lets these fail in the whole program. Comparing without keys and checking
+//! a table take no memory, and printing a key takes none beyond the key: they get no allocator.
 #![tactic(auto)]
 
 #[cfg(test)]

@@ -31,7 +31,7 @@ fn said<E: Display + Drop>(ample: Global, answer: Result<(), E>) -> Result<Strin
     }
 }
 
-// What is said of a result without a place.
+// What is said of a result without a position.
 fn said_of_memory(ample: Global, answer: Result<(), AllocError>) -> Result<String, Fail> {
     let said = if answer.is_ok() { "done" } else { "memory" };
     Ok(String::from_str(ample, said)?)
@@ -106,7 +106,7 @@ fn reads_lines(memory: Memory, streams: &mut Streams) -> Result<String, Fail> {
     Ok(String::from_str(memory.ample, "done")?)
 }
 
-/// Rules of three relations, of which one has an expansion.
+/// Rules of three relations. One has an expansion.
 const RULES: &str = "&a < x / b &b << y = z";
 
 fn push_text(found: &mut String, text: &Normal) -> Result<(), AllocError> {
@@ -206,7 +206,7 @@ const OTHER: CodePointRange = CodePointRange {
     last: '\u{20FFF}',
 };
 
-// Properties that are added one after the other.
+// Properties that are added one at a time.
 fn makes_properties(memory: Memory, streams: &mut Streams) -> Result<(), RangeFault> {
     let mut data = Data::new(memory.tried);
     data.add_class(ABOVE)?;
@@ -250,7 +250,7 @@ fn text_of_keys(ample: Global, keys: &[&[char]]) -> Result<String, AllocError> {
     Ok(text)
 }
 
-// The keys of a table, lent.
+// The keys of a table, borrowed.
 fn makes_key_list(memory: Memory, streams: &mut Streams, table: &Table) -> Result<(), AllocError> {
     let keys = key_list(memory.tried, &table.rows)?;
     let text = text_of_keys(memory.ample, &keys)?;
@@ -258,9 +258,10 @@ fn makes_key_list(memory: Memory, streams: &mut Streams, table: &Table) -> Resul
     Ok(())
 }
 
-// A map of the keys of a table to their positions. Of the seven keys of `contractions` it asks for 10 allocations: their
-// sorted list, the nine nodes (for 4, 8 and 16), the edges of the root (for 4 and 8) and of three other nodes, and the
-// first steps. A trie of that table asks for the list of the keys, that of the rows, and each of these too.
+// A map of the keys of a table to their positions. For the seven keys of `contractions` it asks for 10 allocations.
+// These are their sorted list, the nine nodes (for 4, 8 and 16), and the first steps. Then the edges of the root (for 4
+// and 8), and those of three other nodes. A trie of that table asks for the list of the keys, that of the rows, and
+// each of these too.
 fn map_of<'a>(memory: Memory<'a>, table: &Table) -> Result<KeyMap<&'a Refusing>, AllocError> {
     let keys = key_list(memory.ample, &table.rows)?;
     KeyMap::new(memory.tried, &keys)

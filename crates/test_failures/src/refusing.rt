@@ -1,11 +1,11 @@
-//! The allocator that refuses.
+//! The allocator that rejects an allocation.
 
 use std::alloc::{AllocError, Allocator, Global};
 use std::test::Fail;
 use test_kit::holds;
 use test_kit_allocator::Refusing;
 
-// Two lists in it, where this allocation is refused.
+// Two lists in it, when this allocation is rejected.
 fn has_two(tried: &Refusing, number: Option<u32>) -> bool {
     tried.refuse(number);
     two(tried).is_ok()
@@ -16,7 +16,7 @@ fn two(tried: &Refusing) -> Result<u32, AllocError> {
     held_with_another(tried, &first)
 }
 
-// How many blocks are held where there is another list.
+// How many blocks are out when there is another list.
 fn held_with_another(tried: &Refusing, first: &[u8]) -> Result<u32, AllocError> {
     let second = Vec::from_slice(tried, b"two")?;
     let held = tried.held();
@@ -24,7 +24,7 @@ fn held_with_another(tried: &Refusing, first: &[u8]) -> Result<u32, AllocError> 
     Ok(held)
 }
 
-/// The allocation of two that is refused, how many are asked for, and whether one of them is refused.
+/// The allocation of two that is rejected, how many are asked for, and whether one of them is rejected.
 const CASES: [(Option<u32>, u32, bool, &str); 4] = [
     (Some(0), 1, true, "the first"),
     (Some(1), 2, true, "the second"),
@@ -62,7 +62,7 @@ fn check_growth<A: Allocator>(
     holds(list.len() == 101 && tried.held() == 1, "the next growth")
 }
 
-// A list that has to grow, and keeps what it held where it cannot.
+// A list that has to grow, and keeps what it had if it cannot.
 fn grown(ample: Global, tried: &Refusing) -> Result<(), Fail> {
     let mut list = Vec::from_slice(tried, b"a")?;
     let more = Vec::from_slice(ample, &[b'b'; 100])?;

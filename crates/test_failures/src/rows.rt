@@ -24,7 +24,7 @@ fn place_of(roles: &str, name: &str) -> usize {
     place.unwrap_or(NONE)
 }
 
-// The stream fails in each way after so many bytes, with the end of the case.
+// The stream fails in each way after this many bytes, with the end of the case.
 fn check_failing(trial: Trial, fails: &str) -> Result<(), Fail> {
     let (name, good) = fails.split_once(' ').ok_or("a stream without bytes")?;
     let wanted = Wanted {
@@ -34,7 +34,7 @@ fn check_failing(trial: Trial, fails: &str) -> Result<(), Fail> {
     check_each_way(trial, good.parse::<usize>()?, wanted)
 }
 
-// What comes of the call where the allocation of this number is refused.
+// How the call ends if the allocation of this number is rejected.
 fn refused(trial: Trial, number: u32) -> Result<Answer, Fail> {
     trial.memory.tried.refuse(Some(number));
     let found = answered(trial.memory, trial.case, Trouble::none(usize::MAX))?;
@@ -44,7 +44,7 @@ fn refused(trial: Trial, number: u32) -> Result<Answer, Fail> {
     Err(Fail::new(trial.case.block))
 }
 
-// The number of the first allocation from this one on that is refused with this end.
+// The number of the first allocation from this one on that is rejected with this end.
 fn refused_with(trial: Trial, first: u32, end: &str) -> Result<u32, Fail> {
     for number in first..1000 {
         if refused(trial, number)?.end.as_str() == end {
@@ -54,7 +54,7 @@ fn refused_with(trial: Trial, first: u32, end: &str) -> Result<u32, Fail> {
     Err(Fail::new(end))
 }
 
-// After the first allocation that is refused with an end of the call, one is refused with the end of the case.
+// After the first allocation that is rejected with an end of the call, one is rejected with the end of the case.
 fn check_refused(trial: Trial, after: &str) -> Result<(), Fail> {
     let end = after.strip_prefix("after ").ok_or("refused after nothing")?;
     let first = refused_with(trial, 0, end)?;

@@ -1,4 +1,4 @@
-//! The calls behind the commands.
+//! The calls after the commands.
 
 use crate::answers::Memory;
 use crate::streams::Streams;
@@ -131,7 +131,7 @@ fn written(fault: &RunFault) -> Option<u64> {
     }
 }
 
-// The line of a fault and its status, and how much was written before it.
+// The line of an error and its status, and how much was written before it.
 fn told(ample: Global, fault: &RunFault) -> Result<String, Fail> {
     let mut out = Sink::new(Vec::new(ample));
     let mut err = Sink::new(Vec::new(ample));

@@ -1,4 +1,4 @@
-//! The streams of a call, of which one may fail.
+//! The streams of a call. One of them may fail.
 
 use std::alloc::Global;
 use test_kit::{Calls, FakeReader, FakeWriter, Pace};
@@ -23,7 +23,7 @@ pub struct Trouble {
 }
 
 impl Trouble {
-    /// No stream fails, and a call takes at most so many bytes.
+    /// No stream fails, and a call takes at most this many bytes.
     pub fn none(step: usize) -> Trouble {
         Trouble {
             stream: NONE,
@@ -40,13 +40,13 @@ impl Trouble {
     }
 }
 
-/// The calls of the streams. Where a reader fails a writer may be called after it: keys of lines before go out then. Where
-/// a writer fails no stream is called after it.
+/// The calls of the streams. If a reader fails, a writer may be called after it: keys of lines before go out then.
+/// Where a writer fails no stream is called after it.
 #[derive(Drop)]
 pub struct AllCalls {
-    /// Those of the readers where one of them fails.
+    /// Those of the readers if one of them fails.
     pub reads: Calls,
-    /// Those of the writers, and of the readers where none of them fails.
+    /// Those of the writers, and of the readers if none of them fails.
     pub writes: Calls,
 }
 
@@ -98,7 +98,7 @@ pub struct Streams<'a> {
     pub out: Sink<FakeWriter<'a>>,
 }
 
-// The text of a stream: one behind the last is empty.
+// The text of a stream: one after the last is empty.
 fn text_at(texts: &[Vec<u8>], stream: usize) -> &[u8] {
     match texts.get(stream) {
         Some(text) => text.as_slice(),

@@ -21,7 +21,7 @@ const WAYS: [(Failure, usize); 3] = [
 /// More allocations than any call asks for.
 const MOST: u32 = 10_000;
 
-/// What goes out where nothing fails.
+/// What goes out if nothing fails.
 #[derive(Drop)]
 pub struct Whole {
     /// To the output.
@@ -37,7 +37,7 @@ pub struct Trial<'a> {
     pub memory: Memory<'a>,
     /// The case.
     pub case: &'a Case<'a>,
-    /// What goes out where nothing fails.
+    /// What goes out if nothing fails.
     pub whole: &'a Whole,
     /// Whether the call is made again after each failure.
     pub is_repeated: bool,
@@ -77,7 +77,7 @@ impl<'a> Trial<'a> {
         }
     }
 
-    // The same where this stream fails with this end, and this has gone out.
+    // The same if this stream fails with this end, and this has gone out.
     fn failing(self, end: &'a str, stream: usize, out: &'a [u8], file: &'a [u8]) -> Wanted<'a> {
         Wanted {
             end,
@@ -100,7 +100,7 @@ impl<'a> Trial<'a> {
     }
 }
 
-// How many lines of the input stand before the one that an end names.
+// How many lines of the input come before the one that an end names.
 fn lines_before(end: &str) -> usize {
     let Some(rest) = end.strip_prefix("input line ") else {
         return 0;
@@ -121,14 +121,14 @@ fn first_bytes(text: &[u8], count: usize) -> &[u8] {
     }
 }
 
-/// Nothing fails: the answer is whole.
+/// Nothing fails: the result is whole.
 pub fn check_whole(trial: Trial, step: usize) -> Result<(), Fail> {
     trial.memory.tried.refuse(None);
     let found = answered(trial.memory, trial.case, Trouble::none(step))?;
     found.check(trial.wanted(), trial.case.name)
 }
 
-// What comes of the call where the allocation of this number is refused; None where it asks for no more.
+// How the call ends if the allocation of this number is rejected; `None` if it asks for fewer.
 fn refused(trial: Trial, number: u32) -> Result<Option<Answer>, Fail> {
     trial.memory.tried.refuse(Some(number));
     let found = answered(trial.memory, trial.case, Trouble::none(usize::MAX))?;
@@ -140,7 +140,7 @@ fn refused(trial: Trial, number: u32) -> Result<Option<Answer>, Fail> {
     Ok(Some(found))
 }
 
-// An answer where an allocation was refused: a whole one, or what goes out before this end.
+// A result when an allocation was rejected: a whole one, or what goes out before this end.
 fn check_end(trial: Trial, found: &Answer) -> Result<(), Fail> {
     let whole = trial.wanted();
     if found.end.as_str() == whole.end {
@@ -162,7 +162,7 @@ fn push_end(ends: &mut Vec<String>, end: String) -> Result<(), Fail> {
     Ok(())
 }
 
-// The ends where one allocation after the other is refused. The call answers afterwards as if nothing had been.
+// The ends when one allocation after the other is rejected. Afterwards the call returns as if nothing had happened.
 fn ends_of_refusals(trial: Trial) -> Result<Vec<String>, Fail> {
     let mut ends = Vec::new(trial.memory.ample);
     for number in 0..MOST {
@@ -175,7 +175,7 @@ fn ends_of_refusals(trial: Trial) -> Result<Vec<String>, Fail> {
     Err(Fail::new("allocations without end"))
 }
 
-// Each allocation is refused in turn: they are as many as the case says, and the ends are its ends, in their order.
+// Each allocation is rejected in turn: they are as many as the case says, and the ends are its ends, in their order.
 fn check_allocations(trial: Trial) -> Result<(), Fail> {
     let ample = trial.memory.ample;
     let found = ends_of_refusals(trial)?;
@@ -190,7 +190,7 @@ fn check_allocations(trial: Trial) -> Result<(), Fail> {
     )
 }
 
-// A stream has failed, and this is the answer.
+// A stream has failed, and this is the result.
 fn check_broken_answer(trial: Trial, found: &Answer, wanted: Wanted) -> Result<(), Fail> {
     holds(found.is_broken, wanted.end)?;
     found.check(wanted, trial.case.name)
@@ -204,8 +204,8 @@ fn check_broken(trial: Trial, trouble: Trouble, wanted: Wanted) -> Result<(), Fa
     check_broken_answer(trial, &found, wanted)
 }
 
-/// The same in each way in which a stream fails after so many bytes. The call answers afterwards as if nothing had
-/// been.
+/// The same in each way in which a stream fails after this many bytes. Afterwards the call returns as if nothing
+/// had happened.
 pub fn check_each_way(trial: Trial, good: usize, wanted: Wanted) -> Result<(), Fail> {
     let stream = wanted.stream;
     let ways = if stream < READ { 2 } else { 3 };
@@ -219,7 +219,7 @@ pub fn check_each_way(trial: Trial, good: usize, wanted: Wanted) -> Result<(), F
     check_whole(trial, 7)
 }
 
-// What is said of the end where a reader fails in a line.
+// What is said of the end if a reader fails in a line.
 fn read_end(trial: Trial, role: &str, line: usize) -> Result<String, AllocError> {
     let ample = trial.memory.ample;
     if role == "rules" {
@@ -246,7 +246,7 @@ fn check_reader(trial: Trial, stream: usize, role: &str) -> Result<(), Fail> {
     Ok(())
 }
 
-// The same of each reader in turn.
+// The same for each reader in turn.
 fn check_readers(trial: Trial) -> Result<(), Fail> {
     if trial.case.roles.is_empty() {
         return Ok(());
@@ -259,7 +259,7 @@ fn check_readers(trial: Trial) -> Result<(), Fail> {
     Ok(())
 }
 
-// What is said of the end where a writer fails after so many bytes.
+// What is said of the end if a writer fails after this many bytes.
 fn write_end(trial: Trial, role: &str, good: usize) -> Result<String, AllocError> {
     let ample = trial.memory.ample;
     if trial.case.is_run() {
@@ -300,7 +300,7 @@ fn check_writers(trial: Trial) -> Result<(), Fail> {
     check_output(trial)
 }
 
-// Streams that give or take so many bytes a call.
+// Streams that give or take this many bytes a call.
 fn check_paces(trial: Trial) -> Result<(), Fail> {
     for step in [1, 2, 3, 7, 64, usize::MAX] {
         check_whole(trial, step)?;
@@ -340,7 +340,7 @@ fn check_case(
     check_trial(trial, failing)
 }
 
-/// Tries each case of a table. In so many runs a reader or a writer fails.
+/// Tries each case of a table. In this many runs a reader or a writer fails.
 pub fn check_cases(ample: Global, cases: &str, failing: Failing, runs: u32) -> Result<(), Fail> {
     let broken = Cell::new(0);
     for block in cases.split("\n\n") {

@@ -1,4 +1,4 @@
-//! Values that calls are handed, made in ample memory.
+//! Values that calls are given, made with enough memory.
 
 use crate::cases::{CERTIFICATE, DATA, RULES, TABLE, TAILORED};
 use std::alloc::{Allocator, Global};
@@ -16,7 +16,7 @@ use uca_weights::Depth::Weights;
 use uca_weights::Source;
 use uca_weights::Weighting::NonIgnorable;
 
-/// Letters, accents, and contractions whose first letters have rows behind them or none.
+/// Letters, accents, and contractions whose first letters have rows after them or none.
 const CONTRACTIONS: &str = "@version 1\n\
     0061 0301 0300 ; [.1C58.0020.0002]\n\
     0078 0301 ; [.1C90.0020.0002]\n\

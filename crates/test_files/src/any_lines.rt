@@ -1,4 +1,4 @@
-//! Files of any lines: what the reading of files says of every kind of line holds of these.
+//! Files of any lines: what the reading of files says of every kind of line is true of these.
 
 use std::alloc::{AllocError, Global};
 use std::test::Fail;
@@ -39,7 +39,7 @@ impl MayEndEarly for AnyLines {
     ghost is_unfinished = { λ _. ⊥ };
 }
 
-/// A file, and how many lines it has or why it is refused.
+/// A file, and how many lines it has or why it is rejected.
 const FILES: &str = " | Ok(0)
 a | Err(LineFileFault { line: 1, kind: Line })";
 

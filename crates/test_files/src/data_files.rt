@@ -1,4 +1,4 @@
-//! Data files: each fault, each order of two causes in one line, and what accepted files say.
+//! Data files: each error, each order of two causes in one line, and what accepted files say.
 
 use std::alloc::{AllocError, Global};
 use std::test::Fail;
@@ -6,7 +6,7 @@ use test_kit::{bytes_of, code_point, data_of, halves, is_remark, repeated, same}
 use uca_values::Data;
 use uca_weights::Source;
 
-/// Why a file is refused, or how many ranges of each kind its data has.
+/// Why a file is rejected, or how many ranges of each kind its data has.
 fn said(alloc: Global, file: &[u8]) -> Result<String, AllocError> {
     let mut source = Source::new(file);
     let answer = data_of(alloc, &mut source);
@@ -198,7 +198,7 @@ fn many_ranges(alloc: Global) -> Result<String, AllocError> {
     Ok(text)
 }
 
-/// What follows 4096 ranges of each kind, and what is said. A range that overlaps is refused as that.
+/// What follows 4096 ranges of each kind, and what is said. A range that overlaps is rejected for that cause.
 const AFTER_RANGES: &str = r" | 4096 classes, 4096 core, 4096 other
 ccc 3000..3000 1\n | line 12290: Limit
 core 3000..3000\n | line 12290: Limit
@@ -216,13 +216,13 @@ fn at_most_4096_lines_of_a_kind(rt: HostRuntime) -> Result<(), Fail> {
     Ok(())
 }
 
-/// How many bytes a comment has with its `#`, what stands after it, and what is said.
+/// How many bytes a comment has with its `#`, what comes after it, and what is said.
 const LONG_LINES: &str = r"4096\n | 0 classes, 0 core, 0 other
 4097\n | line 2: Limit
 4096 | line 2: Line
 4097 | line 2: Limit";
 
-/// A header, and a comment of so many bytes.
+/// A header, and a comment of this many bytes.
 fn with_comment(alloc: Global, count: usize) -> Result<String, AllocError> {
     let dashes = repeated(alloc, "-", count.saturating_sub(1))?;
     format!(in alloc; "@data 1\n#{dashes}")

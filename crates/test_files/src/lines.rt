@@ -26,7 +26,7 @@ fn fault_name(fault: LineFault) -> &'static str {
     }
 }
 
-/// The next line and what came of it, or the fault's name, in the memory of an allocator.
+/// The next line and its kind, or the error's name, in the memory of an allocator.
 fn next_in<A: Allocator, R: Read>(
     reader: &mut LineReader,
     source: &mut Source<R>,
@@ -38,7 +38,7 @@ fn next_in<A: Allocator, R: Read>(
     }
 }
 
-/// All lines of a source, each with what came of it.
+/// All lines of a source, each with its kind.
 fn lines_of<R: Read>(
     alloc: Global,
     source: &mut Source<R>,
@@ -70,7 +70,7 @@ abc\nabc | abc+abc-$
 abc\nabcd\n | abc+TooLong
 abcd | TooLong";
 
-/// The lines of a text over a reader that gives so many bytes a call.
+/// The lines of a text over a reader that gives this many bytes a call.
 fn lines_at(alloc: Global, text: &[u8], step: usize) -> Result<Vec<u8>, AllocError> {
     let calls = Calls::new();
     let mut source = Source::new(FakeReader::new(text, Pace::steps(step), &calls));
@@ -132,7 +132,7 @@ fn check_line(alloc: Global, text: &[u8], step: usize, name: &str) -> Result<(),
     holds(is_line && is_end, "another line, or no end")
 }
 
-/// A line of so many bytes, without LF and with it.
+/// A line of this many bytes, without LF and with it.
 fn check_length(alloc: Global, length: usize, step: usize) -> Result<(), Fail> {
     let mut text = vec![in alloc; b'x'; length]?;
     check_line(alloc, &text, step, if length == 0 { "$" } else { "-" })?;

@@ -27,7 +27,7 @@ fn write_in_pieces(
     buffer.flush(out)
 }
 
-/// All goes out in order, by so many calls at most.
+/// All goes out in order, by this many calls at most.
 fn check_pieces(alloc: Global, text: &[u8], piece: usize, most: u32) -> Result<(), Fail> {
     let calls = Calls::new();
     let mut out = Sink::new(FakeWriter::new(alloc, Pace::steps(usize::MAX), &calls));
@@ -62,7 +62,7 @@ fn each_length_in_pieces(rt: HostRuntime) -> Result<(), Fail> {
     Ok(())
 }
 
-/// A fault says how many bytes went out of all.
+/// An error says how many of all bytes went out.
 fn check_failed(alloc: Global, text: &[u8], failure: Failure, good: usize) -> Result<(), Fail> {
     let calls = Calls::new();
     let pace = Pace::failing(usize::MAX, good, failure);

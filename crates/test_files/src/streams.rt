@@ -9,7 +9,7 @@ use uca_weights::{Sink, Source, WriteFault};
 /// What came of writing to a writer in memory.
 #[derive(Drop)]
 pub struct Written {
-    /// How many bytes went out before a fault, as that says, if there was one.
+    /// How many bytes went out before an error, as the error says, if there was one.
     fault: Option<u64>,
     /// Whether the sink says that it failed.
     is_failed: bool,
@@ -36,7 +36,7 @@ impl Written {
         holds(is_sound && self.text.as_slice() == text, "not all")
     }
 
-    /// Fails unless so many bytes of a text went out before a fault that says so, and nothing was tried again.
+    /// Fails unless this many bytes of a text went out before an error that says so, and nothing was tried again.
     pub fn check_cut(&self, text: &[u8], good: usize) -> Result<(), Fail> {
         let is_told = self.fault == Some(good as u64) && self.is_failed && !self.is_late;
         let is_cut = Some(self.text.as_slice()) == text.get(..good);
@@ -50,7 +50,7 @@ pub const STEPS: [usize; 7] = [1, 2, 3, 7, 4095, 4096, 4097];
 /// The most bytes of a text.
 pub const LONGEST: usize = 20_000;
 
-/// So many bytes, no two neighbours of which are equal.
+/// This many bytes. No two neighbours are equal.
 pub fn many_bytes(alloc: Global, count: usize) -> Result<Vec<u8>, AllocError> {
     let mut text = Vec::new(alloc);
     for at in 0..count {
@@ -84,7 +84,7 @@ fn check_read(alloc: Global, text: &[u8], step: usize) -> Result<(), Fail> {
     )
 }
 
-/// A sink hands all bytes to a sound writer, and has not failed.
+/// A sink writes all bytes to a writer without errors, and has not failed.
 fn check_write(alloc: Global, text: &[u8], step: usize) -> Result<(), Fail> {
     let calls = Calls::new();
     let mut sink = Sink::new(FakeWriter::new(alloc, Pace::steps(step), &calls));
@@ -119,7 +119,7 @@ fn lengths_in_steps(rt: HostRuntime) -> Result<(), Fail> {
     Ok(())
 }
 
-/// A call that fails is told and remembered, and not made again; the next call goes on.
+/// A call that fails gives an error, is remembered, and is not made again; the next call goes on.
 fn check_failed_read(kind: ErrorKind, good: usize) -> Result<(), Fail> {
     let calls = Calls::new();
     let pace = Pace::failing(1, good, Failure::Error(kind));

@@ -1,4 +1,4 @@
-//! Table files: each fault, each order of two causes in one line, and what accepted files say.
+//! Table files: each error, each order of two causes in one line, and what accepted files say.
 
 use std::alloc::{AllocError, Global};
 use std::test::Fail;
@@ -7,7 +7,7 @@ use test_kit::{
 };
 use uca_weights::Source;
 
-/// Why a file is refused, or how many ranges and rows its table has.
+/// Why a file is rejected, or how many ranges and rows its table has.
 fn said(alloc: Global, file: &[u8]) -> Result<String, AllocError> {
     let mut source = Source::new(file);
     let answer = table_of(alloc, &mut source);
@@ -95,7 +95,7 @@ fn files_and_headers(rt: HostRuntime) -> Result<(), Fail> {
     Ok(())
 }
 
-/// What comes before the third line, the line, and why it is refused.
+/// What comes before the third line, the line, and why it is rejected.
 fn check_third_line(alloc: Global, before: &str, case: &str) -> Result<(), Fail> {
     if is_remark(case) {
         return Ok(());
@@ -292,7 +292,7 @@ fn many_rows(alloc: Global) -> Result<String, AllocError> {
     Ok(text)
 }
 
-/// What follows 200,000 rows, and what is said. A key that stands already comes first.
+/// What follows 200,000 rows, and what is said. A key that comes twice is the first cause.
 const AFTER_ROWS: &str = r" | 0 ranges, 200000 rows
 0061 ; [.0001.0001.0001]\n | line 200002: Limit
 0061 0061 ; [.0001.0001.0001]\n | line 200002: DuplicateKey";
@@ -306,7 +306,7 @@ fn at_most_200_000_rows(rt: HostRuntime) -> Result<(), Fail> {
     Ok(())
 }
 
-/// How many bytes a comment has with its `#`, what stands after it, and what is said.
+/// How many bytes a comment has with its `#`, what comes after it, and what is said.
 const LONG_LINES: &str = r"4096\n | 0 ranges, 0 rows
 4097\n | line 2: Limit
 4096 | line 2: Line
@@ -327,8 +327,8 @@ fn long_lines(rt: HostRuntime) -> Result<(), Fail> {
     Ok(())
 }
 
-/// The first bytes of a table: with none the version is missing, behind an LF they are a table, and elsewhere the line
-/// that is cut is refused.
+/// The first bytes of a table. With no bytes the version is missing. Up to an LF they are a table. Elsewhere the line
+/// that is cut is rejected.
 fn check_cut(alloc: Global, table: &[u8], number: usize) -> Result<(), Fail> {
     let found = said(alloc, table)?;
     if table.is_empty() {
@@ -341,7 +341,7 @@ fn check_cut(alloc: Global, table: &[u8], number: usize) -> Result<(), Fail> {
     holds(found.starts_with(&line), &found)
 }
 
-/// The table cut behind each of its bytes.
+/// The table cut after each of its bytes.
 #[test]
 fn cut_tables(rt: HostRuntime) -> Result<(), Fail> {
     let table = TABLE.as_bytes();

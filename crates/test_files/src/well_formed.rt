@@ -7,7 +7,7 @@ use uca_check::{IllFormed, check};
 use uca_values::{Data, Table};
 use uca_weights::Source;
 
-/// The changed row of a number, if there is one. Changes stand as `NUMBER: ROW`, with ` / ` between them.
+/// The changed row of a number, if there is one. Changes are written `NUMBER: ROW`, with ` / ` between them.
 fn change_at<'a>(changes: &'a str, number: usize) -> Option<&'a str> {
     for change in changes.split(" / ") {
         if let Some((digits, row)) = change.split_once(": ")
@@ -28,7 +28,7 @@ fn push_row(text: &mut String, row: Option<&str>) -> Result<(), AllocError> {
     text.push('\n')
 }
 
-/// The small table with changed rows, which take the place of its own or follow them.
+/// The small table with changed rows, which replace its own rows or follow them.
 fn with_changes(alloc: Global, changes: &str) -> Result<String, AllocError> {
     let mut text = String::from_str(alloc, "@version 1\n")?;
     let mut rows = TABLE.lines().skip(2);

@@ -38,8 +38,8 @@ fn escaped(escape: Escape, byte: u8) -> u8 {
     }
 }
 
-/// The bytes that a field of a case stands for: `\n`, `\t` and `\r` are LF, tab and carriage return, `\x41`
-/// is the byte 41, `\` before another byte is left out, and all else stands for itself.
+/// The bytes that a field of a case stands for. `\n`, `\t` and `\r` are LF, tab and carriage return, and `\x41` is the
+/// byte 41. A `\` before another byte is left out, and all else stands for itself.
 pub fn bytes_of(alloc: Global, field: &str) -> Result<Vec<u8>, AllocError> {
     let mut bytes = Vec::new(alloc);
     let mut escape = Escape::Outside;
@@ -99,7 +99,7 @@ pub fn same_bytes(found: &[u8], wanted: &[u8], case: &str) -> Result<(), Fail> {
     holds(found == wanted, case)
 }
 
-/// The parts, one after the other.
+/// The parts, put together in their order.
 pub fn joined(alloc: Global, parts: &[&str]) -> Result<String, AllocError> {
     let mut text = String::new(alloc);
     for part in parts {
@@ -108,7 +108,7 @@ pub fn joined(alloc: Global, parts: &[&str]) -> Result<String, AllocError> {
     Ok(text)
 }
 
-/// A part so many times.
+/// A part this many times.
 pub fn repeated(alloc: Global, part: &str, count: usize) -> Result<String, AllocError> {
     let mut text = String::new(alloc);
     for _ in 0..count {

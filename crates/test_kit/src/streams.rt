@@ -67,7 +67,7 @@ pub struct Pace {
 }
 
 impl Pace {
-    /// Calls of `step` bytes at most, none of which fails.
+    /// Calls of `step` bytes at most. None of them fails.
     pub fn steps(step: usize) -> Pace {
         Pace {
             step,

@@ -1,4 +1,4 @@
--- The three functions that count, at a call: what each is handed, and what a caller has of it. Assumes `Logic`.
+-- The three functions that count, at a call: what each is given, and what a caller knows of it. Assumes `Logic`.
 use mathlib.Core.Bool.{Bool}
 use Rattle.std.proofs.Common.{◌≡◌, ℕ, List, [], ◌∷◌, refl, ap}
 use seplogic.Ra.Ura.{Ura}

@@ -1,4 +1,4 @@
-//! What is counted behind a `&`.
+//! What is counted, also through a `&`.
 
 use std::cell::Cell;
 
@@ -7,14 +7,14 @@ use std::cell::Cell;
 pub struct Counts {
     /// How many were asked since the last choice.
     pub asked: Cell<u32>,
-    /// Which of them is refused, counted from 0.
+    /// Which of them is rejected, counted from 0.
     pub refused: Cell<Option<u32>>,
-    /// The blocks that are held.
+    /// The blocks that are out: given to callers, and not given back.
     pub held: Cell<u32>,
 }
 
 impl Counts {
-    /// Nothing was asked, is refused or held.
+    /// Nothing was asked, nothing is rejected, and no block is out.
     pub const fn new() -> Counts {
         Counts {
             asked: Cell::new(0),
@@ -23,14 +23,14 @@ impl Counts {
         }
     }
 
-    /// Counts an allocation, and says whether it is the one that is refused.
+    /// Counts an allocation, and says whether it is the one that is rejected.
     pub fn is_refused(&self) -> bool {
         let asked = self.asked.get();
         self.asked.set(asked.saturating_add(1));
         self.refused.get() == Some(asked)
     }
 
-    /// A block was handed out.
+    /// A block was given to a caller.
     pub fn take(&self) {
         self.held.set(self.held.get().saturating_add(1));
     }

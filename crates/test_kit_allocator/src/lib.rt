@@ -1,4 +1,4 @@
-//! For tests: an allocator that refuses one allocation, so that each allocation of a call can fail in turn.
+//! For tests: an allocator that rejects one allocation, so that each allocation of a call can fail in turn.
 #![tactic(auto)]
 
 mod counts;

@@ -3,7 +3,7 @@
 use crate::counts::Counts;
 use std::alloc::{AllocError, Allocator, Global};
 
-/// An allocator that hands on to another, and refuses the allocation that a test chooses. A `&` to it is an
+/// An allocator that uses another one, and rejects the allocation that a test chooses. A `&` to it is an
 /// allocator too, which collections copy: all of them are counted here together.
 pub struct Refusing<A: Allocator = Global> {
     inner: A,
@@ -11,7 +11,7 @@ pub struct Refusing<A: Allocator = Global> {
 }
 
 impl<A: Allocator> Refusing<A> {
-    /// One that refuses nothing.
+    /// An allocator that rejects nothing.
     pub fn new(inner: A) -> Refusing<A> {
         Refusing {
             inner,
@@ -19,19 +19,19 @@ impl<A: Allocator> Refusing<A> {
         }
     }
 
-    /// From now on the allocations are counted from 0 again, and that of this number is refused; `None` refuses none.
-    /// A growth is an allocation.
+    /// From now on the allocations are counted from 0 again, and that of this number is rejected; `None` rejects none.
+    /// A block that grows counts as an allocation.
     pub fn refuse(&self, number: Option<u32>) {
         self.counts.asked.set(0);
         self.counts.refused.set(number);
     }
 
-    /// How many allocations were asked since the last choice, with the one that was refused.
+    /// How many allocations were asked since the last choice, with the one that was rejected.
     pub fn asked(&self) -> u32 {
         self.counts.asked.get()
     }
 
-    /// How many blocks are held: they were handed out, and not given back.
+    /// How many blocks are out: they were given to callers, and not given back.
     pub fn held(&self) -> u32 {
         self.counts.held.get()
     }

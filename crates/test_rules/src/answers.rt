@@ -31,8 +31,8 @@ pub fn text_of(alloc: Global, field: &str) -> Result<String, Fail> {
     Ok(text)
 }
 
-/// Adds a code point with its class: an ASCII letter or digit as it is, another one as in a field, with the class after a
-/// dot where it is not 0.
+/// Adds a code point with its class: an ASCII letter or digit as it is, another one as in a field. The class comes
+/// after a dot, if it is not 0.
 fn push_point(words: &mut String, point: char, class: u8) -> Result<(), AllocError> {
     let alloc = *words.allocator();
     let code = u32::from(point);
@@ -93,7 +93,7 @@ fn relations(alloc: Global, rules: &Rules) -> Result<String, AllocError> {
     Ok(words)
 }
 
-/// Why rules are refused. Where an allocation failed that is the error, and its byte is one of the rules or their end.
+/// Why rules are rejected. If an allocation failed, that is the error, and its byte is one of the rules or their end.
 fn refusal(alloc: Global, rules: &[u8], fault: RuleFault) -> Result<String, Fail> {
     let RuleFault { byte, kind } = fault;
     if kind == RuleFaultKind::Memory {
@@ -103,7 +103,7 @@ fn refusal(alloc: Global, rules: &[u8], fault: RuleFault) -> Result<String, Fail
     Ok(format!(in alloc; "{kind} at {byte}")?)
 }
 
-/// The relations that rules mean, or why they are refused.
+/// The relations that rules mean, or why they are rejected.
 pub fn said(alloc: Global, data: &Data, rules: &[u8]) -> Result<String, Fail> {
     match read_rules(alloc, rules, data) {
         Ok(read) => Ok(relations(alloc, &read)?),
@@ -111,7 +111,7 @@ pub fn said(alloc: Global, data: &Data, rules: &[u8]) -> Result<String, Fail> {
     }
 }
 
-/// How many relations rules mean, or why they are refused.
+/// How many relations rules mean, or why they are rejected.
 pub fn counted(alloc: Global, data: &Data, rules: &[u8]) -> Result<String, Fail> {
     match read_rules(alloc, rules, data) {
         Ok(read) => Ok(format!(in alloc; "{} relations", read.relations().len())?),

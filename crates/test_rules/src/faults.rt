@@ -1,4 +1,4 @@
-//! Rules that are refused, with the fault that is named where there are several.
+//! Rules that are rejected, with the error that is named where there are several.
 
 use crate::answers::{check_all, check_rules, classes, said};
 use std::alloc::Global;

@@ -1,4 +1,4 @@
-//! Tests of the reader of rules: which of several faults is named, values that come from outside, the limits, and the
+//! Tests of the reader of rules: which of several errors is named, values that come from outside, the limits, and the
 //! rules of `examples/`. Cases are lines of text.
 #![tactic(auto)]
 

@@ -1,5 +1,5 @@
-//! The limits of rules, on both sides. Built and run they take a second or two; `rt try`, which checks each step as it
-//! runs, takes a thousand times as long, and gives up after its minute unless `--seconds` says otherwise.
+//! The limits of rules, on both sides. Built and run they take a second or two. `rt try`, which checks each step as it
+//! runs, takes a thousand times as long. It stops after its minute unless `--seconds` says otherwise.
 
 use crate::answers::{classes, counted, text_of};
 use std::alloc::{AllocError, Global};
@@ -12,7 +12,7 @@ fn push_relation(alloc: Global, rules: &mut String, number: u16) -> Result<(), A
     rules.push_str(&format!(in alloc; "<\\U{:08X}", 0x20000 + u32::from(number))?)
 }
 
-/// So many relations in one chain, of 11 bytes each, after 2 bytes.
+/// This many relations in one chain, of 11 bytes each, after 2 bytes.
 fn many_relations(alloc: Global, count: u16) -> Result<String, AllocError> {
     let mut rules = String::from_str(alloc, "&a")?;
     for number in 0..count {
@@ -101,13 +101,13 @@ const LONG: &str =
 &a<*\xF0\x90\x80\x80-\xF0\x91\x8E\x87 | # | 1 |  | 5000 relations
 &a<*\xF0\x90\x80\x80-\xF0\x91\x8E\x88 | # | 1 |  | Limit at 9";
 
-/// Adds a part so many times.
+/// Adds a part this many times.
 fn push_parts(alloc: Global, rules: &mut Vec<u8>, part: &str, count: usize) -> Result<(), Fail> {
     let part = text_of(alloc, part)?;
     Ok(rules.extend_from_slice(repeated(alloc, &part, count)?.as_bytes())?)
 }
 
-/// Rules of a beginning, a part so many times and an end.
+/// Rules of a beginning, a part this many times, and an end.
 fn long_rules(alloc: Global, parts: (&str, &str, &str, &str)) -> Result<Vec<u8>, Fail> {
     let (start, part, count, end) = parts;
     let mut rules = bytes_of(alloc, start)?;

@@ -107,8 +107,8 @@ const EVERY_KIND_MEANS: &str =
     "before b(20)c < x(27)y(2D) / it(27)z; x(27)y(2D) << p; p << q; q << r; r << s; s << u; \
     u = e(301.230)f / g; a <<< Ae(301.230); k << (27)ab";
 
-/// The reader takes the global allocator alone, so no heap of a test can refuse it memory. `rt try --test --fail-alloc N`
-/// refuses the Nth allocation of each test: then this one ends by `Memory`.
+/// The reader takes the global allocator alone, so no heap of a test can make it run out of memory.
+/// `rt try --test --fail-alloc N` rejects the Nth allocation of each test: then this one ends by `Memory`.
 #[test]
 fn rules_of_every_kind(rt: HostRuntime) -> Result<(), Fail> {
     let data = classes(rt.alloc())?;

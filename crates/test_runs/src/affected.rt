@@ -16,7 +16,7 @@ type Texts<'a> = [&'a [u8]; 3];
 /// What came of a run. The four are the data file, the rules, the input and the output.
 #[derive(Drop)]
 struct Outcome {
-    /// What is told of its end.
+    /// What is said of its end.
     end: String,
     /// What went out.
     printed: Vec<u8>,

@@ -14,7 +14,7 @@ fn check_verdict(alloc: Global, table: &[&str], data: &str, verdict: &str) -> Re
     } else {
         "false"
     };
-    // What stands in the input does not matter.
+    // The input does not matter.
     let files = Files {
         table,
         data,
@@ -23,11 +23,11 @@ fn check_verdict(alloc: Global, table: &[&str], data: &str, verdict: &str) -> Re
     check(alloc, &files, Run::Check, verdict, end)
 }
 
-// The small table with another line in the place of a row, counted from 1.
+// The small table with another line in place of a row, counted from 1.
 fn with_row(alloc: Global, row: usize, line: &str) -> Result<String, AllocError> {
     let mut text = String::new(alloc);
     for (index, old) in TABLE.lines().enumerate() {
-        // Two lines stand before the first row.
+        // Two lines come before the first row.
         let is_row = index.checked_sub(1) == Some(row);
         text.push_str(if is_row { line } else { old })?;
         text.push('\n')?;
@@ -35,7 +35,7 @@ fn with_row(alloc: Global, row: usize, line: &str) -> Result<String, AllocError>
     Ok(text)
 }
 
-/// A row, the line in its place, and the verdict.
+/// A row, the line in place of it, and the verdict.
 const OTHER_ROWS: &str = r"2 | 0061 ; [.1C47.0020.0002] | well-formed\n
 2 | 0061 ; [.1C47.0000.0002] | WF1 row 2\n
 6 | 0301 ; [.0000.0020.0002] | WF2 row 6\n

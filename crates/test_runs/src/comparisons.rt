@@ -93,7 +93,7 @@ const CONTRACTED: Files = Files {
     ..SMALL
 };
 
-/// `a` and an acute accent have one element of their own, also where a dot below stands between.
+/// `a` and an acute accent have one element together, also if a dot below comes between.
 const CONTRACTIONS: &str = r"\xC3\xA1 | a | > 1
 \xC3\xA1 | b | < 1
 a\xCC\x81\xCC\xA3 | a\xCC\xA3\xCC\x81 | = 0
@@ -110,7 +110,7 @@ fn texts_with_a_contraction(rt: HostRuntime) -> Result<(), Fail> {
     )
 }
 
-// What is printed of two texts by either weighting, and what is told.
+// What is printed of two texts by either weighting, and what is said of the end.
 fn check_refused(
     alloc: Global,
     (left, right): (&str, &str),
@@ -123,7 +123,7 @@ fn check_refused(
     check(alloc, &SMALL, run, printed, end)
 }
 
-// As many accents as a text may have in a row, more of them, and so many after a letter.
+// As many accents as a text may have in a row, more of them, and this many after a letter.
 fn check_accents(alloc: Global, short: &str, long: &str, later: &str) -> Result<(), Fail> {
     check_refused(alloc, (short, short), "= 0\n", "done")?;
     check_refused(alloc, (long, "a"), "", "left: LongRun at 0")?;

@@ -5,8 +5,8 @@ use crate::rows::{are_rows_asked, printed_by_rows};
 use crate::runs::{Run, run_files};
 use std::alloc::{AllocError, Global};
 
-/// What of a run over files in memory differs from what is to be printed and to be told of its end, or of
-/// what the library's calls over a list of the table's rows print. `None` where nothing does.
+/// How a run over files in memory differs from what it should. That is what is to be printed and to be
+/// said of its end, and what the library's calls over a list of the table's rows print. `None` if it does not differ.
 pub fn difference(
     alloc: Global,
     files: Files,

@@ -17,21 +17,21 @@ pub const A_ACUTE: &str = "0061 0301 ; [.1C50.0020.0002]\n";
 /// A contraction of `a` with an acute and a grave accent.
 pub const A_ACUTE_GRAVE: &str = "0061 0301 0300 ; [.1C58.0020.0002]\n";
 
-/// A contraction of `x`, which has no row of its own, with an acute accent.
+/// A contraction of `x`, which has no row, with an acute accent.
 pub const X_ACUTE: &str = "0078 0301 ; [.1C90.0020.0002]\n";
 
-/// A row without weights: a text with this code point weighs the same as the text without it.
+/// A row without weights: a text with this code point has the same key as the text without it.
 pub const NO_WEIGHTS: &str = "0001 ; [.0000.0000.0000]\n";
 
 /// The key of `a`, as a line.
 pub const KEY_OF_A: &str = "1C47 0000 0020 0000 0002\n";
 
-/// So many acute accents.
+/// This many acute accents.
 pub fn acutes(alloc: Global, count: usize) -> Result<String, AllocError> {
     repeated(alloc, "\u{301}", count)
 }
 
-// A weight in each of so many elements, as it is printed with its space.
+// A weight in each of this many elements, as it is printed with its space.
 fn push_weights(text: &mut String, weight: &str, count: usize) -> Result<(), AllocError> {
     for _ in 0..count {
         text.push_str(weight)?;
@@ -39,7 +39,7 @@ fn push_weights(text: &mut String, weight: &str, count: usize) -> Result<(), All
     Ok(())
 }
 
-/// Adds the key of a line of so many `a` under `TABLE`, by three levels.
+/// Adds the key of a line of this many `a` under `TABLE`, by three levels.
 pub fn push_key(text: &mut String, count: usize) -> Result<(), AllocError> {
     push_weights(text, "1C47 ", count)?;
     text.push_str("0000 ")?;

@@ -1,4 +1,4 @@
-//! Whole runs: the keys that they print, and the faults of the files.
+//! Whole runs: the keys that they print, and the errors of the files.
 
 use crate::files::{
     A_ACUTE, A_ACUTE_GRAVE, Files, KEY_OF_A, SHORT, SMALL, X_ACUTE, acutes, push_key,
@@ -86,7 +86,7 @@ const OTHER_CONTRACTED: Files = Files {
     ..SMALL
 };
 
-/// An accent of a lower class stands between: it is no bar, and follows. One of the same class bars.
+/// An accent of a lower class comes between: it does not block, and follows. One of the same class blocks.
 const CONTRACTIONS: &str = r"a\xCC\xA3\xCC\x81 | 1C50 0000 0020 002C 0000 0002 0002\n | done
 a\xCC\x80\xCC\x81 | 1C47 0000 0020 0025 0024 0000 0002 0002 0002\n | done
 a\xCC\xA3\xCC\x81\xCC\x80 | 1C50 0000 0020 002C 0025 0000 0002 0002 0002\n | done";
@@ -141,7 +141,7 @@ fn ranges_of_implicit_weights(rt: HostRuntime) -> Result<(), Fail> {
     Ok(())
 }
 
-// A line of so many bytes after a line `a`, and what is told. The key of the first line is printed.
+// A line of this many bytes after a line `a`, and what is said. The key of the first line is printed.
 fn check_long(alloc: Global, byte: u8, count: usize, end: &str) -> Result<(), Fail> {
     let mut input = vec![in alloc; byte; count]?;
     input.extend_from_slice(b"\na\n")?;
@@ -185,7 +185,7 @@ fn keys_of_accents(alloc: Global) -> Result<String, AllocError> {
     )
 }
 
-// A line of `a` and so many accents, after an empty line.
+// A line of `a` and this many accents, after an empty line.
 fn check_accents(alloc: Global, count: usize, printed: &str, end: &str) -> Result<(), Fail> {
     let accents = acutes(alloc, count)?;
     let input = joined(alloc, &["\na", &accents, "\n"])?;
@@ -199,7 +199,7 @@ fn long_runs_of_accents(rt: HostRuntime) -> Result<(), Fail> {
     check_accents(rt.alloc(), 65, "0000 0000\n", "input line 2: LongRun at 1")
 }
 
-// A line of a character so many times.
+// A line of a character this many times.
 fn check_many(
     alloc: Global,
     (part, count): (&str, usize),

@@ -1,5 +1,5 @@
-//! Tests of whole runs: over files in memory, where what they print is worked out again over the plain list of a table's
-//! rows, and over readers and writers that take few bytes a call, or fail at a chosen byte.
+//! Tests of whole runs. Over files in memory, what they print is worked out again over the plain list of a table's
+//! rows. Other tests have readers and writers that take few bytes a call, or fail at a chosen byte.
 #![tactic(auto)]
 
 #[cfg(test)]

@@ -60,7 +60,7 @@ impl Stream {
     }
 }
 
-/// A run over files, and what comes of it where no stream fails.
+/// A run over files, and what comes of it if no stream fails.
 #[derive(Clone, Copy)]
 pub struct Case<'a> {
     /// The run.
@@ -69,7 +69,7 @@ pub struct Case<'a> {
     pub files: Files<'a>,
     /// What it prints.
     pub printed: &'a str,
-    /// What is told of its end, with the status of a fault.
+    /// What is said of its end, with the status of an error.
     pub end: &'a str,
 }
 
@@ -141,7 +141,7 @@ pub const COMPARE: Case = Case {
     end: "done",
 };
 
-/// The case with these lines, of which this is printed.
+/// The case with these lines, for which this is printed.
 pub fn with_input<'a>(case: &Case<'a>, lines: &'a [u8], printed: &'a str) -> Case<'a> {
     Case {
         files: case.files.with_input(lines),
@@ -153,7 +153,7 @@ pub fn with_input<'a>(case: &Case<'a>, lines: &'a [u8], printed: &'a str) -> Cas
 /// What came of a run. The four are the table, the data file, the input and the output.
 #[derive(Drop)]
 pub struct Outcome {
-    /// What is told of its end, with the status that the program ends with, if by a fault.
+    /// What is said of its end, with the status that the program ends with, if by an error.
     pub end: String,
     /// What went out.
     pub printed: Vec<u8>,
@@ -163,14 +163,14 @@ pub struct Outcome {
     pub called: [bool; 4],
 }
 
-// The status of a fault.
+// The status of an error.
 fn status_of(alloc: Global, fault: &RunFault) -> u8 {
     let mut out = Sink::new(Vec::new(alloc));
     let mut err = Sink::new(Vec::new(alloc));
     report(alloc, fault, &mut out, &mut err)
 }
 
-// What is told of the end of a run, with the status of a fault.
+// What is said of the end of a run, with the status of an error.
 fn end_of(alloc: Global, end: &Result<Answer, RunFault>) -> Result<String, AllocError> {
     let mut text = told(alloc, end)?;
     if let Err(fault) = end {
@@ -246,9 +246,9 @@ fn all_calls(calls: &[Calls; 4]) -> [bool; 4] {
     ]
 }
 
-// What came of a run with these calls. A stream says that it failed exactly where a call of its reader or writer
-// failed: so one that fails by itself is seen, and one that returns without a call. None is called again
-// after a call that failed.
+// How a run with these calls ended. A stream says that it failed exactly if a call of its reader or writer failed.
+// So a stream that fails without a call is found, and one that returns without a call. None is called again after a
+// call that failed.
 fn outcome_of(alloc: Global, ended: Ended, calls: &[Calls; 4]) -> Result<Outcome, Fail> {
     let is_so = ended.failed == failed_calls(calls) && late_calls(calls) == [false; 4];
     holds(is_so, "failed by itself, or tried again")?;

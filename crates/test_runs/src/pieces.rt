@@ -21,7 +21,7 @@ fn used_by(run: Run) -> [bool; 4] {
     }
 }
 
-// Where a call gives or takes so many bytes, the run prints all. Each stream that it has a use for is called, and
+// If a call gives or takes this many bytes, the run prints all. Each stream that it uses is called, and
 // none fails.
 fn check_step(alloc: Global, case: &Case, step: usize) -> Result<(), Fail> {
     let outcome = run_at(alloc, case, [Pace::steps(step); 4])?;
@@ -49,7 +49,7 @@ fn any_number_of_bytes_a_call(rt: HostRuntime) -> Result<(), Fail> {
     check_pieces(rt.alloc(), &COMPARE)
 }
 
-// A line of so many `a`.
+// A line of this many `a`.
 fn push_line(text: &mut String, count: usize) -> Result<(), AllocError> {
     for _ in 0..count {
         text.push('a')?;
@@ -104,7 +104,7 @@ fn check_lines(alloc: Global, counts: &[usize]) -> Result<(), Fail> {
     check_sorted(alloc, &lines)
 }
 
-/// Numbers of letters up to 300: so many, and so far apart.
+/// Numbers of letters up to 300: how many numbers, and how far apart.
 const LENGTHS: usize = 43;
 
 const STRIDE: usize = 7;
@@ -168,7 +168,7 @@ fn check_end<'a>(alloc: Global, lines: &'a str, keys: &'a str, end: &'a str) -> 
     holds(is_whole(&case, &outcome), &outcome.end)
 }
 
-// The keys of a million empty lines, and then the end of the run, where this stands behind the lines.
+// The keys of a million empty lines, and then the end of the run, where this comes after the lines.
 fn check_million(alloc: Global, more: &str, end: &str) -> Result<(), Fail> {
     let mut lines = repeated(alloc, "\n", 1_000_000)?;
     lines.push_str(more)?;

@@ -1,4 +1,4 @@
-//! Tables and data files that each run refuses.
+//! Tables and data files that each run rejects.
 
 use crate::files::{Files, SMALL, acutes};
 use crate::runs::Run;
@@ -9,10 +9,10 @@ use test_kit::{TABLE, bytes_of, halves};
 use uca_weights::Depth::{Identical, Weights};
 use uca_weights::Weighting::NonIgnorable;
 
-/// The fourth line of the table, which stands in it already.
+/// The fourth line of the table, which is there already.
 const AGAIN: &str = "0061 ; [.1C47.0020.0002]\n";
 
-/// A table, and what is told.
+/// A table, and what is said.
 const TABLES: &str = r"@version 1\n0061 ; [.1C | table line 2: Weight
  | table line 1: Order
 @version 1\n0061 ; x\n | table line 2: Line
@@ -20,13 +20,13 @@ const TABLES: &str = r"@version 1\n0061 ; [.1C | table line 2: Weight
 \xEF\xBB\xBF@version 1\n | table line 1: Order
 @version 1\r\n | table line 1: Line";
 
-/// A data file, and what is told.
+/// A data file, and what is said.
 const DATA_FILES: &str = r" | data line 1: Order
 @data 1\nccc 0300..0314 255\n | data line 2: Weight
 @data 1\n\ncore 9FFF..4E00\n | data line 3: Range
 @data 1\nccc D800..DFFF 1\n | data line 2: CodePoint";
 
-// Nothing is printed by any run, also where the input or the texts have a fault.
+// Nothing is printed by any run, also where the input or the texts have an error.
 fn check_runs(alloc: Global, files: &Files, end: &str) -> Result<(), Fail> {
     let files = files.with_input(b"a\n\xFF");
     let by_three = Some(NonIgnorable);

@@ -16,7 +16,7 @@ use uca_weights::{Depth, Source, Weighting};
 /// How many bytes an input may have. Each step in a list of rows goes through all of them.
 const LONGEST_INPUT: usize = 10_000;
 
-/// Whether `printed_by_rows` gives what a run printed. Left out are runs that print nothing at a fault,
+/// Whether `printed_by_rows` gives what a run printed. Left out are runs that print nothing at an error,
 /// checks of a table, and runs over a long input.
 pub fn are_rows_asked(files: Files, run: Run, outcome: &Outcome) -> bool {
     let is_refused = outcome.end.as_str() != "done" && outcome.printed.is_empty();
@@ -24,8 +24,8 @@ pub fn are_rows_asked(files: Files, run: Run, outcome: &Outcome) -> bool {
     !is_refused && !is_long && !matches!(run, Run::Check)
 }
 
-/// What the library's calls over a list of rows print where a run had this outcome: of an input with a faulty
-/// line the keys of the lines before it. `None` where a file or a text is refused.
+/// What the library's calls over a list of rows print if a run had this outcome. For an input with an error in
+/// a line these are the keys of the lines before it. `None` if a file or a text is rejected.
 pub fn printed_by_rows(
     alloc: Global,
     files: Files,
@@ -38,7 +38,7 @@ pub fn printed_by_rows(
     printed_over(alloc, (&table, &properties), (run, files.input), outcome)
 }
 
-// The same of the table and the properties of the files.
+// The same for the table and the properties of the files.
 fn printed_over(
     alloc: Global,
     (table, properties): (&Table, &Data),
@@ -76,8 +76,8 @@ struct KeyedLine<'a> {
     line: &'a [u8],
 }
 
-// Whether a space stands before this byte of a key: groups of two bytes, and of three for the code points, which
-// come after the weights and a group of their own.
+// Whether a space comes before this byte of a key. Groups have two bytes, and three for the code points, which
+// come after the weights and one more group.
 fn begins_group(place: usize, weights: usize) -> bool {
     match place.checked_sub(weights.saturating_add(2)) {
         Some(place) => place % 3 == 0,
@@ -86,7 +86,7 @@ fn begins_group(place: usize, weights: usize) -> bool {
 }
 
 impl<'a> Library<'a> {
-    // What a run prints of the first lines of an input, so many at most, or of its two texts.
+    // What a run prints of the first `count` lines of an input, or of its two texts.
     fn output(self, run: Run, input: &[u8], count: usize) -> Option<Vec<u8>> {
         match run {
             Run::Keys(asked, depth) => self.key_lines(self.chosen(asked), depth, input, count),
@@ -116,7 +116,7 @@ impl<'a> Library<'a> {
         key(self.alloc, &self.collator, weighting, depth, &text).ok()
     }
 
-    // The lines of an input with their keys, so many at most.
+    // The first `count` lines of an input with their keys.
     fn keyed_lines<'t>(
         self,
         weighting: Weighting,

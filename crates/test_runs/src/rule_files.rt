@@ -1,4 +1,4 @@
-//! The rules of an audit, of which few bytes come a call, or a read fails, or which are too long.
+//! The rules of an audit, when few bytes come a call, a read fails, or they are too long.
 
 use std::alloc::Global;
 use std::io::ErrorKind;
@@ -18,7 +18,7 @@ fn slow<'a>(text: &'a [u8], calls: &'a Calls) -> Source<FakeReader<'a>> {
     Source::new(FakeReader::new(text, Pace::steps(7), calls))
 }
 
-// An audit with these rules. The files before them and behind them are called so.
+// An audit with these rules. These are the names of the files before them and after them.
 fn run_over(
     alloc: Global,
     rules: &mut Source<FakeReader>,
@@ -40,7 +40,7 @@ fn run_over(
     )
 }
 
-// The line of a fault; nothing where there is none.
+// The line of an error; nothing if there is none.
 fn line_of(alloc: Global, run: &Result<bool, RunFault>, out: &mut Sink<Vec<u8>>) -> Vec<u8> {
     let mut err = Sink::new(Vec::new(alloc));
     if let Err(fault) = run {
@@ -49,8 +49,8 @@ fn line_of(alloc: Global, run: &Result<bool, RunFault>, out: &mut Sink<Vec<u8>>)
     err.into_inner()
 }
 
-// Where an audit is refused by its rules, which are read at this pace: whether their source has failed, and how many bytes
-// it gave. No file behind them is read then, and nothing is written.
+// An audit is rejected by its rules, which are read at this pace. The case says whether their source has failed, and
+// how many bytes it gave. No file after them is read then, and nothing is written.
 fn check(
     alloc: Global,
     (text, pace): (&[u8], Pace),

@@ -22,7 +22,7 @@ pub enum Run<'a> {
     Compare(&'a str, &'a str, Option<Weighting>, Depth),
 }
 
-/// What a run without a fault returns.
+/// What a run without an error returns.
 #[derive(Clone, Copy)]
 pub enum Answer {
     /// That it is done.
@@ -31,7 +31,7 @@ pub enum Answer {
     Verdict(bool),
 }
 
-/// What is told of the end of a run: what it returns, or the text of its fault.
+/// What is said of the end of a run: what it returns, or the text of its error.
 pub fn told(alloc: Global, end: &Result<Answer, RunFault>) -> Result<String, AllocError> {
     match end {
         Ok(Answer::Done) => String::from_str(alloc, "done"),
@@ -92,7 +92,7 @@ pub fn run_over<T: Read, D: Read, I: Read, W: Write>(
 /// What came of a run over files in memory.
 #[derive(Drop)]
 pub struct Outcome {
-    /// What is told of its end.
+    /// What is said of its end.
     pub end: String,
     /// What it printed.
     pub printed: Vec<u8>,

@@ -31,8 +31,8 @@ const BROKEN: Pace = Pace {
     failure: Failure::Error(ErrorKind::Other),
 };
 
-// A run where one reader fails: this is told, and this was printed. The streams that it comes to later are not
-// called.
+// A run in which one reader fails: this is said, and this was printed. The streams that it would use later are
+// not called.
 fn check_read_at(
     alloc: Global,
     case: &Case,
@@ -47,7 +47,7 @@ fn check_read_at(
     same(&outcome.end, end, "the end")
 }
 
-// A run where one reader fails after so many bytes, in this way.
+// A run where one reader fails after this many bytes, in this way.
 fn check_read_kind(
     alloc: Global,
     case: &Case,
@@ -63,7 +63,7 @@ fn check_read_kind(
     Ok(())
 }
 
-// The same in each way. What is told comes without the status.
+// The same in each way. What is said comes without the status.
 fn check_read_fault(
     alloc: Global,
     case: &Case,
@@ -76,8 +76,8 @@ fn check_read_fault(
     check_read_kind(alloc, case, from, ErrorKind::Other, (&end, printed))
 }
 
-/// After how many bytes a reader of the run of keys fails, which is that of a table, a data file or an input; what
-/// was printed; and what is told.
+/// After how many bytes a reader of the run of keys fails: that of a table, a data file or an input. Then what was
+/// printed, and what is said.
 const READ_FAULTS: &str = r"0 |  | table line 1: Read
 10 |  | table line 1: Read
 11 |  | table line 2: Read
@@ -97,7 +97,7 @@ const READ_FAULTS: &str = r"0 |  | table line 1: Read
 5 | 1C47 0000 0020 0000 0002\n1C47 0000 0020 0024 0000 0002 0002\n | input line 3: Read
 6 | 1C47 0000 0020 0000 0002\n1C47 0000 0020 0024 0000 0002 0002\n | input line 3: Read";
 
-// The stream that a fault names.
+// The stream that an error names.
 fn stream_of(end: &str) -> Stream {
     match end.split(' ').next() {
         Some("table") => Stream::Table,
@@ -142,7 +142,7 @@ fn readers_of_keyed_lines_that_fail(rt: HostRuntime) -> Result<(), Fail> {
     Ok(())
 }
 
-// A run that prints nothing where a reader fails after so many bytes of a text. The line of the next byte is told.
+// A run that prints nothing where a reader fails after this many bytes of a text. The line of the next byte is named.
 fn check_byte(alloc: Global, case: &Case, from: (Stream, usize), line: u32) -> Result<(), Fail> {
     let end = format!(in alloc; "{} line {line}: Read", from.0.name())?;
     check_read_fault(alloc, case, from, &end, b"")
@@ -178,7 +178,7 @@ fn readers_of_other_runs_that_fail(rt: HostRuntime) -> Result<(), Fail> {
     check_bytes(rt.alloc(), &SORT, Stream::Input, LINES.input)
 }
 
-// A run over such an input and a writer that fails after so many bytes: this is told, and these bytes of the whole
+// A run over such an input and a writer that fails after this many bytes: this is said, and these bytes of the whole
 // output went out.
 fn check_write_at(
     alloc: Global,
@@ -194,7 +194,7 @@ fn check_write_at(
     same(&outcome.end, end, "the end")
 }
 
-// A run over a writer that takes so many bytes and then fails in each way.
+// A run over a writer that takes this many bytes and then fails in each way.
 fn check_write_fault(alloc: Global, case: &Case, good: usize, input: Pace) -> Result<(), Fail> {
     let end = format!(in alloc; "output: Write after {good}, status 3")?;
     for failure in FAILURES {
@@ -220,7 +220,7 @@ fn writers_of_keys_that_fail(rt: HostRuntime) -> Result<(), Fail> {
     check_write_fault(rt.alloc(), &begun, 7, WHOLE)?;
     let line = with_input(&KEYS, b"a\n", KEY_OF_A);
     check_write_faults(rt.alloc(), &line, WHOLE)?;
-    // A later line is faulty, or cannot be read: the earlier lines go out first.
+    // A later line has an error, or cannot be read: the earlier lines go out first.
     let faulty = with_input(&KEYS, b"a\n\xFF\n", KEY_OF_A);
     check_write_faults(rt.alloc(), &faulty, WHOLE)?;
     let unread = with_input(&KEYS, b"a\nb\n", KEY_OF_A);
@@ -254,7 +254,7 @@ fn writers_of_other_runs_that_fail(rt: HostRuntime) -> Result<(), Fail> {
     check_write_faults(rt.alloc(), &COMPARE, WHOLE)
 }
 
-// Lines of which one is faulty, or cannot be read: a writer that would fail at once is not called.
+// One of the lines has an error, or cannot be read: a writer that would fail at once is not called.
 fn check_unsorted(alloc: Global, lines: &[u8], input: Pace, end: &str) -> Result<(), Fail> {
     let case = with_input(&SORT, lines, "");
     for failure in FAILURES {
@@ -336,7 +336,7 @@ fn a_long_output_of_sorted_lines(rt: HostRuntime) -> Result<(), Fail> {
     check_long_output(rt.alloc(), &case)
 }
 
-// A line of so many ideographs.
+// A line of this many ideographs.
 fn push_line(text: &mut String, count: usize) -> Result<(), AllocError> {
     for _ in 0..count {
         text.push('\u{20000}')?;

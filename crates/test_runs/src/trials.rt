@@ -7,7 +7,7 @@ use std::alloc::Global;
 use std::test::Fail;
 use test_kit::{bytes_of, thirds};
 
-/// Checks what a run prints, and what is told of its end; and that the library's calls over a list of rows
+/// Checks what a run prints, and what is said of its end, and that the library's calls over a list of rows
 /// give the same.
 pub fn check(alloc: Global, files: &Files, run: Run, printed: &str, end: &str) -> Result<(), Fail> {
     match difference(alloc, *files, run, printed, end)? {
@@ -16,7 +16,7 @@ pub fn check(alloc: Global, files: &Files, run: Run, printed: &str, end: &str) -
     }
 }
 
-// An input, what is printed, and what is told of the end.
+// An input, what is printed, and what is said of the end.
 fn check_input(alloc: Global, files: &Files, run: Run, case: &str) -> Result<(), Fail> {
     let (input, printed, end) = thirds(case)?;
     let input = bytes_of(alloc, input)?;
@@ -25,7 +25,7 @@ fn check_input(alloc: Global, files: &Files, run: Run, case: &str) -> Result<(),
     check(alloc, &files, run, str::from_utf8(&printed)?, end)
 }
 
-/// Checks a run over some inputs. A case is an input, what is printed, and what is told of the end; `\xC3\xA1` in
+/// Checks a run over some inputs. A case is an input, what is printed, and what is said of the end; `\xC3\xA1` in
 /// it is U+00E1, and `\xCC\x81` is an acute accent.
 pub fn check_inputs(alloc: Global, files: &Files, run: Run, cases: &str) -> Result<(), Fail> {
     for case in cases.lines() {

@@ -26,7 +26,7 @@ struct Printed {
     comparison: &'static str,
 }
 
-/// By primary weights the space stands before the letters.
+/// By primary weights the space comes before the letters.
 const BY_NON_IGNORABLE: Printed = Printed {
     key: "1C47 0209 0000 0020 0020 0000 0002 0002\n",
     lines: "a b\naa\nab\nb\n",

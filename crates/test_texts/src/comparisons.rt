@@ -76,7 +76,7 @@ fn check_depths<L: Lookup>(
     )
 }
 
-/// Two texts, and what is answered.
+/// Two texts, and what is returned.
 fn check_case<L: Lookup>(
     alloc: Global,
     collator: &Collator<L>,

@@ -118,8 +118,8 @@ struct Made {
     cases: String,
 }
 
-/// Adds two keys, of which the longer one has this position: a letter, and the letter with U+0061 behind it. With U+0062
-/// it is no key, and the next code point begins none.
+/// Adds two keys: a letter, and the letter with U+0061 after it. The longer one has this position. With U+0062 it is
+/// not a key, and the next code point begins no key.
 fn add_letter(made: &mut Made, position: u32, code: u32) -> Result<(), AllocError> {
     let alloc = *made.file.allocator();
     let (next, beside) = (position.saturating_add(1), code.saturating_add(1));
@@ -132,8 +132,8 @@ fn add_letter(made: &mut Made, position: u32, code: u32) -> Result<(), AllocErro
 }
 
 /// 900 letters, each two code points after another from U+3000 on, in mixed order: 907 is a prime, so no remainder comes
-/// twice. The list of first steps has 16 places for each letter, but none from U+3400 on: at most 512 letters stand
-/// below it, and the others are found by a search.
+/// twice. The list of first steps has 16 positions for each letter, but none from U+3400 on. At most 512 letters are
+/// below U+3400, and the others are found by a search.
 fn many_letters(alloc: Global) -> Result<Made, AllocError> {
     let mut made = Made {
         file: String::from_str(alloc, "@version 1\n")?,
@@ -265,7 +265,7 @@ fn check_matches(alloc: Global, data: &Data, file: &str, cases: &str) -> Result<
     check_cases(alloc, &map_of(alloc, &table)?, data, cases)
 }
 
-/// Where there are no keys, each code point is matched alone.
+/// If there are no keys, each code point is matched alone.
 const UNMATCHED: &str = r" |
 00E1 0062 | U+0061 U+0301 U+0062";
 

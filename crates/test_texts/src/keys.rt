@@ -10,7 +10,7 @@ use uca_text::Normal;
 use uca_weights::Weighting::{NonIgnorable, Shifted};
 use uca_weights::{Depth, Element, Weighting};
 
-/// The elements that stand so in a row.
+/// The elements that are written so in a row.
 pub fn elements_of(alloc: Global, text: &str) -> Result<Vec<Element>, Fail> {
     let mut elements = Vec::new(alloc);
     if !text.is_empty() {
@@ -113,7 +113,7 @@ fn check_keys<L: Lookup>(
     Ok(())
 }
 
-/// Canonically equivalent texts, and their key under each weighting, of which one is asked for.
+/// Canonically equivalent texts, and their key under each weighting. Only one weighting is used.
 fn check_case<L: Lookup>(
     alloc: Global,
     collator: &Collator<L>,
@@ -174,7 +174,7 @@ fn keys_of_texts(rt: HostRuntime) -> Result<(), Fail> {
     check_texts(rt.alloc(), Depth::Weights, TABLE, DATA, WEIGHTS)
 }
 
-/// The code points of the spelling stand last, three bytes each.
+/// The code points of the spelling come last, three bytes each.
 const IDENTICAL: &str = r" | 0000 0000 0000 | 0000 0000 0000 0000
 0061 | 1C47 0000 0020 0000 0002 0000 00 00 61 | 1C47 0000 0020 0000 0002 0000 FFFF 0000 00 00 61
 00E1 = 0061 0301 | 1C47 0000 0020 0024 0000 0002 0002 0000 00 00 61 00 03 01 | 1C47 0000 0020 0024 0000 0002 0002 0000 FFFF FFFF 0000 00 00 61 00 03 01

@@ -1,5 +1,5 @@
-//! What lookups say of code points: over tables of a few rows, of which a list of rows and a trie say the same,
-//! and over one of many.
+//! What lookups say of code points: over tables of a few rows, where a list of rows and a trie say the same, and
+//! over one of many.
 
 use crate::cases::{code_point, halves, holds, same};
 use crate::samples::table_of;
@@ -7,8 +7,8 @@ use std::alloc::{AllocError, Global};
 use std::test::Fail;
 use uca_match::{Lookup, RowList, Trie, row_of};
 
-/// What a lookup says of some code points: `nothing`, where no key begins with them; `beginning`, where they
-/// are no key, but there is a node for them; the primary weight of the first element, where they are a key.
+/// What a lookup says of some code points. `nothing`: no key begins with them. `beginning`: they are not a
+/// key, but there is a node for them. The primary weight of the first element: they are a key.
 fn said<L: Lookup>(alloc: Global, lookup: &L, points: &[char]) -> Result<String, AllocError> {
     let mut node = lookup.root();
     for point in points {
@@ -105,8 +105,8 @@ const NO_KEYS_CASES: &str = r" | beginning
 0061 | nothing
 10FFFF | nothing";
 
-/// Letters on both sides of the limit below which a trie over them takes its first step by a list: seven of
-/// them begin keys, so the list has the places U+0000 to U+006F. One is no key, but begins one.
+/// Letters on both sides of a limit. Below it a trie over them takes its first step by a list: seven of them
+/// begin keys, so the list has the positions U+0000 to U+006F. One is not a key, but begins one.
 const FIRST_STEPS: &str = "@version 1\n\
     4E00 33FF ; [.0001.0020.0002]\n\
     10FFFF ; [.0002.0020.0002]\n\

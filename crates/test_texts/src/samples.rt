@@ -47,7 +47,7 @@ pub fn normal_of(alloc: Global, points: &str, data: &Data) -> Result<Normal, Fai
     Ok(normal(alloc, &text_of(alloc, points)?, data)?)
 }
 
-/// What is checked of a collator, whatever its lookup.
+/// What is checked of a collator with any lookup.
 pub trait Check {
     /// Fails unless the collator is right.
     fn check<L: Lookup>(&self, alloc: Global, collator: &Collator<L>) -> Result<(), Fail>;

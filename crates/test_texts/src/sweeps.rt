@@ -1,5 +1,5 @@
-//! With ample memory no call gives up: each class, each length of a key and of a row, the greatest weight at
-//! each level, and rows of many elements without primary weights.
+//! With enough memory no call fails. The cases: each class, each length of a key and of a row, the greatest
+//! weight at each level, and rows of many elements without primary weights.
 
 use crate::cases::holds;
 use crate::keys::check_texts;
@@ -27,7 +27,7 @@ impl Made {
     }
 }
 
-/// Adds parts, one after the other.
+/// Adds parts, in their order.
 fn push_all(text: &mut String, parts: &[&str]) -> Result<(), AllocError> {
     for part in parts {
         text.push_str(part)?;
@@ -82,7 +82,7 @@ fn each_class(rt: HostRuntime) -> Result<(), Fail> {
     Ok(())
 }
 
-/// Adds a part so many times.
+/// Adds a part this many times.
 fn push_repeated(text: &mut String, part: &str, count: u8) -> Result<(), AllocError> {
     for _ in 0..count {
         text.push_str(part)?;
@@ -90,7 +90,7 @@ fn push_repeated(text: &mut String, part: &str, count: u8) -> Result<(), AllocEr
     Ok(())
 }
 
-/// Adds the three levels of so many letters.
+/// Adds the three levels of this many letters.
 fn push_weights(text: &mut String, count: u8) -> Result<(), AllocError> {
     push_repeated(text, "1C47 ", count)?;
     text.push_str("0000")?;
@@ -99,7 +99,7 @@ fn push_weights(text: &mut String, count: u8) -> Result<(), AllocError> {
     push_repeated(text, " 0002", count)
 }
 
-/// A key of so many code points, whose row has so many elements, and the key of the text that is it.
+/// A key of `points` code points, whose row has `elements` elements, and the sort key of its text.
 fn add_lengths(made: &mut Made, point: &str, points: u8, elements: u8) -> Result<(), AllocError> {
     push_repeated(&mut made.table, point, points)?;
     made.table.push_str("; ")?;

@@ -1,4 +1,4 @@
-//! Texts: how they are spelled, within which limits, and what is said of one that is refused.
+//! Texts: how they are spelled, within which limits, and what is said of one that is rejected.
 
 use crate::cases::{code_point, halves, holds, same, text_of};
 use crate::samples::{CLASSES, data_of};
@@ -33,7 +33,7 @@ const SPELLED: &str = r"0061 | 0061.0
 1EA1 0301 0062 | 0061.0 0323.220 0301.230 0062.0
  | ";
 
-/// A text is spelled so, on its own and in the place of another.
+/// A text has this spelling, on its own and when it replaces another.
 fn check_spelling(
     alloc: Global,
     data: &Data,
@@ -63,7 +63,7 @@ fn spells_texts(rt: HostRuntime) -> Result<(), Fail> {
     Ok(())
 }
 
-/// A text that is refused is empty afterwards, and takes another.
+/// A text that is rejected is empty afterwards, and can take another.
 fn check_refused(alloc: Global, data: &Data, text: &mut Normal) -> Result<(), Fail> {
     let marks = with_repeated(alloc, "ab", '\u{301}', 65)?;
     holds(
@@ -99,14 +99,14 @@ fn a_copy_stays_as_it_is(rt: HostRuntime) -> Result<(), Fail> {
 #[test]
 fn prints_texts_without_spare_memory(rt: HostRuntime) -> Result<(), Fail> {
     let data = data_of(rt.alloc(), CLASSES)?;
-    // Its code points as they stood are left in spare memory.
+    // The code points that it had are left in spare memory.
     let mut text = normal(rt.alloc(), "\u{e1}", &data)?;
     text.renew("ab", &data)?;
     let wanted = "Normal { chars: ['a', 'b'], classes: [0, 0] }";
     same(&format!(in rt.alloc(); "{text:?}")?, wanted, "printed")
 }
 
-/// A text with a last character so many times.
+/// A text, and then a character this many times.
 fn with_repeated(
     alloc: Global,
     start: &str,
@@ -120,7 +120,7 @@ fn with_repeated(
     Ok(text)
 }
 
-/// How many code points a text has, or why it is refused.
+/// How many code points a text has, or why it is rejected.
 fn said(alloc: Global, text: &str, data: &Data) -> Result<String, Fail> {
     match normal(alloc, text, data) {
         Err(fault) if fault != TextFault::Memory => Ok(format!(in alloc; "{fault}")?),

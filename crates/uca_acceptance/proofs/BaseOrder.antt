@@ -1,4 +1,5 @@
--- How the weights of base elements stand in the lists that plans begin with, and on which side of the variable ones a primary stands.
+-- The order of the weights of base elements in the lists that plans begin with, and on which side of the variable ones
+-- a primary is.
 use Rattle.std.proofs.Common.{◌≡◌, ◌⊎◌, inl, inr, ℕ, ◌<◌, ◌≤◌, Bool, true, false, ◌&&◌, List, [], ◌∷◌, map, nat_le, refl, sym, ap, subst, arith}
 use Rattle.std.proofs.lemmas.Bool.{cases_lt, or_parts}
 use Rattle.std.proofs.lemmas.Bool.Decides.{nat_tests}
@@ -26,7 +27,7 @@ each_fails test (x ∷ xs) none = let both = or_parts (test x) (list_any test xs
 
 -- ---- Weights in the lists
 
--- of rising weights the lesser stands before the greater
+-- of rising weights the lesser is before the greater
 rising_stands : (ws : List ℕ) (v w : ℕ) → IsRising ws → IsAmong ws v → IsAmong ws w → v < w → StandsBefore (map Base ws) (Base v) (Base w)
 rising_stands [] v w rising first second less = absurd first
 rising_stands (u ∷ ws) v w rising (inl here) (inl also) less = absurd (omega (arith, here, also, less))
@@ -46,14 +47,14 @@ base_stands level es v w first second less = rising_stands (base_weights level e
 abbrev pub HasPlace : List Element → ℕ → Type 0
 HasPlace es p = (0x8000 ≤ p) ⊎ IsAmong (base_weights One es) p
 
--- an element with a primary has a place
+-- an element with a primary has a position
 pub place_of : (es : List Element) (e : Element) → IsAmong es e → (e.primary ≡ 0 → ⊥) → HasPlace es e.primary
 place_of es e among some = elim (cases_lt e.primary 0x8000) [
   | inl low ↦ inr (weight_there One es e among (omega (arith, some)) (omega (arith, low)))
   | inr high ↦ inl high
 ]
 
--- the lesser of two such primaries stands below the greater
+-- the lesser of two such primaries is below the greater
 pub below_by_less : (es : List Element) (p q : ℕ) → HasPlace es p → HasPlace es q → p < q
     → IsBelow (map Base (base_weights One es)) (Base p) (Base q)
 below_by_less es p q (inl high) second less = inr (inr (high, less))

@@ -1,5 +1,5 @@
--- Weights stand well before all relations: among the elements of a well-formed base, and the implicit ones that do not stand among
--- its variable elements.
+-- Weights are in good order before all relations: among the elements of a well-formed base, and the implicit ones that
+-- are not among its variable elements.
 use Rattle.std.proofs.Common.{◌≡◌, ◌⊎◌, inl, inr, ℕ, ◌<◌, ◌≤◌, true, false, List, map, refl, sym, ap, subst, arith}
 use Rattle.std.proofs.lemmas.Bool.{cases_lt}
 use Rattle.std.specs.List.{AllByRecursion}
@@ -59,11 +59,11 @@ module _ (basis : Basis) (entries : AllByRecursion IsEntry basis.base) (well : I
   abbrev ms : Level → List DraftWeight
   ms level = map Base (base_weights level es)
 
-  -- the elements before all relations: those of the base, and the implicit ones that stand outside
+  -- the elements before all relations: those of the base, and the implicit ones outside the variable ones
   abbrev IsFirst : DraftElement → Type 0
   IsFirst e = IsBaseDraft basis e ⊎ (IsReadImplicit e × (is_among_variables es e.primary ≡ false))
 
-  -- what holds of both kinds holds of each
+  -- what is true of both kinds is true of each
   of_first : (P : DraftElement → Type 0) → ((x : Element) → IsAmong es x → P (as_draft false x))
       → ((e : DraftElement) → IsImplicitDraft e → is_among_variables es e.primary ≡ false → P e)
       → (e : DraftElement) → IsFirst e → P e
@@ -100,19 +100,19 @@ module _ (basis : Basis) (entries : AllByRecursion IsEntry basis.base) (well : I
   high_third : (y : Element) → IsAmong es y → IsTertiaryDraft (as_draft false y) → IsHighTertiary es y.tertiary
   high_third y among is = (above_others y among).1 (base_zero y.primary is.0, base_zero y.secondary is.1, λ none. is.2 (ap Base none))
 
-  -- so a secondary weight stands behind 0020
+  -- so a secondary weight comes after 0020
   second_fixed : (y : Element) → IsAmong es y → IsSecondaryDraft (as_draft false y) → StandsBefore (ms Two) (Base 0x20) (Base y.secondary)
   second_fixed y among is =
       let high = high_second y among is in
       base_stands Two es 0x20 y.secondary (fixed_base Two es) (second_there y among (omega (arith, high.0))) high.0
 
-  -- and a tertiary one behind 0002
+  -- and a tertiary one comes after 0002
   third_fixed : (y : Element) → IsAmong es y → IsTertiaryDraft (as_draft false y) → StandsBefore (ms Three) (Base 2) (Base y.tertiary)
   third_fixed y among is =
       let high = high_third y among is in
       base_stands Three es 2 y.tertiary (fixed_base Three es) (third_there y among (omega (arith, high.0))) high.0
 
-  -- a secondary weight stands behind those of primary elements
+  -- a secondary weight comes after those of primary elements
   second_above : (x y : Element) → IsAmong es x → IsAmong es y → IsPrimaryDraft (as_draft false x) → IsSecondaryDraft (as_draft false y)
       → IsBelowOrZero (ms Two) (Base x.secondary) (Base y.secondary)
   second_above x y among_x among_y first second =
@@ -123,7 +123,7 @@ module _ (basis : Basis) (entries : AllByRecursion IsEntry basis.base) (well : I
         | inr none ↦ inl (ap Base (omega arith))
       ]
 
-  -- and a tertiary one behind those of primary and secondary elements
+  -- and a tertiary one comes after those of primary and secondary elements
   third_above : (x y : Element) → IsAmong es x → IsAmong es y → IsPrimaryDraft (as_draft false x) ⊎ IsSecondaryDraft (as_draft false x)
       → IsTertiaryDraft (as_draft false y) → IsBelowOrZero (ms Three) (Base x.tertiary) (Base y.tertiary)
   third_above x y among_x among_y first third =
@@ -146,7 +146,7 @@ module _ (basis : Basis) (entries : AllByRecursion IsEntry basis.base) (well : I
   variable_some x among variable =
       of_each (λ e. IsVariable e → e.primary ≡ 0 → ⊥) es x (each_of_rows (λ e. IsVariable e → e.primary ≡ 0 → ⊥) basis.base well.wf3) among variable
 
-  -- all variable elements stand above one
+  -- all variable elements are above one
   abbrev AllAbove : DraftWeight → Type 0
   AllAbove w = (v : DraftElement) → IsFirst v → v.mark ≡ true → IsBelow (ms One) w v.primary
 
@@ -154,7 +154,7 @@ module _ (basis : Basis) (entries : AllByRecursion IsEntry basis.base) (well : I
   abbrev AllBelow : DraftWeight → Type 0
   AllBelow w = (v : DraftElement) → IsFirst v → v.mark ≡ true → IsBelow (ms One) v.primary w
 
-  -- a primary with a place and a side stands below all variable elements or above them all
+  -- a primary with a position and a side is below all variable elements or above them all
   apart_by_side : (p : ℕ) → HasPlace es p → HasSide es p → AllAbove (Base p) ⊎ AllBelow (Base p)
   apart_by_side p place (inl less) = inl (of_first (λ v. v.mark ≡ true → IsBelow (ms One) (Base p) v.primary)
       (λ y among variable. below_by_less es p y.primary place (place_of es y among (variable_some y among variable)) (less y among variable))
@@ -186,7 +186,7 @@ module _ (basis : Basis) (entries : AllByRecursion IsEntry basis.base) (well : I
 
   -- ---- All together
 
-  -- weights stand well
+  -- weights are in good order
   first_well : StandWell (ms One) (ms Two) (ms Three) IsFirst
   first_well = record {
     secondaries = λ e f first_e first_f. of_first (λ g. IsPrimaryDraft e → IsSecondaryDraft g → IsBelowOrZero (ms Two) e.secondary g.secondary)
@@ -218,7 +218,7 @@ module _ (basis : Basis) (entries : AllByRecursion IsEntry basis.base) (well : I
         base_apart (λ e is outside _ _. read_apart e.primary is.primary outside);
   }
 
-  -- the weights of a well-formed base stand well
+  -- the weights of a well-formed base are in good order
   pub base_well : HasWellWeights basis (begun basis)
   base_well = record {
     E = IsFirst;

@@ -1,4 +1,5 @@
--- The members of a level's list by their numbers: lesser ones stand before greater ones, and known weights are those of base weights.
+-- The members of a level's list by their numbers: lesser ones come before greater ones, and known weights are those of
+-- base weights.
 use Rattle.std.proofs.Common.{◌≡◌, ◌⊎◌, inl, inr, ℕ, ◌+◌, ◌<◌, ◌≤◌, List, length, Some, Contains, sym, ap, ◌∙◌, arith}
 use Rattle.std.proofs.lemmas.Bool.{cases_lt}
 use Rattle.uca_weights.specs.declared.Element.{Element}
@@ -49,7 +50,7 @@ module _ (base : TableContent) (properties : Properties) (relations : List Relat
   abbrev number : DraftWeight → ℕ
   number w = number_of base properties relations plan case level w
 
-  -- the member with the lesser number stands before the other
+  -- the member with the lesser number comes before the other
   pub in_order : (v w : DraftWeight) → IsAmong members v → IsAmong members w → number v < number w → StandsBefore members v w
   in_order v w first second less = elim (either_before members v w first second) [
     | inl same ↦ let also = ap number same in absurd (omega (arith, less, also))

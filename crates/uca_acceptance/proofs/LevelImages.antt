@@ -47,7 +47,7 @@ module _ (base : TableContent) (properties : Properties) (relations : List Relat
   abbrev pub number_of : Level → DraftWeight → ℕ
   number_of level w = numbered_weight level (plan_at base properties relations plan case level) w
 
-  -- the number at the place of a member
+  -- the number at the position of a member
   abbrev placed_number : Level → DraftWeight → ℕ
   placed_number level w = number_in (members_in level) (level_numbers level (members_in level)) w
 
@@ -86,7 +86,7 @@ module _ (base : TableContent) (properties : Properties) (relations : List Relat
   zero_number Two = refl
   zero_number Three = refl
 
-  -- a member has the number at its place
+  -- a member has the number at its position
   member_number : (level : Level) (w : DraftWeight) → IsAmong (members_in level) w → number_of level w ≡ placed_number level w
   member_number level (Base w) among = elim (member_cases level w among) [
     | inl zero ↦
@@ -114,7 +114,7 @@ module _ (base : TableContent) (properties : Properties) (relations : List Relat
       (zero_first_or_none level (elements_of base.rows) (0 + length relations) (members_in level) (good_at level)
       (room_in base properties relations plan case level))
     where
-      -- another than the first of a list stands after it
+      -- another than the first of a list comes after it
       after : (rest : List DraftWeight) → IsAmong (Base 0 ∷ rest) w → StandsBefore (Base 0 ∷ rest) (Base 0) w
       after rest (inl here) = absurd (some (sym here))
       after rest (inr there) = inl (refl, there)

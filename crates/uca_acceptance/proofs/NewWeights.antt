@@ -59,7 +59,7 @@ module _ (base : TableContent) (properties : Properties) (relations : List Relat
     | inr high ↦ low_not_high level w (subst (IsLow level) (sym own) own_low) high
   ]
 
-  -- it is the number of no other place
+  -- it is the number of no other position
   one_place : (w k : ℕ) → w ≡ number (New (length before)) → IsAmong (members_in base properties relations plan case level) (New k)
       → w ≡ number (New k) → k ≡ length before
   one_place w k own among also =

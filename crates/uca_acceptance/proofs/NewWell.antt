@@ -1,4 +1,4 @@
--- An element with a new weight stands well among those among which the old one does.
+-- An element with a new weight is in good order among those among which the old one is.
 use Rattle.std.proofs.Common.{◌≡◌, ◌⊎◌, inl, inr, ℕ, Bool, true, false, List, refl, sym, ◌∙◌, subst, arith}
 use Rattle.uca_weights.specs.declared.Level.{Level}
 use Rattle.uca_weights.specs.declared.Level.TheVariants.{One, Two, Three}
@@ -30,27 +30,27 @@ high_second (Base v) (Base w) both = omega (arith, both.0, both.1)
 high_second (Base v) (New n) both = both
 high_second (New m) w both = absurd both
 
--- what stands below another does so with the new weight put in
+-- what is below another stays below it with the new weight put in
 below_kept : (i : Insertion) (ms : List DraftWeight) (v w : DraftWeight) → IsInserted i ms → IsBelow ms v w → IsBelow (inserted i ms) v w
 below_kept i ms v w put (inl stands) = inl (put.kept v w stands)
 below_kept i ms v w put (inr (inl there)) = inr (inl ((put.each v).1 (inr there.0), there.1))
 below_kept i ms v w put (inr (inr high)) = inr (inr high)
 
--- what stands below the anchor's weight stands below the new one
+-- what is below the anchor's weight is below the new one
 below_new : (i : Insertion) (ms : List DraftWeight) (v : DraftWeight) → IsInserted i ms → (IsHigh i.anchor → ⊥) → IsBelow ms v i.anchor
     → IsBelow (inserted i ms) v i.new
 below_new i ms v put low (inl stands) = inl (put.below v stands)
 below_new i ms v put low (inr (inl there)) = absurd (low there.1)
 below_new i ms v put low (inr (inr high)) = absurd (low (high_second v i.anchor high))
 
--- and what stands above it stands above the new one
+-- and what is above it is above the new one
 above_new : (i : Insertion) (ms : List DraftWeight) (w : DraftWeight) → IsInserted i ms → (IsHigh i.anchor → ⊥) → IsBelow ms i.anchor w
     → IsBelow (inserted i ms) i.new w
 above_new i ms w put low (inl stands) = inl (put.above w stands)
 above_new i ms w put low (inr (inl there)) = inr (inl ((put.each i.new).1 (inl refl), there.1))
 above_new i ms w put low (inr (inr high)) = absurd (low (high_first i.anchor w high))
 
--- a weight that is reset stands below what the fixed one stands below
+-- a weight that is reset is below all that the fixed one is below
 reset_below : (ms : List DraftWeight) (v w : DraftWeight) (fixed : ℕ) → StandsBefore ms (Base fixed) w → IsBelowOrZero ms (reset v fixed) w
 reset_below ms v w fixed stands = elim (reset_cases v fixed) [
   | inl none ↦ inl none.1
@@ -59,13 +59,13 @@ reset_below ms v w fixed stands = elim (reset_cases v fixed) [
 
 -- ---- One element more
 
--- what holds of some elements and of one more holds of each
+-- what is true of some elements and of one more is true of each
 with_each : (E : DraftElement → Type 0) (x : DraftElement) (P : DraftElement → Type 0) → ((e : DraftElement) → E e → P e) → P x
     → (e : DraftElement) → WithElement E x e → P e
 with_each E x P old new e (inl held) = old e held
 with_each E x P old new e (inr same) = subst P (sym same) new
 
--- and what holds of each two holds of each two
+-- and what is true of each two is true of each two
 with_both : (E : DraftElement → Type 0) (x : DraftElement) (R : DraftElement → DraftElement → Type 0)
     → ((e f : DraftElement) → E e → E f → R e f) → ((e : DraftElement) → E e → R e x) → ((f : DraftElement) → E f → R x f) → R x x
     → (e f : DraftElement) → WithElement E x e → WithElement E x f → R e f
@@ -74,7 +74,7 @@ with_both E x R old first second itself e f in_e in_f =
     (λ d held. with_each E x (λ g. R d g) (λ g held_g. old d g held held_g) (first d held) f in_f)
     (with_each E x (λ g. R x g) second itself f in_f) e in_e
 
--- an element stands below all variable ones or above them all
+-- an element is below all variable ones or above them all
 abbrev StandApart : List DraftWeight → (DraftElement → Type 0) → DraftElement → Type 0
 StandApart primary E e =
     ((v : DraftElement) → E v → v.mark ≡ true → IsBelow primary e.primary v.primary)
@@ -134,7 +134,7 @@ module _ (primary : List DraftWeight) (E : DraftElement → Type 0) (a : DraftEl
       (λ v held_v marked. below_new i primary v.primary put low (above v held_v marked))
       (λ marked. absurd (cc)))
 
-  -- and with one that has a new weight in place of its primary
+  -- and with an element that has a new weight in place of its primary
   new_apart : IsPrimaryDraft a → ((e : DraftElement) → E e → e.mark ≡ false → IsPrimaryDraft e → StandApart primary E e)
       → (e : DraftElement) → WithElement E x e → e.mark ≡ false → IsPrimaryDraft e → StandApart ms (WithElement E x) e
   new_apart some apart =
@@ -144,7 +144,7 @@ module _ (primary : List DraftWeight) (E : DraftElement → Type 0) (a : DraftEl
 
 -- ---- Each level
 
--- an element with a new primary stands well among those among which the old one does
+-- an element with a new primary is in good order among those among which the old one is
 pub new_well_one : (primary secondary tertiary : List DraftWeight) (E : DraftElement → Type 0) (a : DraftElement) (before : Bool) (n : ℕ) → E a
     → StandWell primary secondary tertiary E → (IsZero a.primary → ⊥) → (IsHigh a.primary → ⊥) → IsInserted (insertion_at One before n a) primary
     → StandWell (inserted (insertion_at One before n a) primary) secondary tertiary (WithElement E (reweighted One (New n) a))

@@ -34,7 +34,7 @@ module _ (base : TableContent) (properties : Properties) (relations : List Relat
       let lead = kinds.made_lead base properties relations plan case d listed alone.1.0 alone.1.1 alone.1.2 in
       inl ([], made d, ap (λ es. made d ∷ es) alone.0, lead)
 
-  -- behind a draft, or none, only a continuation directly after a lead has a gap
+  -- after a draft, or none, only a continuation directly after a lead has a gap
   gapless_behind : (last : Option DraftElement) (es : List DraftElement) → AllByRecursion IsListedIn es → HasNoGaps last es
       → (before : List Element) (e : Element) (after : List Element) → map made es ≡ before ++ e ∷ after → HasGap e
       → IsContinuation e × FollowsLead last before

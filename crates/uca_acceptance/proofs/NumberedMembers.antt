@@ -36,7 +36,7 @@ low_sent One runs w some within = grind (arith, nat_tests)
 low_sent Two runs w some within = grind (arith, nat_tests)
 low_sent Three runs w some within = grind (arith, nat_tests)
 
--- of two members one stands before the other, or they are the same
+-- two members are the same, or one comes before the other
 pub either_before : (ms : List DraftWeight) (v w : DraftWeight) → IsAmong ms v → IsAmong ms w
     → (v ≡ w) ⊎ (StandsBefore ms v w ⊎ StandsBefore ms w v)
 either_before [] v w first second = absurd first

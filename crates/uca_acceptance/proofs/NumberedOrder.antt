@@ -1,4 +1,4 @@
--- Where weights stand well among drafts, the numbered rows meet WF2, WF3 and WF4.
+-- Where weights are in good order among drafts, the numbered rows meet WF2, WF3 and WF4.
 use Rattle.std.proofs.Common.{◌≡◌, ◌≢◌, ◌⊎◌, inl, inr, ℕ, ◌<◌, ◌≤◌, Bool, true, false, List, refl, sym, ap, subst, arith}
 use Rattle.std.specs.List.{AllByRecursion}
 use Rattle.uca_weights.specs.declared.Element.{Element}
@@ -35,7 +35,7 @@ module _ (base : TableContent) (properties : Properties) (relations : List Relat
   abbrev made : DraftElement → Element
   made e = kinds.made base properties relations plan case e
 
-  -- what holds of all numbered elements holds of each of each row of the plan
+  -- what is true of all numbered elements is true of each of each row of the plan
   each_row : (P : Element → Type 0) → ((e : DraftElement) → weights.E e → P (made e))
       → AllByRecursion (λ row. AllByRecursion P row.elements) plan.rows
   each_row P each =

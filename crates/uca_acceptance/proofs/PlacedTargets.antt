@@ -43,7 +43,7 @@ module _ (base : TableContent) (properties : Properties) (relations : List Relat
   abbrev here : Drafting
   here = (step_in base properties relations plan case before r after split).here
 
-  -- the drafts behind it
+  -- the drafts after it
   abbrev next : Drafting
   next = (step_in base properties relations plan case before r after split).next
 
@@ -51,7 +51,7 @@ module _ (base : TableContent) (properties : Properties) (relations : List Relat
   abbrev step : IsStep (basis_of base properties) (length before) r here next
   step = (step_in base properties relations plan case before r after split).step
 
-  -- what holds of the drafts before it
+  -- what is true of the drafts before it
   abbrev holds : Holds (basis_of base properties) (length before) here
   holds = holds_before base properties relations plan case before r after split
 
@@ -67,7 +67,7 @@ module _ (base : TableContent) (properties : Properties) (relations : List Relat
   abbrev part : AnchorPart
   part = step_placed.placed.part
 
-  -- the anchor is this part, and ignorable elements behind it
+  -- the anchor is this part, and ignorable elements after it
   abbrev found : IsAnchorPart level (anchor_at (basis_of base properties) here r) part
   found = step_placed.placed.found
 
@@ -98,7 +98,7 @@ module _ (base : TableContent) (properties : Properties) (relations : List Relat
   anchor_in =
       (grown_since base properties relations plan case before r after split level).old (draft_weight level part.last) step_placed.anchor_there
 
-  -- what stands so behind the step stands so in the plan's list
+  -- what comes before another after the step does so in the plan's list
   stands_on : (v w : DraftWeight) → StandsBefore (list_at level (basis_of base properties) next) v w →
       StandsBefore (members_in base properties relations plan case level) v w
   stands_on v w stands =
@@ -107,7 +107,7 @@ module _ (base : TableContent) (properties : Properties) (relations : List Relat
       (step_in base properties relations plan case before r after split).behind good).1 in
       (grown level).kept v w stands
 
-  -- the new weight stands on its side behind the step
+  -- the new weight is on its side after the step
   stands_beside : StandsBeside insertion (list_at level (basis_of base properties) next)
   stands_beside =
       let good = holds.lists level in
@@ -176,8 +176,8 @@ module _ (base : TableContent) (properties : Properties) (relations : List Relat
 
 -- ---- Relations
 
--- What is known of a relation at a level: its step, the anchor's weight, which its step's list has and from which the new one is
--- put in, and that the target is placed with the numbers of the two.
+-- What is known of a relation at a level: its step; the anchor's weight, which is in the step's list and next to which
+-- the new one is put in. And the target is placed with the numbers of the two.
 pub record IsPlacedRelation (base : TableContent) (properties : Properties) (relations : List Relation) (plan : Plan)
     (case : IsCase base properties relations plan) (before : List Relation) (r : Relation) (after : List Relation) (level : Level) : Type 0 where
   pub at : IsStepAt (basis_of base properties) before r after (begun (basis_of base properties)) case.made.drafting

@@ -1,4 +1,4 @@
--- Where the new weight of a relation was put in, and that what was there then does not stand between it and its anchor's.
+-- Where the new weight of a relation was put in, and that what was there then is not between it and its anchor's.
 use Rattle.std.proofs.Common.{◌≡◌, inl, inr, ℕ, ◌+◌, ◌<◌, ◌≤◌, Bool, List, [], ◌∷◌, ◌++◌, length, refl, sym, ap, subst, ◌∙◌, arith}
 use Rattle.std.proofs.lemmas.List.{append_assoc, length-append}
 use Rattle.uca_weights.specs.declared.Level.{Level}
@@ -48,8 +48,8 @@ module _ (base : TableContent) (properties : Properties) (relations : List Relat
   abbrev number : DraftWeight → ℕ
   number w = number_of base properties relations plan case level w
 
-  -- The level's list before the relation at a place, which has the anchor's weight, and what later relations made of the list
-  -- with the new weight.
+  -- The level's list before the relation at a position, which has the anchor's weight, and what later relations made of
+  -- the list with the new weight.
   pub record IsPutIn (place : ℕ) (side : Bool) (anchor : DraftWeight) : Type 0 where
     pub here : List DraftWeight
     pub good : IsGoodList level (elements_of base.rows) place here
@@ -124,13 +124,13 @@ module _ (base : TableContent) (properties : Properties) (relations : List Relat
         anchor_here : IsAmong with_new anchor
         anchor_here = still_there anchor put.anchor_there
 
-        -- nothing stood between the two when the new weight was put in
+        -- nothing was between the two when the new weight was put in
         next : StandsNext (put_by level side anchor place) put.here
         next =
             stands_next (put_by level side anchor place) put.here put.good.apart put.anchor_there
             (new_is_new level (elements_of base.rows) place put.here put.good)
 
-        -- lesser numbers stood before greater ones
+        -- lesser numbers came before greater ones
         stood : (u v : DraftWeight) → IsAmong with_new u → IsAmong with_new v → number u < number v → StandsBefore with_new u v
         stood u v first second less =
             put.grown.stood u v first second
@@ -140,7 +140,7 @@ module _ (base : TableContent) (properties : Properties) (relations : List Relat
 
 module _ (base : TableContent) (properties : Properties) (relations : List Relation) (plan : Plan) (case : IsCase base properties relations plan)
     (level : Level) where
-  -- the number of a new weight, whose place is one from `least` on and before `end`
+  -- the number of a new weight, whose position is one from `least` on and before `end`
   pub record IsNewNumber (least end w : ℕ) : Type 0 where
     pub place : ℕ
     pub from_least : least ≤ place
@@ -148,7 +148,7 @@ module _ (base : TableContent) (properties : Properties) (relations : List Relat
     pub among : IsAmong (members_in base properties relations plan case level) (New place)
     pub number : w ≡ number_of base properties relations plan case level (New place)
 
-  -- a relation's new weight is the number of its place
+  -- a relation's new weight is the number of its position
   pub own_number : (before : List Relation) (r : Relation) (after : List Relation)
       → (p : IsPlacedRelation base properties relations plan case before r after level) → (old new : ℕ)
       → IsPlacedAt (tailoring_by base properties relations plan) r level old new
@@ -161,7 +161,7 @@ module _ (base : TableContent) (properties : Properties) (relations : List Relat
         (number_of base properties relations plan case level (New (length before))) at p.placed,
   )
 
-  -- new weights of some of the relations are numbers of their places
+  -- new weights of some of the relations are numbers of their positions
   pub new_numbers : (w : ℕ) (front some back : List Relation) → relations ≡ front ++ (some ++ back)
       → IsNewWeight (tailoring_by base properties relations plan) level w some → IsNewNumber (length front) (length front + length some) w
   new_numbers w front [] back split new = absurd new

@@ -1,4 +1,4 @@
--- A plan over a well-formed base, taken apart.
+-- A plan over a well-formed base, and its parts.
 use Rattle.std.proofs.Common.{◌≡◌, ◌+◌, true, List, length}
 use Rattle.uca_weights.specs.declared.Level.{Level}
 use Rattle.uca_weights.specs.declared.Level.TheVariants.{One, Two, Three}
@@ -45,6 +45,6 @@ module _ (base : TableContent) (properties : Properties) (relations : List Relat
   room_in case Two = case.made.room_two
   room_in case Three = case.made.room_three
 
-  -- what holds of its drafts
+  -- what is true of its drafts
   pub holds_in : (case : IsCase base properties relations plan) → Holds (basis_of base properties) (0 + length relations) case.made.drafting
   holds_in case = holds_planned (basis_of base properties) relations plan case.made case.table.rows case.well.wf1 case.table.header.ranges case.rules.texts

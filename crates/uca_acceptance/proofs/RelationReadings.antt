@@ -1,4 +1,5 @@
--- One relation of a plan: its step, what holds of the drafts before it, and what it reads and makes under the tailored table.
+-- One relation of a plan: its step, what is true of the drafts before it, and what it reads and makes under the
+-- tailored table.
 use Rattle.std.proofs.Common.{◌≡◌, ◌+◌, List, ◌∷◌, ◌++◌, length, map, Option, Some, None, option_map, inl, inr, refl, ap, ◌∙◌, subst, arith}
 use Rattle.uca_weights.proofs.Lists.{inside, each_parts}
 use Rattle.uca_values.specs.Content.{TableContent, Properties}
@@ -36,7 +37,7 @@ module _ (base : TableContent) (properties : Properties) (relations : List Relat
       step_at (basis_of base properties) before r after (begun (basis_of base properties)) case.made.drafting
       (subst (λ rs. AreSteps (basis_of base properties) 0 rs (begun (basis_of base properties)) case.made.drafting) split case.made.steps)
 
-  -- what holds of the drafts before it
+  -- what is true of the drafts before it
   pub holds_before : Holds (basis_of base properties) (length before) step_in.here
   holds_before =
       let front = (each_parts HasRuleTexts before (r ∷ after) rules_in.texts).0 in
@@ -51,7 +52,7 @@ module _ (base : TableContent) (properties : Properties) (relations : List Relat
       (good_steps (basis_of base properties) (length before) (r ∷ after) step_in.here case.made.drafting
       (step_in.next, step_in.step, step_in.behind) holds_before.lists).1
 
-  -- so what was held before it is listed in the plan
+  -- so the elements before it are listed in the plan too
   pub held_listed : (e : DraftElement) → holds_before.E e → IsListedIn base properties relations plan case e
   held_listed e held =
       listed_grown (basis_of base properties) (length before) step_in.here case.made.drafting grown_since e (holds_before.listed e held)

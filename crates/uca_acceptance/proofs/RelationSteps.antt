@@ -43,7 +43,7 @@ targets_apart before after key distinct first second =
 -- ---- Steps
 
 module _ (basis : Basis) where
-  -- the drafts before and behind one relation, of which `place` come before it
+  -- the drafts before and after one relation, which comes after `place` others
   pub record IsStepAt (before : List Relation) (r : Relation) (after : List Relation) (start final : Drafting) : Type 0 where
     pub here : Drafting
     pub next : Drafting
@@ -59,7 +59,7 @@ module _ (basis : Basis) where
     pub step : IsStep basis (n + length before) r here next
     pub behind : AreSteps basis (n + length before + 1) after next final
 
-  -- steps are cut at a relation, wherever they begin
+  -- steps from any drafts are cut at a relation
   cut_at : (n : ℕ) (before : List Relation) (r : Relation) (after : List Relation) (start final : Drafting) →
       AreSteps basis n (before ++ r ∷ after) start final → IsCutAt n before r after start final
   cut_at n [] r after start final steps =
@@ -105,12 +105,12 @@ module _ (basis : Basis) where
       ∙ ap (λ (rows : List DraftRow). draft_at rows key) steps.1.rows
       ∙ (one_more_row (target_row r steps.1.new) a.rows).others key (λ same. none (inl (sym same)))
 
-  -- behind a step its target has the elements that it gives
+  -- after a step its target has the elements that it gives
   row_made : (n : ℕ) (r : Relation) (a b : Drafting) (step : IsStep basis n r a b) → draft_at b.rows r.target.points ≡ Some step.new.elements
   row_made n r a b step =
       ap (λ (rows : List DraftRow). draft_at rows r.target.points) step.rows ∙ (one_more_row (target_row r step.new) a.rows).its_own
 
-  -- behind steps each of their targets has a row
+  -- after steps each of their targets has a row
   row_there : (n : ℕ) (relations : List Relation) (a b : Drafting) (key : List ℕ) → AreSteps basis n relations a b → IsTarget relations key →
       (row : List DraftElement) × (draft_at b.rows key ≡ Some row)
   row_there n [] a b key steps target = absurd target
@@ -154,7 +154,7 @@ module _ (basis : Basis) where
         (λ key occurs. row_kept (length before) (r ∷ after) at.here final key later (no_target (r ∷ after) key text.points untouched occurs))
   ]
     where
-      -- its step and those behind it
+      -- its step and those after it
       later : AreSteps basis (length before) (r ∷ after) at.here final
       later = (at.next, at.step, at.behind)
 

@@ -54,7 +54,7 @@ each_found : (rows : List Entry) → AreDistinct rows → AllByRecursion (λ row
 each_found rows distinct =
     each_if_contained (λ (row : Entry). rows_of rows row.key ≡ Some row.elements) rows (λ row there. found_of_row rows distinct row there)
 
--- what holds of all elements holds of those of each row
+-- what is true of all elements is true of those of each row
 each_in_rows : (P : Element → Type 0) (rows : List Entry) → AllByRecursion P (elements_of rows) →
     AllByRecursion (λ row. AllByRecursion P row.elements) rows
 each_in_rows P [] all = tt

@@ -1,4 +1,5 @@
--- Behind each relation every key of three or more code points that ends with a non-starter is a key without it too.
+-- After each relation, if a key of three or more code points ends with a non-starter, then the key without it is a key
+-- too.
 use Rattle.std.proofs.Common.{◌≡◌, ◌≢◌, ℕ, ◌+◌, ◌<◌, ◌≤◌, Bool, true, false, not, eqb, ◌&&◌, List, [], ◌∷◌, ◌++◌, length, refl, sym, ap}
 use Rattle.std.proofs.Common.{◌∙◌, arith, subst, length-append}
 use Rattle.std.proofs.lemmas.Bool.{or_left, ne_eqb}
@@ -55,7 +56,7 @@ target_shorter class rows target has front last parts long non_starter =
     sym (has_key_is rows front) ∙ both_tests (eqb (class last) 0) (has_key rows front) (ne_eqb (class last) 0 non_starter)
     (sym (long_needs class rows target front last parts three) ∙ has)
   where
-    -- the second of two tests of which the first is met
+    -- the second of two tests, when the first is met
     both_tests : (starter there : Bool) → starter ≡ false → (not starter && not there) ≡ false → there ≡ true
     both_tests true there other both = absurd (cc)
     both_tests false true other both = refl
@@ -75,7 +76,7 @@ with_shorter class target keys here each =
 
 -- ---- Steps
 
--- keys that are so before relations are so behind them
+-- keys that have this property before relations have it after them
 pub steps_shorter : (basis : Basis) (n : ℕ) (relations : List Relation) (here behind : Drafting) → AreSteps basis n relations here behind
     → HaveShorter basis.properties.class (keys_in here.rows) → HaveShorter basis.properties.class (keys_in behind.rows)
 steps_shorter basis n [] here behind steps have = subst (λ (d : Drafting). HaveShorter basis.properties.class (keys_in d.rows)) steps have

@@ -1,5 +1,5 @@
--- How weights of drafts stand to one another: what holds of them from relation to relation, so that the numbered rows meet WF2, WF3
--- and WF4.
+-- The order of the weights of drafts: what is true of it from relation to relation, so that the numbered rows meet WF2,
+-- WF3 and WF4.
 use Rattle.std.proofs.Common.{◌≡◌, ◌⊎◌, ◌<◌, ◌≤◌, true, false, List}
 use Rattle.std.specs.List.{AllByRecursion}
 use Rattle.uca_weights.specs.declared.Level.TheVariants.{One, Two, Three}
@@ -39,9 +39,9 @@ IsBelow members v w = StandsBefore members v w ⊎ ((IsAmong members v × IsHigh
 abbrev pub IsBelowOrZero : List DraftWeight → DraftWeight → DraftWeight → Type 0
 IsBelowOrZero members v w = IsZero v ⊎ StandsBefore members v w
 
--- Weights stand well among some elements, where these are the lists of the three levels: those of secondary elements above
--- those of primary ones and 0020, and those of tertiary elements above those of both and 0002; a variable element has a
--- primary; and one that is not variable stands below all variable ones or above them all.
+-- Weights are in good order among some elements, by the lists of the three levels. The weights of secondary elements
+-- are above those of primary ones and 0020, and those of tertiary elements above those of both and 0002. A variable
+-- element has a primary. One that is not variable is below all variable ones or above them all.
 pub record StandWell (primary secondary tertiary : List DraftWeight) (E : DraftElement → Type 0) : Type 0 where
   pub secondaries : (e f : DraftElement) → E e → E f → IsPrimaryDraft e → IsSecondaryDraft f → IsBelowOrZero secondary e.secondary f.secondary
   pub secondary_fixed : (f : DraftElement) → E f → IsSecondaryDraft f → StandsBefore secondary (Base 0x20) f.secondary
@@ -52,8 +52,8 @@ pub record StandWell (primary secondary tertiary : List DraftWeight) (E : DraftE
       ((v : DraftElement) → E v → v.mark ≡ true → IsBelow primary e.primary v.primary)
       ⊎ ((v : DraftElement) → E v → v.mark ≡ true → IsBelow primary v.primary e.primary)
 
--- Weights stand well behind some relations: among elements of which all rows are made, those of replaced rows and all implicit ones
--- that do not stand among the base's variable elements included.
+-- Weights are in good order after some relations: among the elements that all rows are made of. These include those of
+-- replaced rows, and all implicit ones that are not among the base's variable elements.
 pub record HasWellWeights (basis : Basis) (a : Drafting) : Type 1 where
   pub E : DraftElement → Type 0
   pub well : StandWell (list_at One basis a) (list_at Two basis a) (list_at Three basis a) E

@@ -1,4 +1,4 @@
--- The weights of drafts stand well from relation to relation.
+-- The weights of drafts stay in good order from relation to relation.
 use Rattle.std.proofs.Common.{◌≡◌, ◌⊎◌, inl, inr, ℕ, ◌+◌, ◌<◌, true, false, ◌&&◌, List, [], ◌∷◌, ◌++◌, map, Option, Some, None, refl, sym, ap}
 use Rattle.std.proofs.Common.{◌∙◌, subst, arith}
 use Rattle.std.specs.Prelude.{IfSome}
@@ -37,18 +37,18 @@ use Rattle.uca_acceptance.proofs.BaseWell.{implicit_is}
 
 -- ---- Lists that have grown
 
--- what stands below another does so in a list that has grown
+-- what is below another is below it in a list that has grown
 below_grown : (n : ℕ) (ms ns : List DraftWeight) (v w : DraftWeight) → IsGrown n ms ns → IsBelow ms v w → IsBelow ns v w
 below_grown n ms ns v w grown (inl stands) = inl (grown.kept v w stands)
 below_grown n ms ns v w grown (inr (inl there)) = inr (inl (grown.old v there.0, there.1))
 below_grown n ms ns v w grown (inr (inr high)) = inr (inr high)
 
--- and what stands below another or is none
+-- and what is below another or is none
 below_or_zero_grown : (n : ℕ) (ms ns : List DraftWeight) (v w : DraftWeight) → IsGrown n ms ns → IsBelowOrZero ms v w → IsBelowOrZero ns v w
 below_or_zero_grown n ms ns v w grown (inl none) = inl none
 below_or_zero_grown n ms ns v w grown (inr stands) = inr (grown.kept v w stands)
 
--- where weights stand well, they do so in lists that have grown
+-- weights in good order are so in lists that have grown
 well_grown : (basis : Basis) (n : ℕ) (a b : Drafting) (E : DraftElement → Type 0) → HasGrownLists basis n a b
     → StandWell (list_at One basis a) (list_at Two basis a) (list_at Three basis a) E
     → StandWell (list_at One basis b) (list_at Two basis b) (list_at Three basis b) E
@@ -74,7 +74,7 @@ well_grown basis n a b E grown well = record {
 abbrev OrImplicit : (DraftElement → Type 0) → DraftElement → Type 0
 OrImplicit E e = E e ⊎ IsReadImplicit e
 
--- the elements of a text are held, or implicit
+-- the elements of a text are among the elements so far, or implicit
 text_read : (basis : Basis) (a : Drafting) (well : HasWellWeights basis a) → AreImplicitRanges basis.ranges → (text : NfdText) → IsRuleText text
     → AllByRecursion (OrImplicit well.E) (draft_elements basis.ranges basis.properties a.rows text)
 text_read basis a well ranges text is =
@@ -93,7 +93,7 @@ expansion_read : (basis : Basis) (a : Drafting) (well : HasWellWeights basis a) 
 expansion_read basis a well ranges None is = tt
 expansion_read basis a well ranges (Some text) is = text_read basis a well ranges text is
 
--- it is not implicit, or stands outside the variable elements of the base
+-- it is not implicit, or is outside the variable elements of the base
 abbrev IsOutside : Basis → DraftElement → Type 0
 IsOutside basis e = (e.implicit && is_among_variables (elements_of basis.base) e.primary) ≡ false
 
@@ -103,7 +103,7 @@ target_outside : (basis : Basis) (n : ℕ) (rule : Relation) (a b : Drafting) (s
 target_outside basis n rule a b step =
     each_fails (λ e. e.implicit && is_among_variables (elements_of basis.base) e.primary) step.new.elements step.outside
 
--- what is so is held
+-- such an element is among the elements so far
 outside_held : (basis : Basis) (a : Drafting) (well : HasWellWeights basis a) (e : DraftElement) → OrImplicit well.E e → IsOutside basis e → well.E e
 outside_held basis a well e (inl held) outside = held
 outside_held basis a well e (inr read) outside =
@@ -118,7 +118,7 @@ all_held basis a well (e ∷ es) read outside = (outside_held basis a well e rea
 
 -- ---- One step
 
--- weights stand well behind a step, among any elements that do so and are listed, where the new row is made of them
+-- weights are in good order after a step, among any elements that are so and are listed, if the new row is made of them
 step_well : (basis : Basis) (n : ℕ) (rule : Relation) (a b : Drafting) (well : HasWellWeights basis a) (step : IsStep basis n rule a b)
     (F : DraftElement → Type 0) → ((e : DraftElement) → well.E e → F e)
     → StandWell (list_at One basis b) (list_at Two basis b) (list_at Three basis b) F
@@ -137,7 +137,7 @@ step_well basis n rule a b well step F keeps stands listed made =
           (with_row_each (λ row. AllByRecursion F row.elements) (target_row rule step.new) a.rows made old);
     }
 
--- behind a step at no level
+-- after a step at no level
 joined_well : (basis : Basis) (n : ℕ) (rule : Relation) (a b : Drafting) (holds : Holds basis n a) → AreImplicitRanges basis.ranges
     → HasRuleTexts rule → (well : HasWellWeights basis a) (step : IsStep basis n rule a b)
     → step.new.elements ≡ anchor_at basis a rule ++ draft_expansion basis a rule.expansion → HasWellWeights basis b
@@ -153,7 +153,8 @@ joined_well basis n rule a b holds ranges texts well step elements =
 
 -- ---- A step at a level
 
--- the last element of an accepted part is held, since an implicit one is refused at level 1, and passes the test at the others
+-- the last element of an accepted part is among the elements: an implicit one takes no weight at level 1, and passes
+-- the test at the others
 last_held : (level : Level) (basis : Basis) (a : Drafting) (well : HasWellWeights basis a) (n : ℕ) (last : DraftElement) → takes_no_weight level last ≡ false
     → OrImplicit well.E last → IsOutside basis (reweighted level (New n) last) → well.E last
 last_held One basis a well n last accepted (inl held) outside = held
@@ -162,13 +163,13 @@ last_held Two basis a well n last accepted read outside = outside_held basis a w
 last_held Three basis a well n last accepted read outside = outside_held basis a well last read outside
 
 module _ (basis : Basis) (n : ℕ) (rule : Relation) (a b : Drafting) (holds : Holds basis n a) (step : IsStep basis n rule a b) where
-  -- a level's list behind the step
+  -- a level's list after the step
   list_behind : (level other : Level) (at : IsPlacedStep basis n rule a b holds step level)
       → list_at other basis b ≡ all_inserted other (insertion_at level rule.before n at.placed.part.last ∷ []) (list_at other basis a)
   list_behind level other at =
       step_list basis n rule a b step other ∙ ap (λ is. all_inserted other is (list_at other basis a)) (ap (λ d. d.insertions) at.placed.is)
 
-  -- the new weight is put in beside the anchor's
+  -- the new weight is put in next to the anchor's
   put_in_list : (level : Level) (at : IsPlacedStep basis n rule a b holds step level)
       → IsInserted (insertion_at level rule.before n at.placed.part.last) (list_at level basis a)
   put_in_list level at =
@@ -176,7 +177,7 @@ module _ (basis : Basis) (n : ℕ) (rule : Relation) (a b : Drafting) (holds : H
       stands_nearest (insertion_at level rule.before n at.placed.part.last) (list_at level basis a) good.apart at.anchor_there
       (λ among. let less = good.names n among in omega (arith, less))
 
-  -- weights stand well with the new one
+  -- weights are in good order with the new one
   stands_behind : (level : Level) (at : IsPlacedStep basis n rule a b holds step level) (well : HasWellWeights basis a) → well.E at.placed.part.last
       → StandWell (list_at One basis b) (list_at Two basis b) (list_at Three basis b) (WithElement well.E (reweighted level (New n) at.placed.part.last))
   stands_behind One at well held =
@@ -192,7 +193,7 @@ module _ (basis : Basis) (n : ℕ) (rule : Relation) (a b : Drafting) (holds : H
       (new_well_three (list_at One basis a) (list_at Two basis a) (list_at Three basis a) well.E at.placed.part.last rule.before n held well.well
       at.not_ignorable (put_in_list Three at))
 
-  -- so they do behind a step at a level
+  -- so they are after a step at a level
   placed_well : AreImplicitRanges basis.ranges → HasRuleTexts rule → (level : Level) → IsPlacedStep basis n rule a b holds step level
       → HasWellWeights basis a → HasWellWeights basis b
   placed_well ranges texts level at well =
@@ -222,7 +223,7 @@ module _ (basis : Basis) (n : ℕ) (rule : Relation) (a b : Drafting) (holds : H
 
 -- ---- All steps
 
--- weights stand well behind a step
+-- weights are in good order after a step
 one_well : (basis : Basis) (n : ℕ) (rule : Relation) (a b : Drafting) (holds : Holds basis n a) → AreImplicitRanges basis.ranges
     → HasRuleTexts rule → IsStep basis n rule a b → HasWellWeights basis a → HasWellWeights basis b
 one_well basis n rule a b holds ranges texts step well = go (level_of rule.strength) step.is_drafted
@@ -236,7 +237,7 @@ one_well basis n rule a b holds ranges texts step well = go (level_of rule.stren
     go (Some level) is =
         placed_well basis n rule a b holds step ranges texts level (placed_step basis n rule a b holds ranges texts step level is) well
 
--- weights stand well behind all steps
+-- weights are in good order after all steps
 pub steps_well : (basis : Basis) (n : ℕ) (relations : List Relation) (a b : Drafting) (holds : Holds basis n a) → AreImplicitRanges basis.ranges
     → AllByRecursion HasRuleTexts relations → AreSteps basis n relations a b → HasWellWeights basis a → HasWellWeights basis b
 steps_well basis n [] a b holds ranges texts steps well = subst (HasWellWeights basis) steps well

@@ -1,4 +1,4 @@
--- The weights of a plan's drafts stand to one another so that the numbered rows meet WF2, WF3 and WF4.
+-- The weights of a plan's drafts are in such an order that the numbered rows meet WF2, WF3 and WF4.
 use Rattle.std.proofs.Common.{List}
 use Rattle.uca_values.specs.Content.{TableContent, Properties}
 use Rattle.uca_rules.specs.declared.relations.Relation.{Relation}
@@ -11,7 +11,7 @@ use Rattle.uca_acceptance.proofs.WellSteps.{steps_well}
 pub use Rattle.uca_acceptance.proofs.WellDrafts.{IsPrimaryDraft, IsSecondaryDraft, IsTertiaryDraft, AreHighBelow, IsBelow, IsBelowOrZero}
 pub use Rattle.uca_acceptance.proofs.WellDrafts.{StandWell, HasWellWeights}
 
--- the weights of a plan's drafts stand well
+-- the weights of a plan's drafts are in good order
 pub well_weights : (base : TableContent) (properties : Properties) (relations : List Relation) (plan : Plan)
     (case : IsCase base properties relations plan) → HasWellWeights (basis_of base properties) case.made.drafting
 well_weights base properties relations plan case =

@@ -16,10 +16,10 @@ pub fn plans_make_tailorings()
     ensures { PlansMakeTailorings }
 {}
 
-/// So a plan is all that an accepted tailoring means. Its table is well-formed; each relation holds, and the target of each
-/// relation of strength 1 to 3 stands nearest its anchor; any two texts in which no target occurs in order compare as under
-/// the base, by order and level, at either depth and under either weighting; and where the maps change no weight, such a text
-/// keeps its key.
+/// So a plan has all that is proved of an accepted tailoring. Its table is well-formed. Each relation holds, and the
+/// target of each relation of strength 1 to 3 is next to its anchor. Any two texts in which no target occurs in order
+/// compare as under the base, by order and level, at either depth and under either weighting. If the maps change no
+/// weight, such a text keeps its key.
 pub fn plans_are_faithful()
     ensures { PlansAreFaithful }
 {}

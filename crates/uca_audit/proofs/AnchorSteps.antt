@@ -12,7 +12,7 @@ use Rattle.uca_tailorings.proofs.Parts.{of_part}
 use Rattle.uca_tailorings.proofs.Relating.{one_anchor}
 use Rattle.uca_audit.specs.Anchors.{EndsAt, HasNoAnchor}
 
--- the member behind which the others stand is the one at the place
+-- the member before the others is the one at the position
 pub member_at : {X : Type 0} (xs : List X) (at : ℕ) (x d : X) → at < length xs → xs ≡ take at xs ++ x ∷ drop (at + 1) xs → x ≡ get_or xs at d
 member_at xs at x d within whole =
     let both : x ∷ drop (at + 1) xs ≡ get_or xs at d ∷ drop (at + 1) xs =
@@ -23,7 +23,7 @@ member_at xs at x d within whole =
 pub none_of_ignorable : (level : Level) (es : List Element) → AllByRecursion (IsIgnorableTo level) es → HasNoAnchor level es
 none_of_ignorable level es ignorable before last trailing anchor = anchor.not_ignorable (of_part (IsIgnorableTo level) es before last trailing ignorable anchor.whole)
 
--- nor is there where the last one that is not ignorable can't take it
+-- there is none either if the last one that is not ignorable cannot take it
 pub none_of_last : (level : Level) (es : List Element) (at : ℕ) (d : Element) → EndsAt level es at →
     ¬ (¬ (IsContinuation (get_or es at d)) × IsLow level (weight level (get_or es at d))) → HasNoAnchor level es
 none_of_last level es at d ends refused before last trailing anchor =

@@ -1,4 +1,4 @@
--- Conditions one after the other.
+-- Conditions in turn.
 use Rattle.std.proofs.Common.{◌≡◌, ◌⊎◌, ⊎_elim, inl, inr, ℕ, ◌+◌, ◌<◌, ◌==◌, if◌then◌else◌, Result, Ok, Err, refl, ap, sym, subst, ◌∙◌, arith}
 use Rattle.std.specs.Result.{IsErrAnd}
 use Rattle.std.proofs.lemmas.Bool.{cases_lt}
@@ -70,7 +70,7 @@ number_below_12 NotPlaced = omega arith
 number_below_12 NotFresh = omega arith
 number_below_12 NotNearest = omega arith
 
--- no condition stands before the first
+-- no condition comes before the first
 pub meets_none : (tailoring : Tailoring) → MeetsBelow tailoring 1
 meets_none tailoring other below = absurd (omega (arith, below, number_from_1 other))
 
@@ -85,14 +85,14 @@ meets_more tailoring condition so_far met other below =
 pub meets_all : (tailoring : Tailoring) → MeetsBelow tailoring 12 → IsAccepted tailoring
 meets_all tailoring met condition = met condition (number_below_12 condition)
 
--- a condition fails behind those that are met, or no memory was left
+-- a condition fails after those that are met, or an allocation failed
 pub refused_at : (tailoring : Tailoring) (condition : Condition) (fault : AuditFault) → MeetsBelow tailoring (number_of condition) →
     Fails tailoring condition fault ⊎ IsMemory fault
     → IsFirstRefusal tailoring fault ⊎ IsMemory fault
 refused_at tailoring condition fault so_far (inl fails) = inl (record { condition = condition; number = fails.number; lower = so_far; fails = fails.place })
 refused_at tailoring condition fault so_far (inr memory) = inr memory
 
--- the same, where the fault is handed on
+-- the same, where the error is passed on
 pub passes_refused : {A : Type 0} (tailoring : Tailoring) (n : ℕ) (condition : Condition) (result : Result A AuditFault) (given : AuditFault)
     → IsErrAnd result (λ fault. fault ≡ given)
     → MeetsBelow tailoring (number_of condition) → Fails tailoring condition given ⊎ IsMemory given → Passes tailoring n result
@@ -100,13 +100,13 @@ passes_refused tailoring n condition (Ok x) given passed_on so_far fails = absur
 passes_refused tailoring n condition (Err fault) given passed_on so_far fails =
     refused_at tailoring condition fault so_far (subst (λ f. Fails tailoring condition f ⊎ IsMemory f) (sym passed_on) fails)
 
--- a fault of a part of the audit is handed on
+-- an error of a part of the audit is passed on
 pub passes_failed : {A : Type 0} (tailoring : Tailoring) (n : ℕ) (result : Result A AuditFault) (given : AuditFault) → IsErrAnd result (λ fault. fault ≡ given)
     → IsFirstRefusal tailoring given ⊎ IsMemory given → Passes tailoring n result
 passes_failed tailoring n (Ok x) given passed_on refused = absurd passed_on
 passes_failed tailoring n (Err fault) given passed_on refused = subst (λ f. IsFirstRefusal tailoring f ⊎ IsMemory f) (sym passed_on) refused
 
--- the last condition of a part is met, or its fault is that of the part
+-- the last condition of a part is met, or its error is that of the part
 pub passes_last : {A : Type 0} (tailoring : Tailoring) (condition : Condition) (result : Result A AuditFault) → MeetsBelow tailoring (number_of condition)
     → Settles tailoring condition result → Passes tailoring (number_of condition + 1) result
 passes_last tailoring condition (Ok x) so_far met = meets_more tailoring condition so_far met

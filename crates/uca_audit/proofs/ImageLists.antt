@@ -39,7 +39,7 @@ pub images_tested : (maps : Maps) (es fs : List Element) (test : Bool) → lengt
 images_tested maps es fs true same all = (λ h. pairs_are maps es fs same all, λ h. refl)
 images_tested maps es fs false same fault = (λ h. absurd (false≢true h), λ h. absurd (pair_fails maps es fs fault.0 fault.1 fault.2 h))
 
--- a test told whether the property holds
+-- a test that says whether the property holds
 abbrev pub Told : Type 0 → Bool → Type 0
 Told P told = (holds : Bool) × (told ≡ holds) × (IsTrue holds ↔ P)
 
@@ -55,7 +55,7 @@ fails_at P [] k within fails all = absurd (omega arith)
 fails_at P (x ∷ xs) zero within fails all = fails x all.0
 fails_at P (x ∷ xs) (suc k) within fails all = fails_at P xs k (omega arith) fails all.1
 
--- a test of all elements tells whether each has the property
+-- a test of all elements says whether each has the property
 pub all_told : (P : Element → Type 0) (r : Bool) (xs : List Element)
     → MatchBool r (AllWithin P xs 0 (length xs)) ((k : ℕ) × (k < length xs) × HoldsAt (λ e. P e → ⊥) xs k) → IsTrue r ↔ AllByRecursion P xs
 all_told P true xs h = (λ _. recursion_from_All P xs (All-from_all_within P xs h), λ _. refl)

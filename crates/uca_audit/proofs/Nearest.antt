@@ -108,7 +108,7 @@ nearest_fails tailoring placements set i d nearest are holds within below test f
     (λ is. false≢true (sym fails ∙ test.1
     (nearest_relation tailoring set (take i tailoring.relations) at.x (drop (suc i) tailoring.relations) (get_or placements i d) holds at.here is)))
 
--- the set behind the test
+-- the set after the test
 pub known_next : (tailoring : Tailoring) (placements : List Placement) (old new : Flags) (i : ℕ) (d : Placement) →
     AllZip (IsPlacement tailoring) tailoring.relations placements → HoldsKnownAndNew tailoring (take i tailoring.relations) old →
     i < length placements →

@@ -1,4 +1,4 @@
--- A tailoring that is refused is not accepted.
+-- A tailoring that is rejected is not accepted.
 use Rattle.std.proofs.Common.{⊎_elim, ℕ, List, subst}
 use Rattle.std.specs.List.{AllByRecursion}
 use Rattle.uca_weights.proofs.Lists.{inside}

@@ -10,7 +10,7 @@ use Rattle.uca_audit.specs.Refusals.{IsFirstRelationWithout}
 
 -- ---- Two lists in step
 
--- what stands at an index of two lists, and before and after it
+-- what is at an index of two lists, and before and after it
 pub record AreInStep {A B : Type 0} (R : A → B → Type 0) (xs : List A) (ys : List B) (i : ℕ) (d : B) : Type 0 where
   pub x : A
   pub more : take (suc i) xs ≡ take i xs ++ x ∷ []
@@ -51,7 +51,7 @@ length_in_step R (x ∷ xs) (y ∷ ys) are = ap suc (length_in_step R xs ys are.
 abbrev pub AllBelow : (List Relation → Relation → List Relation → Type 0) → List Relation → ℕ → Type 0
 AllBelow P relations i = (front : List Relation) (s : Relation) (back : List Relation) → take i relations ≡ front ++ s ∷ back → P front s (back ++ drop i relations)
 
--- no relation stands before the first
+-- no relation comes before the first
 pub below_none : (P : List Relation → Relation → List Relation → Type 0) (relations : List Relation) → AllBelow P relations 0
 below_none P relations front s back same = absurd (not_nil front s back same)
 

@@ -27,7 +27,7 @@ one_weight level before last expansion v w same =
     sym (weight_of_new level v last) ∙ ap (weight level) element ∙ weight_of_new level w last
 
 module _ (level : Level) (is_before : Bool) (anchor expansion row : List Element) (at : ℕ) (d : Element) (found : IsAnchorAt level anchor at) where
-  -- the row of a target has the old weight and the elements by the anchor's place
+  -- the row of a target has the old weight and the elements as the anchor's position says
   pub row_by_place : (old new : ℕ) → IsRowAt level is_before anchor expansion row old new →
       (weight level (get_or anchor at d) ≡ old) × (row ≡ placed level (take at anchor) (get_or anchor at d) expansion new)
   row_by_place old new is =

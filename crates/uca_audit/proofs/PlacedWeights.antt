@@ -36,7 +36,7 @@ puts_there tailoring r p level is there = by_strength (level_of r.strength) is
 
 -- ---- Levels
 
--- levels are told apart by their numbers
+-- levels with the same number are the same
 level_same : (level other : Level) → level_number level ≡ level_number other → level ≡ other
 level_same One One e = refl
 level_same One Two e = absurd (omega arith)

@@ -27,20 +27,20 @@ pub each_whole : (P : Relation → Type 0) (items relations : List Relation) (at
     AllByRecursion P (take at items) → AllByRecursion P relations
 each_whole P items relations at same over each = subst (AllByRecursion P) (take_all at items over ∙ same) each
 
--- one more member of each of two lists stands beside the other
+-- one more member of each of two lists makes one more pair
 zip_push : {X Y : Type 0} (R : X → Y → Type 0) (xs : List X) (ys : List Y) (x : X) (y : Y) → AllZip R xs ys → R x y → AllZip R (xs ++ x ∷ []) (ys ++ y ∷ [])
 zip_push R [] [] x y earlier here = (here, tt)
 zip_push R [] (w ∷ ys) x y earlier here = absurd earlier
 zip_push R (v ∷ xs) [] x y earlier here = absurd earlier
 zip_push R (v ∷ xs) (w ∷ ys) x y earlier here = (earlier.0, zip_push R xs ys x y earlier.1 here)
 
--- one more relation stands beside what is found of it
+-- one more relation makes a pair with what is found of it
 pub zip_further : {Y : Type 0} (R : Relation → Y → Type 0) (relations : List Relation) (ys : List Y) (at : ℕ) (r : Relation) (y : Y) →
     at < length relations → r ≡ get_or relations at r → AllZip R (take at relations) ys → R r y → AllZip R (take (at + 1) relations) (ys ++ y ∷ [])
 zip_further R relations ys at r y within there earlier here =
     subst (λ rs. AllZip R rs (ys ++ y ∷ [])) (sym (taken_more relations at r within there)) (zip_push R (take at relations) ys r y earlier here)
 
--- each relation stands beside what is found of it
+-- each relation makes a pair with what is found of it
 pub zip_whole : {Y : Type 0} (R : Relation → Y → Type 0) (items relations : List Relation) (ys : List Y) (at : ℕ) → items ≡ relations → length items ≤ at →
     AllZip R (take at items) ys → AllZip R relations ys
 zip_whole R items relations ys at same over each = subst (λ rs. AllZip R rs ys) (take_all at items over ∙ same) each

@@ -68,7 +68,7 @@ by_weight t r level row (Some p) strength is at =
     let placement = placed_by_row t r level row p.old p.new strength is at.1 in
     (subst (IsPlacementBy t r p) (sym strength) (at.0, placement), subst (IsPlacedBy t r) (sym strength) (p.old, p.new, placement))
 
--- the same of the elements that were read
+-- the same for the elements that were read
 pub found_by_weight : (t : Tailoring) (r : Relation) (level : Level) (anchor expansion row : List Element) (found : Option Placement) →
     level_of r.strength ≡ Some level → anchor ≡ anchor_elements t r → expansion ≡ expansion_elements t r → IsTargetRow t r row →
     MatchOption found ((old new : ℕ) → ¬ (IsRowAt level r.before anchor expansion row old new))

@@ -5,7 +5,7 @@ use Rattle.uca_weights.specs.declared.Element.{Element}
 use Rattle.uca_weights.specs.declared.Level.{Level}
 use Rattle.uca_tailorings.specs.Placing.{IsIgnorableTo, IsAnchor}
 
--- the element at the place is the last that is not ignorable
+-- the element at the position is the last that is not ignorable
 pub record EndsAt (level : Level) (es : List Element) (at : ℕ) : Type 0 where
   pub within : at < length es
   pub last : Element
@@ -13,7 +13,7 @@ pub record EndsAt (level : Level) (es : List Element) (at : ℕ) : Type 0 where
   pub not_ignorable : ¬ (IsIgnorableTo level last)
   pub ignorable : AllByRecursion (IsIgnorableTo level) (drop (at + 1) es)
 
--- a new weight can be put on the element at the place
+-- a new weight can be put on the element at the position
 pub record IsAnchorAt (level : Level) (es : List Element) (at : ℕ) : Type 0 where
   pub within : at < length es
   pub last : Element

@@ -21,15 +21,15 @@ FindsRowsOf table found = (key : List ℕ) → found key ≡ rows_of table.rows 
 abbrev pub MeetsBelow : Tailoring → ℕ → Type 0
 MeetsBelow tailoring n = (other : Condition) → number_of other < n → Meets tailoring other
 
--- the fault is that of the condition, at the first place where it fails
+-- the error is that of the condition, at the first position where it fails
 pub record Fails (tailoring : Tailoring) (condition : Condition) (fault : AuditFault) : Type 0 where
   pub number : fault.number ≡ number_of condition
   pub place : FailsFirstAt tailoring condition fault.place
 
--- the condition is met, or the fault is its; or no memory was left
+-- the condition is met, or the error is that of the condition, or an allocation failed
 abbrev pub Settles : {A : Type 0} → Tailoring → Condition → Result A AuditFault → Type 0
 Settles tailoring condition result = MatchResult result (λ _. Meets tailoring condition) (λ fault. Fails tailoring condition fault ⊎ IsMemory fault)
 
--- all conditions of lower numbers are met, or the fault is that of the first one that fails; or no memory was left
+-- all conditions of lower numbers are met, or the error is that of the first one that fails; or an allocation failed
 abbrev pub Passes : {A : Type 0} → Tailoring → ℕ → Result A AuditFault → Type 0
 Passes tailoring n result = MatchResult result (λ _. MeetsBelow tailoring n) (λ fault. IsFirstRefusal tailoring fault ⊎ IsMemory fault)

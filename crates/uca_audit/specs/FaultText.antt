@@ -1,4 +1,4 @@
--- The words for a refusal of an audit: `refused 10 NotFresh relation 1`.
+-- The text of a rejection by an audit: `refused 10 NotFresh relation 1`.
 use Rattle.std.specs.Prelude.{ℕ, List, ◌++◌, ◌==◌, if◌then◌else◌, codes, decimal}
 use Rattle.uca_audit.specs.declared.faults.AuditFault.{AuditFault}
 use Rattle.uca_audit.specs.declared.faults.Place.{Place}

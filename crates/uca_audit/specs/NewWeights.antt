@@ -30,7 +30,7 @@ puts level w p = is_level level p.level && p.new == w
 abbrev pub times_new : Level → ℕ → List Placement → ℕ
 times_new level w placements = count_by (puts level w) placements
 
--- the set has the weights that are new at least so many times
+-- the set has the weights that are new at least this many times
 abbrev pub HoldsNew : ℕ → List Placement → Flags → Type 0
 HoldsNew times placements set = (level : Level) (w : ℕ) → HasWeight set level w ↔ (times ≤ times_new level w placements)
 
@@ -42,7 +42,7 @@ pub record IsFreshAt (known shared : Flags) (level : Level) (new : ℕ) : Type 0
   pub own : ¬ (HasWeight shared level new)
   pub low : IsLow level new
 
--- the same of a placement, if it puts a new weight at a level
+-- the same for a placement, if it puts a new weight at a level
 abbrev pub IsFreshPlacement : Flags → Flags → Placement → Type 0
 IsFreshPlacement known shared p = MatchOption p.level ⊤ (λ level. IsFreshAt known shared level p.new)
 

@@ -9,8 +9,8 @@ use Rattle.uca_tailorings.specs.Tailorings.{Tailoring, IsPlaced}
 use Rattle.uca_audit.specs.declared.conditions.placements.Placement.{Placement}
 use Rattle.uca_audit.specs.Views.{IsPlacement}
 
--- the row has the anchor's elements up to its last one, that one with the new weight in place of the old one and on its side, and
--- then the expansion's
+-- The row has the anchor's elements up to its last one, and then the expansion's. The last one has the new weight in
+-- place of the old one, on the right side of it.
 pub record IsRowAt (level : Level) (is_before : Bool) (anchor expansion row : List Element) (old new : ℕ) : Type 0 where
   pub before : List Element
   pub last : Element

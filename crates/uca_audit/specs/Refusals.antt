@@ -1,4 +1,4 @@
--- The first condition that a tailoring fails, and the first place where it does.
+-- The first condition that a tailoring fails, and the first position where it does.
 use Rattle.std.specs.Prelude.{◌≡◌, ◌⊎◌, ℕ, suc, ◌<◌, List, ◌∷◌, ◌++◌, length}
 use Rattle.std.specs.List.{AllByRecursion}
 use Rattle.uca_check.specs.WellFormed.{IsFirstWithout, IsFirstFailure}
@@ -34,16 +34,16 @@ pub record IsFirstRelationWithout (P : List RelationType → RelationType → Li
   pub earlier : (front : List RelationType) (s : RelationType) (back : List RelationType) → before ≡ front ++ s ∷ back → P front s (back ++ r ∷ after)
   pub without : ¬ (P before r after)
 
--- the same of a property of a relation alone
+-- the same for a property of a relation alone
 abbrev pub IsFirstAloneWithout : (RelationType → Type 0) → List RelationType → ℕ → Type 0
 IsFirstAloneWithout P relations number = IsFirstRelationWithout (λ before r after. P r) relations number
 
--- the place is such a one, with a number that has the property
+-- the position is such a one, with a number that has the property
 abbrev pub At : (ℕ → Place) → Place → (ℕ → Type 0) → Type 0
 At Numbered place P = (number : ℕ) × (place ≡ Numbered number) × P number
 
--- The first place where a condition fails. Of the tables' form it is the row that the check names; of rows that are missing those of
--- base keys come first, and then those of targets.
+-- The first position where a condition fails. For an ill-formed table it is the row that the check names. Among rows
+-- that are missing, those of base keys come first, and then those of targets.
 abbrev pub FailsFirstAt : Tailoring → Condition → Place → Type 0
 FailsFirstAt tailoring BaseIllFormed place = At BaseRow place (λ row. (wf : ℕ) × IsFirstFailure tailoring.properties.class tailoring.base.rows wf row)
 FailsFirstAt tailoring TailoredIllFormed place = At TailoredRow place (λ row. (wf : ℕ) × IsFirstFailure tailoring.properties.class tailoring.tailored.rows wf row)
@@ -59,7 +59,7 @@ FailsFirstAt tailoring NotPlaced place = At Relation place (IsFirstAloneWithout 
 FailsFirstAt tailoring NotFresh place = At Relation place (IsFirstRelationWithout (IsFresh tailoring) tailoring.relations)
 FailsFirstAt tailoring NotNearest place = At Relation place (IsFirstRelationWithout (IsNearest tailoring) tailoring.relations)
 
--- the fault names the first condition that fails, and its first place: all conditions of lower numbers are met
+-- the error names the first condition that fails, and its first position: all conditions of lower numbers are met
 pub record IsFirstRefusal (tailoring : Tailoring) (fault : AuditFault) : Type 0 where
   pub condition : Condition
   pub number : fault.number ≡ number_of condition
@@ -71,6 +71,6 @@ pub record IsMemory (fault : AuditFault) : Type 0 where
   pub number : fault.number ≡ 12
   pub place : fault.place ≡ Nowhere
 
--- No tailoring is both accepted and refused.
+-- No tailoring is both accepted and rejected.
 abbrev pub RefusedTailoringsAreNotAccepted : Type 0
 RefusedTailoringsAreNotAccepted = (tailoring : Tailoring) (fault : AuditFault) → IsFirstRefusal tailoring fault → ¬ (IsAccepted tailoring)

@@ -10,7 +10,7 @@ use Rattle.uca_audit.specs.declared.conditions.placements.Placement.{Placement}
 use Rattle.uca_tailorings.specs.Inputs.{tailoring_of}
 use Rattle.uca_audit.specs.Refusals.{IsFirstRelationWithout}
 
--- the tailoring that is handed in
+-- the tailoring that is given
 abbrev pub tailoring_in : {T : Type 0} → Inputs T → Tailoring
 tailoring_in inputs = tailoring_of inputs.base.now (properties_of inputs.properties.now) inputs.rules.now inputs.tailored.now inputs.certificate.now
 

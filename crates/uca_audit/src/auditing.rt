@@ -28,11 +28,11 @@ use uca_rules::Rules;
 use uca_tailorings::accepted_tailorings_are_faithful;
 use uca_values::{Data, Header, Table};
 
-/// Audits a tailoring: accepts exactly where its eleven conditions are met, and then promises what follows from them.
+/// Audits a tailoring. It accepts exactly if the eleven conditions are met, and then promises what follows from them.
 ///
 /// # Errors
 ///
-/// The first condition that fails, by its number, and the first place where it does; 12 where an allocation failed.
+/// The first condition that fails, by its number, and the first position where it does; 12 if an allocation failed.
 pub fn audit<A: Allocator + Copy, T: Allocator>(
     alloc: A,
     base: &Table<T>,
@@ -44,9 +44,9 @@ pub fn audit<A: Allocator + Copy, T: Allocator>(
     // All conditions are met.
     ensures accepted { OnOk result (IsAccepted (tailoring_of base.now (properties_of properties.now) rules.now tailored.now certificate.now)) }
 
-    // So the tailored table is well-formed; each relation holds, and each target of strength 1 to 3 stands nearest its anchor;
-    // any two texts in which no target occurs in order compare as under the base, at either depth and under either weighting;
-    // and where no weight is changed they keep their keys.
+    // So the tailored table is well-formed. Each relation holds, and each target of strength 1 to 3 is next to its
+    // anchor. Any two texts in which no target occurs in order compare as under the base, at either depth and under
+    // either weighting. If no weight is changed, they keep their keys.
     ensures faithful { OnOk result (IsFaithful (tailoring_of base.now (properties_of properties.now) rules.now tailored.now certificate.now)) }
 
     ensures refused { IfErr result (λ fault.
@@ -189,7 +189,7 @@ fn audit_new_weights<A: Allocator + Copy, T: Allocator>(
     targets_are_nearest(inputs, placements, known)
 }
 
-// What follows where all conditions are met.
+// What follows if all conditions are met.
 fn meaning<T: Allocator>(inputs: &Inputs<T>)
     requires { IsAccepted (tailoring_in inputs.now) }
     ensures { IsFaithful (tailoring_in inputs.now) }

@@ -1,5 +1,5 @@
-//! The conditions one by one: each function finds its condition met, or the fault at the first place where it fails.
-//! A condition goes by its name; its number is for the fault alone.
+//! The conditions one by one: each function finds its condition met, or the error at the first position where it fails.
+//! Functions have the name of their condition; only the error has its number.
 
 ghost use Rattle.std.specs.Prelude.{◌≡◌, ◌<◌, ◌+◌, [], suc, length, OnOk};
 ghost use Rattle.std.specs.List.{AllZip};
@@ -147,7 +147,7 @@ pub(crate) fn anchors_are_there<A: Allocator + Copy, T: Allocator>(
     }
 }
 
-/// Condition 9. The list is empty, and gets where the targets were placed.
+/// Condition 9. The list, empty at first, gets how the targets were placed.
 pub(crate) fn targets_are_placed<A: Allocator + Copy, T: Allocator>(
     alloc: A,
     inputs: &Inputs<T>,
@@ -198,7 +198,7 @@ pub(crate) fn targets_are_nearest<A: Allocator + Copy, T: Allocator>(
     }
 }
 
-/// The fault of a condition at the row of the base with this index.
+/// The error of a condition at the row of the base with this index.
 fn at_base_row<T: Allocator>(inputs: &Inputs<T>, condition: Condition, at: usize) -> AuditFault
     requires { at < length (tailoring_in inputs.now).base.rows }
     ensures { result ≡ record { number = number_of condition; place = Place.BaseRow (at + 1) } }
@@ -206,7 +206,7 @@ fn at_base_row<T: Allocator>(inputs: &Inputs<T>, condition: Condition, at: usize
     fault_of(condition, Place::BaseRow(row_number(inputs.base, at)))
 }
 
-/// The fault of a condition at the relation with this index.
+/// The error of a condition at the relation with this index.
 fn at_relation<T: Allocator>(inputs: &Inputs<T>, condition: Condition, at: usize) -> AuditFault
     requires { at < length (tailoring_in inputs.now).relations }
     ensures { result ≡ record { number = number_of condition; place = Place.Relation (suc at) } }
@@ -217,7 +217,7 @@ fn at_relation<T: Allocator>(inputs: &Inputs<T>, condition: Condition, at: usize
     )
 }
 
-/// The fault of a condition at a place.
+/// The error of a condition at a position.
 fn fault_of(condition: Condition, place: Place) -> AuditFault
     ensures { result ≡ record { number = number_of condition; place = place } }
 {

@@ -1,4 +1,4 @@
-//! Why an audit refuses a tailoring.
+//! Why an audit rejects a tailoring.
 
 ghost use Rattle.std.specs.Prelude.{◌≡◌, ◌≤◌, length, Some};
 ghost use Rattle.uca_audit.specs.FaultText.{audit_fault_text, name_of, place_text};
@@ -50,10 +50,10 @@ impl fmt::Debug for Place {
     }
 }
 
-/// An audit refuses a tailoring: the first condition that fails, and the first place where it does.
+/// An audit rejects a tailoring: the first condition that fails, and the first position where it does.
 #[derive(Clone, Copy, PartialEq, Eq, Error)]
 pub struct AuditFault {
-    /// The number of the condition, 1 to 11, in the order of [`Condition`](crate::Condition); 12 where an allocation
+    /// The number of the condition, 1 to 11, in the order of [`Condition`](crate::Condition); 12 if an allocation
     /// failed.
     pub number: u8,
     /// Where it fails.
@@ -61,7 +61,7 @@ pub struct AuditFault {
 }
 
 impl AuditFault {
-    /// The name of the condition that fails, as [`Condition`] has it; `Memory` where an allocation failed.
+    /// The name of the condition that fails, as [`Condition`] has it; `Memory` if an allocation failed.
     pub fn name(&self) -> &'static str
         ensures { result.now ≡ name_of self.now.number }
     {

@@ -17,7 +17,7 @@ const WEIGHT_COUNT: usize = 0x1_0000;
 pub(crate) struct LevelImages<'a, A: Allocator, T: Allocator> {
     /// The map.
     map: &'a WeightMap<T>,
-    /// The image of each weight, `None` where it has none.
+    /// The image of each weight, `None` if it has none.
     images: Vec<Option<u16>, A>,
 }
 
@@ -34,7 +34,7 @@ impl<'a, A: Allocator, T: Allocator> Model for LevelImages<'a, A, T> {
 }
 
 impl<'a, A: Allocator + Copy, T: Allocator> LevelImages<'a, A, T> {
-    /// The image of a weight, or `None` where it has none.
+    /// The image of a weight, or `None` if it has none.
     pub(crate) fn get(&self, weight: u16) -> Option<u16>
         ensures { result ≡ weight_image self.now.level self.now.runs weight }
     {
@@ -42,7 +42,7 @@ impl<'a, A: Allocator + Copy, T: Allocator> LevelImages<'a, A, T> {
     }
 }
 
-/// The weight maps of a certificate as arrays, one a level: looking up an image takes one step.
+/// The weight maps of a certificate as arrays, one for each level: looking up an image takes one step.
 #[derive(Drop)]
 pub(crate) struct Images<'a, A: Allocator, T: Allocator> {
     /// The images at level 1.

@@ -1,11 +1,11 @@
-//! What an audit is about.
+//! What an audit is given.
 
 use crate::Certificate;
 use std::alloc::Allocator;
 use uca_rules::Rules;
 use uca_values::{Data, Table};
 
-/// What is handed in to an audit.
+/// What an audit is given.
 #[derive(Drop)]
 pub(crate) struct Inputs<'a, T: Allocator> {
     /// The base.
@@ -16,6 +16,6 @@ pub(crate) struct Inputs<'a, T: Allocator> {
     pub rules: &'a Rules<T>,
     /// The table that is tailored from the base.
     pub tailored: &'a Table<T>,
-    /// What becomes of the base's weights.
+    /// The images of the base's weights.
     pub certificate: &'a Certificate<T>,
 }

@@ -2,8 +2,8 @@
 
 ghost use Rattle.uca_audit.specs.Refusals.{RefusedTailoringsAreNotAccepted};
 
-/// No tailoring is both accepted and refused: where an audit names a condition and a place, the tailoring is not accepted. So
-/// `Ok` is exact, a failed allocation aside.
+/// No tailoring is both accepted and rejected: if an audit names a condition and a position, the tailoring is not
+/// accepted. So `Ok` is exact, unless an allocation failed.
 pub fn refused_tailorings_are_not_accepted()
     ensures { RefusedTailoringsAreNotAccepted }
 {}

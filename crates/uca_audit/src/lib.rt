@@ -1,5 +1,5 @@
-//! The audit of tailorings: an independent check that a tailored table is what its base, its rules and its certificate
-//! say, and leaves alone every text in which no target of the rules occurs.
+//! The audit of tailorings: an independent check of a tailored table. The table has to be what its base, its rules and
+//! its certificate say, and must not change a text in which no target of the rules occurs.
 #![tactic(auto)]
 
 mod auditing;

@@ -10,12 +10,12 @@ use uca_rules::Relation;
 use uca_text::Normal;
 use uca_weights::Element;
 
-/// The elements of the anchor and of the expansion of a relation. The lists serve one relation after the other.
+/// The elements of the anchor and of the expansion of a relation. The lists are used again for each relation.
 #[derive(Drop)]
 pub(crate) struct Readings<A: Allocator> {
     /// The elements of the anchor.
     pub anchor: Vec<Element, A>,
-    /// The elements of the expansion, none where it is not there.
+    /// The elements of the expansion, empty if there is no expansion.
     pub expansion: Vec<Element, A>,
 }
 
@@ -50,7 +50,7 @@ impl<A: Allocator + Copy> Readings<A> {
     }
 }
 
-/// Puts the elements of a text in the place of those that stand in the list. An error means that it ran out of memory.
+/// Puts the elements of a text in place of those that are in the list. An error means that it ran out of memory.
 pub(crate) fn read_elements<A: Allocator + Copy, T: Allocator>(
     elements: &mut Vec<Element, A>,
     collator: &Collator<Trie<A>, T>,

@@ -17,9 +17,9 @@ const WEIGHT_COUNT: usize = 0x1_0000;
 pub(crate) struct WeightSet<A: Allocator> {
     /// Whether each weight of level 1 is in it.
     primary: Vec<bool, A>,
-    /// The same of level 2.
+    /// The same for level 2.
     secondary: Vec<bool, A>,
-    /// The same of level 3.
+    /// The same for level 3.
     tertiary: Vec<bool, A>,
 }
 
@@ -53,7 +53,7 @@ impl<A: Allocator + Copy> WeightSet<A> {
         self.flags(level)[usize::from(weight)]
     }
 
-    /// Whether it has a weight of a level strictly between two, of which either may be the greater.
+    /// Whether it has a weight of a level strictly between two; either of the two may be the greater.
     pub(crate) fn contains_between(&self, level: Level, one: u16, other: u16) -> bool
         ensures { IsTrue result ↔ HasBetween self.now level one other }
     {
@@ -93,7 +93,7 @@ impl<A: Allocator + Copy> WeightSet<A> {
     }
 }
 
-/// As many flags, none of them set.
+/// `count` flags, none of them set.
 fn no_flags<A: Allocator + Copy>(alloc: A, count: usize) -> Result<Vec<bool, A>, AllocError>
     ensures length { IfOk result (λ flags. vec_len flags ≡ count) }
     ensures none { IfOk result (λ flags. (w : ℕ) → slice_index_or flags.items w false ≡ false) }

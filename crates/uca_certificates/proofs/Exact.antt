@@ -1,4 +1,4 @@
--- Lines say the runs of one certificate, and a line in which a cause stands is part of no certificate.
+-- Lines say the runs of one certificate, and a line with a cause is part of no certificate.
 use Rattle.std.proofs.Common.{◌≡◌, ◌≢◌, ℕ, ◌+◌, ◌<◌, ◌≤◌, ◌==◌, Bool, true, false, List, [], ◌∷◌, ◌++◌, length, map, refl, sym, ap, subst, ◌∙◌, append-nil, arith, length-append}
 use Rattle.std.specs.Bool.{⊤}
 use Rattle.std.specs.Prelude.{if◌then◌else◌}
@@ -23,7 +23,7 @@ abbrev pub runs_of : Level → List RunLine → List Run
 runs_of level [] = []
 runs_of level (l ∷ ls) = if level_number l.level == level_number level then l.run ∷ runs_of level ls else runs_of level ls
 
--- those of two texts, one after the other
+-- those of two texts, put together
 runs_of-append : (level : Level) (xs ys : List RunLine) → runs_of level (xs ++ ys) ≡ runs_of level xs ++ runs_of level ys
 runs_of-append level [] ys = refl
 runs_of-append level (x ∷ xs) ys = cases (level_number x.level == level_number level) refl (runs_of-append level xs ys)
@@ -123,7 +123,7 @@ sorted_lower : (low high : ℕ) (ls : List RunLine) → low ≤ high → AreSort
 sorted_lower low high [] e h = tt
 sorted_lower low high (l ∷ ls) e h = (omega arith, h.1)
 
--- the lines of a level may stand before those of higher ones
+-- the lines of a level may come before those of higher ones
 sorted_level : (level : Level) (runs : List Run) (rest : List RunLine) → AreSorted (level_number level) rest
     → AreSorted (level_number level) (of_level level runs ++ rest)
 sorted_level level [] rest h = h
@@ -146,7 +146,7 @@ sorted_at : (low : ℕ) (front : List RunLine) (l : RunLine) (rest : List RunLin
 sorted_at low [] l rest h = h.0
 sorted_at low (f ∷ fs) l rest h = omega (arith, h.0, sorted_at (level_number f.level) fs l rest h.1)
 
--- a line behind one of some level is of no lower one
+-- a line after one of some level has no lower level
 sorted_after : (low : ℕ) (front : List RunLine) (l : RunLine) (rest : List RunLine) (higher : Level) → AreSorted low (front ++ l ∷ rest)
     → runs_of higher front ≢ [] → level_number higher ≤ level_number l.level
 sorted_after low [] l rest higher h some = absurd (some refl)
@@ -177,7 +177,7 @@ one_more front next rest =
     itself Two run ls = refl
     itself Three run ls = refl
 
--- lines in one of which a cause stands say no certificate
+-- lines, one of them with a cause, say no certificate
 excluded : (before : List (List ℕ)) (s : CertificateContent) (line : List ℕ) (kind : CertificateFaultKind) (more : List (List ℕ))
     (t : CertificateContent) → Says before s → Cause s line kind → Says (before ++ line ∷ more) t → ⊥
 excluded before s line kind more t h cause k =

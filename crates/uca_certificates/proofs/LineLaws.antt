@@ -18,7 +18,7 @@ use Rattle.uca_lines.proofs.LineLemmas.{Lacks-append}
 use Rattle.uca_certificates.specs.Texts.{RunLine, run_text, IsLine}
 use Rattle.uca_certificates.specs.Steps.{level_at, number_at, if_empty, line_of}
 
--- ---- What is read stands there
+-- ---- What is read was written
 
 -- the digit of the level that is read
 level_at_takes : (text : List ℕ) (level : Level) (rest : List ℕ) → level_at text ≡ Some (level, rest) → text ≡ (48 + level_number level) ∷ rest
@@ -82,7 +82,7 @@ line_takes text l h =
     line_from text a.0.1 b.0.1 c.0.1 d.0.1 a.0.0 b.0.0 c.0.0 d.0.0 l (level_at_takes text a.0.0 a.0.1 a.1)
     (number_at_takes a.0.1 b.0.0 b.0.1 b.1) (number_at_takes b.0.1 c.0.0 c.0.1 c.1) (number_at_takes c.0.1 d.0.0 d.0.1 d.1) d.2
 
--- ---- What stands there is read
+-- ---- What is written is read
 
 -- a digit of a level is read
 level_at-digit : (level : Level) (rest : List ℕ) → level_at ((48 + level_number level) ∷ rest) ≡ Some (level, rest)
@@ -150,7 +150,7 @@ not_lf b h = grind (arith, nat_tests)
 upper_digit_is_high : (d : ℕ) → 10 < upper_digit d
 upper_digit_is_high d = grind (arith, nat_tests)
 
--- so no LF stands among digits
+-- so there is no LF among digits
 digits_lack_lf : (n : ℕ) → Lacks is_lf (digits 4 n)
 digits_lack_lf n =
     let digit = λ (m : ℕ). not_lf (last_digit m) (upper_digit_is_high (m % 16)) in
@@ -162,7 +162,7 @@ level_lacks_lf One = refl
 level_lacks_lf Two = refl
 level_lacks_lf Three = refl
 
--- no LF stands in it
+-- it has no LF
 pub run_text_lacks_lf : (l : RunLine) → Lacks is_lf (run_text l)
 unfolding run_text
 run_text_lacks_lf l = (

@@ -15,19 +15,19 @@ use Rattle.uca_certificates.specs.Texts.{run_lines, lines_below, map_line}
 use Rattle.uca_certificates.specs.Steps.{fault_line, RefusesRuns, RefusesContent}
 use Rattle.uca_certificates.proofs.TextsLemmas.{length-run_lines}
 
--- the first run that is refused is one of the runs
+-- the first run that is rejected is one of the runs
 refused_within : (level : Level) (previous : Option Run) (runs : List Run) (index : ℕ) (kind : MapFaultKind)
     → IsFirstRefused level previous runs index kind → index ≤ length runs
 refused_within level previous [] index kind h = absurd h
 refused_within level previous (r ∷ runs) zero kind h = omega arith
 refused_within level previous (r ∷ runs) (suc index) kind h = omega (arith, refused_within level (Some r) runs index kind h.1)
 
--- a fault stands at a run, or past the last one
+-- an error comes at a run, or past the last one
 pub fault_within : (level : Level) (runs : List Run) (fault : MapFault) → IsMapFault level runs fault → fault.run ≤ length runs
 fault_within level runs fault (inl h) = refused_within level None runs fault.run fault.kind h
 fault_within level runs fault (inr h) = omega (arith, h.run)
 
--- the line of a fault, by how many lines stand before and how many there are
+-- the line of an error, by how many lines come before and how many there are
 place_is : (content : CertificateContent) (level : Level) (below all run : ℕ) (kind : MapFaultKind) → below ≡ lines_below level content
     → all ≡ length (run_lines content) → fault_line below all run kind ≡ map_line content level run kind
 place_is content level below all run map_kinds.Empty b a = rw b refl

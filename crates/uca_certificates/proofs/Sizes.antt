@@ -7,7 +7,7 @@ use Rattle.uca_weights.specs.Runs.{weights_end, IsProperRun, AreRising, ArePrope
 use Rattle.uca_weights.proofs.RunPlaces.{ends_fit}
 use Rattle.uca_certificates.specs.Texts.{of_level, IsRunLine}
 
--- each run behind a run takes a weight at least
+-- each run after a run takes at least one weight
 few_behind : (level : Level) (s : Run) (runs : List Run) → s.from + s.count ≤ weights_end level → AreRising level (Some s) runs
     → length runs + (s.from + s.count) ≤ weights_end level
 few_behind level s [] end h = omega arith

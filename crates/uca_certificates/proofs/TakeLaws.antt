@@ -1,4 +1,4 @@
--- What becomes of a line behind others.
+-- How a line after others is taken.
 use Rattle.std.proofs.Common.{◌≡◌, ◌⊎◌, inl, inr, ℕ, ◌<◌, Bool, true, false, List, length, Option, Some, None, Result, Ok, Err, sym, subst}
 use Rattle.std.specs.Prelude.{OnOk, IfErr, IsTrue}
 use Rattle.uca_weights.specs.declared.Level.{Level}

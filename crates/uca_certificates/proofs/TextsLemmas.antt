@@ -14,7 +14,7 @@ use Rattle.uca_certificates.specs.Certificates.{CertificateContent}
 use Rattle.uca_certificates.specs.Texts.{RunLine, run_text, of_level, run_lines, IsRunLine, IsPassed, Says, Cause, is_read_kind}
 use Rattle.uca_certificates.specs.Steps.{put_last, Takes}
 
--- no line is to blame for a read that failed
+-- a read that failed is not the error of a line
 pub not_read : (said : CertificateContent) (line : List ℕ) (kind : CertificateFaultKind) → Cause said line kind → is_read_kind kind ≡ false
 not_read said line kinds.Line h = refl
 not_read said line kinds.Order h = refl
@@ -37,7 +37,7 @@ none_unless : {X : Type 0} (xs : List X) → ¬ (xs ≢ []) → xs ≡ []
 none_unless [] h = refl
 none_unless (x ∷ xs) h = absurd (h (λ e. cc))
 
--- above a level that is not passed no runs stand
+-- above a level that is not passed there are no runs
 pub none_above : (content : CertificateContent) (level higher : Level) → ¬ (IsPassed content level) → level_number level < level_number higher
     → at_level higher content ≡ []
 none_above content level higher due h = none_unless (at_level higher content) (λ some. due (higher, h, some))

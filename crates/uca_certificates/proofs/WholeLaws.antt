@@ -1,4 +1,4 @@
--- Whole certificates: bytes mean at most one, and none where they are refused for a cause in them.
+-- Whole certificates: bytes mean at most one, and none if they are rejected for a cause in them.
 use Rattle.std.proofs.Common.{◌≡◌, ◌||◌, Bool, false, inl, inr, ℕ, ◌≤◌, List, [], ◌∷◌, length, map, Option, Some, None, Result, Ok, Err, IfSome, IfOk, IfErr, MatchResult, refl, sym, ap, subst, ◌∙◌, arith}
 use Rattle.std.specs.Prelude.{OnOk}
 use Rattle.std.specs.List.{flat_map, AllByRecursion}
@@ -79,7 +79,7 @@ no_fault_of_map bytes fault content h means =
     let maps : IsCertificate h.content = subst IsCertificate same means.maps in
     faulty_not_proper h.level (at_level h.level h.content) h.cause h.is_fault (holds_at AreProperRuns h.level h.content maps)
 
--- bytes that mean a certificate are refused by a stop alone
+-- bytes that mean a certificate are rejected only by a stop
 pub stops : (bytes : List ℕ) (left : Option (List ℕ)) (fault : CertificateFault) (content : CertificateContent) → Refuses bytes left fault → Means bytes content
     → IsStop fault.kind
 stops bytes left fault content (inl (inl read)) means = inl read.0
@@ -89,7 +89,7 @@ stops bytes left fault content (inl (inr (inr line))) means =
     (means_reads bytes content means) (λ none. none))
 stops bytes left fault content (inr map) means = absurd (no_fault_of_map bytes fault content map means)
 
--- what bytes mean is answered, unless reading stops
+-- what bytes mean is returned, unless reading stops
 pub only_known : {X : Type 0} (view : X → CertificateContent) (known left : Option (List ℕ)) (r : Result X CertificateFault)
     → IfSome known (λ bytes. IfOk r (λ x. Means bytes (view x))) → IfSome known (λ bytes. IfErr r (Refuses bytes left))
     → IfSome known (λ bytes. (content : CertificateContent) → Means bytes content → MatchResult r (λ x. view x ≡ content) (λ fault. IsStop fault.kind))
@@ -97,9 +97,9 @@ only_known view None left r found fault = tt
 only_known view (Some bytes) left (Ok x) found fault = λ content means. means_same bytes (view x) content found means
 only_known view (Some bytes) left (Err e) found fault = λ content means. stops bytes left e content fault means
 
--- ---- What is answered
+-- ---- What is returned
 
--- lines that are refused
+-- lines that are rejected
 pub refused_line : (known left : Option (List ℕ)) (fault : CertificateFault)
     → IfSome known (λ bytes. RefusesLine CERTIFICATE_FORM Says Cause bytes left fault.line fault.kind) → IfSome known (λ bytes. Refuses bytes left fault)
 refused_line None left fault h = tt
@@ -121,7 +121,7 @@ refused_content (Some bytes) left count content fault h refuses = inr (record {
   place = refuses.place;
 })
 
--- the same of what is answered
+-- the same for what is returned
 pub fault_content : (known left : Option (List ℕ)) (count : ℕ) (content : CertificateContent) (r : Result CertificateContent CertificateFault)
     → IfSome known (λ bytes. ReadsLines CERTIFICATE_FORM Says bytes count content) → IfErr r (RefusesContent content)
     → IfSome known (λ bytes. IfErr r (Refuses bytes left))

@@ -1,4 +1,4 @@
--- Certificates as values: what becomes of the weights of a base, as runs for each level.
+-- Certificates as values: how the weights of a base change, as runs for each level.
 use Rattle.std.specs.Prelude.{List}
 use Rattle.uca_weights.specs.declared.maps.Run.{Run}
 use Rattle.uca_weights.specs.PerLevel.{PerLevel, AtEachLevel}
@@ -8,6 +8,6 @@ use Rattle.uca_weights.specs.Runs.{AreProperRuns}
 abbrev pub CertificateContent : Type 0
 CertificateContent = PerLevel (List Run)
 
--- what holds of every certificate: the runs of each level make a map
+-- what is true of every certificate: the runs of each level make a map
 abbrev pub IsCertificate : CertificateContent → Type 0
 IsCertificate = AtEachLevel AreProperRuns

@@ -1,4 +1,4 @@
--- The words for a fault of a certificate.
+-- The text of an error of a certificate.
 use Rattle.std.specs.Prelude.{ℕ, List, ◌++◌, codes, decimal}
 use Rattle.uca_weights.specs.MapFaultText.{map_kind_text}
 use Rattle.uca_certificates.specs.declared.faults.CertificateFault.{CertificateFault}

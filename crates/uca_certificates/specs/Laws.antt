@@ -8,7 +8,7 @@ use Rattle.uca_certificates.specs.Texts.{Means, Refuses, IsStop}
 abbrev pub BytesMeanAtMostOneCertificate : Type 0
 BytesMeanAtMostOneCertificate = (bytes : List ℕ) (a b : CertificateContent) → Means bytes a → Means bytes b → a ≡ b
 
--- Bytes in which a fault stands mean no certificate: only where reading stopped may they mean one.
+-- Bytes with an error mean no certificate. They may mean one only if reading stopped.
 abbrev pub BytesWithAFaultMeanNoCertificate : Type 0
 BytesWithAFaultMeanNoCertificate = (bytes : List ℕ) (left : Option (List ℕ)) (fault : CertificateFault) (content : CertificateContent) →
     Refuses bytes left fault → ¬ (IsStop fault.kind) → ¬ (Means bytes content)

@@ -1,4 +1,5 @@
--- How a line is read, what it adds to the runs before it, and what becomes of all runs. For private contracts alone.
+-- How a line is read, what it adds to the runs before it, and what all runs make together. Only private contracts cite
+-- this file.
 use Rattle.std.specs.Prelude.{◌≡◌, ℕ, suc, ◌+◌, ◌<◌, ◌==◌, List, [], ◌∷◌, ◌++◌, length, take, drop, if◌then◌else◌, Option, Some, None, option_and_then}
 use Rattle.std.specs.Option.{option_map}
 use Rattle.std.specs.List.{flat_map}
@@ -29,7 +30,7 @@ unfoldable pub level_at : List ℕ → Option (Level × List ℕ)
 level_at [] = None
 level_at (b ∷ bs) = if b == 49 then Some (One, bs) else (if b == 50 then Some (Two, bs) else (if b == 51 then Some (Three, bs) else None))
 
--- the number of four digits behind a space, and what follows it
+-- the number of four digits after a space, and what follows it
 unfoldable pub number_at : List ℕ → Option (ℕ × List ℕ)
 number_at [] = None
 number_at (b ∷ bs) = if b == 32 then option_map (λ n. (n, drop 4 bs)) (weight_of (take 4 bs)) else None
@@ -66,7 +67,7 @@ pub record Takes (old : CertificateContent) (line : List ℕ) (new : Certificate
 
 -- ---- All runs
 
--- the line of the run with this index, or the one past the last line, where some runs stand at lower levels
+-- the line of the run with this index, or the one past the last line, where some runs come before it, at lower levels
 abbrev pub fault_line : ℕ → ℕ → ℕ → MapFaultKind → ℕ
 fault_line below all run map_kinds.Fixed = suc all
 fault_line below all run _ = suc (below + run)

@@ -1,5 +1,5 @@
 -- Certificates as text: one line a run, level after level. A certificate has one spelling, so what bytes mean is an equation with
--- its text; the lines of a file matter for its faults alone.
+-- its text; the lines of a file matter only for its errors.
 use Rattle.std.specs.Prelude.{◌≡◌, ◌≢◌, ◌⊎◌, ℕ, suc, ◌+◌, ◌<◌, ◌≤◌, List, [], ◌∷◌, ◌++◌, Bool, true, false, Option, map, length, Result, Ok, Err}
 use Rattle.std.specs.List.{flat_map, AllByRecursion}
 use Rattle.uca_weights.specs.declared.Level.{Level}
@@ -62,7 +62,7 @@ pub record Says (lines : List (List ℕ)) (content : CertificateContent) : Type 
   pub fit : AllByRecursion IsRunLine (run_lines content)
   pub few : (level : Level) → length (at_level level content) ≤ 0xFFFF
 
--- ---- Why bytes are refused
+-- ---- Why bytes are rejected
 
 -- the line says this run
 pub record IsLine (line : List ℕ) (l : RunLine) : Type 0 where
@@ -73,20 +73,20 @@ pub record IsLine (line : List ℕ) (l : RunLine) : Type 0 where
 abbrev pub IsPassed : CertificateContent → Level → Type 0
 IsPassed content level = (higher : Level) × (level_number level < level_number higher) × (at_level higher content ≢ [])
 
--- why a line after lines that say these runs is refused
+-- why a line after lines that say these runs is rejected
 abbrev pub Cause : CertificateContent → List ℕ → CertificateFaultKind → Type 0
 Cause content line kinds.Line = (l : RunLine) → ¬ (IsLine line l)
 Cause content line kinds.Order = (l : RunLine) × IsLine line l × IsPassed content l.level
 Cause content line kinds.Limit = (l : RunLine) × IsLine line l × (length (at_level l.level content) ≡ 0xFFFF)
 Cause content line _ = ⊥
 
--- how many lines stand before those of a level
+-- how many lines come before those of a level
 abbrev pub lines_below : Level → CertificateContent → ℕ
 lines_below One content = 0
 lines_below Two content = length content.primary
 lines_below Three content = length content.primary + length content.secondary
 
--- the line of the run with this index, or the one past the last line where no run is to blame
+-- the line of the run with this index, or the line past the last one if the error is not that of a run
 abbrev pub map_line : CertificateContent → Level → ℕ → MapFaultKind → ℕ
 map_line content level run map_kinds.Fixed = suc (length (run_lines content))
 map_line content level run _ = suc (lines_below level content + run)
@@ -102,11 +102,11 @@ pub record FaultOfMap (bytes : List ℕ) (fault : CertificateFault) : Type 0 whe
   pub kind : fault.kind ≡ kinds.Map cause
   pub place : fault.line ≡ map_line content level cause.run cause.kind
 
--- why known bytes are refused, of which the source has `left` left
+-- why known bytes are rejected, when the source has `left` left of them
 abbrev pub Refuses : List ℕ → Option (List ℕ) → CertificateFault → Type 0
 Refuses bytes left fault = RefusesLine CERTIFICATE_FORM Says Cause bytes left fault.line fault.kind ⊎ FaultOfMap bytes fault
 
--- ---- Which faults are stops
+-- ---- Which errors are stops
 
 -- a read failed, or an allocation
 abbrev pub IsStop : CertificateFaultKind → Type 0

@@ -4,7 +4,7 @@ use std::alloc::{Allocator, Global};
 use std::marker::Model;
 use uca_weights::WeightMap;
 
-/// What becomes of the weights of a base in a tailored table: a map for each level. The levels of the three are `One`,
+/// How the weights of a base change in a tailored table: a map for each level. The levels of the three are `One`,
 /// `Two` and `Three`.
 #[derive(Drop)]
 pub struct Certificate<A: Allocator = Global> {

@@ -1,4 +1,4 @@
-//! Why a certificate is refused.
+//! Why a certificate is rejected.
 
 ghost use Rattle.std.specs.Prelude.{◌≡◌, ◌≤◌, length, Some};
 ghost use Rattle.uca_certificates.specs.declared.faults.CertificateFaultKind.{CertificateFaultKind};
@@ -10,10 +10,10 @@ use thiserror::Error;
 use uca_lines::files::LineFileFault;
 use uca_weights::{MapFault, Message};
 
-/// Why a certificate is refused.
+/// Why a certificate is rejected.
 #[derive(Clone, Copy, PartialEq, Eq)]
 pub enum CertificateFaultKind {
-    /// The line is not a level and three numbers of four digits, with one space between, or no LF ends it.
+    /// The line is not a level and three numbers of four digits, with one space between, or it does not end in LF.
     Line,
     /// The level of the line is lower than that of the line before.
     Order,
@@ -58,13 +58,13 @@ impl fmt::Debug for CertificateFaultKind {
     }
 }
 
-/// A certificate is refused: the line, and why. Where no run is to blame for the runs of a level, the line is the one
-/// past the last.
+/// A certificate is rejected: the line, and why. If the runs of a level are wrong but no single run is, this is the
+/// line past the last.
 #[derive(Clone, Copy, PartialEq, Eq, Error)]
 pub struct CertificateFault {
     /// The line, counted from 1.
     pub line: u32,
-    /// Why it is refused.
+    /// Why it is rejected.
     pub kind: CertificateFaultKind,
 }
 

@@ -1,4 +1,4 @@
-//! What follows from the definitions alone.
+//! What is true by the definitions alone.
 
 ghost use Rattle.uca_certificates.specs.Laws.{BytesMeanAtMostOneCertificate, BytesWithAFaultMeanNoCertificate};
 
@@ -7,8 +7,8 @@ pub fn bytes_mean_at_most_one_certificate()
     ensures { BytesMeanAtMostOneCertificate }
 {}
 
-/// The law that bytes in which a fault stands mean no certificate: what [`crate::read_certificate`] refuses is none, unless
-/// reading stopped.
+/// The law that bytes with an error mean no certificate: what [`crate::read_certificate`] rejects is no certificate,
+/// unless reading stopped.
 pub fn bytes_with_a_fault_mean_no_certificate()
     ensures { BytesWithAFaultMeanNoCertificate }
 {}

@@ -1,4 +1,4 @@
-//! Certificates of tailorings: what becomes of the weights of a base, as a map for each level. A reader and a writer of
+//! Certificates of tailorings: how the weights of a base change, as a map for each level. A reader and a writer of
 //! their one text.
 #![tactic(auto)]
 
@@ -18,7 +18,7 @@ pub use read::read_certificate;
 use uca_lines::files::FileForm;
 pub use write::write_certificate;
 
-/// The form of certificates.
+/// The format of certificates.
 pub const CERTIFICATE_FORM: FileForm<CertificateFaultKind> = FileForm {
     longest: 16,
     too_long: Kind::Line,

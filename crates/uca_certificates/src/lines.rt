@@ -1,4 +1,4 @@
-//! The runs that the lines of a certificate say, taken one after the other.
+//! The runs that the lines of a certificate say, taken in turn.
 
 ghost use Rattle.std.specs.Prelude.{◌≡◌, ◌⊎◌, ◌++◌, [], ◌∷◌, ◌+◌, ◌≤◌, ◌<◌, length, OnOk, IfOk, IfErr};
 ghost use Rattle.uca_weights.specs.Runs.{AreProperRuns};
@@ -58,7 +58,7 @@ impl<A: Allocator + Copy> CertificateLines<A> {
         }
     }
 
-    // Whether a line of a higher level stands.
+    // Whether there is a line of a higher level.
     fn is_passed(&self, level: Level) -> bool
         ensures { IsTrue result ↔ IsPassed self.now level }
     {
@@ -69,7 +69,7 @@ impl<A: Allocator + Copy> CertificateLines<A> {
         }
     }
 
-    // Adds a run behind the others of its level.
+    // Adds a run after the others of its level.
     fn add(&mut self, level: Level, run: Run) -> Result<(), CertificateFaultKind>
         ensures room { OnOk result (length (at_level level self.old) < 0xFFFF) }
         ensures ok { OnOk result (self.new ≡ put_last level run self.old) }

@@ -11,21 +11,21 @@ use std::io::Read;
 use uca_lines::files::read_lines;
 use uca_weights::Source;
 
-/// Reads a certificate: a line `LEVEL FROM TO COUNT` for each run, ended by LF, levels never falling. LEVEL is `1`, `2`
-/// or `3`, the others are four upper-case hexadecimal digits each, and one space stands between. There are no comments
-/// and no empty lines.
+/// Reads a certificate: a line `LEVEL FROM TO COUNT` for each run, ended by LF, with levels that never fall. LEVEL is
+/// `1`, `2` or `3`. The others are four upper-case hexadecimal digits each, with one space between. There are no
+/// comments and no empty lines.
 ///
 /// # Errors
 ///
-/// The first line that is refused, and why: of several causes in a line the first in this order.
+/// The first line that is rejected, and why. If a line has several causes, the first in this order is returned.
 ///
-/// - `Line`: no LF ends it, or it has another form.
+/// - `Line`: no LF ends it, or it has another format.
 /// - `Order`: its level is lower than that of the line before.
 /// - `Limit`: it is run 65,536 of its level.
 ///
-/// Where all lines are acceptable, `Map` for the lowest level whose runs make no map, by its first fault: at the line of
-/// the run, for `Fixed` at the number of lines plus one. `Read` where the source failed, and `Memory` where an allocation
-/// failed, come with the line that was being read.
+/// If all lines are acceptable: `Map` for the lowest level whose runs make no map, with its first error. The line is
+/// that of the run, or for `Fixed` the number of lines plus one. `Read` (the source failed) and `Memory` (an allocation
+/// failed) come with the line that was being read.
 pub fn read_certificate<R: Read, A: Allocator + Copy>(
     alloc: A,
     source: &mut Source<R>,

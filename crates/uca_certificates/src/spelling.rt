@@ -10,7 +10,7 @@ ghost use Rattle.uca_certificates.specs.Steps;
 use uca_lines::fields::{four_digits, weight};
 use uca_weights::{Level, Run};
 
-/// The level and the run that a line says; None where the line has another form.
+/// The level and the run that a line says; `None` if the line has another format.
 #[tactic(auto, unfolding(crate::specs::Steps::line_of))]
 pub fn read_line(line: &[u8]) -> Option<(Level, Run)>
     ensures { option_map (λ said. record { level = said.0; run = said.1 }) result ≡ Steps.line_of line.now }
@@ -25,7 +25,7 @@ pub fn read_line(line: &[u8]) -> Option<(Level, Run)>
     Some((level, Run { from, to, count }))
 }
 
-// The level whose digit stands at the front of the text, and what follows it.
+// The level whose digit begins the text, and what follows it.
 #[tactic(auto, unfolding(crate::specs::Steps::level_at))]
 fn leading_level(text: &[u8]) -> Option<(Level, &[u8])>
     ensures { option_map (λ found. (found.0, found.1.now)) result ≡ Steps.level_at text.now }
@@ -38,7 +38,7 @@ fn leading_level(text: &[u8]) -> Option<(Level, &[u8])>
     }
 }
 
-// The number of four digits behind a space at the front of the text, and what follows it.
+// The number of four digits after a space at the front of the text, and what follows it.
 #[tactic(auto, unfolding(crate::specs::Steps::number_at))]
 fn next_number(text: &[u8]) -> Option<(u16, &[u8])>
     ensures { option_map (λ found. (found.0, found.1.now)) result ≡ Steps.number_at text.now }

@@ -18,7 +18,7 @@ use uca_weights::{Level, Run, Sink, WriteFault};
 ///
 /// # Errors
 ///
-/// The writer failed: `written` says how many bytes went out, which are the first of the text.
+/// The writer failed: `written` says how many bytes went out, counted from the beginning of the text.
 pub fn write_certificate<W: Write, A: Allocator>(
     certificate: &Certificate<A>,
     out: &mut Sink<W>,

@@ -32,7 +32,7 @@ within_more P rows i r within there earlier here k d low high =
     (λ (not : i ≤ k). let same : i ≡ k = omega arith in subst (λ j. P (get_or rows j d)) same (at_read rows P i r within there here d))
     (cases_lt k i)
 
--- a test told whether the property holds
+-- a test that says whether the property holds
 abbrev pub Tested : Type 0 → Bool → Type 0
 Tested P fails = (holds : Bool) × (fails ≡ not holds) × (IsTrue holds ↔ P)
 

@@ -34,12 +34,12 @@ gapless_push xs x earlier last before e after h gap =
     earlier before e some.0 same.0 gap)
     (by_last after)
 
--- an element that may not stand there
+-- an element with a gap is a continuation after a lead
 gap_found : (xs : List Element) (i : ℕ) (x : Element) → i < length xs → x ≡ get_or xs i x → AreGapless xs → HasGap x → IsContinuation x × EndsWithLead (take i xs)
 gap_found xs i x within there h gap =
     h (take i xs) x (drop (i + 1) xs) (sym (take-append-drop i xs) ∙ ap (λ rest. take i xs ++ rest) (drop_more xs i x within ∙ ap (λ y. y ∷ drop (i + 1) xs) (sym there))) gap
 
--- the loop's step: one more element that may stand there
+-- the loop's step: one more element without a gap, or with one that it may have there
 pub gapless_step : (xs : List Element) (i : ℕ) (d x : Element) (behind lead stands : Bool) → i < length xs → x ≡ get_or xs i d → AreGapless (take i xs) → IsTrue behind ↔ EndsWithLead (take i xs)
     → IsTrue stands ↔ (HasGap x → IsContinuation x × IsTrue behind) → stands ≡ true → IsTrue lead ↔ IsLead x
     → AreGapless (take (i + 1) xs) × (IsTrue lead ↔ EndsWithLead (take (i + 1) xs))

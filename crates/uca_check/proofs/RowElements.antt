@@ -1,4 +1,4 @@
--- What holds of the elements of rows.
+-- What is true of the elements of rows.
 use Rattle.std.proofs.Common.{⊎_elim, List, [], ◌∷◌, Contains, sym, subst, arith}
 use Rattle.std.proofs.lemmas.List.Elements.{Contains-push, Contains-push_cases, Contains-append_left, Contains-append_right, Contains-append_cases}
 use Rattle.std.specs.List.{AllByRecursion}
@@ -7,7 +7,7 @@ pub use Rattle.uca_weights.proofs.Lists.{each_append, each_parts}
 use Rattle.uca_values.specs.Content.{Entry}
 use Rattle.uca_check.specs.WellFormed.{elements_of}
 
--- what holds of the elements of each row holds of all elements
+-- what is true of the elements of each row is true of all elements
 pub each_of_rows : (P : Element → Type 0) (rows : List Entry) → AllByRecursion (λ row. AllByRecursion P row.elements) rows
     → AllByRecursion P (elements_of rows)
 each_of_rows P [] all = tt

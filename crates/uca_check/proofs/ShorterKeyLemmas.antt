@@ -1,4 +1,4 @@
--- Keys by the places of their rows, and the last code points of keys.
+-- Keys by the positions of their rows, and the last code points of keys.
 use Rattle.std.proofs.Common.{◌≡◌, ◌≢◌, ℕ, ◌+◌, ◌-◌, ◌<◌, ◌≤◌, ⊎_elim, List, [], ◌∷◌, ◌++◌, length, get_or, take, Bool, IsTrue, Contains, ap, sym, ◌∙◌, subst, ◌↔◌, arith}
 use Rattle.std.proofs.lemmas.Bool.{cases_lt}
 use Rattle.std.proofs.lemmas.List.{same_from_push, get_or-map, length-map, take_all}
@@ -9,7 +9,7 @@ use Rattle.uca_weights.proofs.Lists.{taken_more}
 use Rattle.uca_values.specs.Content.{Entry, keys_of}
 use Rattle.uca_check.specs.WellFormed.{MeetsWF5}
 
--- whether the row at a place has the key
+-- whether the row at a position has the key
 pub key_there : (rows : List Entry) (at : ℕ) (row : Entry) (key own : List ℕ) → at < length rows → row ≡ get_or rows at row → own ≡ row.key → get_or (keys_of rows) at key ≡ own
 key_there rows at row key own within there is = get_or-map (λ (r : Entry). r.key) rows at row key within ∙ ap (λ (r : Entry). r.key) (sym there) ∙ sym is
 
@@ -43,7 +43,7 @@ key_found rows key at within there =
     let inside : at < length (keys_of rows) = omega (arith, within, length-map rows (λ (r : Entry). r.key)) in
     subst (Contains (keys_of rows)) there (Contains-get_or (keys_of rows) at key inside)
 
--- a key that stands at no place is not there
+-- a key that is at no position is not among the keys
 pub key_missing : (rows : List Entry) (key : List ℕ) → ((k : ℕ) → k < length rows → IsNotAt rows key k) → ¬ (Contains (keys_of rows) key)
 key_missing rows key none has =
     let at = at_from_Contains (keys_of rows) key has in

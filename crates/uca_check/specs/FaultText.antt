@@ -1,4 +1,4 @@
--- The text of a fault: `WF2 row 6`.
+-- The text of an error: `WF2 row 6`.
 use Rattle.std.specs.Prelude.{ℕ, List, ◌++◌, codes}
 use Rattle.std.specs.Fmt.{decimal}
 use Rattle.uca_check.specs.declared.IllFormed.{IllFormed}

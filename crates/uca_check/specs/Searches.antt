@@ -1,4 +1,4 @@
--- What the passes over a table find. Private contracts alone cite these.
+-- What the passes over a table find. Only private contracts cite these.
 use Rattle.std.specs.Prelude.{◌⊎◌, ⊤, ℕ, ◌+◌, ◌<◌, ◌↔◌, List, Option, MatchOption, length}
 use Rattle.std.specs.List.{AllByRecursion}
 use Rattle.uca_weights.specs.declared.Element.{Element}
@@ -8,7 +8,7 @@ use Rattle.uca_check.specs.WellFormed.{IsFirstWithout, IsVariable, IsHighSeconda
 use Rattle.uca_check.specs.declared.wf2.GreatestWeights.{GreatestWeights}
 use Rattle.uca_check.specs.declared.wf4.VariableRange.{VariableRange}
 
--- the place, counted from 0, of the first row without the property, if there is one
+-- the position, counted from 0, of the first row without the property, if there is one
 abbrev pub FindsFirstWithout : (Entry → Type 0) → List Entry → Option ℕ → Type 0
 FindsFirstWithout P rows found = MatchOption found (AllByRecursion P rows) (λ at. (at < length rows) × IsFirstWithout P rows (at + 1))
 

@@ -1,4 +1,4 @@
--- Well-formed tables (UTS #10, section 9.2, in the words of this project's profile): five conditions, each
+-- Well-formed tables (UTS #10, section 9.2, as this project's profile words it): five conditions, each
 -- over the whole table.
 use Rattle.std.specs.Prelude.{◌≡◌, ◌≢◌, ◌⊎◌, ℕ, zero, suc, ◌+◌, ◌<◌, ◌≤◌, List, [], ◌∷◌, ◌++◌, length, true, ⊤, Contains}
 use Rattle.std.specs.List.{AllByRecursion, flat_map}

@@ -51,20 +51,20 @@ impl fmt::Display for IllFormed {
 
 /// Whether a table is well-formed (UTS #10, section 9.2), by five conditions:
 ///
-/// 1. No element has a zero weight and at the level before it a weight that is not zero, except for a
-///    continuation directly after an element of its row whose primary is FB00 to FBFF and whose weights are
-///    not zero.
+/// 1. No element has a zero weight at one level and a weight that is not zero at the level before it.
+///    The exception is a continuation directly after an element of its row whose primary is FB00 to FBFF and
+///    whose weights are not zero.
 /// 2. The secondary weights of secondary elements are greater than 0020 and than those of all primary
 ///    elements. The tertiary weights of tertiary elements are greater than 0002 and than those of all
 ///    primary and secondary elements.
 /// 3. No variable element has a zero primary.
-/// 4. An element whose primary lies from the least to the greatest one of variable elements is variable.
-/// 5. Where a key of three or more code points ends with a non-starter, it is a key without it too.
+/// 4. An element is variable if its primary is from the least to the greatest primary of variable elements.
+/// 5. If a key of three or more code points ends with a non-starter, then the key without it is a key of the table too.
 ///
-/// It takes no memory but some 300 kB of the stack. Conditions 1 to 4 take time in proportion to the table.
-/// Condition 5 looks for up to 4,096 shorter keys in each pass over the rows, and looks each row's key up among
-/// them by halving: tables like Unicode's take one such pass, and 200,000 rows that all have a shorter key take 49.
-/// Where a shorter key is missing, all rows are looked at once more.
+/// It allocates no memory, and uses about 300 kB of the stack. Conditions 1 to 4 take time in proportion to the table.
+/// Condition 5 looks for up to 4,096 shorter keys in each pass over the rows, by a binary search for each row's
+/// key. Tables like Unicode's take one such pass, and 200,000 rows that all have a shorter key take 49. If a shorter
+/// key is missing, all rows are looked at once more.
 ///
 /// # Errors
 ///
@@ -79,7 +79,7 @@ pub fn check<A: Allocator, B: Allocator>(table: &Table<A>, data: &Data<B>) -> Re
     check_rows(&table.rows, data)
 }
 
-/// The same of the rows alone.
+/// The same check over the rows alone.
 fn check_rows<A: Allocator, B: Allocator>(rows: &[Row<A>], data: &Data<B>) -> Result<(), IllFormed>
     requires { length rows.now ≤ 200000 }
     ensures well_formed { OnOk result (IsWellFormed (properties_of «data».now).class rows.now) }
@@ -104,7 +104,7 @@ fn check_rows<A: Allocator, B: Allocator>(rows: &[Row<A>], data: &Data<B>) -> Re
     Ok(())
 }
 
-/// The fault at the row with this index.
+/// The error at the row with this index.
 fn ill_formed(wf: u8, at: usize) -> IllFormed
     requires { at < 200000 }
     ensures { result ≡ record { wf = wf; row = at + 1 } }

@@ -67,7 +67,7 @@ fn stands_apart(range: Option<VariableRange>, element: Element) -> bool
     }
 }
 
-/// Whether all elements of the row stand apart.
+/// Whether this is true of all elements of the row.
 fn all_stand_apart<A: Allocator>(row: &Row<A>, range: Option<VariableRange>) -> bool
     ensures { IsTrue result ↔ AllByRecursion (StandsApart range) row.now.elements }
 {

@@ -12,10 +12,10 @@ const BATCH: usize = 4096;
 /// The rows where the shorter keys of the next rows were found.
 ///
 /// Each is a hint: the search for a shorter key begins at that row, and goes through all rows if the key is not
-/// there. Wrong hints, as those that an earlier batch left, cost time alone.
+/// there. Wrong hints, such as those of an earlier batch, cost only time.
 #[derive(Drop)]
 pub(crate) struct ShorterKeys<'a> {
-    /// The shorter keys, sorted; unused places are empty and come first.
+    /// The shorter keys, sorted; unused positions are empty and come first.
     keys: [&'a [char]; BATCH],
     /// The row where each was found, if it was.
     met: [usize; BATCH],
@@ -57,7 +57,7 @@ impl<'a> ShorterKeys<'a> {
         }
     }
 
-    /// The place of a shorter key in the batch, if it is one.
+    /// The position of a shorter key in the batch, if it is one.
     fn place(&self, key: &[char]) -> Option<usize>
         ensures { IfSome result (λ place. place < 4096) }
     {
@@ -109,7 +109,7 @@ impl<'a> ShorterKeys<'a> {
     }
 }
 
-/// The row, or the other one if there are not so many.
+/// The row, or the other one if there are not that many rows.
 fn within(row: usize, count: usize, other: usize) -> usize
     requires { other < count }
     ensures { result < count }

@@ -1,4 +1,4 @@
--- What a run answers of a plan, and of the fault of a planner.
+-- What a run returns for a plan, and for an error of the planner.
 use Rattle.std.proofs.Common.{◌≡◌, ℕ, List, false, Err, refl, ap, sym, ◌∙◌}
 use Rattle.uca_values.specs.Content.{HeaderContent, TableContent, Properties}
 use Rattle.uca_rules.specs.declared.relations.Relation.{Relation}
@@ -12,11 +12,11 @@ use Rattle.uca_runs.specs.Files.{IsStop, ended_by_file, tailor_content}
 use Rattle.uca_cli.specs.TailorRun.{RunsTailor}
 use Rattle.uca_runs.specs.PlanFaults.{refused_plan}
 
--- a fault from its parts
+-- an error from its parts
 abbrev fault_by : TailorKind → ℕ → TailorFault
 fault_by kind relation = record { kind = kind; relation = relation }
 
--- ---- Faults of the planner
+-- ---- Errors of the planner
 
 -- none is a file's
 pub no_file_of_plan : (A : Type 0) (fault : TailorFault) → ended_by_file {A = A} (Err (refused_plan fault)) ≡ false
@@ -31,7 +31,7 @@ no_file_of_plan A fault = by_kind fault.kind fault.relation
     by_kind kinds.ImplicitVariable relation = refl
     by_kind kinds.Memory relation = refl
 
--- what the planner refuses is answered
+-- what the planner rejects is returned as an error
 pub refusal_answered : (base : TableContent) (points : Properties) (relations : List Relation) (fault : TailorFault)
     → TailorRefuses base points relations fault → RunsTailor (Err (refused_plan fault)) (tailor_content base points relations)
 refusal_answered base points relations fault refuses = by_kind fault.kind fault.relation refuses
@@ -62,7 +62,7 @@ one_plan base points relations table other certificate another is also =
     let header : table.header ≡ other.header = is.header ∙ sym also.header in
     ap (λ h. tailored_by h (plan_in table certificate)) header ∙ ap (λ p. tailored_by other.header p) same
 
--- where there is a plan, the definition does not refuse the rules
+-- where there is a plan, the definition does not reject the rules
 plan_or_refusal : (base : TableContent) (points : Properties) (relations : List Relation) (table : TableContent) (certificate : CertificateContent) (fault : TailorFault)
     → IsPlanOf base points relations table certificate → IsRefusedBy base points relations fault → ⊥
 plan_or_refusal base points relations table certificate fault is refused =
@@ -70,7 +70,7 @@ plan_or_refusal base points relations table certificate fault is refused =
     let first = refused.first in
     cc
 
--- so of a plan the planner's only fault is that an allocation failed
+-- so if there is a plan, the planner's only error is that an allocation failed
 pub plan_stops : (base : TableContent) (points : Properties) (relations : List Relation) (table : TableContent) (certificate : CertificateContent) (fault : TailorFault)
     → IsPlanOf base points relations table certificate → TailorRefuses base points relations fault → IsStop (refused_plan fault)
 plan_stops base points relations table certificate fault is refuses = by_kind fault.kind fault.relation refuses

@@ -1,4 +1,4 @@
--- Refusals of audits.
+-- Rejections of audits.
 use Rattle.std.specs.Prelude.{◌≡◌, ◌⊎◌, ℕ, List, [], ◌∷◌, ◌++◌, false, Err}
 use Rattle.std.proofs.Common.{inl, inr, subst, sym}
 use Rattle.uca_weights.specs.Streams.{SinkState}
@@ -12,17 +12,17 @@ use Rattle.uca_runs.specs.declared.faults.RunFault.TheVariants.{Write}
 use Rattle.uca_runs.specs.Runs.{FailsToWrite}
 use Rattle.uca_cli.specs.AuditRun.{RunsAudit}
 
--- a fault on an accepted tailoring is that an allocation failed
+-- an error on an accepted tailoring is that an allocation failed
 pub accepted_by_none : (tailoring : Tailoring) (fault : AuditFault) → IsFirstRefusal tailoring fault ⊎ IsMemory fault → IsAccepted tailoring → fault.number ≡ 12
 accepted_by_none tailoring fault (inl refusal) accepted = absurd (refused_not_accepted tailoring fault refusal accepted)
 accepted_by_none tailoring fault (inr memory) accepted = memory.number
 
--- a fault of another number is that of a condition
+-- an error of another number is that of a condition
 pub of_condition : (tailoring : Tailoring) (fault : AuditFault) → IsFirstRefusal tailoring fault ⊎ IsMemory fault → ¬ (fault.number ≡ 12) → IsFirstRefusal tailoring fault
 of_condition tailoring fault (inl refusal) other = refusal
 of_condition tailoring fault (inr memory) other = absurd (other memory.number)
 
--- the line of a refusal did not go out whole
+-- the line of a rejection did not go out whole
 pub refusal_cut : (tailoring : Tailoring) (out out_new : SinkState) (fault : AuditFault) (line : List ℕ) (failed : RunFault)
     → IsFirstRefusal tailoring fault → line ≡ audit_fault_text fault ++ 10 ∷ [] → FailsToWrite Write out.contents out_new.contents line failed
     → RunsAudit out out_new (Err failed) tailoring

@@ -1,4 +1,4 @@
--- What a run of audit answers and writes of what its files mean.
+-- What a run of audit returns and writes for what its files mean.
 use Rattle.std.specs.Prelude.{◌≡◌, ℕ, List, [], ◌∷◌, ◌++◌, ◌||◌, Bool, true, false, Result, Ok, Err, codes}
 use Rattle.uca_weights.specs.Streams.{SourceState, SinkState}
 use Rattle.uca_tailorings.specs.Tailorings.{Tailoring, IsAccepted}
@@ -28,13 +28,13 @@ abbrev pub IsVerdict : Tailoring → Bool → List ℕ → Type 0
 IsVerdict tailoring true line = IsAccepted tailoring × IsFaithful tailoring × (line ≡ codes "accepted" ++ 10 ∷ [])
 IsVerdict tailoring false line = (fault : AuditFault) × IsFirstRefusal tailoring fault × (line ≡ audit_fault_text fault ++ 10 ∷ [])
 
--- what a run of audit answers of a tailoring; where an allocation failed nothing was written
+-- what a run of audit returns for a tailoring; if an allocation failed, nothing was written
 abbrev pub RunsAudit : SinkState → SinkState → Result Bool RunFault → Tailoring → Type 0
 RunsAudit out out_new (Err Memory) tailoring = out_new ≡ out
 RunsAudit out out_new result tailoring = WritesVerdict (IsVerdict tailoring) out.contents out_new.contents result
 
--- A run of audit: what it returns where the bytes of its files are known, and that it accepts what is accepted; and
--- whatever its files and its output are, when nothing is written, and what has failed.
+-- A run of audit: what it returns if the bytes of its files are known, and that it accepts what is accepted. And for
+-- any files and output, when nothing is written, and what has failed.
 pub record Audits (olds news : List SourceState) (out out_new : SinkState) (result : Result Bool RunFault) : Type 0 where
   pub runs : Over audit_files olds news (RunsAudit out out_new result) result
   pub only : AcceptsAccepted olds result

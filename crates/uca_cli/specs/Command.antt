@@ -1,5 +1,5 @@
--- What the whole command does: it reads its words, opens the files that they name in their order, runs over them, and
--- ends with a status.
+-- What the whole command does: it reads its arguments, opens the files that they name in their order, runs over them,
+-- and ends with a status.
 use Rattle.std.specs.Prelude.{◌≡◌, ◌≢◌, ◌⊎◌, ◌<◌, ℕ, List, [], ◌∷◌, ◌||◌, Bool, true, false, Option, Result, Ok, Err, IfErr, is_err, length}
 use Rattle.uca_weights.specs.declared.Depth.{Depth}
 use Rattle.uca_weights.specs.declared.streams.sink.WriteFault.{WriteFault}
@@ -101,7 +101,7 @@ audit_files base properties rules tailored certificate =
 
 -- ---- Opened files
 
--- the file of this name was opened, and this is its source, of which nothing was read
+-- the file of this name was opened, and this is its source, and nothing of it was read
 abbrev pub IsOpened : {O F M : Type 0} → FileSystem O F M → O → O → List ℕ → SourceState → Type 0
 IsOpened {F = F} files old new name source =
     (file : F) × files.gives old name (Ok file) new
@@ -139,18 +139,18 @@ OpensAndRuns files old new named Stays P result =
 
 -- ---- The subcommands over two files
 
--- the status of a run that was done, or its fault
+-- the status of a run that was done, or its error
 abbrev pub done_result : {A : Type 0} → Result A RunFault → Result ℕ RunFault
 done_result (Ok x) = Ok 0
 done_result (Err fault) = Err fault
 
--- the status of a verdict, or the fault
+-- the status of a verdict, or the error
 abbrev pub check_result : Result Bool RunFault → Result ℕ RunFault
 check_result (Ok true) = Ok 0
 check_result (Ok false) = Ok 1
 check_result (Err fault) = Err fault
 
--- what a run returned, and the result of the command after it: this holds of the run, and the result is made of it
+-- what a run returned, and the result of the command after it: this is true of the run, and the result is made of it
 pub record Ran {A : Type 0} (result_of : Result A RunFault → Result ℕ RunFault) (P : Result A RunFault → Type 0)
     (result : Result ℕ RunFault) : Type 0 where
   pub run : Result A RunFault
@@ -297,7 +297,7 @@ KeepsTailored files old new name out out_new (Err fault) result = (result ≡ Er
 KeepsTailored files old new name out out_new (Ok answer) result =
     KeepsAndWrites files old new name answer.0 answer.1 out out_new result
 
--- a run of tailor, and what becomes of what it returns
+-- a run of tailor, and what is done with its result
 pub record Tailors {O F M : Type 0} (files : FileSystem O F M) (between end : O) (certificate : List ℕ)
     (out out_new : SinkState) (result : Result ℕ RunFault) (olds news : List SourceState) : Type 0 where
   pub run : Result (TableContent × CertificateContent) RunFault
@@ -352,7 +352,7 @@ DoesAffected files old new properties rules start end result =
 
 -- ---- The command
 
--- what a subcommand does with its words, given what it reads and writes before and after
+-- what a subcommand does with its arguments, given what it reads and writes before and after
 abbrev pub DoesWords : {O F M : Type 0} → FileSystem O F M → O → O → WordsType → Streams → Streams
     → Result ℕ RunFault → Type 0
 DoesWords files old new (Check table properties) start end result =
@@ -374,13 +374,13 @@ DoesWords files old new (Audit base properties rules tailored certificate) start
 DoesWords files old new (Affected properties rules) start end result =
     DoesAffected files old new properties.now rules.now start end result
 
--- how the command ends after a run: with its status, or with what its fault reports
+-- how the command ends after a run: with its status, or with what its error reports
 abbrev pub EndsWith : Result ℕ RunFault → ℕ → SinkState → SinkState → SinkState → SinkState → Type 0
 EndsWith (Ok done) status out out_new err err_new = (status ≡ done) × (out_new ≡ out) × (err_new ≡ err)
 EndsWith (Err fault) status out out_new err err_new =
     IsStatus fault status × Reports fault status out out_new err err_new
 
--- The words are refused, and nothing is opened or read; or what they say is done. `err` is standard error.
+-- The arguments are rejected, and nothing is opened or read; or what they say is done. `err` is standard error.
 abbrev pub DoesCommand : {O F M : Type 0} → FileSystem O F M → O → O → List (List ℕ) → Streams → Streams
     → SinkState → SinkState → ℕ → Type 0
 DoesCommand files old new words start end err err_new status =

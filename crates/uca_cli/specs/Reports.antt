@@ -1,4 +1,4 @@
--- What a fault writes on standard output and standard error.
+-- What an error writes on standard output and standard error.
 use Rattle.std.specs.Prelude.{◌≡◌, ◌⊎◌, ℕ, ◌<◌, List, [], ◌∷◌, ◌++◌, Bool, true, MatchBool, Option, None, IfSome, length}
 use Rattle.std.specs.Io.KnownBytes.{Appends}
 use Rattle.clap.specs.declared.error.kind.ErrorKind.{ErrorKind}
@@ -17,7 +17,7 @@ abbrev pub GoesOut : SinkState → SinkState → List ℕ → Type 0
 GoesOut sink sink_new text = (Appends sink.contents sink_new.contents text × (sink_new.failed ≡ sink.failed))
     ⊎ ((written : ℕ) × WentOut sink.contents sink_new.contents text written × (written < length text) × (sink_new.failed ≡ true))
 
--- the line of the fault went to standard error, and nothing to standard output
+-- the line of the error went to standard error, and nothing to standard output
 abbrev pub WritesLine : RunFault → SinkState → SinkState → SinkState → SinkState → Type 0
 WritesLine fault out out_new err err_new = (out_new ≡ out) × GoesOut err err_new (fault_text fault ++ 10 ∷ [])
 
@@ -37,7 +37,7 @@ abbrev pub ReportsWords : WordFault → ℕ → SinkState → SinkState → Sink
 ReportsWords (Refused error) status out out_new err err_new = ReportsRefusal (kind_of error) None status out out_new err err_new
 ReportsWords fault status out out_new err err_new = WritesLine (Words fault) out out_new err err_new
 
--- what a fault writes, with which status
+-- what an error writes, with which status
 abbrev pub Reports : RunFault → ℕ → SinkState → SinkState → SinkState → SinkState → Type 0
 Reports (Words fault) status out out_new err err_new = ReportsWords fault status out out_new err err_new
 Reports fault status out out_new err err_new = WritesLine fault out out_new err err_new

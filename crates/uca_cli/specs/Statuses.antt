@@ -22,7 +22,7 @@ use Rattle.uca_plans.specs.declared.faults.TailorKind.TheVariants as planner
 use Rattle.uca_words.specs.declared.WordFault.{WordFault}
 use Rattle.uca_words.specs.declared.WordFault.TheVariants as words
 
--- 3 where a read failed, 4 where an allocation failed, and 1 for what the bytes are to blame for
+-- 3 where a read failed, 4 where an allocation failed, and 1 for an error in the bytes
 abbrev pub line_status : FaultKind → ℕ
 line_status kinds.Read = 3
 line_status kinds.Memory = 4
@@ -63,7 +63,7 @@ is_asked_for DisplayHelp = true
 is_asked_for DisplayVersion = true
 is_asked_for _ = false
 
--- 0 where it was asked for, and 2 where `clap` refused the words
+-- 0 if the text was asked for, and 2 if `clap` rejected the arguments
 abbrev pub refusal_status : ErrorKind → ℕ
 refusal_status kind = if is_asked_for kind then 0 else 2
 
@@ -76,7 +76,7 @@ IsWordStatus words.Weighting status = status ≡ 2
 IsWordStatus words.Memory status = status ≡ 4
 IsWordStatus (words.Refused error) status = IsRefusalStatus (kind_of error) status
 
--- the status of a fault
+-- the status of an error
 abbrev pub IsStatus : RunFault → ℕ → Type 0
 IsStatus (File role fault) status = status ≡ file_status fault
 IsStatus (Input line kind) status = status ≡ input_status kind

@@ -1,4 +1,4 @@
--- What a run of tailor answers, and what is written of its answer.
+-- What a run of tailor returns, and what is written of it.
 use Rattle.std.specs.Prelude.{◌≡◌, ◌≢◌, ◌<◌, List, Bool, true, false, MatchResult, Result, Ok, Err, length, ⊤}
 use Rattle.std.specs.Io.KnownBytes.{Appends}
 use Rattle.uca_weights.specs.Streams.{SourceState, SinkState}
@@ -17,7 +17,7 @@ use Rattle.uca_runs.specs.declared.faults.RunFault.{RunFault}
 use Rattle.uca_runs.specs.declared.faults.RunFault.TheVariants.{Tailor, CertificateWrite, Memory, Write}
 use Rattle.uca_runs.specs.Files.{HaveFailed, IsStop, Mean, Over, TailorContent, tailor_files, tailor_roles}
 
--- ---- The answer
+-- ---- The result
 
 -- the table and the certificate are the plan of the rules over the base; an audit accepts them, with all that this means
 pub record IsTailored (base : TableContent) (properties : Properties) (relations : List Relation) (table : TableContent) (certificate : CertificateContent) : Type 0 where
@@ -25,7 +25,7 @@ pub record IsTailored (base : TableContent) (properties : Properties) (relations
   pub accepted : IsAccepted (tailoring_of base properties relations table certificate)
   pub faithful : IsFaithful (tailoring_of base properties relations table certificate)
 
--- what a run of tailor answers of what its files mean: the plan, or why there is none, or an allocation failed
+-- what a run of tailor returns for what its files mean: the plan, or why there is none, or an allocation failed
 abbrev pub RunsTailor : Result (TableContent × CertificateContent) RunFault → TailorContent → Type 0
 RunsTailor (Ok answer) files = IsTailored files.base files.properties files.relations answer.0 answer.1
 RunsTailor (Err (Tailor fault)) files =
@@ -33,19 +33,19 @@ RunsTailor (Err (Tailor fault)) files =
 RunsTailor (Err Memory) files = ⊤
 RunsTailor (Err _) files = ⊥
 
--- where this is the plan of what the files mean, it is the answer, or the run stopped
+-- if this is the plan of what the files mean, it is the result, or the run stopped
 abbrev pub PlanIsAnswered : TailorContent → Result (TableContent × CertificateContent) RunFault → TableContent → CertificateContent → Type 0
 PlanIsAnswered content result table certificate =
     IsPlanOf content.base content.properties content.relations table certificate
     → MatchResult result (λ answer. answer ≡ (table, certificate)) IsStop
 
--- files of which there is a plan are never refused
+-- files for which there is a plan are never rejected
 abbrev pub PlansPlanned : List SourceState → Result (TableContent × CertificateContent) RunFault → Type 0
 PlansPlanned sources result = (content : TailorContent) → Mean tailor_files sources content
     → (table : TableContent) (certificate : CertificateContent) → PlanIsAnswered content result table certificate
 
--- A run of tailor: what it returns where the bytes of its files are known, and that it returns the plan where there is
--- one; and which sources have failed, whatever they are.
+-- A run of tailor: what it returns if the bytes of its files are known, and that it returns the plan if there is one.
+-- And for any sources, which of them have failed.
 pub record TailorsFiles (olds news : List SourceState) (result : Result (TableContent × CertificateContent) RunFault) : Type 0 where
   pub runs : Over tailor_files olds news (RunsTailor result) result
   pub only : PlansPlanned olds result

@@ -20,14 +20,14 @@ use uca_weights::{Sink, Source};
 const NO_MEMORY: u8 = 12;
 
 /// Audits a tailoring: whether the tailored table is the base as the rules tailor it, with the weights of the base moved
-/// as the certificate says. Writes the verdict as a line, and answers whether the tailoring is accepted: `accepted`, or
-/// the first condition that fails and the first place where it does, as `refused 9 NotPlaced relation 3`. The files are
-/// read one after the other, each to its end or its first fault.
+/// as the certificate says. Returns whether the tailoring is accepted. Writes the verdict as a line: `accepted`, or the
+/// first condition that fails and the first position where it does, such as `refused 9 NotPlaced relation 3`. The files
+/// are read in turn, each to its end or its first error.
 ///
 /// # Errors
 ///
-/// `File` for the first file that is refused, and `Memory` where an allocation failed in the audit: nothing was written.
-/// `Write` where the writer failed: the first `written` bytes of the verdict went out.
+/// `File` for the first file that is rejected, and `Memory` if an allocation failed in the audit: nothing was written.
+/// `Write` if the writer failed: the first `written` bytes of the verdict went out.
 pub fn run_audit<B: Read, D: Read, U: Read, T: Read, C: Read, W: Write>(
     alloc: Global,
     base: &mut Source<B>,
@@ -52,7 +52,11 @@ pub fn run_audit<B: Read, D: Read, U: Read, T: Read, C: Read, W: Write>(
     )
 }
 
-/// The same with memory of any allocator; that of texts in Normalization Form D is in `global`.
+/// As [`run_audit`], with memory of any allocator. Texts in Normalization Form D are in `global`.
+///
+/// # Errors
+///
+/// Those of [`run_audit`].
 pub fn run_audit_in<A: Allocator + Copy, B: Read, D: Read, U: Read, T: Read, C: Read, W: Write>(
     alloc: A,
     global: Global,

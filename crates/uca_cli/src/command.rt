@@ -1,4 +1,4 @@
-//! The command: it reads its words, opens the files that they name, and calls the run.
+//! The command: it reads its arguments, opens the files that they name, and calls the run.
 
 ghost use Rattle.std.specs.Prelude.{◌∷◌, [], ⊤, ℕ, Bool, List, Result, MatchResult, ◌≡◌};
 ghost use Rattle.clap.specs.Walk.{texts};
@@ -48,13 +48,13 @@ pub trait Opens {
     /// A file that was made, and is not kept yet.
     type Made: Write + Drop;
 
-    // Holds of the opener before a call, the name, the result and the opener after, where the impl says it.
+    // What is true of the opener before a call, the name, the result and the opener after, if the impl says it.
     ghost open_gives: { Self → List ℕ → Result Self.File OpenFault → Self → Type 0 } = { λ _ _ _ _. ⊤ };
 
     // The same of a call that compares two names.
     ghost same_gives: { Self → List ℕ → List ℕ → Bool → Self → Type 0 } = { λ _ _ _ _ _. ⊤ };
 
-    // The same of a call that makes a file.
+    // The same for a call that makes a file.
     ghost create_gives: { Self → List ℕ → Result Self.Made MakeFault → Self → Type 0 } = { λ _ _ _ _. ⊤ };
 
     // The same of a call that keeps a file under a name.
@@ -67,7 +67,7 @@ pub trait Opens {
     ///
     /// # Errors
     ///
-    /// `OpenFault` where the file does not open.
+    /// `OpenFault` if the file does not open.
     fn open(&mut self, name: &str) -> Result<Self::File, OpenFault>
         ensures { open_gives self.old name.now result self.new };
 
@@ -171,7 +171,8 @@ struct OpenedFiles<F: Read + Drop> {
     certificate: Source<F>,
 }
 
-// The sources of the files of an audit, which are opened in the order of the words, or the first that does not open.
+// The sources of the files of an audit, which are opened in the order of the arguments, or the first that does not
+// open.
 fn open_audit_files<O: Opens>(
     opener: &mut O,
     base: &str,
@@ -473,7 +474,7 @@ fn affected<O: Opens, I: Read, W: Write>(
     done(run_affected(alloc, &mut properties, &mut rules, input, out))
 }
 
-// Does what the words say, and returns the status of what was done.
+// Does what the arguments say, and returns the status of what was done.
 fn run_words<O: Opens, I: Read, W: Write>(
     alloc: Global,
     opener: &mut O,
@@ -542,9 +543,9 @@ fn run_words<O: Opens, I: Read, W: Write>(
     }
 }
 
-/// Runs a command line, whose first word is the program's name, and returns the exit status. It reads the words, opens
-/// all files that they name, in the order of the words, and then runs over them. It reports an error. Where it rejects
-/// the words, it opens and reads nothing.
+/// Runs a command line, whose first argument is the program's name, and returns the exit status. It reads the
+/// arguments, opens all files that they name, in the order of the arguments, and then runs over them. It reports an
+/// error. If it rejects the arguments, it opens and reads nothing.
 pub fn run_command<'a, O: Opens, I: Read, W: Write, E: Write>(
     alloc: Global,
     opener: &mut O,

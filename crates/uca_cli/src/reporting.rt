@@ -1,4 +1,4 @@
-//! What a fault writes on standard error, and the status that the program ends with.
+//! What an error writes on standard error, and the status that the program ends with.
 
 ghost use Rattle.std.specs.Prelude.{◌≡◌, ◌++◌, ◌∷◌, []};
 ghost use Rattle.uca_runs.specs.FaultText.{fault_text};
@@ -21,9 +21,9 @@ use uca_words::WordFault;
 
 /// The run is done.
 pub const DONE: u8 = 0;
-/// The content of a file, a line or a word is refused.
+/// The content of a file, a line or an argument is rejected.
 pub const REFUSED: u8 = 1;
-/// The command line is refused.
+/// The command line is rejected.
 pub const WRONG_WORDS: u8 = 2;
 /// A file does not open, or a read or a write failed.
 pub const STREAM_FAILED: u8 = 3;
@@ -106,14 +106,14 @@ fn is_asked_for(kind: ErrorKind) -> bool
     matches!(kind, ErrorKind::DisplayHelp | ErrorKind::DisplayVersion)
 }
 
-// Writes a text. A fault of the writer changes nothing: there is nowhere to tell it.
+// Writes a text. An error of the writer changes nothing: there is nowhere to report it.
 fn show<W: Write>(text: &[u8], sink: &mut Sink<W>)
     ensures { GoesOut sink.old sink.new text.now }
 {
     let _ = sink.write_all(text);
 }
 
-// Writes the line of a fault, in one call, and returns its status.
+// Writes the line of an error, in one call, and returns its status.
 fn write_line<E: Write>(fault: &RunFault, status: u8, err: &mut Sink<E>) -> u8
     ensures line { GoesOut err.old err.new (fault_text fault.now ++ 10 ∷ []) }
     ensures status { result ≡ status }
@@ -123,8 +123,8 @@ fn write_line<E: Write>(fault: &RunFault, status: u8, err: &mut Sink<E>) -> u8
     status
 }
 
-// Writes what an error of `clap` of this kind shows: help that was asked for to `out`, and a refusal to
-// `err`. Where there is no memory for it, the line `memory` goes to `err`.
+// Writes what an error of `clap` of this kind shows: help that was asked for to `out`, and a rejection to
+// `err`. If there is no memory for it, the line `memory` goes to `err`.
 fn write_refusal<D: Display, W: Write, E: Write>(
     alloc: Global,
     kind: ErrorKind,
@@ -165,7 +165,7 @@ fn report_words<W: Write, E: Write>(
     }
 }
 
-/// Writes the line of a fault to `err`, or the text of `clap` where it refused the words, and returns
+/// Writes the line of an error to `err`, or the text of `clap` if it rejected the arguments, and returns
 /// the status that the program ends with. Help that was asked for goes to `out`, with the status 0.
 /// A write that fails does not change the status. Only the text of `clap` takes memory.
 pub fn report<W: Write, E: Write>(

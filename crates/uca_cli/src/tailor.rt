@@ -1,4 +1,4 @@
-//! The run that tailors a table, and the writing of what it answers.
+//! The run that tailors a table, and the writing of what it returns.
 
 ghost use Rattle.std.specs.Prelude.{◌≡◌, ◌||◌, ◌∷◌, []};
 ghost use Rattle.uca_runs.specs.Runs.{ended_by_output};
@@ -14,12 +14,12 @@ use uca_tailor::tailor;
 use uca_values::Table;
 use uca_weights::{Sink, Source, WriteFault};
 
-/// Tailors a table by rules, and returns the tailored table and the certificate of its weights. The files are read one
-/// after the other, each to its end or its first fault. `write_tailored` writes what is returned.
+/// Tailors a table by rules, and returns the tailored table and the certificate of its weights. The files are read in
+/// turn, each to its end or its first error. `write_tailored` writes what is returned.
 ///
 /// # Errors
 ///
-/// `File` for the first file that is refused, `Tailor` where there is no plan, and `Memory` where an allocation failed
+/// `File` for the first file that is rejected, `Tailor` if there is no plan, and `Memory` if an allocation failed
 /// after the files were read.
 pub fn run_tailor<B: Read, D: Read, U: Read>(
     alloc: Global,
@@ -32,7 +32,11 @@ pub fn run_tailor<B: Read, D: Read, U: Read>(
     run_tailor_in(alloc, alloc, base, properties, rules)
 }
 
-/// The same with memory of any allocator; that of texts in Normalization Form D is in `global`.
+/// As [`run_tailor`], with memory of any allocator. Texts in Normalization Form D are in `global`.
+///
+/// # Errors
+///
+/// Those of [`run_tailor`].
 pub fn run_tailor_in<A: Allocator + Copy, B: Read, D: Read, U: Read>(
     alloc: A,
     global: Global,
@@ -51,8 +55,8 @@ pub fn run_tailor_in<A: Allocator + Copy, B: Read, D: Read, U: Read>(
 ///
 /// # Errors
 ///
-/// `CertificateWrite` where the writer of the certificate failed: the first `written` bytes of the certificate went out,
-/// and nothing of the table. `Write` where the writer of the table failed: the whole certificate went out, and the first
+/// `CertificateWrite` if the writer of the certificate failed: the first `written` bytes of the certificate went out,
+/// and nothing of the table. `Write` if the writer of the table failed: the whole certificate went out, and the first
 /// `written` bytes of the table.
 pub fn write_tailored<A: Allocator, C: Write, W: Write>(
     table: &Table<A>,

@@ -33,8 +33,9 @@ pub trait Collate {
         ensures short { HasShortRows (collation self.now).rows →
             IfOk result (λ key. length key.items < 2 ^ 40) };
 
-    /// How two texts compare (UTS #10, section 1.1), as [`compare`](uca_key::compare) says: their order, the level at which
-    /// they differ, and how many elements of each the comparison of level 1 fetches. It makes no key and takes no memory.
+    /// How two texts compare (UTS #10, section 1.1), as [`compare`](uca_key::compare) says. The result has their order,
+    /// the level at which they differ, and how many elements of each text the comparison of level 1 fetches. It makes
+    /// no key and takes no memory.
     fn compare(&self, settings: Settings, left: &Normal, right: &Normal) -> Compared
         ensures compared { let answer = compared_at settings.depth settings.weighting
             (read_text (collation self.now) left.now) (read_text (collation self.now) right.now) in

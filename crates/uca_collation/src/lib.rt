@@ -1,5 +1,5 @@
-//! Unicode collation (UTS #10) in one place: what a program needs to read a table, to make and compare sort keys, and to
-//! tailor a table. `docs/LIBRARY.md` shows its use by five short programs.
+//! Unicode collation (UTS #10) in one place: what a program needs to read a table, to make and compare sort keys, and
+//! to tailor a table. `docs/LIBRARY.md` shows its use by five short programs.
 #![tactic(auto)]
 
 mod collate;

@@ -1,4 +1,4 @@
--- An anchor's elements up to the last that is not ignorable, from behind.
+-- An anchor's elements up to the last that is not ignorable, found from the end.
 use Rattle.std.proofs.Common.{◌≡◌, List, [], ◌∷◌, ◌++◌, true, false, Some, None, ap}
 use Rattle.std.proofs.lemmas.Bool.{cond-true, cond-false}
 use Rattle.uca_weights.specs.declared.Level.{Level}

@@ -46,7 +46,7 @@ drafted_by_rows basis so_far new r =
     (expansion_by_rows basis so_far r.expansion)
 
 module _ (basis : Basis) (so_far : Drafting) (n : ℕ) (r : Relation) where
-  -- a relation whose anchor is refused is refused
+  -- a relation whose anchor is rejected is rejected
   pub refused_anchor : drafted basis so_far (New n) r ≡ None → with_relation basis so_far n r ≡ Err kinds.Anchor
   refused_anchor none = ap (one_drafted basis so_far r.target.points) none
 
@@ -64,7 +64,7 @@ module _ (basis : Basis) (so_far : Drafting) (n : ℕ) (r : Relation) where
         ap (one_drafted basis so_far r.target.points) is ∙ cond-false (needs_prefix basis.properties.class so_far.rows r.target.points) _ _ has
         ∙ cond-true (passes_limit (target_row r new) (with_row (target_row r new) so_far.rows)) _ _ passes
 
-    -- and one whose elements hold an implicit one among the variable ones
+    -- and one whose elements include an implicit one among the variable ones
     pub refused_variable : needs_prefix basis.properties.class so_far.rows r.target.points ≡ false →
         passes_limit (target_row r new) (with_row (target_row r new) so_far.rows) ≡ false →
         holds_implicit_variable (elements_of basis.base) (target_row r new) ≡ true → with_relation basis so_far n r ≡ Err kinds.ImplicitVariable
@@ -92,7 +92,7 @@ module _ (basis : Basis) (places : Positions) (rows : List DraftRow) (r : Relati
   count : length (keys_in rows) ≡ length rows
   count = length-map rows (λ (x : DraftRow). x.key)
 
-  -- where the target has no place there is none
+  -- if the target has no position there is no room
   pub no_room : is_among (keys_in rows ++ ready.more) r.target.points ≡ false → passes_limit row (with_row row rows) ≡ true
   no_room other =
       let new : has_key rows row.key ≡ false =
@@ -107,7 +107,7 @@ module _ (basis : Basis) (places : Positions) (rows : List DraftRow) (r : Relati
   too_many many = or_left (ltb 32 (length row.elements)) (ltb 200000 (length (with_row row rows))) (lt-ltb 32 (length row.elements) many)
 
   module _ (place : ℕ) (stands : IsPlaceOf (keys_in rows ++ ready.more) r.target.points place) where
-    -- a place among the rows is that of the row with the key
+    -- a position among the rows is that of the row with the key
     pub replaced : place < length rows → with_row row rows ≡ set rows place row
     replaced there =
         let old : is_among (keys_in rows) row.key ≡ true =
@@ -116,7 +116,7 @@ module _ (basis : Basis) (places : Positions) (rows : List DraftRow) (r : Relati
         (row_at row rows place (has_key_is rows row.key ∙ old)
         (sym (place_in_front 0 (keys_in rows) ready.more row.key old) ∙ ap (λ k. place_at 0 (keys_in rows ++ ready.more) k) its ∙ stands.stands)).1
 
-    -- behind them there is no such row
+    -- after them there is no such row
     pub behind : length rows ≤ place → with_row row rows ≡ rows ++ row ∷ []
     behind past =
         row_behind row rows
@@ -131,21 +131,21 @@ module _ (basis : Basis) (places : Positions) (rows : List DraftRow) (r : Relati
         or_from (ltb 32 (length row.elements)) (ltb 200000 (length (with_row row rows))) (le-ltb 32 (length row.elements) few)
         (le-ltb 200000 (length (with_row row rows)) (omega (arith, same, all, count, ready.few)))
 
-    -- and so there is behind them
+    -- and so there is after them
     pub room_behind : length rows ≤ place → length row.elements ≤ 32 → passes_limit row (with_row row rows) ≡ false
     room_behind past few =
         let one_more : length (with_row row rows) ≡ length rows + 1 = ap length (behind past) ∙ length-append rows (row ∷ []) in
         or_from (ltb 32 (length row.elements)) (ltb 200000 (length (with_row row rows))) (le-ltb 32 (length row.elements) few)
         (le-ltb 200000 (length (with_row row rows)) (omega (arith, one_more, past, stands.within, ready.few)))
 
--- a relation whose target has no place is refused
+-- a relation whose target has no position is rejected
 pub refused_room : (basis : Basis) (places : Positions) (so_far : Drafting) (n : ℕ) (r : Relation) (new : Drafted) (ready : IsReady basis places so_far.rows r) →
     drafted basis so_far (New n) r ≡ Some new → needs_prefix basis.properties.class so_far.rows r.target.points ≡ false →
     is_among (keys_in so_far.rows ++ ready.more) r.target.points ≡ false → with_relation basis so_far n r ≡ Err kinds.Limit
 refused_room basis places so_far n r new ready is has other =
     refused_limit basis so_far n r new is has (no_room basis places so_far.rows r ready (target_row r new) refl other)
 
--- one whose target has a place, and few elements, passes no limit
+-- one whose target has a position, and few elements, goes over no limit
 pub in_limits : (basis : Basis) (places : Positions) (so_far : Drafting) (r : Relation) (new : Drafted) (ready : IsReady basis places so_far.rows r) →
     (place : ℕ) → IsPlaceOf (keys_in so_far.rows ++ ready.more) r.target.points place → length new.elements ≤ 32 →
     passes_limit (target_row r new) (with_row (target_row r new) so_far.rows) ≡ false
@@ -155,7 +155,7 @@ in_limits basis places so_far r new ready place stands few =
     (λ past. room_behind basis places so_far.rows r ready (target_row r new) refl place stands past few)
     (cases_lt place (length so_far.rows))
 
--- so its row is put in its place, or behind the others, where it holds no implicit element among the variable ones
+-- so its row is put in its position, or after the others, if it has no implicit element among the variable ones
 pub row_put : (basis : Basis) (places : Positions) (so_far : Drafting) (n : ℕ) (r : Relation) (new : Drafted) (ready : IsReady basis places so_far.rows r) →
     drafted basis so_far (New n) r ≡ Some new → needs_prefix basis.properties.class so_far.rows r.target.points ≡ false →
     (place : ℕ) → IsPlaceOf (keys_in so_far.rows ++ ready.more) r.target.points place → length new.elements ≤ 32 →
@@ -179,7 +179,7 @@ pub record IsDrafted (basis : Basis) (relations : List Relation) (n : ℕ) (so_f
   pub own : keys_in so_far.rows ≡ with_targets (take n relations) (keys_of basis.base)
   pub few : length so_far.rows ≤ 200000
 
--- those that are left are one, and those behind it
+-- those that are left are one relation, and those after it
 rest_is : (relations : List Relation) (n : ℕ) (r : Relation) → n < length relations → r ≡ get_or relations n r → drop n relations ≡ r ∷ drop (n + 1) relations
 rest_is relations n r within is = drop_more relations n r within ∙ ap (λ s. s ∷ drop (n + 1) relations) (sym is)
 
@@ -197,7 +197,7 @@ one_more basis relations n r so_far next within is here added =
       few = ltb-false 200000 (length next.rows) (or_parts (ltb 32 (length step.new.elements)) (ltb 200000 (length next.rows)) step.within).1;
     }
 
--- a relation that is refused is the first
+-- the first relation that is rejected
 pub first_refused : (basis : Basis) (relations : List Relation) (n : ℕ) (r : Relation) (so_far : Drafting) (kind : TailorKind) → n < length relations →
     r ≡ get_or relations n r → IsDrafted basis relations n so_far → with_relation basis so_far n r ≡ Err kind →
     with_relations basis 0 relations (begun basis) ≡ Err (record { kind = kind; relation = n + 1 })

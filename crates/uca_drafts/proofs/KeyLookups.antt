@@ -1,4 +1,4 @@
--- Where keys stand among others.
+-- The positions of keys among others.
 use Rattle.std.proofs.Common.{◌≡◌, ℕ, suc, ◌+◌, List, [], ◌∷◌, ◌++◌, length, Bool, true, false, cond, ltb, ◌||◌, is_some, Option, Some, None, Result, Ok, Err, IfOk}
 use Rattle.std.proofs.Common.{MatchOption, refl, sym, ap, ◌∙◌, arith}
 use Rattle.std.proofs.lemmas.Bool.{false≢true, cond-false, or_parts, lt-ltb, le-ltb}
@@ -10,7 +10,7 @@ use Rattle.uca_plans.specs.Keys.{is_among}
 use Rattle.uca_drafts.specs.Places.{IsPlaceOf, AreListed, ArePlaces}
 use Rattle.uca_drafts.proofs.MatchReadings.{placed_among}
 
--- a place that is found is the key's, and a key without one is none of them
+-- a position that is found is the key's, and a key without one is none of them
 pub place_found : (keys : List (List ℕ)) (key : List ℕ) (place : Option ℕ) → place_at 0 keys key ≡ place →
     MatchOption place (is_among keys key ≡ false) (IsPlaceOf keys key)
 place_found keys key None none = sym (placed_among 0 keys key) ∙ ap is_some none
@@ -34,7 +34,7 @@ among_append (k ∷ keys) more key = go (same_key k key) (among_append keys more
 pub not_in_front : (keys more : List (List ℕ)) (key : List ℕ) → is_among (keys ++ more) key ≡ false → is_among keys key ≡ false
 not_in_front keys more key other = (or_parts (is_among keys key) (is_among more key) (sym (among_append keys more key) ∙ other)).0
 
--- a key of the first ones has its place among them
+-- a key of the first ones has its position among them
 pub place_in_front : (place : ℕ) (keys more : List (List ℕ)) (key : List ℕ) → is_among keys key ≡ true →
     place_at place (keys ++ more) key ≡ place_at place keys key
 place_in_front place [] more key there = absurd (false≢true there)
@@ -46,7 +46,7 @@ place_in_front place (k ∷ keys) more key there = go (same_key k key) there (pl
     go true there later = refl
     go false there later = later there
 
--- any other has its place behind them
+-- any other has its position after them
 place_at_back : (place : ℕ) (keys more : List (List ℕ)) (key : List ℕ) → is_among keys key ≡ false →
     place_at place (keys ++ more) key ≡ place_at (place + length keys) more key
 place_at_back place [] more key other = ap (λ p. place_at p more key) (let same : place ≡ place + 0 = omega arith in same)
@@ -56,7 +56,7 @@ place_at_back place (k ∷ keys) more key other =
     ∙ place_at_back (place + 1) keys more key parts.1
     ∙ ap (λ p. place_at p more key) (let same : place + 1 + length keys ≡ place + suc (length keys) = omega arith in same)
 
--- a key is one of the first where its place is below their number
+-- a key is one of the first if its position is less than their number
 pub front_is : (keys more : List (List ℕ)) (key : List ℕ) (place : ℕ) → IsPlaceOf (keys ++ more) key place → ltb place (length keys) ≡ is_among keys key
 front_is keys more key place stands = go (is_among keys key) refl
   where
@@ -68,9 +68,9 @@ front_is keys more key place stands = go (is_among keys key) refl
         let found = placed_within (0 + length keys) more key place (sym (place_at_back 0 keys more key other) ∙ stands.stands) in
         le-ltb place (length keys) (omega (arith, found.2))
 
--- ---- The places that a map tells
+-- ---- The positions that a map has
 
--- a map of the keys has their places
+-- a map of the keys has their positions
 pub listed_places : {T E : Type 0} (tells : T → Positions) (result : Result T E) (base : List (List ℕ)) (relations : List Relation)
     (keys : List (List ℕ)) → IfOk result (λ places. (key : List ℕ) → tells places key ≡ place_at 0 keys key) → AreListed base relations keys →
     IfOk result (λ places. ArePlaces base relations (tells places))

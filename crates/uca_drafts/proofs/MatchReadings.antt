@@ -22,9 +22,9 @@ use Rattle.uca_plans.specs.Keys.{keys_in, is_among, read_over}
 use Rattle.uca_drafts.specs.MatchDrafts.{elements_at, match_drafts}
 use Rattle.uca_drafts.specs.Ready.{ArePlacesWith}
 
--- ---- Places
+-- ---- Positions
 
--- a key has a place exactly where it is among the keys
+-- a key has a position exactly where it is among the keys
 pub placed_among : (place : ℕ) (keys : List (List ℕ)) (key : List ℕ) → is_some (place_at place keys key) ≡ is_among keys key
 placed_among place [] key = refl
 placed_among place (k ∷ keys) key = go (same_key k key) (placed_among (place + 1) keys key)
@@ -36,7 +36,7 @@ placed_among place (k ∷ keys) key = go (same_key k key) (placed_among (place +
 
 -- ---- Reading
 
--- a place is not before the first one
+-- a position is not before the first one
 later_place : (place : ℕ) (keys : List (List ℕ)) (key : List ℕ) (p : ℕ) → place_at place keys key ≡ Some p → (i : ℕ) × (p ≡ place + i)
 later_place place [] key p found = cc
 later_place place (k ∷ keys) key p found = go (same_key k key) found (later_place (place + 1) keys key p)
@@ -46,7 +46,7 @@ later_place place (k ∷ keys) key p found = go (same_key k key) found (later_pl
     go true found later = let same : place ≡ p = cc in (0, omega (arith, same))
     go false found later = let l = later found in (suc l.0, omega (arith, l.1))
 
--- a key without a place has no row
+-- a key without a position has no row
 no_row : (place : ℕ) (rows : List DraftRow) (more : List (List ℕ)) (key : List ℕ) → place_at place (keys_in rows ++ more) key ≡ None →
     draft_at rows key ≡ None
 no_row place [] more key none = refl
@@ -57,7 +57,7 @@ no_row place (row ∷ rows) more key none = go (same_key row.key key) none (no_r
     go true none later = cc
     go false none later = later none
 
--- one with a place has the row of the place
+-- one with a position has the row of the position
 row_there : (place : ℕ) (rows : List DraftRow) (more : List (List ℕ)) (key : List ℕ) (i : ℕ) → place_at place (keys_in rows ++ more) key ≡ Some (place + i) →
     elements_at i rows ≡ unwrap_or (draft_at rows key) []
 row_there place [] more key zero found = refl
@@ -93,7 +93,7 @@ module _ (places : Positions) (rows : List DraftRow) (more : List (List ℕ)) (a
   matches_stand t [] all = refl
   matches_stand t (p ∷ ps) all = ap₂ (λ es fs. es ++ fs) (match_stands t p all.0) (matches_stand t ps all.1)
 
-  -- what the matches of a text give are its draft elements, read over the keys that have places
+  -- what the matches of a text give are its draft elements, read over the keys that have positions
   pub text_stands : (text : NfdText) →
       flat_map (match_drafts ranges properties rows) (matches_of places (parts (is_placed places) (letters_of text)))
       ≡ read_over ranges properties (is_placed places) rows text

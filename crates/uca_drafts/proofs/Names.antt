@@ -16,7 +16,7 @@ abbrev pub AreNamedFrom : ℕ → ℕ → List Insertion → Type 0
 AreNamedFrom first end [] = first ≤ end
 AreNamedFrom first end (i ∷ insertions) = (n : ℕ) × (i.new ≡ New n) × (first ≤ n) × AreNamedFrom (n + 1) end insertions
 
--- insertions of later relations come behind
+-- insertions of later relations come after them
 pub named_append : (first middle end : ℕ) (xs ys : List Insertion) → AreNamedFrom first middle xs → AreNamedFrom middle end ys → AreNamedFrom first end (xs ++ ys)
 named_append first middle end [] [] h k = omega arith
 named_append first middle end [] (y ∷ ys) h k = (k.0, k.1, omega (arith, k.2, h), k.3)

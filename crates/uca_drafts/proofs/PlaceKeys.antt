@@ -1,4 +1,4 @@
--- The keys that have places.
+-- The keys that have positions.
 use Rattle.std.proofs.Common.{◌≡◌, ℕ, ◌+◌, ◌<◌, ◌≤◌, List, [], ◌∷◌, ◌++◌, length, take, drop, get_or, true, false, is_some, Option}
 use Rattle.std.proofs.Common.{Bor, refl, sym, ap, ap₂, subst, ◌∙◌, ⊎_elim, arith, length-append, append_assoc, append-nil, take-append-drop}
 use Rattle.std.proofs.lemmas.List.{take_more, take_all, length-map, map-append}
@@ -38,7 +38,7 @@ targets_same before r keys there =
     ∙ cond-true (is_among (with_targets before keys) r.target.points) (with_targets before keys) (with_targets before keys ++ r.target.points ∷ [])
     (among_kept before keys r.target.points there)
 
--- a new one stands behind the others
+-- a new one comes after the others
 pub targets_behind : (before : List Relation) (r : Relation) (keys : List (List ℕ)) → is_among (with_targets before keys) r.target.points ≡ false →
     with_targets (before ++ r ∷ []) keys ≡ with_targets before keys ++ r.target.points ∷ []
 targets_behind before r keys other =
@@ -57,7 +57,7 @@ distinct_of_apart : (keys : List (List ℕ)) → AreApart keys → AreDistinctKe
 distinct_of_apart [] apart = tt
 distinct_of_apart (key ∷ keys) apart = (λ there. false≢true (sym apart.0 ∙ among_contained keys key there), distinct_of_apart keys apart.1)
 
--- the keys that have places are distinct
+-- the keys that have positions are distinct
 pub distinct_listed : (rows : List Entry) (relations : List Relation) (keys : List (List ℕ)) → AreRows rows →
     AreListed (keys_of rows) relations keys → AreDistinctKeys keys
 distinct_listed rows relations keys base all =
@@ -67,7 +67,7 @@ distinct_listed rows relations keys base all =
 pub distinct_base : (rows : List Entry) (keys : List (List ℕ)) → AreRows rows → keys ≡ keys_of rows → AreDistinctKeys keys
 distinct_base rows keys base are = subst AreDistinctKeys (sym are) (distinct_keys rows base.distinct)
 
--- ---- Keys that are lent
+-- ---- Keys that are borrowed
 
 -- one more key that is lent
 pub points_push : (keys : List (Bor (List ℕ))) (key : Bor (List ℕ)) → points_of (keys ++ key ∷ []) ≡ points_of keys ++ key.now ∷ []
@@ -80,7 +80,7 @@ pub relations_more : (relations : List Relation) (i : ℕ) (r : Relation) → i 
     take (i + 1) relations ≡ take i relations ++ r ∷ []
 relations_more relations i r within is = take_more relations i r within ∙ ap (λ s. take i relations ++ s ∷ []) (sym is)
 
--- all relations are those so far, this one and those behind it
+-- all relations are those so far, this one and those after it
 pub relations_around : (relations : List Relation) (i : ℕ) (r : Relation) → i < length relations → r ≡ get_or relations i r →
     relations ≡ take i relations ++ r ∷ drop (i + 1) relations
 relations_around relations i r within is =
@@ -93,7 +93,7 @@ pub record AreKeysUpTo (keys points : List (List ℕ)) : Type 0 where
   pub are : points ≡ keys
   pub few : length points ≤ 200000
 
--- the keys of the base have places
+-- the keys of the base have positions
 pub base_listed : (rows : List Entry) (points : List (List ℕ)) → AreRows rows → points ≡ keys_of rows → AreKeysUpTo (with_targets [] (keys_of rows)) points
 base_listed rows points base are =
     record { are = are; few = omega (arith, base.few, ap length are, length-map rows (λ (r : Entry). r.key)) }
@@ -121,7 +121,7 @@ module _ (rows : List Entry) (relations : List Relation) (points : List (List �
   not_among distinct other =
       new_target (keys_of rows) (take i relations) (drop (i + 1) relations) r (subst AreDistinct (relations_around relations i r within is) distinct) other
 
-  -- any other stands after the keys so far
+  -- any other comes after the keys so far
   pub target_more : (news : List (List ℕ)) → AreDistinct relations → is_among (keys_of rows) r.target.points ≡ false → length points < 200000 →
       news ≡ points ++ r.target.points ∷ [] → AreKeysUpTo (with_targets (take (i + 1) relations) (keys_of rows)) news
   target_more news distinct other room pushed =

@@ -1,4 +1,4 @@
--- Each relation can be read over the places of all keys.
+-- Each relation can be read over the positions of all keys.
 use Rattle.std.proofs.Common.{◌≡◌, ◌⊎◌, ℕ, ◌+◌, ◌<◌, ◌≤◌, List, [], ◌∷◌, ◌++◌, length, take, drop, get_or, Bool, true, false, cond, is_some, refl, sym, ap, ap₂, subst, ◌∙◌}
 use Rattle.std.proofs.Common.{inl, inr, arith, append-nil, append_assoc, length-append}
 use Rattle.std.proofs.lemmas.Bool.{false≢true}
@@ -20,7 +20,7 @@ use Rattle.uca_drafts.proofs.DraftingSteps.{IsDrafted}
 
 -- ---- Keys and targets
 
--- one more key stands behind the others, if it is new
+-- one more key comes after the others, if it is new
 key_extends : (new : List ℕ) (keys : List (List ℕ)) → (more : List (List ℕ)) × (with_key new keys ≡ keys ++ more)
 key_extends new keys = go (is_among keys new) (with_key_is new keys)
   where
@@ -41,9 +41,9 @@ key_counts : (new : List ℕ) (keys : List (List ℕ)) → is_among keys new ≡
 key_counts new keys other =
     ap length (with_key_is new keys ∙ ap (λ b. cond b keys (keys ++ new ∷ [])) other) ∙ length-append keys (new ∷ [])
 
--- ---- Where a relation stands
+-- ---- The position of a relation
 
--- what is listed before the others ends at the relation, or behind it
+-- the keys that are listed first end at the relation, or after it
 abbrev ReachesFurther : List Relation → Relation → List Relation → List Relation → List Relation → Type 0
 ReachesFurther before r after listed rest = (later : List Relation) × (listed ≡ before ++ later) × (r ∷ after ≡ later ++ rest)
 
@@ -75,7 +75,7 @@ module _ (basis : Basis) (places : Positions) (before after : List Relation) (r 
   counted : length so_far.rows ≡ length (with_targets before (keys_of basis.base))
   counted = sym (length-map so_far.rows (λ (x : DraftRow). x.key)) ∙ ap length own
 
-  -- no relation is read that comes behind the first without a place
+  -- no relation is read that comes after the first without a position
   not_before : EndsBefore before all.all.listed all.all.rest → ⊥
   not_before short =
       let full : IsFull all.keys (short.0 ∷ short.2) = subst (IsFull all.keys) short.4 all.all.full in
@@ -100,7 +100,7 @@ module _ (basis : Basis) (places : Positions) (before after : List Relation) (r 
         all.all.are ∙ ap (λ rs. with_targets rs (keys_of basis.base)) further.1 ∙ targets_append before further.0 (keys_of basis.base)
         ∙ ap (with_targets further.0) (sym own)
 
-    -- the target has a place, or there is no room
+    -- the target has a position, or there is no room
     placed_or_full : (later : List Relation) → r ∷ after ≡ later ++ all.all.rest → all.keys ≡ with_targets later (keys_in so_far.rows) →
         is_among all.keys r.target.points ≡ false → 200000 ≤ length so_far.rows
     placed_or_full [] parts keys other =
@@ -134,7 +134,7 @@ module _ (basis : Basis) (places : Positions) (before after : List Relation) (r 
       go (inl further) = reads further
       go (inr short) = absurd (not_before short)
 
--- each relation of rules can be read over the places when those before it have been drafted
+-- each relation of rules can be read over the positions when those before it have been drafted
 pub ready : (basis : Basis) (places : Positions) (relations : List Relation) (n : ℕ) (r : Relation) (so_far : Drafting) → AreRules relations →
     ArePlaces (keys_of basis.base) relations places → n < length relations → r ≡ get_or relations n r → IsDrafted basis relations n so_far →
     IsReady basis places so_far.rows r

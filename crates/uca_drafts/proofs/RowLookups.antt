@@ -1,9 +1,9 @@
--- The row at a place.
+-- The row at a position.
 use Rattle.std.proofs.Common.{◌≡◌, ℕ, zero, suc, ◌<◌, ◌≤◌, List, [], ◌∷◌, length, get_or, refl, ap, sym, arith}
 use Rattle.uca_plans.specs.Drafts.{DraftRow}
 use Rattle.uca_drafts.specs.MatchDrafts.{elements_at}
 
--- the elements of the row at a place
+-- the elements of the row at a position
 pub elements_there : (rows : List DraftRow) (place : ℕ) (row : DraftRow) → place < length rows → row ≡ get_or rows place row →
     elements_at place rows ≡ row.elements
 elements_there [] place row within is = absurd (omega arith)

@@ -8,13 +8,13 @@ use Rattle.uca_match.specs.declared.matches.Match.TheVariants.{Key, Unlisted}
 use Rattle.uca_plans.specs.declared.drafts.DraftElement.{DraftElement}
 use Rattle.uca_plans.specs.Drafts.{DraftRow, as_draft}
 
--- the elements of the row at a place
+-- the elements of the row at a position
 abbrev pub elements_at : ℕ → List DraftRow → List DraftElement
 elements_at place [] = []
 elements_at zero (row ∷ rows) = row.elements
 elements_at (suc place) (row ∷ rows) = elements_at place rows
 
--- those of the row at the place of a key, or the implicit ones of a code point
+-- those of the row at the position of a key, or the implicit ones of a code point
 abbrev pub match_drafts : List ImplicitRange → Properties → List DraftRow → Match ℕ → List DraftElement
 match_drafts ranges properties rows (Key place) = elements_at place rows
 match_drafts ranges properties rows (Unlisted c) = map (as_draft true) (implicit ranges properties c)

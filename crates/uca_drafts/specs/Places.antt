@@ -1,10 +1,10 @@
--- The keys that have places, and the places that they have. Only clauses inside this crate cite this file.
+-- The keys that have positions, and the positions that they have. Only clauses inside this crate cite this file.
 use Rattle.std.specs.Prelude.{◌≡◌, ℕ, ◌<◌, ◌≤◌, ⊤, List, [], ◌∷◌, ◌++◌, length, false, Some}
 use Rattle.uca_rules.specs.declared.relations.Relation.{Relation}
 use Rattle.uca_match.specs.Positions.{Positions, place_at}
 use Rattle.uca_plans.specs.Keys.{is_among, with_targets}
 
--- the key stands at this place
+-- the key is at this position
 pub record IsPlaceOf (keys : List (List ℕ)) (key : List ℕ) (place : ℕ) : Type 0 where
   pub within : place < length keys
   pub stands : place_at 0 keys key ≡ Some place
@@ -23,7 +23,7 @@ pub record AreListed (base : List (List ℕ)) (relations : List Relation) (keys 
   pub full : IsFull keys rest
   pub few : length keys ≤ 200000
 
--- the places of such keys
+-- the positions of such keys
 pub record ArePlaces (base : List (List ℕ)) (relations : List Relation) (places : Positions) : Type 0 where
   pub keys : List (List ℕ)
   pub all : AreListed base relations keys

@@ -1,4 +1,4 @@
--- When one more relation can be read and its row put in its place. Only clauses inside this crate cite this file.
+-- When one more relation can be read and its row put in its position. Only clauses inside this crate cite this file.
 use Rattle.std.specs.Prelude.{◌≡◌, ◌⊎◌, ℕ, ◌+◌, ◌≤◌, List, ◌++◌, length, false, Err}
 use Rattle.uca_values.specs.Content.{properties_of}
 use Rattle.uca_text.specs.Texts.{NfdText}
@@ -15,21 +15,21 @@ use Rattle.uca_drafts.specs.declared.readings.Reader.{Reader}
 abbrev pub basis_in : {A T : Type 0} → Reader A T → Basis
 basis_in reader = basis_of reader.base.now (properties_of reader.properties.now)
 
--- the texts of the relation read over the places as over the rows
+-- the texts of the relation read over the positions as over the rows
 abbrev pub ReadsAlike : Basis → Positions → List DraftRow → Relation → Type 0
 ReadsAlike basis places rows r = (text : NfdText) → IsTextOf r text →
     read_over basis.ranges basis.properties (is_placed places) rows text ≡ draft_elements basis.ranges basis.properties rows text
 
--- the places are those of the rows' keys, in their order, and then of these
+-- the positions are those of the rows' keys, in their order, and then of these
 abbrev pub ArePlacesWith : Positions → List DraftRow → List (List ℕ) → Type 0
 ArePlacesWith places rows more = (key : List ℕ) → places key ≡ place_at 0 (keys_in rows ++ more) key
 
--- the rows are the first of those that have places, and one more relation can be read
+-- the rows are the first of those that have positions, and one more relation can be read
 pub record IsReady (basis : Basis) (places : Positions) (rows : List DraftRow) (r : Relation) : Type 0 where
   pub more : List (List ℕ)
   pub each : ArePlacesWith places rows more
   pub few : length (keys_in rows ++ more) ≤ 200000
-  -- where the target has no place, there is no room for its row
+  -- where the target has no position, there is no room for its row
   pub full : is_among (keys_in rows ++ more) r.target.points ≡ false → 200000 ≤ length rows
   pub alike : ReadsAlike basis places rows r
 

@@ -27,8 +27,9 @@ use uca_text::Normal;
 use uca_values::limits::{MOST_ELEMENTS, MOST_ROWS};
 use uca_values::{Data, Table};
 
-/// The rows of a tailored table before weights are numbered, and where the new weights go: base rows in their order, and then
-/// those of the targets that are no base keys. It borrows from the base and the rules what they have of it.
+/// The rows of a tailored table before weights are numbered, and where the new weights go. The base rows come first, in
+/// their order, and then those of the targets that are not base keys. It borrows from the base and the rules what they
+/// have of it.
 #[derive(Drop)]
 pub struct Drafting<'a, A: Allocator> {
     rows: Vec<RowDraft<'a, A>, A>,
@@ -114,7 +115,7 @@ impl<'a, A: Allocator> Drafting<'a, A> {
         Ok(())
     }
 
-    /// Puts a row at a place, or behind the others, and an insertion, if there is one.
+    /// Puts a row at a position, or after the others, and an insertion, if there is one.
     fn put(
         &mut self,
         place: usize,
@@ -180,7 +181,8 @@ pub fn draft<'a, A: Allocator + Copy, T: Allocator>(
     Ok(drafting)
 }
 
-/// Whether a target has three or more code points and ends in a non-starter, and without it is no key of the rows so far.
+/// Whether a target has three or more code points and ends in a non-starter, and without it is not a key of the rows so
+/// far.
 fn needs_prefix<A: Allocator, T: Allocator>(
     reader: &Reader<A, T>,
     rows: &[RowDraft<A>],

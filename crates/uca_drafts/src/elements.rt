@@ -8,10 +8,10 @@ use std::alloc::Allocator;
 use uca_plans::{DraftElement, DraftWeight};
 use uca_weights::{Element, Level, Strength};
 
-/// The first primary of implicit weights (UTS #10, section 10.1.3); new primaries stand below it.
+/// The first primary of implicit weights (UTS #10, section 10.1.3); new primaries are below it.
 const FIRST_IMPLICIT: u16 = 0x8000;
 
-/// The level at which texts of a strength differ, if at one.
+/// The level at which texts of a strength differ, if there is one.
 pub(crate) fn level_of(strength: Strength) -> Option<Level>
     ensures { result ≡ levels.level_of strength }
 {
@@ -64,8 +64,8 @@ pub(crate) fn take_last<A: Allocator>(
     None
 }
 
-/// Whether an element gets no new weight at the level: it is a continuation, or, at level 1, its primary stands among those
-/// of implicit weights.
+/// Whether an element gets no new weight at the level: it is a continuation, or, at level 1, its primary is one of
+/// implicit weights.
 pub(crate) fn takes_no_weight(level: Level, element: DraftElement) -> bool
     ensures { result ≡ drafts.takes_no_weight level element }
 {
@@ -108,14 +108,14 @@ fn is_ignorable_to(level: Level, element: DraftElement) -> bool
     }
 }
 
-/// Whether an element has a weight at level 1 alone.
+/// Whether an element has a weight only at level 1.
 fn is_continuation(element: DraftElement) -> bool
     ensures { result ≡ drafts.is_continuation element }
 {
     !is_zero(element.primary) && is_zero(element.secondary) && is_zero(element.tertiary)
 }
 
-/// Whether a weight is none.
+/// Whether there is no weight: it is the weight 0 of the base.
 fn is_zero(weight: DraftWeight) -> bool
     ensures { result ≡ drafts.is_zero weight }
 {
@@ -125,7 +125,7 @@ fn is_zero(weight: DraftWeight) -> bool
     }
 }
 
-/// Whether a weight stands where implicit primaries do.
+/// Whether a weight is a primary from 8000 up, as implicit weights have.
 fn is_implicit_primary(weight: DraftWeight) -> bool
     ensures { result ≡ drafts.is_implicit_primary weight }
 {

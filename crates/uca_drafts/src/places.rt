@@ -1,4 +1,4 @@
-//! The places of the rows of a tailored table.
+//! The positions of the rows of a tailored table.
 
 ghost use Rattle.std.specs.Prelude.{◌≡◌, ℕ, List, false, MatchOption, IfOk};
 ghost use Rattle.uca_values.specs.Content.{keys_of};
@@ -15,9 +15,9 @@ use uca_rules::{Relation, Rules};
 use uca_values::Table;
 use uca_values::limits::MOST_ROWS;
 
-/// The place of each key: the keys of the base come first, in their order, and then the targets that are no base keys, in the
-/// order of the rules, as far as a table has room for them. So all relations can be read by one map: no text of a relation
-/// holds a later target.
+/// The position of each key. The keys of the base come first, in their order. Then come the targets that are not base
+/// keys, in the order of the rules, as far as a table has room for them. So all relations can be read by one map: no
+/// text of a relation contains a later target.
 ///
 /// # Errors
 ///
@@ -33,7 +33,7 @@ pub(crate) fn places_of<A: Allocator + Copy, T: Allocator>(
     KeyMap::new(alloc, &keys)
 }
 
-/// The place of a key, if it has one.
+/// The position of a key, if it has one.
 pub(crate) fn place_of<A: Allocator>(places: &KeyMap<A>, key: &[char]) -> Option<usize>
     ensures { (keys : List (List ℕ)) → ((k : List ℕ) → positions places.now k ≡ place_at 0 keys k) →
         MatchOption result (is_among keys key.now ≡ false) (IsPlaceOf keys key.now) }
@@ -41,7 +41,7 @@ pub(crate) fn place_of<A: Allocator>(places: &KeyMap<A>, key: &[char]) -> Option
     places.position(key)
 }
 
-/// The keys that have places, in their order.
+/// The keys that have positions, in their order.
 fn listed_keys<'a, A: Allocator + Copy, T: Allocator>(
     alloc: A,
     base: &'a Table<T>,

@@ -30,7 +30,7 @@ pub(crate) struct Reader<'r, A: Allocator, T: Allocator> {
     pub(crate) base: &'r Table<T>,
     /// The combining classes and the Han ranges of code points.
     pub(crate) properties: &'r Data<T>,
-    /// The places of keys.
+    /// The positions of keys.
     pub(crate) places: &'r KeyMap<A>,
     /// The primaries of the base's variable elements.
     pub(crate) variables: Option<VariableSpan>,
@@ -38,7 +38,7 @@ pub(crate) struct Reader<'r, A: Allocator, T: Allocator> {
 
 impl<'r, A: Allocator, T: Allocator> Reader<'r, A, T> {
     /// Puts the elements that a text has over some rows after those of a list. The text is matched against all keys that have
-    /// places.
+    /// positions.
     ///
     /// # Errors
     ///
@@ -74,7 +74,7 @@ impl<'r, A: Allocator, T: Allocator> Reader<'r, A, T> {
         Ok(())
     }
 
-    /// Puts the elements of a part of a text after those of a list: those of the row at a place, or implicit ones.
+    /// Puts the elements of a part of a text after those of a list: those of the row at a position, or implicit ones.
     fn append_match(
         &self,
         rows: &[RowDraft<A>],

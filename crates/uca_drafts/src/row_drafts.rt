@@ -73,7 +73,7 @@ impl<'a, A: Allocator> RowDraft<'a, A> {
         &self.elements
     }
 
-    /// Puts the elements behind those of a list.
+    /// Puts the elements after those of a list.
     ///
     /// # Errors
     ///
@@ -88,7 +88,7 @@ impl<'a, A: Allocator> RowDraft<'a, A> {
     }
 }
 
-/// Puts elements of the base, with their weights as they are, behind those of a list.
+/// Puts elements of the base, with their weights as they are, after those of a list.
 fn append_as_drafts<A: Allocator>(
     own: &[Element],
     elements: &mut Vec<DraftElement, A>,

@@ -35,8 +35,8 @@ impl<A: Allocator> Model for TargetDraft<A> {
     ghost view = { λ d. record { elements = d.elements.items; insertions = option_to_list d.insertion } };
 }
 
-/// What a relation gives its target, which is read over the rows so far; nothing where the anchor is refused. New weights are
-/// named by the index of their relation.
+/// What a relation gives its target, which is read over the rows so far; `None` if the anchor is rejected. New weights
+/// are named by the index of their relation.
 ///
 /// # Errors
 ///
@@ -73,8 +73,8 @@ pub(crate) fn draft_target<A: Allocator, T: Allocator>(
     }))
 }
 
-/// Puts a new weight on the last element of an anchor that has a weight at one of the levels from 1 to this one, cuts off what
-/// stands behind it, and tells where the new weight goes. There is none where no element can have it.
+/// Puts a new weight on an anchor's last element that has a weight at one of the levels from 1 to this one. Cuts off
+/// what comes after that element. Returns where the new weight goes, or `None` if no element can have it.
 fn put_weight<A: Allocator>(
     level: Level,
     before: bool,
@@ -100,7 +100,7 @@ fn put_weight<A: Allocator>(
     }))
 }
 
-/// Puts the elements of a relation's expansion, if it has one, behind those of a list.
+/// Puts the elements of a relation's expansion, if it has one, after those of a list.
 fn read_expansion<A: Allocator, T: Allocator>(
     reader: &Reader<A, T>,
     rows: &[RowDraft<A>],

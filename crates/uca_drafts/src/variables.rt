@@ -51,14 +51,14 @@ fn widened(span: Option<VariableSpan>, element: Element) -> Option<VariableSpan>
     })
 }
 
-/// Whether one of the elements was given by implicit weights and stands among the variable ones.
+/// Whether one of the elements was given by implicit weights and is among the variable ones.
 pub(crate) fn holds_implicit_variable(span: Option<VariableSpan>, elements: &[DraftElement]) -> bool
     ensures { result ≡ list_any (λ e. e.implicit && is_within span e.primary) elements.now }
 {
     elements.iter().any(|element| element.implicit && is_within(span, element.primary))
 }
 
-/// Whether a weight of the base stands from the least to the greatest primary.
+/// Whether a weight of the base is from the least to the greatest primary.
 fn is_within(span: Option<VariableSpan>, weight: DraftWeight) -> bool
     ensures { result ≡ is_within span weight }
 {

@@ -172,7 +172,7 @@ separators_differ (v ∷ vs) (w ∷ ws) xs ys a b other =
     differ_step v w vs ws xs ys (nat_eq v w) refl a.0
     (λ first. separators_differ vs ws xs ys a.1 b.1 (λ rest. other (let e : v ∷ vs ≡ w ∷ ws = cc in e)))
 
--- what the separators before the first difference say of a comparison of so many levels
+-- what the separators before the first difference say of a comparison of `count` levels
 record TellsLevel (n count separators : ℕ) (answer : Comparison) : Type 0 where
   differs : (answer.order ≡ Equal → ⊥) → (answer.level ≡ n + separators) × (suc separators ≤ count)
   same : answer.order ≡ Equal → count ≤ separators

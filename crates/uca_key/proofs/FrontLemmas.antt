@@ -65,7 +65,7 @@ some_here count (w ∷ ws) some = rw (ne_eqb w 0 some) refl
 
 -- ---- Two lists
 
--- the place at which they differ first
+-- the position at which they differ first
 abbrev place_of : List ℕ → List ℕ → ℕ
 place_of vs ws = shared_length (non_zero vs) (non_zero ws)
 
@@ -188,7 +188,7 @@ nothing_on vs ws f g order m n none none_too on = (
 
 -- ---- A front
 
--- the weight at a level, by its place
+-- the weight at a level, by its position
 pub weight_is : (weighting : Weighting) (f : FrontState) (level at : ℕ) (four : List ℕ) → four ≡ front_weights weighting f → 1 ≤ level
     → level ≤ 4 → at ≡ level - 1
     → slice_index_or four at 0 ≡ weight_here weighting level f

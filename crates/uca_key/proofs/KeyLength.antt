@@ -97,7 +97,7 @@ length-key Shifted es = omega (arith, length-four (weighted Shifted es), length-
 
 -- ---- Of texts
 
--- what is left at some places is no longer than the whole
+-- the letters at the other positions are no more than the whole
 pub length-others : (set : List Bool) (t : Text) → length (others set t) ≤ length t
 length-others [] t = omega arith
 length-others (b ∷ set) [] = omega arith

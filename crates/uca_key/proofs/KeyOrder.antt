@@ -20,11 +20,11 @@ use Rattle.uca_key.specs.Laws.{KeysCompareAsElements}
 
 -- ---- Numbers
 
--- how two numbers compare that stand so to each other
+-- how two numbers compare if the first is less
 pub cmp_less : (v w : ℕ) → v < w → nat_cmp v w ≡ Less
 cmp_less v w h = grind (arith, nat_tests)
 
--- the same of equal ones
+-- the same for equal ones
 pub cmp_equal : (v w : ℕ) → v ≡ w → nat_cmp v w ≡ Equal
 cmp_equal v w h = grind (arith, nat_tests)
 
@@ -32,7 +32,7 @@ cmp_equal v w h = grind (arith, nat_tests)
 pub cmp_greater : (v w : ℕ) → w < v → nat_cmp v w ≡ Greater
 cmp_greater v w h = grind (arith, nat_tests)
 
--- numbers that stand to each other in one way compare in one way
+-- pairs of numbers in the same order compare in the same way
 pub same_cmp : (a b v w : ℕ) → (a < b → v < w) → (a ≡ b → v ≡ w) → (b < a → w < v) → nat_cmp a b ≡ nat_cmp v w
 same_cmp a b v w less equal greater =
     by_ranked (a < b) (a ≡ b) (b < a) (nat_cmp a b) (ranked a b (nat_cmp a b) refl)
@@ -152,7 +152,7 @@ decided_equal Less level later f h = cc
 decided_equal Equal level later f h = f h
 decided_equal Greater level later f h = cc
 
--- the same of all levels
+-- the same for all levels
 pub level_zero : (n : ℕ) (left right : List (List ℕ)) → (compare_from (suc n) left right).order ≡ Equal → (compare_from (suc n) left right).level ≡ 0
 level_zero n [] right h = refl
 level_zero n (a ∷ left) [] h = refl
@@ -166,7 +166,7 @@ decided_zero Less n later f h = absurd (omega (arith, h))
 decided_zero Equal n later f h = f h
 decided_zero Greater n later f h = absurd (omega (arith, h))
 
--- the same of all levels, from 1 on
+-- the same for all levels, from 1 on
 pub order_equal : (n : ℕ) (left right : List (List ℕ)) → (compare_from (suc n) left right).level ≡ 0 → (compare_from (suc n) left right).order ≡ Equal
 order_equal n [] right h = refl
 order_equal n (a ∷ left) [] h = refl

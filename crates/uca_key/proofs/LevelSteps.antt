@@ -15,7 +15,7 @@ use Rattle.uca_key.specs.Walks.{Stands, Walks, decided_level, compared_levels, o
 use Rattle.uca_key.specs.Comparisons.{ComparesLevels}
 use Rattle.uca_key.proofs.FrontLemmas.{nothing_on, front_ended, fetched_all}
 
--- ---- Lists of levels, one after the other
+-- ---- Lists of levels, in turn
 
 -- what some levels say, or else those after them
 abbrev pub then_levels : Comparison → Comparison → Comparison

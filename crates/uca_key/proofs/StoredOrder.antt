@@ -27,7 +27,7 @@ shared_same a b left right same = rw same
 pub shared_other : (a b : List ℕ) (left right : List (List ℕ)) → bytes_eq a b ≡ false → shared_groups (a ∷ left) (b ∷ right) ≡ []
 shared_other a b left right other = rw other
 
--- whether a group stands between two levels
+-- whether a group is a separator between two levels
 abbrev pub is_separator : List ℕ → Bool
 is_separator = bytes_eq (0 ∷ 0 ∷ [])
 
@@ -43,7 +43,7 @@ pub separators_other : (a b c d : ℕ) (left right : List ℕ) → bytes_eq (a �
 separators_other a b c d left right other =
     ap (count_by is_separator) (shared_other (a ∷ b ∷ []) (c ∷ d ∷ []) (groups left) (groups right) other)
 
--- ---- Weights in place of groups
+-- ---- Weights instead of groups
 
 -- how many weights 0 two lists have before the first weight that differs
 abbrev pub zeros_before : List ℕ → List ℕ → ℕ
@@ -90,7 +90,7 @@ separators_zeros [] ws = refl
 separators_zeros (v ∷ vs) [] = refl
 separators_zeros (v ∷ vs) (w ∷ ws) = separators_step v w vs ws (nat_eq v w) refl (separators_zeros vs ws)
 
--- ---- Weights 0 stand between levels alone
+-- ---- Weights 0 are only between levels
 
 -- after one more weight, which is not 0
 past_weight : (v w : ℕ) (rest : ℕ) (same : Bool) → nat_eq v w ≡ same → v ≢ 0 → (v ≡ w → rest ≡ 0) → cond same (cond (nat_eq v 0) 1 0 + rest) 0 ≡ 0
@@ -184,7 +184,7 @@ fewer_step Less zeros rest levels apart same few = let e : zeros ≡ 0 = apart (
 fewer_step Equal zeros rest levels apart same few = let e : zeros ≡ suc rest = same refl in omega arith
 fewer_step Greater zeros rest levels apart same few = let e : zeros ≡ 0 = apart (λ e. cc) in omega arith
 
--- the same of lists of levels, of which there is one at least
+-- the same for lists of levels with at least one level
 pub fewer_zeros : (a : List ℕ) (left right : List (List ℕ)) → AreLevels (a ∷ left) right → suc (zeros_joined (a ∷ left) right) ≤ length (a ∷ left)
 fewer_zeros a left [] h = absurd h
 fewer_zeros a [] (b ∷ []) h = let none : zeros_before a b ≡ 0 = zeros_none a b h.0 in omega arith

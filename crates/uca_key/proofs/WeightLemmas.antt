@@ -1,4 +1,4 @@
--- Weights by a flag in place of the earlier elements, and which elements have none.
+-- Weights by a flag instead of the earlier elements, and which elements have none.
 use Rattle.std.proofs.Common.{◌≡◌, ◌↔◌, ℕ, List, [], ◌∷◌, nat_eq, ◌&&◌, refl, ap, arith, IsTrue}
 use Rattle.std.proofs.lemmas.Bool.Decides.{nat_tests}
 use Rattle.uca_weights.specs.declared.Element.{Element}
@@ -14,7 +14,7 @@ weighted_after-follows weighting earlier [] = refl
 weighted_after-follows weighting earlier (e ∷ es) =
     ap (λ l. weights_of weighting (follows_variable earlier) e ∷ l) (weighted_after-follows weighting (e ∷ earlier) es)
 
--- so elements may be weighted one after the other
+-- so elements may be weighted one at a time
 pub streamed : WeightsMayBeStreamed
 streamed = record { after = weighted_after-follows; whole = λ weighting es. weighted_after-follows weighting [] es }
 

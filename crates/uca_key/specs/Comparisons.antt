@@ -1,4 +1,4 @@
--- How two texts compare at all levels of a weighting, and after them. Private contracts alone cite this file.
+-- How two texts compare at all levels of a weighting, and after them. Only private contracts cite this file.
 use Rattle.std.specs.Prelude.{◌≡◌, ℕ, suc, List}
 use Rattle.std.specs.declared.cmp.Ordering.TheVariants.{Equal}
 use Rattle.uca_weights.specs.declared.Element.{Element}
@@ -13,6 +13,6 @@ pub record ComparesLevels (weighting : Weighting) (es fs : List Element) (w : Wa
   pub left_is : w.fetched_left ≡ fetched_left_at weighting es fs 1
   pub right_is : w.fetched_right ≡ fetched_right_at weighting es fs 1
 
--- code points stand after all levels of the weights
+-- code points come after all levels of the weights
 abbrev pub compared_points : Weighting → List ℕ → List ℕ → Comparison
 compared_points weighting left right = decided (lexicographic left right) (suc (level_count weighting)) (record { order = Equal; level = 0 })

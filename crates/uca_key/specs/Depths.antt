@@ -1,5 +1,6 @@
--- Comparison and keys of texts at either depth. At `Weights` they are those of the collation elements; at `Identical` one level
--- more stands after the levels of the weights: the code points of the text in Normalization Form D (UTS #10, section 1.1).
+-- Comparison and keys of texts at either depth. At `Weights` they are those of the collation elements. At `Identical`
+-- one more level comes after the levels of the weights: the code points of the text in Normalization Form D (UTS #10,
+-- section 1.1).
 use Rattle.std.specs.Prelude.{ℕ, suc, ◌/◌, ◌%◌, List, [], ◌∷◌, ◌++◌, flat_map}
 use Rattle.uca_weights.specs.declared.Depth.{Depth}
 use Rattle.uca_weights.specs.declared.Depth.TheVariants.{Weights, Identical}

@@ -10,7 +10,8 @@ shared_length [] ws = 0
 shared_length (v ∷ vs) [] = 0
 shared_length (v ∷ vs) (w ∷ ws) = if nat_eq v w then suc (shared_length vs ws) else 0
 
--- how many of the weights there are up to the one at this place of those that are not 0; all of them where there is none
+-- how many weights there are up to the one that has this position among those that are not 0; all of them if there is
+-- none
 abbrev pub length_to : ℕ → List ℕ → ℕ
 length_to place [] = 0
 length_to zero (w ∷ ws) = if nat_eq w 0 then suc (length_to zero ws) else 1
@@ -24,7 +25,7 @@ primaries weighting es = map (weight_at 1) (weighted weighting es)
 abbrev pub first_difference : Weighting → List Element → List Element → ℕ
 first_difference weighting left right = shared_length (level_list 1 (weighted weighting left)) (level_list 1 (weighted weighting right))
 
--- How many elements of each text are fetched: up to the one that holds the weight at that place.
+-- How many elements of each text are fetched: up to the one that has the weight at that position.
 abbrev pub fetched_left : Weighting → List Element → List Element → ℕ
 fetched_left weighting left right = length_to (first_difference weighting left right) (primaries weighting left)
 

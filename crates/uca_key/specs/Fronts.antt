@@ -1,11 +1,12 @@
--- Where a comparison stands in a text. Private contracts alone cite this file.
+-- Where a comparison is in a text. Only private contracts cite this file.
 use Rattle.std.specs.Prelude.{◌≡◌, ℕ, zero, suc, ◌+◌, List, [], ◌∷◌, Bool, true, false, map, min, Option, Some, None}
 use Rattle.uca_weights.specs.declared.Element.{Element}
 use Rattle.uca_weights.specs.declared.Weighting.{Weighting}
 use Rattle.uca_key.specs.Levels.{weight_at}
 use Rattle.uca_key.specs.StreamedWeights.{is_after_variable, weighted_after}
 
--- the elements from the front on, whether the nearest one with a primary weight before them is variable, and how many stand before them
+-- the elements from the front on, whether the nearest one with a primary weight before them is variable, and how many
+-- come before them
 pub record FrontState : Type 0 where
   pub elements : List Element
   pub after_variable : Bool
@@ -15,7 +16,7 @@ abbrev pub from_front : Option Element → List Element → List Element
 from_front (Some e) es = e ∷ es
 from_front None es = []
 
--- a count with some more, as far as 64 bits tell
+-- a count with some more added, at most the greatest number of 64 bits
 abbrev pub counted : ℕ → ℕ → ℕ
 counted count zero = count
 counted count (suc more) = min 18446744073709551615 (count + suc more)
@@ -59,7 +60,7 @@ front_weights weighting f = weight_here weighting 1 f ∷ weight_here weighting 
 abbrev pub Agree : FrontState → FrontState → Type 0
 Agree f g = (weighting : Weighting) → front_weights weighting f ≡ front_weights weighting g
 
--- how many elements there are up to the front, with the one that stands there
+-- how many elements there are up to the front, and with the one at it
 abbrev pub count_with : ℕ → List Element → ℕ
 count_with passed [] = passed
 count_with passed (e ∷ es) = counted passed 1

@@ -1,4 +1,4 @@
--- What holds of the keys of all texts, and of all elements.
+-- What is true of the keys of all texts, and of all elements.
 use Rattle.std.specs.Prelude.{◌≡◌, ◌↔◌, ℕ, ◌<◌, ◌^◌, List, length, IsTrue}
 use Rattle.uca_weights.specs.declared.Element.{Element}
 use Rattle.uca_weights.specs.declared.Weighting.{Weighting}
@@ -37,8 +37,8 @@ StoredKeysCompareAsElements = (weighting : Weighting) (left right : List Element
     (lexicographic (key_bytes weighting left) (key_bytes weighting right) ≡ (compared weighting left right).order)
     × (stored_level (level_count weighting) (key_bytes weighting left) (key_bytes weighting right) ≡ (compared weighting left right).level)
 
--- The keys of two texts give the order of the texts and the level at which they differ, by their bytes alone, at either depth,
--- and are equal exactly where no level differs.
+-- The keys of two texts give the order of the texts and the level at which they differ, by their bytes alone, at either
+-- depth. They are equal exactly if no level differs.
 pub record KeysCompareAsTexts : Type 0 where
   pub order : (depth : Depth) (weighting : Weighting) (left right : ReadText) →
       lexicographic (key_at depth weighting left) (key_at depth weighting right) ≡ (compared_at depth weighting left right).order
@@ -47,7 +47,7 @@ pub record KeysCompareAsTexts : Type 0 where
   pub equal : (depth : Depth) (weighting : Weighting) (left right : ReadText) →
       (key_at depth weighting left ≡ key_at depth weighting right) ↔ ((compared_at depth weighting left right).level ≡ 0)
 
--- The same of two texts that are given as their code points before normalization.
+-- The same for two texts that are given as their code points before normalization.
 abbrev pub StoredKeysCompareAsTexts : Type 0
 StoredKeysCompareAsTexts = (c : Collation) (depth : Depth) (weighting : Weighting) (left right : List ℕ) →
     let left_key = text_key c depth weighting left in

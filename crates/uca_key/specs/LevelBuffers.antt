@@ -1,4 +1,4 @@
--- The levels of a key in the making. Private contracts alone cite this file.
+-- The levels of a key in the making. Only private contracts cite this file.
 use Rattle.std.specs.Prelude.{◌≡◌, ℕ, List, Bool, reverse}
 use Rattle.uca_weights.specs.declared.Element.{Element}
 use Rattle.uca_weights.specs.declared.Weighting.{Weighting}
@@ -16,7 +16,7 @@ pub record LevelState : Type 0 where
 abbrev pub bytes_of_level : Weighting → List Element → ℕ → List ℕ
 bytes_of_level weighting es level = level_bytes (level_list level (weighted weighting es))
 
--- the buffers hold the bytes of the level lists of the elements
+-- the buffers have the bytes of the level lists of the elements
 pub record HoldsLevels (weighting : Weighting) (es : List Element) (buffers : LevelState) : Type 0 where
   pub after_variable : buffers.after_variable ≡ follows_variable (reverse es)
   pub primary : buffers.key ≡ bytes_of_level weighting es 1

@@ -23,14 +23,14 @@ is_ignorable e = nat_eq e.primary 0
 abbrev pub is_completely_ignorable : Element → Bool
 is_completely_ignorable e = is_ignorable e && nat_eq e.secondary 0 && nat_eq e.tertiary 0
 
--- Whether the nearest of the elements with a non-zero primary is variable. They stand nearest first.
+-- Whether the nearest of the elements with a non-zero primary is variable. The nearest element comes first.
 abbrev pub follows_variable : List Element → Bool
 follows_variable [] = false
 follows_variable (e ∷ earlier) = if is_ignorable e then follows_variable earlier else e.mark
 
--- The shifted weights of an element. A variable element has its primary weight at the fourth level alone; one without a
--- primary weight that follows a variable one has none at all; and of the others each that has some weight has the greatest
--- at the fourth level.
+-- The shifted weights of an element. A variable element has only its primary weight, at the fourth level. An element
+-- without a primary weight that follows a variable one has no weight. Each of the others has FFFF at the fourth level,
+-- if it has any weight.
 abbrev pub shifted_weights : Bool → Element → Weights
 shifted_weights after_variable e =
     if e.mark then 0 ∷ 0 ∷ 0 ∷ e.primary ∷ [] else

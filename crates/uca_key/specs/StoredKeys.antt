@@ -14,7 +14,7 @@ shared_groups [] right = []
 shared_groups (a ∷ left) [] = []
 shared_groups (a ∷ left) (b ∷ right) = if bytes_eq a b then a ∷ shared_groups left right else []
 
--- how many of them are 00 00, which stands between two levels
+-- how many of them are 00 00, the separator between two levels
 abbrev pub shared_separators : List ℕ → List ℕ → ℕ
 shared_separators left right = count_by (bytes_eq (0 ∷ 0 ∷ [])) (shared_groups (groups left) (groups right))
 

@@ -1,5 +1,5 @@
--- The weights of elements that are read one after the other: a flag says whether the nearest earlier element with a
--- non-zero primary is variable, in place of the list of the earlier elements.
+-- The weights of elements that are read one at a time. In place of the list of the earlier elements, a
+-- flag says whether the nearest of them with a non-zero primary is variable.
 use Rattle.std.specs.Prelude.{◌≡◌, ℕ, List, [], ◌∷◌, Bool, false, if◌then◌else◌}
 use Rattle.uca_weights.specs.declared.Element.{Element}
 use Rattle.uca_weights.specs.declared.Weighting.{Weighting}
@@ -13,7 +13,7 @@ at_four_levels ws = weight_at 1 ws ∷ weight_at 2 ws ∷ weight_at 3 ws ∷ wei
 abbrev pub is_after_variable : Bool → Element → Bool
 is_after_variable after_variable e = if is_ignorable e then after_variable else e.mark
 
--- each element's weights, after elements of which the flag is known
+-- each element's weights, after elements whose flag is known
 abbrev pub weighted_after : Weighting → Bool → List Element → List Weights
 weighted_after weighting after_variable [] = []
 weighted_after weighting after_variable (e ∷ es) =

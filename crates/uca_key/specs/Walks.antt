@@ -1,4 +1,4 @@
--- Comparing levels of two texts in one walk over both. Private contracts alone cite this file.
+-- Comparing levels of two texts in one walk over both. Only private contracts cite this file.
 use Rattle.std.specs.Prelude.{◌≡◌, ◌≢◌, ◌<◌, ◌≤◌, ℕ, suc, ◌-◌, List, Bool, true, false, map, filter, nat_eq, nat_lt, not, if◌then◌else◌, Option, Some, None}
 use Rattle.std.specs.Ordering.{nat_cmp}
 use Rattle.std.specs.declared.cmp.Ordering.{Ordering}
@@ -56,7 +56,7 @@ abbrev pub Says : ℕ → ℕ → Bool → Bool → LevelStep → Type 0
 Says left right left_ended right_ended (May step) = AllowsWith step left right left_ended right_ended
 Says left right left_ended right_ended (Differ order) = Differs left right left_ended right_ended order
 
--- ---- Where the walk stands
+-- ---- Where the walk is
 
 abbrev pub non_zero : List ℕ → List ℕ
 non_zero ws = filter (λ w. not (nat_eq w 0)) ws
@@ -69,11 +69,11 @@ weights_of_level weighting level es = map (weight_at level) (weighted weighting 
 abbrev pub order_at : Weighting → List Element → List Element → ℕ → Ordering
 order_at weighting es fs level = lexicographic (level_list level (weighted weighting es)) (level_list level (weighted weighting fs))
 
--- the first place at which the lists of a level differ
+-- the first position at which the lists of a level differ
 abbrev pub difference_at : Weighting → List Element → List Element → ℕ → ℕ
 difference_at weighting es fs level = shared_length (level_list level (weighted weighting es)) (level_list level (weighted weighting fs))
 
--- the weights that are left of two texts compare in this order, and with those before so many elements are fetched
+-- the weights that are left of two texts compare in this order, and with those before, this many elements are fetched
 pub record GoOn (left right : List ℕ) (passed_left passed_right : ℕ) (order : Ordering) (all_left all_right : ℕ) : Type 0 where
   pub compares : lexicographic (non_zero left) (non_zero right) ≡ order
   pub fetches_left : counted passed_left (length_to (shared_length (non_zero left) (non_zero right)) left) ≡ all_left
@@ -107,7 +107,7 @@ decided_level through last = if nat_lt through last then suc through else 0
 
 -- ---- What a walk returns
 
--- how two texts compare at so many levels
+-- how two texts compare at this many levels
 abbrev pub compared_levels : Weighting → List Element → List Element → ℕ → ℕ → Comparison
 compared_levels weighting es fs first count =
     compare_from first (level_lists_from first count (weighted weighting es)) (level_lists_from first count (weighted weighting fs))

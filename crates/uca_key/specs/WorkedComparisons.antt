@@ -9,7 +9,7 @@ use Rattle.uca_key.specs.StoredKeys.{stored_level}
 abbrev pub Compares : ℕ → List ℕ → List ℕ → Ordering → ℕ → Type 0
 Compares levels left right order level = (lexicographic left right ≡ order) × (stored_level levels left right ≡ level)
 
--- the same of the bytes of these groups
+-- the same for the bytes of these groups
 abbrev pub CompareGroups : ℕ → List ℕ → List ℕ → Ordering → ℕ → Type 0
 CompareGroups levels left right order level = Compares levels (level_bytes left) (level_bytes right) order level
 
@@ -23,7 +23,7 @@ pub record WorkedComparisons : Type 0 where
   -- a space, at the fourth level
   pub space : CompareGroups 4 (0x1C47 ∷ 0x1C60 ∷ 0 ∷ 0x20 ∷ 0x20 ∷ 0 ∷ 2 ∷ 2 ∷ 0 ∷ 0xFFFF ∷ 0x209 ∷ 0xFFFF ∷ [])
       (0x1C47 ∷ 0x1C60 ∷ 0 ∷ 0x20 ∷ 0x20 ∷ 0 ∷ 2 ∷ 2 ∷ 0 ∷ 0xFFFF ∷ 0xFFFF ∷ []) Less 4
-  -- a beginning, with as many levels as may be told
+  -- a beginning, with as many levels as may be compared
   pub beginning : CompareGroups 3 (0 ∷ 0 ∷ []) (0 ∷ 0 ∷ 0 ∷ []) Less 3
   pub two_levels : CompareGroups 2 (0 ∷ 0 ∷ []) (0 ∷ 0 ∷ 0 ∷ []) Less 2
   pub no_level : CompareGroups 0 (0 ∷ 0 ∷ []) (0 ∷ 0 ∷ 0 ∷ []) Less 0

@@ -19,7 +19,7 @@ small_text points = record { elements = elements_under small_rows points; points
 abbrev pub ComparesAs : Depth → Weighting → List ℕ → List ℕ → Ordering → ℕ → Type 0
 ComparesAs depth weighting left right order level = compared_at depth weighting (small_text left) (small_text right) ≡ record { order = order; level = level }
 
--- and at level 1 so many of their elements are fetched
+-- and at level 1 this many of their elements are fetched
 abbrev pub Fetches : Weighting → List ℕ → List ℕ → ℕ → ℕ → Type 0
 Fetches weighting left right f g =
     (fetched_left weighting (elements_under small_rows left) (elements_under small_rows right) ≡ f)

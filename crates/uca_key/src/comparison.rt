@@ -17,19 +17,19 @@ use uca_weights::{Depth, Weighting};
 /// How two texts compare (UTS #10, section 1.1), and how many of their elements the comparison of level 1 fetched.
 #[derive(Clone, Copy, Debug, PartialEq, Eq)]
 pub struct Compared {
-    /// Whether the left text comes before the right one, is equal to it, or comes after it.
+    /// `Less` if the left text comes before the right one, `Equal` if they are equal, else `Greater`.
     pub order: Ordering,
-    /// The first level at which they differ, from 1 on, or 0 where none does.
+    /// The first level at which they differ, from 1 on, or 0 if none does.
     pub level: u8,
     /// How many elements the left text has up to the one with the first level-1 weight that differs. If it has no such
     /// weight, or level 1 is equal, the number of all its elements.
     pub fetched_left: u64,
-    /// The same of the right text.
+    /// The same for the right text.
     pub fetched_right: u64,
 }
 
-// How two texts compare at all levels of the weighting: by one walk, and where that could not compare all levels, by one
-// more for those that are left.
+// How two texts compare at all levels of the weighting: by one walk. If that could not compare all levels, one more
+// walk compares those that are left.
 fn compare_levels<'a, L: Lookup, A: Allocator>(
     collator: &'a Collator<'a, L, A>,
     weighting: Weighting,
@@ -66,11 +66,11 @@ fn compare_points(weighting: Weighting, left: &Normal, right: &Normal) -> (Order
 /// [`compare_keys`](crate::compare_keys) for the keys of the two texts.
 ///
 /// It makes no key and takes no memory. One walk over both texts, side by side, compares all levels. It ends at the
-/// first weight of level 1 that differs, or else after both texts. Where two levels do not let the texts go on
+/// first weight of level 1 that differs, or else after both texts. If two levels do not let the texts go on
 /// together, another walk compares the later one, alone or with the levels after it.
 ///
 /// The counts are those of level 1, but at most `u64::MAX`. Under rows of at most 32 elements, as every table has them,
-/// no text has so many elements ([`counts_are_exact`](crate::laws::counts_are_exact)).
+/// no text has that many elements ([`counts_are_exact`](crate::laws::counts_are_exact)).
 pub fn compare<'a, L: Lookup, A: Allocator>(
     collator: &'a Collator<'a, L, A>,
     weighting: Weighting,

@@ -22,7 +22,7 @@ pub(crate) struct Front<'a, L: Lookup, A: Allocator> {
     elements: Elements<'a, L, A>,
     // whether the nearest element with a primary weight before them is variable
     after_variable: bool,
-    // how many elements stand before them
+    // how many elements come before them
     passed: u64,
 }
 
@@ -71,7 +71,7 @@ impl<'a, L: Lookup, A: Allocator> Front<'a, L, A> {
         self.element.is_none()
     }
 
-    /// The weights at the front, at the levels 1 to 4: 0 says that there is none.
+    /// The weights at the front, at the levels 1 to 4: 0 means that there is none.
     pub(crate) fn weights(&self, weighting: Weighting) -> [u16; 4]
         ensures { result ≡ front_weights weighting self.now }
     {
@@ -81,7 +81,7 @@ impl<'a, L: Lookup, A: Allocator> Front<'a, L, A> {
         }
     }
 
-    /// Whether two fronts have the same element with the same weights, or both have none. It is a test for speed alone:
+    /// Whether two fronts have the same element with the same weights, or both have none. It is only a test for speed:
     /// `false` says nothing.
     pub(crate) fn agrees(&self, other: &Front<'a, L, A>) -> bool
         ensures { OnTrue result (Agree self.now other.now) }
@@ -89,7 +89,7 @@ impl<'a, L: Lookup, A: Allocator> Front<'a, L, A> {
         self.element == other.element && self.after_variable == other.after_variable
     }
 
-    /// How many elements there are up to the front, with the one that stands there.
+    /// How many elements there are up to the front, and with the one at it.
     pub(crate) fn fetched(&self) -> u64
         ensures { result ≡ Fronts.fetched self.now }
     {

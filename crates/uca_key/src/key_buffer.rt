@@ -45,7 +45,7 @@ impl<A: Allocator + Copy> KeyBuffer<A> {
 }
 
 impl<A: Allocator> KeyBuffer<A> {
-    /// Writes the key of a text, in place of the key that was there.
+    /// Writes the key of a text, over the key that was there.
     ///
     /// # Errors
     ///

@@ -39,8 +39,8 @@ pub fn key<K: Allocator + Copy, L: Lookup, A: Allocator>(
     Ok(buffer.into_bytes())
 }
 
-/// The sort key of the elements (UTS #10, section 7.3): the weights of each level in order that are not 0, two
-/// bytes each with the high byte first, and two bytes 0 between two levels. There are three levels, and
+/// The sort key of the elements (UTS #10, section 7.3): the weights of each level that are not 0, in order, and
+/// two bytes 0 between two levels. A weight has two bytes, the high byte first. There are three levels, and
 /// four under `Shifted`.
 ///
 /// # Errors

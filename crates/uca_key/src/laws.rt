@@ -1,4 +1,4 @@
-//! What holds of the keys of all texts. The functions do nothing: their contracts are the laws.
+//! What is true of the keys of all texts. The functions do nothing: their contracts are the laws.
 
 ghost use Rattle.uca_key.specs.Laws.{KeysCompareAsElements, CanonicallyEquivalentTextsHaveEqualKeys, KeysAreShort, RowsAreShort, FindsCompletelyIgnorable, StoredKeysCompareAsElements, KeysCompareAsTexts, StoredKeysCompareAsTexts, IdenticalKeysAreOfEquivalentTexts, CountsAreExact};
 ghost use Rattle.uca_key.specs.StreamedWeights.{WeightsMayBeStreamed};
@@ -7,8 +7,7 @@ ghost use Rattle.uca_key.specs.WorkedComparisons.{WorkedComparisons};
 ghost use Rattle.uca_key.specs.WorkedTexts.{WorkedTexts};
 
 /// Byte order of keys is multilevel comparison (UTS #10, sections 1.1 and 7.4): under either weighting, the
-/// bytes of two keys compare as the elements do level by level, and two keys are equal exactly where no
-/// level differs.
+/// bytes of two keys compare as the elements do level by level. Two keys are equal exactly if no level differs.
 pub fn keys_compare_as_elements()
     ensures { KeysCompareAsElements }
 {}
@@ -42,7 +41,7 @@ pub fn identical_keys_are_of_equivalent_texts()
     ensures { IdenticalKeysAreOfEquivalentTexts }
 {}
 
-/// The key of a text that keeps the limits has less than 2^40 bytes, where no row has more than 32
+/// The key of a text within the limits has less than 2^40 bytes, if no row has more than 32
 /// elements.
 pub fn keys_are_short()
     ensures { KeysAreShort }
@@ -53,18 +52,18 @@ pub fn counts_are_exact()
     ensures { CountsAreExact }
 {}
 
-/// No row of a table has more than 32 elements, also where a lookup finds it.
+/// No row of a table has more than 32 elements, also when a lookup finds it.
 pub fn rows_are_short()
     ensures { RowsAreShort }
 {}
 
-/// The weights of elements may be worked out one after the other (UTS #10, section 4), by
+/// The weights of elements may be worked out one at a time (UTS #10, section 4), by
 /// [`weights_of`](crate::weights_of) and [`is_after_variable`](crate::is_after_variable).
 pub fn weights_may_be_streamed()
     ensures { WeightsMayBeStreamed }
 {}
 
-/// Shifting gives no weight to exactly the elements that are completely ignorable (UTS #10, section 3).
+/// The test of the weighting finds exactly the elements that are completely ignorable (UTS #10, section 3).
 pub fn finds_completely_ignorable()
     ensures { FindsCompletelyIgnorable }
 {}

@@ -14,10 +14,10 @@ use std::alloc::{AllocError, Allocator};
 use std::marker::Model;
 use uca_weights::{Element, Weighting};
 
-/// What stands between two levels of a key.
+/// What is between two levels of a key.
 pub(crate) const SEPARATOR: [u8; 2] = [0, 0];
 
-/// The levels of the elements that were pushed, of which the first becomes the key.
+/// The levels of the elements that were pushed; the first of them becomes the key.
 #[derive(Drop)]
 pub(crate) struct LevelBuffers<A: Allocator> {
     // whether the nearest element with a primary weight is variable
@@ -58,7 +58,7 @@ impl<A: Allocator + Copy> LevelBuffers<A> {
 }
 
 impl<A: Allocator> LevelBuffers<A> {
-    /// Writes the key of the elements, in place of the key that was there.
+    /// Writes the key of the elements, over the key that was there.
     ///
     /// # Errors
     ///

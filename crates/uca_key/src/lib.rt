@@ -1,4 +1,4 @@
-//! Sort keys (UTS #10, section 7.3), and comparison. A key holds the levels of the collation elements of a text in
+//! Sort keys (UTS #10, section 7.3), and comparison. A key has the levels of the collation elements of a text in
 //! order, with an identical level after them or without. Keys compare as bytes, and give the order of their texts.
 //! Two texts also compare without keys.
 #![tactic(auto)]

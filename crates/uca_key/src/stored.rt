@@ -9,7 +9,7 @@ use crate::level_buffers::SEPARATOR;
 use std::cmp::Ordering;
 use uca_weights::{Depth, Weighting};
 
-/// How many levels a key has: 3 under `NonIgnorable` and 4 under `Shifted` (UTS #10, section 4), and one more at the
+/// How many levels a key has: 3 under `NonIgnorable`, 4 under `Shifted` (UTS #10, section 4), and one more at the
 /// depth `Identical`.
 pub fn level_count(weighting: Weighting, depth: Depth) -> u8
     ensures { result ≡ levels_at depth weighting }
@@ -24,15 +24,14 @@ pub fn level_count(weighting: Weighting, depth: Depth) -> u8
     }
 }
 
-/// The order of two keys, and the level at which they differ, from 1 on: at most `levels`, and 0 where the
-/// keys are equal.
+/// The order of two keys, and the level at which they differ, from 1 on: at most `levels`, and 0 if the keys
+/// are equal.
 ///
-/// The order is that of the bytes, where a beginning is less. The level is one more than the groups `00 00`
-/// among the groups of two bytes before the first group that differs, or that one side is without; a last
-/// single byte is a group. So any two slices can be compared. For two keys of one weighting and one
-/// depth, with as many levels as they have ([`level_count`]), these are the order and
-/// the level of multilevel comparison (UTS #10, section 1.1), as
-/// [`keys_compare_as_texts`](crate::laws::keys_compare_as_texts) says.
+/// The order is that of the bytes, where a key that another key begins with is less. The level is found by groups of
+/// two bytes; a last single byte is a group. It is one more than the number of groups `00 00` before the first group
+/// that differs or that one side does not have. So any two slices can be compared. Take two keys of one weighting and
+/// one depth, with as many levels as they have ([`level_count`]). Then these are the order and the level of multilevel
+/// comparison (UTS #10, section 1.1), as [`keys_compare_as_texts`](crate::laws::keys_compare_as_texts) says.
 pub fn compare_keys(left: &[u8], right: &[u8], levels: u8) -> (Ordering, u8)
     ensures order { result.0 ≡ lexicographic left.now right.now }
     ensures level { result.1 ≡ stored_level levels left.now right.now }

@@ -157,12 +157,12 @@ pub(crate) struct Walked {
     pub(crate) last: u8,
     /// How many elements of the left text there are up to the weight of the first level in which the texts differ.
     pub(crate) fetched_left: u64,
-    /// The same of the right text.
+    /// The same for the right text.
     pub(crate) fetched_right: u64,
 }
 
-/// How two texts compare at the levels from `first` on, of which there are at most those up to `last`: as many as one
-/// walk over both texts can compare, at least one.
+/// How two texts compare at the levels from `first` on, up to `last` at most. These are as many levels as one walk over
+/// both texts can compare, at least one.
 pub(crate) fn walk<'a, L: Lookup, A: Allocator>(
     collator: &'a Collator<'a, L, A>,
     weighting: Weighting,

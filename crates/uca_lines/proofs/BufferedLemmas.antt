@@ -13,7 +13,7 @@ use Rattle.uca_weights.specs.declared.streams.sink.WriteFault.{WriteFault}
 use Rattle.uca_lines.specs.OutputBuffer.{BufferState, IsBuffered}
 use Rattle.uca_lines.specs.Buffered.{count_of, HasRoom, HasWrittenThrough, FailsToWriteThrough, WritesThrough}
 
--- ---- Two texts, one after the other
+-- ---- Two texts, in turn
 
 -- nothing more is written
 pub written_none : (buffer : BufferState) (out : SinkState) → HasWrittenThrough [] buffer buffer out out
@@ -38,7 +38,7 @@ WentOut-more : (start now : Option (List ℕ)) (text more : List ℕ) (n : ℕ) 
 WentOut-more start now text more n (went, few) =
     (subst (λ (l : List ℕ). Appends start now l) (sym (take-append-le n text more few)) went, omega (arith, length-append text more))
 
--- a fault in a piece of a text is one in the text
+-- an error in a piece of a text is one in the text
 pub fails_then : {front piece : List ℕ} {b c : BufferState} {s t u : SinkState} {written : ℕ} (more : List ℕ) → HasWrittenThrough front b c s t
     → FailsToWriteThrough piece c t u written → FailsToWriteThrough ((front ++ piece) ++ more) b s u written
 fails_then {front} {piece} {b} {c} {s} {t} {u} {written} more h k = record {
@@ -108,7 +108,7 @@ pub part_written : {X : Type 0} (f : X → List ℕ) (xs : List X) (k : ℕ) (d 
 part_written f xs k d {piece} {b} {c} {e} {s} {t} {u} is h front one =
     subst (λ (text : List ℕ). HasWrittenThrough text b e s u) (ap (λ l. flat_map f (take k xs) ++ l) is ∙ sym (front_grows f xs k d h)) (written_then front one)
 
--- a fault in the part is one in the text
+-- an error in the part is one in the text
 pub part_fails : {X : Type 0} (f : X → List ℕ) (xs : List X) (k : ℕ) (d : X) (text : List ℕ) {piece : List ℕ} {b c : BufferState} {s t u : SinkState}
     {written : ℕ} → text ≡ flat_map f xs → piece ≡ f (get_or xs k d) → k < length xs → HasWrittenThrough (flat_map f (take k xs)) b c s t
     → FailsToWriteThrough piece c t u written → FailsToWriteThrough text b s u written
@@ -122,7 +122,7 @@ pub all_parts_written : {X : Type 0} (f : X → List ℕ) (xs : List X) (k : ℕ
 all_parts_written f xs k text {b} {c} {s} {t} whole h written_through =
     subst (λ (l : List ℕ). HasWrittenThrough l b c s t) (ap (flat_map f) (take_all k xs h) ∙ sym whole) written_through
 
--- the fault that a `?` returns is the part's
+-- the error that a `?` returns is the part's
 pub returns_fault : {A X : Type 0} (f : X → List ℕ) (xs : List X) (k : ℕ) (d : X) (text : List ℕ) (held : BufferState) {piece : List ℕ}
     {b c : BufferState} {s t u : SinkState} {fault : WriteFault} (r : Result A WriteFault) → text ≡ flat_map f xs → piece ≡ f (get_or xs k d)
     → k < length xs → HasWrittenThrough (flat_map f (take k xs)) b c s t → FailsToWriteThrough piece c t u fault.written → IsErrAnd r (λ e. e ≡ fault)
@@ -131,7 +131,7 @@ returns_fault f xs k d text held {piece} {b} {c} {s} {t} {u} {fault} r whole par
     let p = err_from_is_err_and r is in
     rw (p.1, p.2) (part_fails f xs k d text whole part_is h front one)
 
--- what the last part returns holds of the text
+-- what the last part returns is true of the text
 pub returns_last : {A X : Type 0} (f : X → List ℕ) (xs : List X) (k : ℕ) (d : X) (text piece : List ℕ) (held : BufferState) (u : SinkState)
     {b c : BufferState} {s t : SinkState} (r : Result A WriteFault) → text ≡ flat_map f xs → piece ≡ f (get_or xs k d) → k + 1 ≡ length xs
     → HasWrittenThrough (flat_map f (take k xs)) b c s t → WritesThrough piece c held t u r → WritesThrough text b held s u r
@@ -147,7 +147,7 @@ part p = p
 
 -- ---- A text from its beginning
 
--- an empty buffer holds an empty text
+-- an empty buffer has an empty text
 pub none_buffered : (known : Option (List ℕ)) (buffer : BufferState) → buffer.held ≡ [] → buffer.written ≡ 0 → IsBuffered known known [] buffer
 none_buffered known buffer held written = record {
   went_out = rw written (stays known, omega arith);
@@ -162,7 +162,7 @@ none_buffered known buffer held written = record {
 pub nothing_counted : (buffer : BufferState) → buffer.held ≡ [] → buffer.written ≡ 0 → count_of buffer ≡ 0
 nothing_counted buffer held written = omega (arith, ap length held)
 
--- the fault that a `?` returns says how much went out
+-- the error that a `?` returns says how much went out
 pub fault_writes : {A : Type 0} {fault : WriteFault} {text : List ℕ} {buffer : BufferState} {s u : SinkState} (r : Result A WriteFault)
     → buffer.held ≡ [] → buffer.written ≡ 0 → FailsToWriteThrough text buffer s u fault.written → IsErrAnd r (λ e. e ≡ fault) → Writes s.contents u.contents text r
 fault_writes {buffer = buffer} {s = s} r held written h is =

@@ -1,4 +1,4 @@
--- Lines that say one thing, from what holds of each line.
+-- Lines that say one thing, from what is true of each line.
 use Rattle.std.proofs.Common.{◌≡◌, ℕ, zero, suc, List, [], ◌∷◌, ◌++◌, length, refl, sym, ◌∙◌, ap, subst, append_assoc, arith, length-append, append-nil}
 use Rattle.uca_lines.specs.FileMeanings.{IsExact, IsExactByLine}
 

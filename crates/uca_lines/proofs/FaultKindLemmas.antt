@@ -4,7 +4,7 @@ use Rattle.uca_values.specs.declared.faults.FaultKind.{FaultKind}
 use Rattle.uca_values.specs.declared.faults.FaultKind.TheVariants as kinds
 use Rattle.uca_lines.specs.FileStops.{is_read_kind}
 
--- where no line is to blame for a read that failed, a cause is another one
+-- if a failed read is not a cause, each cause is of another kind
 pub not_read : (Cause : FaultKind → Type 0) → (Cause kinds.Read → ⊥) → (kind : FaultKind) → Cause kind → is_read_kind kind ≡ false
 not_read Cause none kinds.Read cause = absurd (none cause)
 not_read Cause none _ cause = refl

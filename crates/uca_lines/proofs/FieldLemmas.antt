@@ -7,7 +7,7 @@ use Rattle.std.specs.List.{list_all}
 use Rattle.std.specs.Option.{option_map}
 use Rattle.uca_lines.specs.Fields.{is_blank, up_to, from_first, skip_blanks, no_end_blanks, halves, word_of, after_word}
 
--- no byte before this place passes
+-- no byte before this position passes
 abbrev pub NoneBefore : (ℕ → Bool) → List ℕ → ℕ → Type 0
 NoneBefore p xs i = (k : ℕ) → k < i → p (get_or xs k 0) ≡ false
 
@@ -65,7 +65,7 @@ trimmed_more xs n some h = sym (no_end_blanks-blank (take n xs) _ (sym h)) ∙ a
 pub trimmed : (xs : List ℕ) (n : ℕ) → length xs ≡ suc n → false ≡ is_blank (get_or xs n 0) → no_end_blanks xs ≡ xs
 trimmed xs n some h = ap no_end_blanks (sym (before_last xs n some)) ∙ (no_end_blanks-other (take n xs) _ (sym h) ∙ before_last xs n some)
 
--- no `..` ends before this place
+-- no `..` ends before this position
 abbrev pub NoDotsBefore : List ℕ → ℕ → Type 0
 NoDotsBefore xs i = (k : ℕ) → suc k < i → get_or xs k 0 ≡ 46 → get_or xs (suc k) 0 ≡ 46 → ⊥
 
@@ -120,7 +120,7 @@ parts_of_cut p (b ∷ bs) = cases (parts_of_cut p bs) (p b) refl
     cases later true e = rw e refl
     cases later false e = rw e (ap (λ zs. b ∷ zs) later)
 
--- a word that begins at the front of a text, blanks aside, is not empty
+-- the word after the blanks at the front of a text is not empty, if something follows the blanks
 pub word_some : (text : List ℕ) (b : ℕ) (bs : List ℕ) → skip_blanks text ≡ b ∷ bs → 1 ≤ length (word_of (b ∷ bs))
 word_some text b bs h = some (is_blank b) refl (from_first_passes _ text b bs h)
   where
@@ -128,13 +128,13 @@ word_some text b bs h = some (is_blank b) refl (from_first_passes _ text b bs h)
     some true e k = absurd (let n = rw e at k in false≢true n)
     some false e k = rw e (omega arith)
 
--- blanks only go
+-- without the blanks at its front a text is not longer
 length-from_first : (p : ℕ → Bool) (text : List ℕ) → length (from_first p text) ≤ length text
 length-from_first p text = omega (arith, ap length (parts_of_cut p text), length-append (up_to p text) (from_first p text))
 
 pub length-skip_blanks : (text : List ℕ) → length (skip_blanks text) ≤ length text
 length-skip_blanks text = length-from_first _ text
 
--- a word that is not empty goes
+-- the length of a text is that of its first word and of what follows that word
 pub length-after_word : (text : List ℕ) → length (after_word text) + length (word_of text) ≡ length text
 length-after_word text = omega (arith, ap length (parts_of_cut is_blank text), length-append (up_to is_blank text) (from_first is_blank text))

@@ -44,7 +44,7 @@ cause_excluded form Says Cause exact before s number line after kind rest t says
       ]
     ]
 
--- what follows acceptable lines of a file, where a fault begins it, is no more lines of it
+-- what follows acceptable lines of a file, where an error begins it, is no more lines of it
 in_rest : {K S : Type 0} (form : FileForm K) (Says : List (List ℕ) → S → Type 0) (Cause : S → List ℕ → K → Type 0) → IsExact Says Cause
     → (before : List (List ℕ)) (s : S) (number : ℕ) (text : List ℕ) (kind : K) (lines tail : List (List ℕ)) (t : S)
     → Says before s → number ≡ suc (length before) → BeginsFault form Cause s number text kind
@@ -69,7 +69,7 @@ in_rest form Says Cause exact before s number text kind lines (l ∷ ls) t says 
     subst (λ (x : List ℕ). IfSome form.too_many (λ k. length (before ++ x ∷ ls) ≤ 1000000)) (sym same) count_here in
     cause_excluded form Says Cause exact before s number fault.line fault.more kind ls t says place there fault.cause each_line count_line whole_line
 
--- a fault in a line excludes that the bytes are lines which say something
+-- an error in a line excludes that the bytes are lines which say something
 line_excluded : {K S : Type 0} (form : FileForm K) (Says : List (List ℕ) → S → Type 0) (Cause : S → List ℕ → K → Type 0) → IsExact Says Cause
     → (bytes : List ℕ) (number : ℕ) (kind : K) (t : S) → FaultInLine form Says Cause bytes number kind → Reads form Says bytes t → ⊥
 line_excluded form Says Cause exact bytes number kind t h k =
@@ -79,7 +79,7 @@ line_excluded form Says Cause exact bytes number kind t h k =
     in_rest form Says Cause exact h.reaches.before h.said number h.rest kind k.1.lines r.0 t
     h.reaches.says h.reaches.place h.begins k.1.divides.each k.1.divides.count k.1.says r.1 r.2
 
--- bytes in which a fault stands mean nothing with which a file may end
+-- bytes with an error in them mean nothing with which a file may end
 pub no_meaning : {K S : Type 0} (form : FileForm K) (Says : List (List ℕ) → S → Type 0) (Cause : S → List ℕ → K → Type 0) (IsUnfinished : S → Type 0)
     → IsExact Says Cause → NoMeaning form Says Cause IsUnfinished
 no_meaning form Says Cause IsUnfinished exact bytes number kind t fault k finished =
@@ -102,7 +102,7 @@ one_value {K} {S} form Says Gives same once bytes v w h k =
     let e : h.0 ≡ k.0 = one_meaning form Says same bytes h.0 k.0 h.1 k.1 in
     once k.0 v w (subst (λ (s : S). Gives s v) e h.2) k.2
 
--- bytes in which a fault stands mean no value, where a file that may not end gives none
+-- bytes with an error in them mean no value, if a file that may not end gives none
 pub no_value : {K S V : Type 0} (form : FileForm K) (Says : List (List ℕ) → S → Type 0) (Cause : S → List ℕ → K → Type 0) (IsUnfinished : S → Type 0)
     (Gives : S → V → Type 0)
     → IsExact Says Cause → ((s : S) (v : V) → Gives s v → IsUnfinished s → ⊥)
@@ -114,7 +114,7 @@ no_value form Says Cause IsUnfinished Gives exact finished bytes number kind v f
 abbrev pub IsStopOf : {K : Type 0} → FileForm K → K → Type 0
 IsStopOf form kind = (kind ≡ form.failed_read) ⊎ (kind ≡ form.no_memory)
 
--- a file is refused as reading stops, or as a fault stands in it
+-- a file is rejected because reading stops, or because it has an error
 refusal : {K S : Type 0} (form : FileForm K) (Says : List (List ℕ) → S → Type 0) (Cause : S → List ℕ → K → Type 0) (IsUnfinished : S → Type 0)
     (bytes : List ℕ) (left : Option (List ℕ)) (number : ℕ) (kind : K)
     → Refuses form Says Cause IsUnfinished bytes left number kind → IsStopOf form kind ⊎ HasFault form Says Cause IsUnfinished bytes number kind
@@ -127,8 +127,8 @@ refusal form Says Cause IsUnfinished bytes left number kind h =
       | inr end ↦ inr (inr end)
     ]
 
--- Where a value is answered only if the bytes mean it, and a refusal only if it stands, what the bytes mean is
--- answered unless reading stops.
+-- If a value is returned only when the bytes mean it, and an error only when it is there, then what the bytes
+-- mean is returned unless reading stops.
 pub only_result : {X F K S V : Type 0} (view : X → V) (line : F → ℕ) (kind : F → K) (form : FileForm K) (Says : List (List ℕ) → S → Type 0)
     (Cause : S → List ℕ → K → Type 0) (IsUnfinished : S → Type 0) (Gives : S → V → Type 0)
     → IsExact Says Cause → ((s : S) (v w : V) → Gives s v → Gives s w → v ≡ w) → ((s : S) (v : V) → Gives s v → IsUnfinished s → ⊥)
@@ -155,7 +155,7 @@ only_known view line kind form Says Cause IsUnfinished Gives exact once finished
 only_known view line kind form Says Cause IsUnfinished Gives exact once finished (Some bytes) left r found fault =
     only_result view line kind form Says Cause IsUnfinished Gives exact once finished bytes left r found fault
 
--- lines that are all acceptable, with which the file may not end, are refused past the last one
+-- lines that are all acceptable, with which the file may not end, are rejected past the last one
 pub refused_at_end : {K S : Type 0} (form : FileForm K) (Says : List (List ℕ) → S → Type 0) (IsUnfinished : S → Type 0) (bytes : List ℕ)
     (count number : ℕ) (s : S) (kind : K)
     → ReadsLines form Says bytes count s → IsUnfinished s → number ≡ count + 1 → form.early_end ≡ Some kind

@@ -1,4 +1,4 @@
--- What a step of the reader of a file does to the place that it has reached.
+-- What a step of the reader of a file does to the position that it has reached.
 use Rattle.std.proofs.Common.{◌≡◌, ◌≢◌, ◌⊎◌, inl, inr, ℕ, ◌+◌, ◌<◌, ◌≤◌, Bool, true, false, ◌||◌, List, [], ◌∷◌, ◌++◌, length, Option, None, Some, Err, IfSome, IsSomeAnd, refl, sym, ◌∙◌, ap, subst, append_assoc, arith, length-append, append-nil}
 use Rattle.std.specs.List.{flat_map, position_or_len}
 use Rattle.std.specs.Option.{unwrap_or}
@@ -63,7 +63,7 @@ reaches_next form Says (Some bytes) (Some rest) (Some left) number s t few h k =
       place = omega (arith, h.place, length-append h.before (k.line ∷ []));
     }
 
--- Some lines, this many of them, say s. Where the form has no limit on lines, they are fewer.
+-- Some lines, this many of them, say s. Where the format has no limit on lines, they are fewer.
 pub record SaysSoMany {K S : Type 0} (form : FileForm K) (Says : List (List ℕ) → S → Type 0) (count : ℕ) (s : S) : Type 0 where
   pub lines : List (List ℕ)
   pub says : Says lines s
@@ -99,7 +99,7 @@ reads_all form Says (Some bytes) (Some rest) count s h end =
       many = omega (arith, h.place);
     }
 
--- a step that refuses a line refuses it in the file
+-- a step that rejects a line rejects it in the file
 pub refuses_line : {K S : Type 0} (form : FileForm K) (Says : List (List ℕ) → S → Type 0) (Cause : S → List ℕ → K → Type 0)
     (known old left : Option (List ℕ)) (number : ℕ) (s : S) (kind : K)
     → ReachesKnown form Says known old number s → RefusesNext form Cause old left number s kind
@@ -200,7 +200,7 @@ bytes_stand : (text : List ℕ) → 0 < length text → text ≢ []
 bytes_stand [] h e = absurd (omega arith)
 bytes_stand (b ∷ bs) h e = cc
 
--- a line past the last one that may stand
+-- a line past the last one that is allowed
 pub past_limit : {K S : Type 0} (form : FileForm K) (Cause : S → List ℕ → K → Type 0) (known : Option (List ℕ)) (number : ℕ) (s : S) (kind : K)
     → 1000000 < number → form.too_many ≡ Some kind
     → IfSome known (λ text. 0 < length text) → IfSome known (λ text. BeginsFault form Cause s number text kind)
@@ -238,7 +238,7 @@ line_refused form Cause (Some text) (Some left) number s line kind gone lacks ca
       cause = inr (inr (inr cause));
     }
 
--- a last line without LF, which has a cause of its own, or is refused as a line
+-- a last line without LF, which has a cause of its own, or is rejected as a line
 pub last_refused : {K S : Type 0} (form : FileForm K) (Cause : S → List ℕ → K → Type 0) (old new : Option (List ℕ)) (number : ℕ) (s : S)
     (line : List ℕ) (kind : K)
     → Consumes old new line → IsAtEnd new → Lacks is_lf line → 0 < length line → (kind ≡ form.no_lf) ⊎ Cause s line kind
@@ -281,14 +281,14 @@ step_fault form Cause old remaining pending line longest number s Read long few 
     inl (refl, read_fails form old remaining pending line bytes (empty refl) lacks (omega arith))
 step_fault form Cause old remaining pending line longest number s Memory long few bytes lacks short within empty = inr (inl refl)
 
--- a line was read that is not taken, for want of memory or by a cause
+-- a line was read that is not taken, because memory ran out or by a cause
 pub line_not_taken : {K S : Type 0} (form : FileForm K) (Cause : S → List ℕ → K → Type 0) (old new left : Option (List ℕ)) (number : ℕ) (s : S)
     (line : List ℕ) (kind : K)
     → Consumes old new (ended line) → Lacks is_lf line → (kind ≡ form.no_memory) ⊎ Cause s line kind → RefusesNext form Cause old left number s kind
 line_not_taken form Cause old new left number s line kind gone lacks h =
     elim h [ inl memory ↦ inr (inl memory) | inr cause ↦ inr (inr (line_refused form Cause old new number s line kind gone lacks cause)) ]
 
--- a last line without LF was read, and is rejected for want of memory, for that LF, or by a cause
+-- a last line without LF was read, and is rejected because memory ran out, for that LF, or by a cause
 pub last_not_taken : {K S : Type 0} (form : FileForm K) (Cause : S → List ℕ → K → Type 0) (old new left : Option (List ℕ)) (number : ℕ) (s : S)
     (line : List ℕ) (kind : K)
     → Consumes old new line × IsAtEnd new → Lacks is_lf line → 0 < length line

@@ -1,4 +1,4 @@
--- Values that stand in a text one after the other: one more, and that there is one way to read them.
+-- Values that come in turn in a text: one more, and that there is one way to read them.
 use Rattle.std.proofs.Common.{◌≡◌, ◌≢◌, ℕ, ◌≤◌, Bool, true, false, List, [], ◌∷◌, ◌++◌, length, Some, refl, ap, sym, subst, ◌∙◌, arith, length-append}
 use Rattle.std.proofs.lemmas.Option.{same_Some}
 use Rattle.uca_lines.specs.Fields.{from_first, skip_blanks}
@@ -36,7 +36,7 @@ pub record IsExact {X : Type 0} (B : List ℕ → X → List ℕ → Type 0) : T
   pub same : (text : List ℕ) (x y : X) (a b : List ℕ) → B text x a → B text y b → (x ≡ y) × (a ≡ b)
   pub some : (x : X) (a : List ℕ) → B [] x a → ⊥
 
--- the values up to a rest begin all the values, and the others stand in the rest
+-- the values up to a rest begin all the values, and the others come in the rest
 pub leads_split : {X : Type 0} (B : List ℕ → X → List ℕ → Type 0) → IsExact B → (text : List ℕ) (front : List X) (rest : List ℕ) (xs : List X) → Leads B text front rest → Leads B text xs [] → (tail : List X) × (xs ≡ front ++ tail) × Leads B rest tail []
 leads_split B exact text [] rest xs f h = (xs, refl, subst (λ t. Leads B t xs []) f (leads_skip B text xs [] h))
 leads_split B exact text (x ∷ front) rest [] f h = absurd (exact.some x f.0 (subst (λ t. B t x f.0) h f.1))
@@ -54,7 +54,7 @@ leads_same B exact text (x ∷ xs) (y ∷ ys) h k =
     let one = exact.same (skip_blanks text) x y h.0 k.0 h.1 k.1 in
     ap (λ z. z ∷ xs) one.0 ∙ ap (λ zs. y ∷ zs) (leads_same B exact h.0 xs ys h.2 (subst (λ t. Leads B t ys []) (sym one.1) k.2))
 
--- a text in which no value stands where one is due is no list of values
+-- a text that has no value where one must come is no list of values
 pub leads_barred : {X : Type 0} (B : List ℕ → X → List ℕ → Type 0) → IsExact B → (text : List ℕ) (front : List X) (rest : List ℕ) (xs : List X) → Leads B text front rest → skip_blanks rest ≢ [] → ((x : X) (more : List ℕ) → B (skip_blanks rest) x more → ⊥) → Leads B text xs [] → ⊥
 leads_barred {X = X} B exact text front rest xs f some none h = barred (leads_split B exact text front rest xs f h)
   where

@@ -12,7 +12,7 @@ use Rattle.uca_lines.specs.Taking.{IsTakeFault}
 use Rattle.uca_lines.specs.declared.lines.LineFault.{LineFault}
 use Rattle.uca_lines.specs.declared.lines.LineFault.TheVariants.{TooLong, Limit, Read, Memory}
 
--- the place that a search for LF gives, or that there is none
+-- the position that a search for LF gives, or that there is none
 pub line_end-memchr : (text : List ℕ) (r : Option ℕ) → IsFirstByte (is_byte 10) text r
     → MatchOption r (position_or_len is_lf text ≡ length text) (λ at. (position_or_len is_lf text ≡ at) × (at < length text))
 line_end-memchr text None h = position_or_len_is is_lf text (length text) 0 (le_refl (length text))

@@ -9,11 +9,11 @@ use Rattle.uca_lines.specs.OutputBuffer.{BufferState, IsBuffered}
 abbrev pub count_of : BufferState → ℕ
 count_of buffer = buffer.written + length buffer.held
 
--- with so many bytes more the count is a number of 64 bits
+-- with this many more bytes the count is a number of 64 bits
 abbrev pub HasRoom : BufferState → ℕ → Type 0
 HasRoom buffer more = count_of buffer + more < 2 ^ 64
 
--- the text was written to the buffer, whatever the writer held at the start, and whatever was written since
+-- the text was written to the buffer, with any bytes that the writer had at the start, and any that were written since
 pub record HasWrittenThrough (text : List ℕ) (buffer held : BufferState) (out now : SinkState) : Type 0 where
   pub writes : (start : Option (List ℕ)) (before : List ℕ) → IsBuffered start out.contents before buffer → IsBuffered start now.contents (before ++ text) held
   pub count : count_of held ≡ count_of buffer + length text

@@ -18,7 +18,7 @@ range_between (Some ends) = ends_of (code_point_of ends.0) (code_point_of ends.1
 abbrev pub range_of : List ℕ → Result (ℕ × ℕ) RangeSyntax
 range_of text = range_between (halves text)
 
--- the words for an error of a range
+-- the text of an error of a range
 abbrev pub range_syntax_text : RangeSyntax → List ℕ
 range_syntax_text faults.NoDots = codes "no `..`"
 range_syntax_text faults.CodePoint = codes "no code point"

@@ -6,7 +6,7 @@ use Rattle.uca_lines.specs.declared.files.LineFileFault.{LineFileFault}
 use Rattle.uca_lines.specs.declared.lines.LineFault.{LineFault}
 use Rattle.uca_lines.specs.declared.lines.LineFault.TheVariants.{TooLong, Limit, Read, Memory}
 
--- of the kinds of a form, the test picks that of a reader that failed alone
+-- among the kinds of a format, the test picks only that of a reader that failed
 pub record CallsReadsAlone {K : Type 0} (form : FileForm K) (is_read : K → Bool) : Type 0 where
   pub failed_read : is_read form.failed_read ≡ true
   pub too_long : is_read form.too_long ≡ false
@@ -24,7 +24,7 @@ abbrev pub is_read_step : {X K : Type 0} → (K → Bool) → Result X K → Boo
 is_read_step is_read (Ok x) = false
 is_read_step is_read (Err kind) = is_read kind
 
--- what the form calls an error of a line reader
+-- what the format calls an error of a line reader
 abbrev pub kind_of_fault : {K : Type 0} → FileForm K → LineFault → K
 kind_of_fault form TooLong = form.too_long
 kind_of_fault form Limit = unwrap_or form.too_many form.too_long

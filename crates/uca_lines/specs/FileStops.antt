@@ -1,4 +1,4 @@
--- Which errors of a table file or a data file are stops: reading went no further, and the bytes are not to blame.
+-- Which errors of a table file or a data file are stops: reading went no further, and the error is not in the bytes.
 use Rattle.std.specs.Prelude.{◌≡◌, ◌⊎◌, Bool, true, false, Result, Ok, Err}
 use Rattle.uca_values.specs.declared.faults.FaultKind.{FaultKind}
 use Rattle.uca_values.specs.declared.faults.FaultKind.TheVariants as kinds

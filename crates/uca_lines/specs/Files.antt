@@ -1,7 +1,8 @@
--- Files of lines: which bytes are lines, what the bytes mean, and where an error stands.
+-- Files of lines: which bytes are lines, what the bytes mean, and where an error is.
 --
--- How a kind of file is cut into lines, and what its errors are called, is its form. What its lines say is (Says lines s):
--- the lines, from the first on, are acceptable in order and say s. Why the next line is rejected is (Cause s line kind).
+-- How a kind of file is cut into lines, and what its errors are called, is its format. What its lines say is (Says
+-- lines s): the lines, from the first on, are acceptable in order and say s. Why the next line is rejected is (Cause s
+-- line kind).
 use Rattle.std.specs.Prelude.{◌≡◌, ◌≢◌, ℕ, suc, ◌<◌, ◌≤◌, ◌⊎◌, ⊤, List, [], ◌∷◌, ◌++◌, length, Option, Some, IfSome, IsSomeAnd}
 use Rattle.std.specs.List.{flat_map, AllByRecursion}
 use Rattle.uca_lines.specs.Lines.{is_lf, Lacks, ended}
@@ -18,7 +19,7 @@ pub record AreLines {K : Type 0} (form : FileForm K) (bytes : List ℕ) (lines :
   pub each : AllByRecursion (IsFileLine form) lines
   pub count : IfSome form.too_many (λ kind. length lines ≤ 1000000)
 
--- the bytes are so many lines, and these say s
+-- the bytes are `count` lines, and these say s
 pub record ReadsLines {K S : Type 0} (form : FileForm K) (Says : List (List ℕ) → S → Type 0) (bytes : List ℕ) (count : ℕ) (s : S) : Type 0 where
   pub lines : List (List ℕ)
   pub divides : AreLines form bytes lines
@@ -42,13 +43,13 @@ pub record Reaches {K S : Type 0} (form : FileForm K) (Says : List (List ℕ) �
   pub says : Says before s
   pub place : number ≡ suc (length before)
 
--- nothing, or an LF and whatever follows it
+-- nothing, or an LF and all that follows it
 abbrev pub EndsLine : List ℕ → Type 0
 EndsLine [] = ⊤
 EndsLine (byte ∷ bytes) = byte ≡ 10
 
--- A text begins with line `number` of a file, after lines that say s, and a cause of the kind stands in this
--- line: in its length, in its number, in the LF that it lacks, or in what it says.
+-- A text begins with line `number` of a file, after lines that say s. A cause of the kind is in this line:
+-- in its length, in its number, in the LF that it lacks, or in what it says.
 pub record BeginsFault {K S : Type 0} (form : FileForm K) (Cause : S → List ℕ → K → Type 0) (s : S) (number : ℕ) (text : List ℕ) (kind : K) : Type 0 where
   pub line : List ℕ
   pub more : List ℕ
@@ -68,7 +69,7 @@ pub record LosesPart {K : Type 0} (form : FileForm K) (text left : List ℕ) : T
   pub lacks : Lacks is_lf part
   pub short : length part ≤ form.longest
 
--- the lines before line `number` are acceptable in order, and a cause of the kind stands in it
+-- the lines before line `number` are acceptable in order, and a cause of the kind is in it
 pub record FaultInLine {K S : Type 0} (form : FileForm K) (Says : List (List ℕ) → S → Type 0) (Cause : S → List ℕ → K → Type 0) (bytes : List ℕ)
     (number : ℕ) (kind : K) : Type 0 where
   pub said : S
@@ -76,7 +77,7 @@ pub record FaultInLine {K S : Type 0} (form : FileForm K) (Says : List (List ℕ
   pub reaches : Reaches form Says bytes number said rest
   pub begins : BeginsFault form Cause said number rest kind
 
--- the lines are acceptable in order, but the file may not end with them; the place is past the last one
+-- the lines are acceptable in order, but the file may not end with them; the position is past the last one
 pub record FaultAtEnd {K S : Type 0} (form : FileForm K) (Says : List (List ℕ) → S → Type 0) (IsUnfinished : S → Type 0) (bytes : List ℕ) (number : ℕ)
     (kind : K) : Type 0 where
   pub said : S
@@ -84,7 +85,7 @@ pub record FaultAtEnd {K S : Type 0} (form : FileForm K) (Says : List (List ℕ)
   pub unfinished : IsUnfinished said
   pub early : form.early_end ≡ Some kind
 
--- a cause of the kind stands in line `number`, or past the last line
+-- a cause of the kind is in line `number`, or past the last line
 abbrev pub HasFault : {K S : Type 0} → FileForm K → (List (List ℕ) → S → Type 0) → (S → List ℕ → K → Type 0) → (S → Type 0) → List ℕ → ℕ → K → Type 0
 HasFault form Says Cause IsUnfinished bytes number kind = FaultInLine form Says Cause bytes number kind ⊎ FaultAtEnd form Says IsUnfinished bytes number kind
 
@@ -101,8 +102,8 @@ pub record FailsIn {K S : Type 0} (form : FileForm K) (Says : List (List ℕ) �
   pub reaches : Reaches form Says bytes number said rest
   pub loses : LosesPart form rest left
 
--- Why the lines of known bytes were not all taken: the source failed in line `number`, which leaves these
--- bytes; an allocation failed there; or a cause of the kind stands there.
+-- Why the lines of known bytes were not all taken. The source failed in line `number`, which leaves these
+-- bytes; an allocation failed there; or a cause of the kind is there.
 abbrev pub RefusesLine : {K S : Type 0} → FileForm K → (List (List ℕ) → S → Type 0) → (S → List ℕ → K → Type 0) → List ℕ → Option (List ℕ) → ℕ → K → Type 0
 RefusesLine form Says Cause bytes left number kind = ((kind ≡ form.failed_read) × IsSomeAnd left (λ rest. FailsIn form Says bytes rest number))
     ⊎ ((kind ≡ form.no_memory) × StopsAt form Says bytes number)

@@ -1,9 +1,9 @@
--- Values that stand in a text one after the other.
+-- Values that come in turn in a text.
 use Rattle.std.specs.Prelude.{◌≡◌, ℕ, ◌≤◌, List, [], ◌∷◌, length, Some}
 use Rattle.uca_lines.specs.Fields.{skip_blanks, word_of, after_word}
 use Rattle.uca_lines.specs.Numbers.{code_point_of}
 
--- The text is these values, one after the other, with or without blanks around each; rest is what
+-- The text is these values, in turn, with or without blanks around each; rest is what
 -- follows the blanks after the last one. (Begins text x more) says that the text is x and then more.
 abbrev pub Leads : {X : Type 0} → (List ℕ → X → List ℕ → Type 0) → List ℕ → List X → List ℕ → Type 0
 Leads Begins text [] rest = skip_blanks text ≡ rest

@@ -9,6 +9,6 @@ pub record LineState : Type 0 where
   pub number : ℕ
   pub longest : ℕ
 
--- the bytes of which no line was made, where they are known
+-- the bytes that are in no line yet, where they are known
 abbrev pub left_of : LineState → SourceState → Option (List ℕ)
 left_of lines source = prepend_known lines.pending source.remaining

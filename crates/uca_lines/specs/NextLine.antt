@@ -53,7 +53,7 @@ is_read (Err Limit) = false
 is_read (Err Read) = true
 is_read (Err Memory) = false
 
--- the words for an error of a line reader
+-- the text of an error of a line reader
 abbrev pub line_fault_text : LineFault → List ℕ
 line_fault_text TooLong = codes "the line is too long"
 line_fault_text Limit = codes "there are too many lines"

@@ -31,7 +31,7 @@ code_point_of word = if is_code_point word then Some (digits_value 16 word) else
 abbrev pub weight_of : List ℕ → Option ℕ
 weight_of word = if length word == 4 then hex_of word else None
 
--- a class, 1 to 254: one to three decimal digits, the first of which is not 0
+-- a class, 1 to 254: one to three decimal digits, and the first digit is not 0
 abbrev pub is_class : List ℕ → Bool
 is_class word = nat_le (length word) 3 && list_all is_decimal_digit word && not (slice_index word 0 == 48) && nat_le 1 (digits_value 10 word) && nat_le (digits_value 10 word) 254
 

@@ -1,6 +1,6 @@
 //! The parts of a line: blanks and words, hexadecimal numbers and digits, code points and ranges of them.
 //!
-//! A blank is a space or a tab. All numbers are hexadecimal with upper-case digits, but for classes.
+//! A blank is a space or a tab. All numbers are hexadecimal with upper-case digits, except classes, which are decimal.
 
 ghost use Rattle.std.specs.Prelude.{◌≡◌, Some};
 ghost use Rattle.uca_lines.specs.CodePointRanges.{range_syntax_text};
@@ -15,17 +15,17 @@ pub use ranges::code_point_range;
 use std::error::Error;
 use std::fmt;
 
-/// Why a text is no range of code points.
+/// Why a text is not a range of code points.
 #[derive(Debug, Drop)]
 pub enum RangeSyntax {
     /// It has no `..`.
     NoDots,
-    /// The text before or after the first `..` is no code point.
+    /// The text before or after the first `..` is not a code point.
     CodePoint,
 }
 
 impl RangeSyntax {
-    // The words for this error.
+    // The text of this error.
     fn text(&self) -> &'static str
         ensures { result.now ≡ range_syntax_text self.now }
     {

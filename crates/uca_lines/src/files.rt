@@ -1,4 +1,4 @@
-//! Files that are read line by line: what each line must be, where an error stands, and the loop that
+//! Files that are read line by line: what each line must be, where an error comes, and the loop that
 //! reads them.
 
 ghost use Rattle.std.specs.Prelude.{◌≡◌, ◌⊎◌, ℕ, ◌<◌, ◌≤◌, List, [], ◌∷◌, ◌++◌, length, Bool, false, None, OnOk, IfErr};
@@ -14,25 +14,25 @@ pub use uca_values::{FaultKind, TableFault};
 /// How files of one kind are cut into lines, and what their errors are called.
 #[derive(Drop)]
 pub struct FileForm<K> {
-    /// How many bytes a line may have, its LF not counted.
+    /// How many bytes a line may have, without its LF.
     pub longest: usize,
     /// The kind of a line with more bytes.
     pub too_long: K,
-    /// The kind of line 1,000,001. None where the lines that a file may have are fewer in any case.
+    /// The kind of line 1,000,001. `None` if the format has fewer lines in any case.
     pub too_many: Option<K>,
     /// The kind of a last line that no LF ends.
     pub no_lf: K,
     /// Whether a last line that no LF ends is rejected before what it says is judged.
     pub lf_first: bool,
-    /// The kind where the reader failed.
+    /// The kind of an error when the reader failed.
     pub failed_read: K,
-    /// The kind where an allocation failed.
+    /// The kind of an error when an allocation failed.
     pub no_memory: K,
-    /// The kind of a file that ends too early. None where a file may end after any line.
+    /// The kind of a file that ends too early. `None` if a file may end after any line.
     pub early_end: Option<K>,
 }
 
-/// The form of table files and of data files.
+/// The format of table files and of data files.
 pub const TABLE_FORM: FileForm<FaultKind> = FileForm {
     longest: 4096,
     too_long: FaultKind::Limit,
@@ -78,10 +78,10 @@ pub trait LineParser {
     // the lines, from the first on, are acceptable in order and say this
     ghost says: { List (List ℕ) → Self → Type 0 };
 
-    // a cause of the kind stands in the next line
+    // a cause of the kind is in the next line
     ghost cause: { Self → List ℕ → Self.Kind → Type 0 };
 
-    /// How the file is cut into lines, and what its errors are called. Of these kinds one alone is that of a
+    /// How the file is cut into lines, and what its errors are called. Only one of these kinds is that of a
     /// reader that failed.
     fn form() -> FileForm<Self::Kind>
         ensures value { result ≡ form }
@@ -94,6 +94,6 @@ pub trait LineParser {
         ensures fault { IfErr result (λ kind. (kind ≡ form.no_memory) ⊎ cause self.old line.now kind) }
         ensures not_read { IfErr result (λ kind. is_read kind ≡ false) }
 
-        // A form without a limit on lines is one whose lines are always fewer.
+        // A format without a limit on lines is one that never has more lines.
         ensures few { form.too_many ≡ None → (lines : List (List ℕ)) → says lines self.new → length lines < 1000000 };
 }

@@ -1,5 +1,5 @@
-//! Files of lines: the lines of a source, the parts of a line (`fields`), files that are read line by line
-//! (`files`), and a buffer for what goes to a sink.
+//! Files of lines. This crate has the lines of a source, the parts of a line (`fields`), and files that are
+//! read line by line (`files`). It also has a buffer for what goes to a sink.
 #![tactic(auto)]
 
 pub mod fields;

@@ -16,13 +16,13 @@ use std::io::Read;
 use std::marker::Model;
 use uca_weights::Source;
 
-/// How many lines may be read of one source.
+/// How many lines may be read from one source.
 pub const LINE_LIMIT: u32 = 1_000_000;
 
 /// How many bytes a read asks for.
 const CHUNK: usize = 16_384;
 
-/// What was found where a line was due.
+/// What was found where a line should begin.
 #[derive(PartialEq, Drop)]
 pub enum NextLine {
     /// A line, and the LF that ends it.
@@ -38,8 +38,8 @@ pub enum NextLine {
 pub enum LineFault {
     /// The line, without its LF, has more bytes than it may have.
     TooLong,
-    /// A byte is left, and as many lines were found before as may be. Nothing else of the line is
-    /// looked at.
+    /// A byte is left, and `LINE_LIMIT` lines were found before. Nothing else of the line is
+    /// read.
     Limit,
     /// The reader failed.
     Read,
@@ -48,7 +48,7 @@ pub enum LineFault {
 }
 
 impl LineFault {
-    // The words for this error.
+    // The text of this error.
     fn text(&self) -> &'static str
         ensures { result.now ≡ line_fault_text self.now }
     {
@@ -94,7 +94,7 @@ impl Model for LineReader {
 }
 
 impl LineReader {
-    /// A reader of lines of at most `longest` bytes each, their LF not counted. It takes no memory.
+    /// A reader of lines of at most `longest` bytes each, without their LF. It takes no memory.
     pub fn new(longest: usize) -> LineReader
         ensures pending { result.pending ≡ [] }
         ensures number { result.number ≡ 0 }
@@ -117,15 +117,16 @@ impl LineReader {
         self.number
     }
 
-    /// Reads the next line into `line`, in place of what it held, and without its LF.
+    /// Reads the next line into `line`, without its LF. What `line` had before is replaced.
     ///
-    /// After an error `line` holds what was read of the line, and the reader is not used further.
+    /// After an error `line` has what was read of the line, and the reader is not used further.
     ///
     /// # Errors
     ///
-    /// `Limit` where a byte is left and `LINE_LIMIT` lines were found before; `TooLong` where the
-    /// line has more bytes than this reader's `longest`; `Read` where the source failed; `Memory`
-    /// where `line` could not grow, which is never asked of a vector with room for `longest` bytes.
+    /// - `Limit`: a byte is left, and `LINE_LIMIT` lines were found before.
+    /// - `TooLong`: the line has more bytes than this reader's `longest`.
+    /// - `Read`: the source failed.
+    /// - `Memory`: `line` could not grow. A vector with room for `longest` bytes never has to grow.
     pub fn next_line<R: Read, A: Allocator>(
         &mut self,
         source: &mut Source<R>,

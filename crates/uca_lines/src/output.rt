@@ -10,7 +10,7 @@ use std::io::Write;
 use std::marker::Model;
 use uca_weights::{Sink, WriteFault};
 
-/// How many bytes wait before they are written.
+/// How many bytes the buffer has room for.
 const SIZE: usize = 16_384;
 
 /// Gathers what goes to one sink, and counts the bytes that went out.
@@ -47,8 +47,11 @@ impl OutputBuffer {
         }
     }
 
-    /// Writes a text, which waits, or goes out after all that waits. An error says how many bytes went
-    /// out of all that was written to this buffer.
+    /// Writes a text, which waits, or goes out after all that waits.
+    ///
+    /// # Errors
+    ///
+    /// The sink failed: `written` says how many bytes went out, counted over all that was written to this buffer.
     pub fn write<W: Write>(&mut self, out: &mut Sink<W>, text: &[u8]) -> Result<(), WriteFault>
         requires { HasRoom self.old (length text.now) }
         ensures writes { WritesThrough text.now self.old self.new out.old out.new result }
@@ -84,8 +87,11 @@ impl OutputBuffer {
         }
     }
 
-    /// Writes all that waits to the sink. An error says how many bytes went out of all that was written
-    /// to this buffer.
+    /// Writes all that waits to the sink.
+    ///
+    /// # Errors
+    ///
+    /// The sink failed: `written` says how many bytes went out, counted over all that was written to this buffer.
     pub fn flush<W: Write>(&mut self, out: &mut Sink<W>) -> Result<(), WriteFault>
         ensures text { (start : Option (List ℕ)) (before : List ℕ) →
             IsBuffered start out.old.contents before self.old →

@@ -58,7 +58,7 @@ rest_at_end keys key skipped t none all =
     ap₂ (λ marks rest. (skipped ++ others (removed keys key skipped marks) marks) ++ rest) none all
     ∙ ap (λ front. front ++ t) (append-nil skipped)
 
--- ---- The letters that are left between two places
+-- ---- The letters that are left between two positions
 
 pub between_none : (s : NfdText) (place : Place) (at : ℕ) → left_between s place at at ≡ []
 between_none s place at = ap (λ n. left_from (is_gone place) at (take n (drop at (letters_of s)))) (let none : at - at ≡ 0 = omega arith in none)
@@ -70,7 +70,7 @@ between_same s p q from to order within same =
     let count : length (take (to - from) rest) ≡ to - from = length-take-le (to - from) rest (omega (arith, length-drop from (letters_of s))) in
     left_same (is_gone p) (is_gone q) from (take (to - from) rest) (λ k above below. same k above (omega arith))
 
--- what is left from one place on is what is left between it and another, and then what is left from there on
+-- what is left from one position on is what is left between it and another, and then what is left from there on
 pub between_whole : (s : NfdText) (place : Place) (from to : ℕ) → from ≤ to → to ≤ length (letters_of s) →
     left_at s place from ≡ left_between s place from to ++ left_at s place to
 between_whole s place from to order within =

@@ -17,7 +17,7 @@ use Rattle.uca_match.proofs.ReadingLemmas.{portion_of, portion_shorter, parts_po
 
 -- ---- The same keys
 
--- two sets have the same of the keys that occur in order in a text
+-- two sets have the same keys among those that occur in order in a text
 abbrev pub HaveSameKeys : Keys → Keys → Text → Type 0
 HaveSameKeys keys new t = (key : List ℕ) → OccursInOrder key (code_points t) → keys key ≡ new key
 

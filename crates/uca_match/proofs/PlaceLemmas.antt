@@ -1,4 +1,4 @@
--- Places in a text: what is left from there on, and which letters are gone.
+-- Positions in a text: what is left from there on, and which letters are gone.
 use Rattle.std.proofs.Common.{◌≡◌, ℕ, zero, suc, ◌+◌, ◌<◌, ◌≤◌, List, [], ◌∷◌, ◌++◌, length, drop, get_or, Bool, true, false, cond, sym, ap, refl}
 use Rattle.std.proofs.Common.{◌∙◌, arith, ◌≢◌, ◌-◌, ◌*◌, ◌/◌, ◌%◌, ◌^◌, ◌&&◌, nat_le, nat_eq, bit_and, bit_or, w64, ⊎_elim}
 use Rattle.std.proofs.lemmas.Bool.{cond_both, cond-true, cond-false, cases_lt}
@@ -12,7 +12,7 @@ use Rattle.std.proofs.lemmas.Nat.Bits.{shr_and_one, bit_at_above, bit_at-zero, b
 use Rattle.std.specs.Int.{bit_at}
 use mir.Val.{bits}
 
--- ---- What is left of a text, from one place to the next
+-- ---- What is left of a text, from one position to the next
 
 -- ---- Letters
 
@@ -21,7 +21,7 @@ length-letters [] classes same = refl
 length-letters (c ∷ points) [] same = absurd (omega arith)
 length-letters (c ∷ points) (k ∷ classes) same = ap suc (length-letters points classes (omega arith))
 
--- the letter at a place
+-- the letter at a position
 abbrev pub letter_at : NfdText → ℕ → Letter
 letter_at s i = record { code = get_or s.points i 0; class = get_or s.classes i 0 }
 
@@ -135,7 +135,7 @@ pub not_true : (b : Bool) → (b ≡ true → ⊥) → b ≡ false
 not_true true h = absurd (h refl)
 not_true false h = refl
 
--- after its run a place may as well begin a new one
+-- after its run a position may as well begin a new one
 pub left_anew : (s : NfdText) (place new : Place) (at : ℕ) → IsPlace s place → place.end ≤ at → new.removed ≡ 0 → left_at s new at ≡ left_at s place at
 left_anew s place new at here past none =
     left_beyond s new place at (λ k behind. none_gone new k none

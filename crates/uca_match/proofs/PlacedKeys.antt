@@ -79,7 +79,7 @@ placed_within place (k ∷ keys) key p found = go (same_key k key) found (placed
     go true found later = let same : place ≡ p = cc in (0, omega arith, omega (arith, same))
     go false found later = let l = later found in (suc l.0, omega (arith, l.1), omega (arith, l.2))
 
--- ---- Keys that are lent
+-- ---- Keys that are borrowed
 
 -- one more key with its position
 pub numbered_more : (list : List Numbered) (keys : List (Bor (List ℕ))) (p : ℕ) (new : Numbered) → p < length keys → new.key ≡ get_or keys p new.key →
@@ -105,7 +105,7 @@ pub distinct_keys : (rows : List Entry) → AreDistinct rows → AreDistinctKeys
 distinct_keys [] distinct = tt
 distinct_keys (row ∷ rows) distinct = (distinct.0, distinct_keys rows distinct.1)
 
--- the elements of a key stand at its position, where these elements stand before those of the rows
+-- the elements of a key are at its position, if these elements come before those of the rows
 rows_behind : (front : List (List Element)) (rows : List Entry) (key : List ℕ) →
     rows_of rows key ≡ option_map (λ p. get_or (front ++ map (λ (r : Entry). r.elements) rows) p []) (place_at (length front) (keys_of rows) key)
 rows_behind front [] key = refl
@@ -128,7 +128,7 @@ rows_behind front (row ∷ rows) key = go (same_key row.key key) (rows_behind (f
         later ∙ ap₂ (λ (es : List (List Element)) (n : ℕ). option_map (λ p. get_or es p []) (place_at n (keys_of rows) key))
         (append_assoc front (row.elements ∷ []) all) count
 
--- the elements of a key stand at its position
+-- the elements of a key are at its position
 pub rows_by_position : (rows : List Entry) (key : List ℕ) →
     rows_of rows key ≡ option_map (λ p. get_or (map (λ (r : Entry). r.elements) rows) p []) (place_at 0 (keys_of rows) key)
 rows_by_position rows key = rows_behind [] rows key

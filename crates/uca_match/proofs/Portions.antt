@@ -69,7 +69,7 @@ module _ {N : Type 0} (stands_for : N → List ℕ → Type 0) (by : Collation) 
   abbrev read_by : Text → List Element
   read_by t = collation_elements by.rows by.ranges by.properties t
 
-  -- what is left after elements of which none are left
+  -- what is left after elements when none of them are left
   reads : before ++ read_by (left_of s place)
       ≡ part_elements (implicit by.ranges by.properties) by.rows is.part ++ read_by (left_of s portion.next)
   reads = ap (λ es. es ++ read_by (left_of s place)) none

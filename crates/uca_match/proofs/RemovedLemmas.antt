@@ -52,13 +52,13 @@ others_skipped keys key skipped c marks h =
     ap (λ set. skipped ++ others set (c ∷ marks)) (removed_skipped keys key skipped c marks h)
     ∙ sym (append_assoc skipped (c ∷ []) (others (removed keys key (skipped ++ c ∷ []) marks) marks))
 
--- ---- The removed places are one set, and `removed` computes it
+-- ---- The removed positions are one set, and `removed` computes it
 
 -- a non-starter after a key is removed
 abbrev pub Takes : Keys → Text → Text → Letter → Type 0
 Takes keys start skipped c = IsFree skipped c × IsKeyOf keys (code_points (start ++ c ∷ []))
 
--- at every place of the non-starters the set says what is removed, after a start and skipped letters before all of them
+-- at every position of the non-starters the set says what is removed, after a start and skipped letters before all of them
 abbrev pub EachPlace : Keys → Text → Text → Text → List Bool → Type 0
 EachPlace keys start skipped marks set = (before after : Text) (c : Letter) (here : List Bool) (b : Bool) (later : List Bool) →
     marks ≡ before ++ c ∷ after → set ≡ here ++ b ∷ later → length here ≡ length before →
@@ -83,7 +83,7 @@ taken_iff keys start skipped c =
       (λ h. and_from free key (test_from_free skipped c h.0) h.1),
     )
 
--- what a place later on says of what was gone through, where the first letter was removed or skipped
+-- what a position later on says of what was gone through, where the first letter was removed or skipped
 same_place : (keys : Keys) (start skipped : Text) (c d : Letter) (before : Text) (here : List Bool) (b e : Bool) →
     IsTrue e ↔ (IsFree (cond b skipped (skipped ++ c ∷ []) ++ others here before) d × IsKeyOf keys
     (code_points (cond b (start ++ c ∷ []) start ++ (members here before ++ d ∷ [])))) →

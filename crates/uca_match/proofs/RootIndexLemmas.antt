@@ -7,7 +7,7 @@ use Rattle.uca_values.proofs.Rising.{all_at}
 use Rattle.uca_match.specs.Tries.{target_of, AreRisingEdges, IsTree, node_at, NodeContent, indexed_target, IsRootIndex}
 use Rattle.uca_match.specs.declared.key_map.Edge.{Edge}
 
--- ---- Edges by their places
+-- ---- Edges by their positions
 
 -- no edge before another has its code point
 none_before : (edges : List Edge) → AreRisingEdges edges → (i : ℕ) (d : Edge) → i < length edges → target_of (take i edges) (get_or edges i d).point ≡ None
@@ -54,7 +54,7 @@ root_index_none root_index n same c below =
     let within : c < n = omega (arith, below, ap length same, length-replicate {A = ℕ} n 0) in
     ap indexed_target (sym (ap (λ xs. get_or xs c 0) same ∙ get_or-replicate n c 0 0 within))
 
--- an edge is put into its place
+-- an edge is put at its position
 root_index_put : (edges : List Edge) (root_index : List ℕ) (e : Edge) → IsRootIndex edges root_index → target_of edges e.point ≡ None → 0 < e.target →
     e.point < length root_index → IsRootIndex (edges ++ e ∷ []) (set root_index e.point e.target)
 root_index_put edges root_index e are none above below c within =
@@ -66,7 +66,7 @@ root_index_put edges root_index e are none above below c within =
     ∙ ap indexed_target (sym (get_or-set_other root_index e.point c e.target 0 (λ same. other (sym same)))))
     (cases_eq e.point c)
 
--- an edge has no place there
+-- an edge has no position there
 root_index_kept : (edges : List Edge) (root_index : List ℕ) (e : Edge) → IsRootIndex edges root_index → length root_index ≤ e.point → IsRootIndex (edges ++ e ∷ []) root_index
 root_index_kept edges root_index e are beyond c within = target_of_front edges e c (λ same. omega (arith, same, within, beyond)) ∙ are c within
 

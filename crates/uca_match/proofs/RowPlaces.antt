@@ -1,4 +1,4 @@
--- The rows of a list by their places.
+-- The rows of a list by their positions.
 use Rattle.std.proofs.Common.{◌≡◌, ℕ, zero, suc, ◌+◌, ◌<◌, ◌≤◌, List, [], ◌∷◌, ◌++◌, length, take, drop, get_or, min, Bool, true, false, ◌&&◌, cond}
 use Rattle.std.proofs.Common.{◌↔◌, IsTrue, Some, None, nat_eq, is_some, sym, ap, subst, refl, ◌∙◌, arith, add-one, take_at, take-append-drop}
 use Rattle.std.proofs.lemmas.Bool.{cond-true, cond-false}

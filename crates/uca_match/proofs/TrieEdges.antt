@@ -11,7 +11,7 @@ use Rattle.uca_values.proofs.Gaps.{all_insert}
 use Rattle.uca_match.specs.Tries.{target_of, AreRisingEdges, IsNewPlace}
 use Rattle.uca_match.specs.declared.key_map.Edge.{Edge}
 
--- ---- By place
+-- ---- By position
 
 all_from_places : (P : Edge → Type 0) (edges : List Edge) → ((k : ℕ) (d : Edge) → k < length edges → P (get_or edges k d)) → AllByRecursion P edges
 all_from_places P [] h = tt
@@ -32,9 +32,9 @@ never_falling edges h i j d l m =
       | inr (inr more) ↦ absurd (omega arith)
     ]
 
--- ---- The place of a code point
+-- ---- The position of a code point
 
--- the edges before the place are below the code point, and those from it on are not
+-- the edges before the position are below the code point, and those from it on are not
 abbrev pub IsPlace : List Edge → ℕ → ℕ → Type 0
 IsPlace edges point at = IsPartitionPoint (λ e. e.point < point) (λ e. point ≤ e.point) edges at
 

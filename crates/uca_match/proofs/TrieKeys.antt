@@ -138,13 +138,13 @@ key_put start nodes n b placed along same position =
 
 -- ---- One key after another
 
--- the nodes hold the positions of these keys
+-- the nodes have the positions of these keys
 pub record IsBuilt (list : List Placed) (nodes : List NodeContent) : Type 0 where
   pub tree : IsTree nodes
   pub sound : (key : List ℕ) (position : ℕ) → positions nodes key ≡ Some position → Contains list (record { key = key; position = position })
   pub complete : (placed : Placed) → Contains list placed → positions nodes placed.key ≡ Some placed.position
 
--- a root alone holds none
+-- a root alone has none
 pub IsBuilt-none : IsBuilt [] (empty_node ∷ [])
 IsBuilt-none = record {
   tree = IsTree-empty_node;

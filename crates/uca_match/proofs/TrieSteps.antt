@@ -166,7 +166,7 @@ module _ (old : List NodeContent) (number point : ℕ) (edges : List Edge) (adds
           ∙ sym (ap (option_and_then (λ n. (node_at old n).position)) step.0)
     ]
 
-    -- ---- What holds of the nodes
+    -- ---- What is true of the nodes
 
     text_within : (n : ℕ) → n < length texts → get_or (with_text texts) n [] ≡ get_or texts n []
     text_within n within = get_or_append_left texts ((get_or texts number [] ++ point ∷ []) ∷ []) [] n within

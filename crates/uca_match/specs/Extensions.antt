@@ -17,11 +17,11 @@ abbrev pub extended_rest : Keys → Text → Text → Text → Text
 extended_rest keys key skipped t = (skipped ++ others (removed keys key skipped (non_starters_at_front t)) (non_starters_at_front t))
     ++ after_non_starters t
 
--- the letters that are left between two places
+-- the letters that are left between two positions
 abbrev pub left_between : NfdText → Place → ℕ → ℕ → Text
 left_between s place from to = left_from (is_gone place) from (take (to - from) (drop from (letters_of s)))
 
--- the non-starters from a place up to i have been gone through, and some of them may be gone since
+-- the non-starters from a position up to i have been gone through, and some of them may be gone since
 pub record IsBehind (s : NfdText) (place : Place) (i : ℕ) (next : Place) : Type 0 where
   pub begun : place.at ≤ i
   pub within : i ≤ length s.points

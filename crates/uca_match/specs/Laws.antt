@@ -39,7 +39,7 @@ AreRelatedRows related None (Some new) = ⊥
 AreRelatedRows related (Some old) None = ⊥
 AreRelatedRows related (Some old) (Some new) = related old new
 
--- a relation that is kept where lists are put one after the other
+-- a relation that is kept where lists are put together
 abbrev pub IsKeptByAppend : (List Element → List Element → Type 0) → Type 0
 IsKeptByAppend related = (es fs gs hs : List Element) → related es fs → related gs hs → related (es ++ gs) (fs ++ hs)
 
@@ -52,8 +52,8 @@ RelatedRowsReadAlike related = (old new : ℕ → List Element) (rows others : R
 
 -- ---- Parts
 
--- The parts of texts for a set of keys: each is a key that occurs in order in the text, or a code point of it; which other
--- keys there are changes nothing; and a text that is a key is one part.
+-- The parts of texts for a set of keys: each is a key that occurs in order in the text, or a code point of it. Other
+-- keys change nothing. A text that is a key is one part.
 pub record PartsOfTexts : Type 0 where
   pub each : (keys : Keys) (t : Text) → AllByRecursion (IsPartOf keys t) (parts keys t)
   pub same : (keys others : Keys) (t : Text) → ((key : List ℕ) → OccursInOrder key (code_points t) → keys key ≡ others key) →

@@ -20,7 +20,7 @@ pub record IsFound {N : Type 0} (stands_for : N → List ℕ → Type 0) (keys :
 abbrev pub len_left : NfdText → Place → ℕ → ℕ
 len_left s place first = length (left_at s place first)
 
--- the longest key of at most n letters at the front of what is left from `first` on, and the place after it
+-- the longest key of at most n letters at the front of what is left from `first` on, and the position after it
 pub record IsLongestKey {N : Type 0} (stands_for : N → List ℕ → Type 0) (keys : Keys) (s : NfdText) (place : Place) (first n : ℕ) (key : Longest N) :
     Type 0 where
   pub count : ℕ
@@ -39,7 +39,7 @@ abbrev pub IsGiven : {N : Type 0} → (N → List ℕ → Type 0) → Part → M
 IsGiven stands_for part (Key node) = (key : List ℕ) × (part ≡ Row key) × stands_for node key
 IsGiven stands_for part (Unlisted c) = part ≡ Implicit c
 
--- what a key becomes, after which the text goes on at a place
+-- what a key becomes, after which the text goes on at a position
 pub record IsExtended {N : Type 0} (stands_for : N → List ℕ → Type 0) (keys : Keys) (s : NfdText) (front : Text) (place : Place) (portion : Portion N) :
     Type 0 where
   pub given : IsGiven stands_for (row_portion keys front (left_of s place)).part portion.given
@@ -47,7 +47,7 @@ pub record IsExtended {N : Type 0} (stands_for : N → List ℕ → Type 0) (key
   pub is_place : IsPlace s portion.next
   pub at : portion.next.at ≡ place.at
 
--- what is left from a place on is matched as what is given, and then as what is left from the next place on
+-- what is left from a position on is matched as what is given, and then as what is left from the next position on
 pub record IsPortion {N : Type 0} (stands_for : N → List ℕ → Type 0) (keys : Keys) (s : NfdText) (place : Place) (portion : Portion N) : Type 0 where
   pub part : Part
   pub matched : parts keys (left_of s place) ≡ part ∷ parts keys (left_of s portion.next)

@@ -1,4 +1,4 @@
--- Lists of keys as the code has them, and what a trie holds.
+-- Lists of keys as the code has them, and what a trie has.
 use Rattle.std.specs.Prelude.{ℕ, List, [], map, option_map, slice_index_or}
 use Rattle.std.specs.Borrow.{Bor}
 use Rattle.uca_weights.specs.declared.Element.{Element}
@@ -8,7 +8,7 @@ use Rattle.uca_match.specs.Positions.{Placed}
 use Rattle.uca_match.specs.Tries.{NodeContent, positions}
 use Rattle.uca_match.specs.declared.key_map.Numbered.{Numbered}
 
--- the code points of keys that are lent
+-- the code points of keys that are borrowed
 abbrev pub points_of : List (Bor (List ℕ)) → List (List ℕ)
 points_of keys = map (λ key. key.now) keys
 
@@ -20,7 +20,7 @@ placed_of numbered = record { key = numbered.key.now; position = numbered.positi
 abbrev pub elements_of : List Entry → List (List Element)
 elements_of rows = map (λ row. row.elements) rows
 
--- what a trie holds: keys with their positions, and the elements of each row
+-- what a trie has: keys with their positions, and the elements of each row
 pub record TrieContent : Type 0 where
   pub keys : List NodeContent
   pub rows : List (List Element)

@@ -1,4 +1,4 @@
--- Places in a text, and what is left of it from there on where some of its non-starters have been removed.
+-- Positions in a text, and what is left of it from there on where some of its non-starters have been removed.
 -- Only clauses inside this crate cite this file.
 use Rattle.std.specs.Prelude.{◌≡◌, ℕ, suc, ◌-◌, ◌<◌, ◌≤◌, [], ◌∷◌, Bool, true, ◌&&◌, nat_le, nat_eq, if◌then◌else◌, drop, length, slice_index}
 use Rattle.std.specs.Int.{bit_at}
@@ -18,11 +18,11 @@ left_from gone i (c ∷ t) = if gone i then left_from gone (suc i) t else c ∷ 
 abbrev pub left_at : NfdText → Place → ℕ → Text
 left_at s place i = left_from (is_gone place) i (drop i (letters_of s))
 
--- what is left of a text from a place on
+-- what is left of a text from a position on
 abbrev pub left_of : NfdText → Place → Text
 left_of s place = left_at s place place.at
 
--- A place stands in a text: non-starters stand from `run` up to `end`, what is gone is among them, and `at` is there or
+-- A position is in a text: non-starters are from `run` up to `end`, what is gone is among them, and `at` is there or
 -- right after them.
 pub record IsPlace (s : NfdText) (place : Place) : Type 0 where
   pub begun : place.run ≤ place.at

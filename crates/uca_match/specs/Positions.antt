@@ -10,7 +10,7 @@ Positions = List ℕ → Option ℕ
 abbrev pub is_placed : Positions → Keys
 is_placed positions key = is_some (positions key)
 
--- the position of a key among others, of which the first has this one
+-- the position of a key among others; the first of them has this position
 abbrev pub place_at : ℕ → List (List ℕ) → Positions
 place_at place [] key = None
 place_at place (k ∷ keys) key = if same_key k key then Some place else place_at (place + 1) keys key
@@ -25,7 +25,7 @@ pub record Placed : Type 0 where
   pub key : List ℕ
   pub position : ℕ
 
--- the keys in their order, each with its position, of which the first is this one
+-- the keys in their order, each with its position; the first position is this one
 abbrev pub placed_from : ℕ → List (List ℕ) → List Placed
 placed_from place [] = []
 placed_from place (key ∷ keys) = record { key = key; position = place } ∷ placed_from (place + 1) keys

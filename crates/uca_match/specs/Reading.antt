@@ -32,7 +32,7 @@ pub record AreNonStartersBefore (non_starters rest : Text) : Type 0 where
   pub are_non_starters : AllByRecursion (λ c. IsFalse (is_starter c)) non_starters
   pub ends : IsAtStarter rest
 
--- the letters at the places of a set, and those at the others
+-- the letters at the positions of a set, and those at the others
 abbrev pub members : List Bool → Text → Text
 members (true ∷ set) (c ∷ t) = c ∷ members set t
 members (false ∷ set) (c ∷ t) = members set t
@@ -49,9 +49,10 @@ others (b ∷ set) [] = []
 abbrev pub IsFree : Text → Letter → Type 0
 IsFree skipped c = AllByRecursion (λ d. d.class < c.class) skipped
 
--- The discontiguous match (S2.1.1 to S2.1.3), as the set of places of the non-starters that are removed. At every place, its
--- letter is removed exactly if the letters before it that are not removed do not block it, and the start followed by
--- the removed letters before it and then by it is a key. A removed letter stands between no longer, and blocks nothing.
+-- The discontiguous match (S2.1.1 to S2.1.3), as the set of positions of the non-starters that are removed. The letter
+-- at a position is removed exactly if two conditions are met. The letters before it that are not removed do not block
+-- it. And this is a key: the start, then the removed letters before it, and then this letter. A removed letter is no
+-- longer between others, and blocks nothing.
 pub record AreRemoved (rows : Rows) (start : Text) (non_starters : Text) (set : List Bool) : Type 0 where
   pub places : length set ≡ length non_starters
   pub each : (before after : Text) (c : Letter) (here : List Bool) (b : Bool) (later : List Bool) → non_starters ≡ before ++ c ∷ after →

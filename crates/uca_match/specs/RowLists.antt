@@ -4,7 +4,7 @@ use Rattle.std.specs.Prelude.{ℕ, zero, suc, List, [], ◌∷◌, take}
 use Rattle.uca_values.specs.Content.{Entry}
 use Rattle.uca_match.specs.declared.row_list.RowNode.{RowNode}
 
--- the key of the row at a place, or nothing past the last row
+-- the key of the row at a position, or nothing past the last row
 abbrev pub key_at : List Entry → ℕ → List ℕ
 key_at [] i = []
 key_at (r ∷ rows) zero = r.key

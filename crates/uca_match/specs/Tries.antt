@@ -1,4 +1,4 @@
--- Trees of code points: what their nodes hold, where code points lead, and which map from keys to positions that makes.
+-- Trees of code points: what their nodes have, where code points lead, and which map from keys to positions that makes.
 -- A caller's clauses cite `positions` alone, which is that map.
 use Rattle.std.specs.Prelude.{◌≡◌, ◌≢◌, ℕ, zero, suc, ◌<◌, ◌≤◌, ◌==◌, ⊤, List, [], ◌∷◌, ◌++◌, length, Option, Some, None, if◌then◌else◌}
 use Rattle.std.specs.Prelude.{slice_index_or, option_and_then}
@@ -35,14 +35,14 @@ walk nodes n (c ∷ key) = option_and_then (λ m. walk nodes m key) (target_of (
 abbrev pub positions : List NodeContent → Positions
 positions nodes key = option_and_then (λ n. (node_at nodes n).position) (walk nodes 0 key)
 
--- ---- What holds of the nodes
+-- ---- What is true of the nodes
 
 -- each code point is below those that follow
 abbrev pub AreRisingEdges : List Edge → Type 0
 AreRisingEdges [] = ⊤
 AreRisingEdges (e ∷ edges) = AllByRecursion (λ f. e.point < f.point) edges × AreRisingEdges edges
 
--- no edge has the code point, and one that has it would stand here
+-- no edge has the code point, and one that has it would be here
 pub record IsNewPlace (edges : List Edge) (c at : ℕ) : Type 0 where
   pub bound : at ≤ length edges
   pub place : IsPartitionPoint (λ e. e.point < c) (λ e. c < e.point) edges at
@@ -53,7 +53,7 @@ pub record LeadsOn (texts : List (List ℕ)) (n c m : ℕ) : Type 0 where
   pub within : m < length texts
   pub text : slice_index_or texts m [] ≡ slice_index_or texts n [] ++ c ∷ []
 
--- there is a node for each of the texts, the first of which is empty; edges rise, and lead on
+-- there is a node for each of the texts, and the first text is empty; edges rise, and lead on
 pub record AreNodes (nodes : List NodeContent) (texts : List (List ℕ)) : Type 0 where
   pub some : 0 < length nodes
   pub same : length texts ≡ length nodes
@@ -71,8 +71,8 @@ pub record IsTree (nodes : List NodeContent) : Type 0 where
   pub shape : AreNodes nodes texts
   pub no_dead_end : (n : ℕ) → 0 < n → n < length nodes → IsNoDeadEnd (node_at nodes n)
 
--- nodes to which those of the beginning of a key have been added: the last of these may be a dead end, and the keys and
--- positions are those of the nodes at the start
+-- Nodes to which those of the beginning of a key have been added. The last of these may have no key and lead nowhere.
+-- The keys and positions are those of the nodes at the start.
 pub record IsAlong (start nodes : List NodeContent) (front : List ℕ) (last : ℕ) : Type 0 where
   pub texts : List (List ℕ)
   pub shape : AreNodes nodes texts
@@ -95,7 +95,7 @@ indexed_target (suc n) = Some (suc n)
 abbrev pub IsRootIndex : List Edge → List ℕ → Type 0
 IsRootIndex edges root_index = (c : ℕ) → c < length root_index → target_of edges c ≡ indexed_target (slice_index_or root_index c 0)
 
--- what holds of every map from keys to positions
+-- what is true of every map from keys to positions
 pub record IsTrie (nodes : List NodeContent) (root_index : List ℕ) : Type 0 where
   pub tree : IsTree nodes
   pub first_steps : IsRootIndex (node_at nodes 0).edges root_index

@@ -6,7 +6,7 @@ use Rattle.uca_match.specs.WorkedTable.{elements_under}
 pub record WorkedReadings : Type 0 where
   -- the empty text has no elements
   pub empty : elements_under small_rows [] ≡ []
-  -- rows of the table, one after the other
+  -- rows of the table, in turn
   pub letter : elements_under small_rows (0x61 ∷ []) ≡ plain 0x1C47 0x20 2 ∷ []
   pub accent : elements_under small_rows (0x61 ∷ 0x301 ∷ []) ≡ plain 0x1C47 0x20 2 ∷ plain 0 0x24 2 ∷ []
   pub space : elements_under small_rows (0x61 ∷ 0x20 ∷ 0x62 ∷ []) ≡ plain 0x1C47 0x20 2 ∷ variable 0x209 0x20 2 ∷ plain 0x1C60 0x20 2 ∷ []

@@ -1,4 +1,4 @@
-//! The collation elements of a text, one after the other.
+//! The collation elements of a text, in turn.
 ghost use Rattle.std.specs.Iterator.{YieldsFirst, item_count};
 
 use crate::key_sets::{LookupKeys, row_at};

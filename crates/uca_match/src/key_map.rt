@@ -10,24 +10,24 @@ use std::alloc::{AllocError, Allocator, Global};
 use std::cmp::Ordering;
 use std::marker::Model;
 
-/// How many code points, from U+0000 on, the list of first steps may hold: those before CJK Unified
-/// Ideographs Extension A, among which are the letters of most scripts.
+/// How many code points, from U+0000 on, the list of first steps may have: those before CJK Unified
+/// Ideographs Extension A, which has the letters of most scripts.
 const ROOT_INDEX_LIMIT: usize = 0x3400;
 
-/// How many code points that list may hold for each edge of the root.
+/// How many code points that list may have for each edge of the root.
 const ROOT_INDEX_PER_EDGE: usize = 16;
 
-/// Keys, which are lists of code points, and the position of each in a list of them, as a tree: from its root,
+/// Keys, which are lists of code points, and the position of each in a list of them, as a tree. From its root,
 /// the code points of a key lead from node to node, and the last of these nodes has the position of the key.
 ///
-/// A step takes time in the logarithm of the number of code points that may follow; the first step of a
-/// code point below U+3400 takes the same time for every large list. Building takes some n log n steps for
-/// n keys, whatever their order, and memory in proportion to the code points of all keys.
+/// A step takes time in proportion to the logarithm of the number of code points that may follow. The
+/// first step of a code point below U+3400 takes the same time for every large list. Building takes about n log n steps
+/// for n keys in any order, and memory in proportion to the code points of all keys.
 #[derive(Drop)]
 pub struct KeyMap<A: Allocator = Global> {
     // the first is the root
     nodes: Vec<Node<A>, A>,
-    // where each of the first code points leads from the root, or 0 where it leads nowhere
+    // where each of the first code points leads from the root, or 0 if it leads nowhere
     root_index: Vec<usize, A>,
 }
 
@@ -47,7 +47,7 @@ impl<A: Allocator> Model for KeyMap<A> {
 pub(crate) struct Node<A: Allocator> {
     // the code points that may follow, in rising order
     edges: Vec<Edge, A>,
-    // the position of the code points, where they are a key
+    // the position of the code points, if they are a key
     position: Option<usize>,
 }
 
@@ -73,7 +73,7 @@ pub struct TrieNode {
 }
 
 impl<A: Allocator + Copy> KeyMap<A> {
-    /// The map of these keys, no two of which are the same, to their positions in the list.
+    /// The map of these keys to their positions in the list. No two of the keys are the same.
     ///
     /// # Errors
     ///
@@ -124,7 +124,7 @@ fn nodes_of<A: Allocator + Copy>(alloc: A, keys: &[&[char]]) -> Result<Vec<Node<
 }
 
 /// The keys with their positions in the order of the keys, in which the edges of each node are met in rising
-/// order. That order saves time, and nothing more: the nodes are those of the keys in any order.
+/// order. That order only saves time: the nodes are the same for the keys in any order.
 fn sorted<'a, A: Allocator>(
     alloc: A,
     keys: &[&'a [char]],
@@ -145,7 +145,7 @@ fn sorted<'a, A: Allocator>(
     Ok(list)
 }
 
-/// A key with its position, beside its first code point, by which most keys are told apart without a look at them.
+/// A key with its position, beside its first code point, which tells most keys apart without reading them.
 #[derive(Drop)]
 pub(crate) struct Numbered<'a> {
     pub(crate) head: Option<char>,
@@ -163,7 +163,7 @@ impl<'a> Numbered<'a> {
     }
 }
 
-/// A node that nothing leaves, and that is no key.
+/// A node without edges that is not a key.
 fn empty_node<A: Allocator>(alloc: A) -> Node<A>
     ensures { result ≡ record { edges = []; position = None } }
 {
@@ -213,7 +213,7 @@ fn add_step<A: Allocator + Copy>(
     Ok(target)
 }
 
-/// Where a code point leads, or else the place where its edge would stand.
+/// Where a code point leads, or else the position where its edge would have to be.
 fn find(edges: &[Edge], point: char) -> Result<usize, usize>
     requires { AreRisingEdges edges.now }
     ensures { MatchResult result (λ target. target_of edges.now point ≡ Some target) (IsNewPlace edges.now point) }
@@ -226,7 +226,7 @@ fn find(edges: &[Edge], point: char) -> Result<usize, usize>
     }
 }
 
-/// The place of the first edge whose code point is `point` or above it.
+/// The position of the first edge whose code point is `point` or above it.
 fn place(edges: &[Edge], point: char) -> usize
     requires { AreRisingEdges edges.now }
     ensures bound { result ≤ length edges.now }

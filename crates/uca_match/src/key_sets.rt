@@ -6,8 +6,8 @@ ghost use Rattle.uca_match.specs.Lookups.{BeginsKeyIn, BeginsNoKeyIn};
 use crate::Lookup;
 use uca_weights::Element;
 
-/// What texts are matched against: a finite set of keys, which are lists of code points, in a form in which
-/// a key is found code point by code point.
+/// What texts are matched against: a finite set of keys, which are lists of code points, in which a key is
+/// found code point by code point.
 ///
 /// A node stands for the list of code points that led to it. Nodes of one value mean nothing to another.
 pub trait KeySet {
@@ -63,7 +63,7 @@ impl<'a, L: Lookup> KeySet for LookupKeys<'a, L> {
     }
 }
 
-/// The elements of the list that `node` stands for, lent, or none where it is no key.
+/// The elements of the list that `node` stands for, borrowed, or `None` if it is not a key.
 pub fn row_at<'a, L: Lookup>(lookup: &'a L, node: L::Node) -> &'a [Element]
     requires { (key : List ℕ) × L.stands_for lookup.now node key }
     ensures { (key : List ℕ) → L.stands_for lookup.now node key → result.now ≡ unwrap_or (L.content lookup.now key) [] }

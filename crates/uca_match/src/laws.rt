@@ -9,19 +9,22 @@ use std::marker::Brand;
 
 /// The collation elements of texts are defined twice, and both definitions give the same.
 ///
-/// The first definition is a system of three equations, after step S2 of UTS #10: the empty text
-/// has no elements; a text that no key begins has the implicit weights of its first code point and
-/// then the elements of what follows; a text that a key begins has the row of the longest such key
-/// (S2.1), extended by the non-starters that are removed after it (S2.1.1 to S2.1.3), and then the
-/// elements of the skipped non-starters and what follows them. The second is a function that computes
-/// them. The law says that the function satisfies the equations, and that every function which
-/// satisfies them is this one, at all rows and all implicit weights.
+/// The first definition is a system of three equations, after step S2 of UTS #10:
+///
+/// - The empty text has no elements.
+/// - A text that no key begins has the implicit weights of its first code point, and then the elements of what follows.
+/// - A text that a key begins has the row of the longest such key (S2.1), extended by the non-starters that are
+///   removed after it (S2.1.1 to S2.1.3). Then it has the elements of the skipped non-starters and of what follows
+///   them.
+///
+/// The second is a function that computes them. The law says that the function satisfies the equations, and that every
+/// function which satisfies them is this one, for all rows and all implicit weights.
 pub fn one_reading()
     ensures { OneReading }
 {}
 
-/// The rows of a table as a map: a list of code points is a key exactly where some row has it, and
-/// where no key comes twice, as in every table, it has the elements of that one row.
+/// The rows of a table as a map: a list of code points is a key exactly if some row has it. If no
+/// key comes twice, as in every table, it has the elements of that one row.
 pub fn rows_by_key()
     ensures { RowsByKey }
 {}
@@ -31,11 +34,11 @@ pub fn keys_read_as_rows()
     ensures { KeysReadAsRows }
 {}
 
-/// A relation between lists of elements that holds of two empty lists, and is kept where lists are put one
-/// after the other.
+/// A relation between lists of elements that holds for two empty lists, and is kept where lists are put
+/// together.
 ///
-/// A relation that depends on the values of a program has no type to stand for it: there
-/// [`same_keys_read_by_parts`] serves, from which the same follows for every relation.
+/// No type can stand for a relation that depends on the values of a program. Use
+/// [`same_keys_read_by_parts`] there: the same follows from it for every relation.
 pub trait RelatesElements {
     // which lists are related
     ghost related: { List Element → List Element → Type 0 };
@@ -43,7 +46,7 @@ pub trait RelatesElements {
     // two empty lists are
     ghost empty: { related [] [] };
 
-    // the relation is kept where lists are put one after the other
+    // the relation is kept where lists are put together
     ghost kept: { IsKeptByAppend related };
 }
 
@@ -59,15 +62,15 @@ impl RelatesElements for Brand {
     ghost kept = { λ es fs gs hs first second. ap₂ (λ front rest. front ++ rest) first second };
 }
 
-/// Where two maps have related rows at each key that occurs in order in a text, and the implicit weights of
-/// its code points are related, the two readings of the text are related: whatever the relation is, as long as
-/// it holds of empty lists and is kept where lists are put one after the other.
+/// Two maps have related rows at each key that occurs in order in a text, and the implicit weights of its
+/// code points are related. Then the two readings of the text are related. The relation may be any that holds for empty
+/// lists and is kept where lists are put together.
 pub fn related_rows_read_alike<R: RelatesElements>()
     ensures { RelatedRowsReadAlike R.related }
 {}
 
-/// Where two maps have the same keys among those that occur in order in a text, its two readings have the same
-/// parts: each is the two rows of one such key, or the two implicit weights of one code point of the text.
+/// If two maps have the same keys among those that occur in order in a text, its two readings have the same
+/// parts. Each part is the two rows of one such key, or the two implicit weights of one code point of the text.
 pub fn same_keys_read_by_parts()
     ensures { SameKeysReadByParts }
 {}
@@ -78,7 +81,7 @@ pub fn parts_of_texts()
     ensures { PartsOfTexts }
 {}
 
-/// The collation elements of a text are those of its parts, one after the other: the row of each key, and the
+/// The collation elements of a text are those of its parts in turn: the row of each key, and the
 /// implicit weights of each other code point.
 pub fn elements_of_parts()
     ensures { ElementsOfParts }

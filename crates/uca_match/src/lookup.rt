@@ -5,8 +5,8 @@ ghost use Rattle.uca_match.specs.Lookups.{BeginsSomeKey, BeginsNoKey};
 
 use uca_weights::Element;
 
-/// A finite map from keys, which are lists of code points, to collation elements, in a form in which
-/// a key is found code point by code point.
+/// A finite map from keys, which are lists of code points, to collation elements, in which a key is
+/// found code point by code point.
 ///
 /// A node stands for the list of code points that led to it. Nodes of one value mean nothing to another.
 pub trait Lookup {
@@ -29,14 +29,14 @@ pub trait Lookup {
             MatchOption result (BeginsNoKey (content self.now) (key ++ c ∷ []))
             (λ next. BeginsSomeKey (content self.now) (key ++ c ∷ []) × stands_for self.now next (key ++ c ∷ [])) };
 
-    /// The elements of the list that `node` stands for, lent: there are some exactly if it is a key.
+    /// The elements of the list that `node` stands for, borrowed: there are some exactly if it is a key.
     fn elements(&self, node: Self::Node) -> Option<&[Element]>
         requires { (key : List ℕ) × stands_for self.now node key }
         ensures { (key : List ℕ) → stands_for self.now node key →
             MatchOption result (content self.now key ≡ None) (λ row. content self.now key ≡ Some row.now) };
 }
 
-/// The elements of a key, lent by the lookup, or `None` where the list is no key.
+/// The elements of a key, borrowed from the lookup, or `None` if the list is not a key.
 pub fn row_of<'a, L: Lookup>(lookup: &'a L, key: &[char]) -> Option<&'a [Element]>
     ensures { MatchOption result (L.content lookup.now key.now ≡ None)
         (λ row. L.content lookup.now key.now ≡ Some row.now) }

@@ -10,12 +10,12 @@ use crate::key_sets::KeySet;
 use crate::places::Place;
 use uca_text::Normal;
 
-/// A key at the front of what is left of a text, and the place after it.
+/// A key at the front of what is left of a text, and the position after it.
 #[derive(Drop)]
 pub struct Longest<N> {
     /// The node that stands for the key.
     pub node: N,
-    /// The place after the letters that are the key.
+    /// The position after the letters that are the key.
     pub behind: usize,
 }
 
@@ -28,7 +28,7 @@ pub enum Match<K> {
     Unlisted(char),
 }
 
-/// What the front of a text is matched as, and the place to read on from.
+/// What the front of a text is matched as, and the position to read on from.
 #[derive(Drop)]
 pub struct Portion<N> {
     /// What is given.
@@ -83,15 +83,15 @@ fn longest_match<K: KeySet>(
 /// The non-starters after a key, as far as they have been gone through.
 #[derive(Drop)]
 pub struct Extension<N> {
-    /// The node that stands for what the key has become.
+    /// The node that stands for the key, as extended so far.
     pub node: N,
-    /// The place after the key, from which the non-starters that the key took have been removed.
+    /// The position after the key, from which the non-starters that the key took have been removed.
     pub next: Place,
     /// The highest class of the non-starters that were skipped, or 0.
     pub highest: u8,
 }
 
-/// Goes on by the non-starter at `i`: it is removed if it is not blocked and makes the key a longer one.
+/// Goes on with the non-starter at `i`: it is removed if it is not blocked and makes the key a longer one.
 fn extended<K: KeySet>(
     keys: &K,
     text: &Normal,
@@ -131,8 +131,8 @@ fn extended<K: KeySet>(
     }
 }
 
-/// What a key at the front of a text becomes, after which the text goes on at `place`: the key takes
-/// the non-starters that follow and are not blocked, where that makes a longer key (UTS #10, S2.1.1 to S2.1.3).
+/// Extends a key at the front of a text, which goes on at `place` after it. The key takes the non-starters
+/// that follow and are not blocked, where that makes a longer key (UTS #10, S2.1.1 to S2.1.3).
 fn extend<K: KeySet>(keys: &K, text: &Normal, node: K::Node, place: Place) -> Portion<K::Node>
     requires place { IsPlace text.now place }
     requires found { (front : Text) × K.stands_for keys.now node (code_points front) }

@@ -1,19 +1,19 @@
-//! Places in a text some of whose non-starters have been removed.
+//! Positions in a text some of whose non-starters have been removed.
 ghost use Rattle.std.specs.Prelude.{◌≡◌, ◌≢◌, ℕ, ◌-◌, ◌<◌, ◌≤◌, true, false, length};
 ghost use Rattle.uca_match.specs.Places.{is_gone, left_at, left_of, IsPlace};
 
 use uca_text::Normal;
 
-/// A place in a text, and which letters have been removed from the run of non-starters around it.
+/// A position in a text, and which letters have been removed from the run of non-starters around it.
 ///
-/// What is left of the text from there on are its letters from `at` on that have not been removed.
+/// What is left of the text from there on is its letters from `at` on that have not been removed.
 #[derive(Clone, Copy)]
 pub struct Place {
     /// Where to read on.
     pub at: usize,
     /// Where the run begins, at `at` or before it.
     pub run: usize,
-    /// The place after the run, as far as it has been gone through, at `at` or after it.
+    /// The position after the run, as far as it has been gone through, at `at` or after it.
     pub end: usize,
     /// Which letters of the run have been removed: bit i stands for the letter at `run + i`. No run is
     /// longer than 64.
@@ -43,7 +43,7 @@ impl Place {
         (self.removed >> (i - self.run)) & 1 == 1
     }
 
-    /// The same place where the letter at `i` has been removed too.
+    /// The same position, after the letter at `i` has been removed too.
     pub fn with_removed(self, i: usize) -> Place
         requires behind { self.run ≤ i }
         requires near { i - self.run < 64 }
@@ -59,7 +59,7 @@ impl Place {
         }
     }
 
-    /// The place to read on from at `at`, which is after it.
+    /// The position to read on from at `at`, which is after it.
     pub fn moved(self, text: &Normal, at: usize) -> Place
         requires place { IsPlace text.now self }
         requires behind { self.at ≤ at }
@@ -80,7 +80,7 @@ impl Place {
         }
     }
 
-    /// The first place from this one on whose letter has not been removed, or the end of the text.
+    /// The first position from this one on whose letter has not been removed, or the end of the text.
     pub fn first_left(self, text: &Normal) -> usize
         requires { IsPlace text.now self }
         ensures behind { self.at ≤ result }

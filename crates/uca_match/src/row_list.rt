@@ -1,4 +1,4 @@
-//! The rows of a table as they stand in it, for lookups by going through them.
+//! The rows of a table in their order, for lookups that go through all of them.
 ghost use Rattle.std.specs.Prelude.{◌≡◌, ◌↔◌, ℕ, ◌+◌, List, [], ◌∷◌, ◌++◌, length, take, IsTrue};
 ghost use Rattle.uca_match.specs.Rows.{rows_of};
 ghost use Rattle.uca_match.specs.RowLists.{node_text};

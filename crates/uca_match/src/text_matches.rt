@@ -1,4 +1,4 @@
-//! What a text is matched as by the keys of a map, one part after the other.
+//! What a text is matched as by the keys of a map, part by part.
 ghost use Rattle.std.specs.Prelude.{◌≡◌};
 ghost use Rattle.std.specs.Iterator.{YieldsFirst, item_count};
 ghost use Rattle.uca_text.specs.Texts.{letters_of};
@@ -14,7 +14,7 @@ use std::alloc::{Allocator, Global};
 use std::marker::Model;
 use uca_text::Normal;
 
-/// What a text is matched as (UTS #10, S2.1 to S2.1.3), seen as the list of the matches that are left: each is the
+/// What a text is matched as (UTS #10, S2.1 to S2.1.3), seen as the list of the matches that are left. Each is the
 /// position of a key, or a code point that no key covers.
 #[derive(Drop)]
 pub struct Matches<'a, A: Allocator = Global> {

@@ -49,7 +49,7 @@ impl<A: Allocator + Copy> Trie<A> {
     }
 }
 
-/// The keys of rows, lent, in their order.
+/// The keys of rows, borrowed, in their order.
 ///
 /// # Errors
 ///

@@ -29,7 +29,7 @@ inserted_keeps i (m ∷ ms) w among = elim (same_or_other i.anchor m) [
     put false (inl here) = inl here
     put false (inr there) = inr (inr there)
 
-    -- behind the first
+    -- after the first
     behind : (IsAmong ms w → IsAmong (inserted i ms) w) → IsAmong (m ∷ ms) w → IsAmong (m ∷ inserted i ms) w
     behind more (inl here) = inl here
     behind more (inr there) = inr (more there)

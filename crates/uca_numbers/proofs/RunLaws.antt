@@ -21,7 +21,7 @@ grown_last front r from to goes =
     let s : Run = record { from = from; to = to; count = r.count + 1 } in
     ap reverse (set-append_seam front r [] s) ∙ (reverse-append front (s ∷ []) ∙ (rw (reverse-append front (r ∷ []), goes) refl))
 
--- the same at the place of the last
+-- the same at the position of the last
 pub grown : (runs : List Run) (i : ℕ) (r : Run) (from to : ℕ) → i + 1 ≡ length runs → r ≡ get_or runs i r
     → (nat_eq r.from (from + 1) && nat_eq r.to (to + 1)) ≡ true
     → reverse (set runs i (record { from = from; to = to; count = r.count + 1 })) ≡ run_before from to (reverse runs)
@@ -46,7 +46,7 @@ before_low from to (r ∷ runs) small low = go (nat_eq r.from (from + 1) && nat_
 
 -- ---- One member more
 
--- a list from a place on
+-- a list from a position on
 from_place : {A : Type 0} (xs : List A) (i next : ℕ) (x d : A) → next ≡ i + 1 → i < length xs → get_or xs i d ≡ x → drop i xs ≡ x ∷ drop next xs
 from_place xs i next x d after within is =
     let same : suc i ≡ next = omega arith in

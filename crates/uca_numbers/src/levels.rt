@@ -28,9 +28,9 @@ pub struct LevelNumbers<A: Allocator> {
     members: Vec<DraftWeight, A>,
     /// The number of each member.
     numbers: Vec<u16, A>,
-    /// The number of each base weight; 0 where it is no member.
+    /// The number of each base weight; 0 if it is not a member.
     by_base: Vec<u16, A>,
-    /// The number of each relation's new weight; 0 where it is no member.
+    /// The number of each relation's new weight; 0 if it is not a member.
     by_new: Vec<u16, A>,
 }
 
@@ -144,7 +144,7 @@ impl<A: Allocator> LevelNumbers<A> {
     }
 }
 
-/// Whether a base weight stays, whatever the numbers are.
+/// Whether a base weight always keeps its value.
 fn stays(level: Level, weight: u16) -> bool
     ensures { (plan : LevelPlan) → numbered_weight level plan (Base weight) ≡ cond result weight (number_in plan.members plan.numbers (Base weight)) }
 {
@@ -154,7 +154,7 @@ fn stays(level: Level, weight: u16) -> bool
     }
 }
 
-/// As many numbers, all of them 0.
+/// `count` numbers, all of them 0.
 fn no_numbers<A: Allocator>(alloc: A, count: usize) -> Result<Vec<u16, A>, AllocError>
     ensures length { IfOk result (λ numbers. vec_len numbers ≡ count) }
     ensures none { IfOk result (λ numbers. (w : ℕ) → slice_index numbers.items w ≡ 0) }
@@ -205,8 +205,8 @@ fn runs_of<A: Allocator>(
     Ok(runs)
 }
 
-/// Puts a weight with its number before runs that stand in reverse order: into the next run, where that goes on from it on
-/// both sides.
+/// Puts a weight with its number before runs, which are in reverse order. It goes into the next run if that run goes on
+/// from it on both sides.
 fn put_before<A: Allocator>(runs: &mut Vec<Run, A>, from: u16, to: u16) -> Result<(), AllocError>
     requires some { 0 < from }
     requires low { AllByRecursion EndsLow (reverse runs.old.items) }

@@ -7,8 +7,8 @@ ghost use Rattle.uca_plans.specs.OnePass as one_pass;
 use std::alloc::{AllocError, Allocator};
 use uca_plans::{DraftWeight, Segment};
 
-/// The numbers of members that have places in a segment, in their order: each stands as far up as its base weight and
-/// those before it need, or as much lower as those behind it need.
+/// The numbers of members that have positions in a segment, in their order. Each is as far up as its base weight and
+/// those before it need, or as much lower as those after it need.
 pub(crate) fn numbers<A: Allocator>(
     alloc: A,
     segment: Segment,
@@ -29,7 +29,7 @@ pub(crate) fn numbers<A: Allocator>(
     Ok(numbers)
 }
 
-/// One place further up, or at the weight of a base member where that is higher.
+/// One position further up, or at the weight of a base member where that is higher.
 fn one_further(member: DraftWeight, place: usize) -> usize
     requires { place < 0x10_0000 }
     ensures place { result ≡ one_pass.one_further member place }

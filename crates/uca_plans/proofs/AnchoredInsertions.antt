@@ -38,14 +38,14 @@ AreAnchored level [] ms = ⊤
 AreAnchored level (i ∷ is) ms =
     (same_level i.level level ≡ true → IsAnchored i ms) × AreAnchored level is (if same_level i.level level then inserted i ms else ms)
 
--- insertions are so where the first ones are, and the others behind them
+-- all insertions are anchored if the first ones are, and the others after them
 anchored_append : (level : Level) (is js : List Insertion) (ms : List DraftWeight) → AreAnchored level is ms
     → AreAnchored level js (all_inserted level is ms) → AreAnchored level (is ++ js) ms
 anchored_append level [] js ms first second = second
 anchored_append level (i ∷ is) js ms first second =
     (first.0, anchored_append level is js (if same_level i.level level then inserted i ms else ms) first.1 second)
 
--- levels that are told to be the same are
+-- levels that the test calls the same are the same
 same_level_is : (a b : Level) → same_level a b ≡ true → a ≡ b
 same_level_is One One same = refl
 same_level_is Two Two same = refl

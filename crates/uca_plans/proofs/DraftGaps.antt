@@ -1,4 +1,4 @@
--- Drafts without gaps: only a continuation directly behind a lead has one.
+-- Drafts without gaps: only a continuation directly after a lead has one.
 use Rattle.std.proofs.Common.{◌≡◌, ◌⊎◌, inl, inr, ℕ, ◌+◌, ◌<◌, ◌≤◌, true, false, List, [], ◌∷◌, ◌++◌, map, Option, Some, None, refl, sym, ap, ◌∙◌}
 use Rattle.std.proofs.Common.{arith, subst, append_assoc}
 use Rattle.std.specs.Bool.{⊤}
@@ -24,14 +24,14 @@ abbrev pub IsDraftLead : Option DraftElement → Type 0
 IsDraftLead None = ⊥
 IsDraftLead (Some e) = IsLeadWeight e.primary × (IsZero e.secondary → ⊥) × (IsZero e.tertiary → ⊥)
 
--- behind an element, or none, only a continuation directly after a lead has a gap
+-- after an element, or none, only a continuation directly after a lead has a gap
 abbrev pub HasNoGaps : Option DraftElement → List DraftElement → Type 0
 HasNoGaps before [] = ⊤
 HasNoGaps before (e ∷ es) = (HasDraftGap e → IsDraftContinuation e × IsDraftLead before) × HasNoGaps (Some e) es
 
 -- ---- Lists put together
 
--- what has no gaps has none behind any element
+-- what has no gaps has none after any element
 pub gaps_behind : (before : Option DraftElement) (es : List DraftElement) → HasNoGaps None es → HasNoGaps before es
 gaps_behind before [] whole = tt
 gaps_behind before (e ∷ es) whole = (λ gap. absurd (whole.0 gap).1, whole.1)
@@ -48,7 +48,7 @@ pub whole_in : (before : Option DraftElement) (front : List DraftElement) (e : D
 whole_in before [] e es whole none gap = none (whole.0 gap).0
 whole_in before (f ∷ front) e es whole none gap = whole_in (Some f) front e es whole.1 none gap
 
--- an element without a gap and a list without gaps in place of the rest
+-- an element without a gap and a list without gaps instead of the rest
 pub gaps_replaced : (before : Option DraftElement) (front : List DraftElement) (e f : DraftElement) (es fs : List DraftElement)
     → HasNoGaps before (front ++ e ∷ es)
     → (HasDraftGap f → ⊥) → HasNoGaps None fs → HasNoGaps before (front ++ f ∷ fs)
@@ -105,7 +105,7 @@ last_more [] e = refl
 last_more (f ∷ []) e = refl
 last_more (f ∷ g ∷ es) e = last_more (g ∷ es) e
 
--- elements without gaps behind others, as drafts
+-- elements without gaps after others, as drafts
 gapless_from : (done es : List Element)
     → ((before : List Element) (e : Element) (after : List Element) → done ++ es ≡ before ++ e ∷ after → HasGap e → IsContinuation e × EndsWithLead before)
     → HasNoGaps (last_draft done) (map (as_draft false) es)

@@ -105,7 +105,7 @@ reset_not_zero w weight some not none = elim (reset_cases w weight) [
   | inr is ↦ let same : Base weight ≡ Base 0 = sym is.1 ∙ none in let zero_weight : weight ≡ 0 = cc in absurd (omega arith)
 ]
 
--- with a new weight in place of one an element without a gap has none
+-- an element without a gap has none with a new weight in place of one
 pub reweighted_whole : (level : Level) (n : ℕ) (e : DraftElement) → (HasDraftGap e → ⊥) → (IsZero (draft_weight level e) → ⊥)
     → HasDraftGap (reweighted level (New n) e) → ⊥
 reweighted_whole One n e whole some (inl gap) = reset_not_zero e.secondary 0x20 (omega arith) (λ none. whole (inl (some, none))) gap.1
@@ -115,7 +115,7 @@ reweighted_whole Two n e whole some (inr gap) = reset_not_zero e.tertiary 2 (ome
 reweighted_whole Three n e whole some (inl gap) = whole (inl gap)
 reweighted_whole Three n e whole some (inr gap) = new_not_zero n gap.1
 
--- ---- Refused elements
+-- ---- Elements that take no weight
 
 -- an accepted element is no continuation
 pub accepted_no_continuation : (level : Level) (e : DraftElement) → takes_no_weight level e ≡ false → IsDraftContinuation e → ⊥
@@ -129,7 +129,7 @@ accepted_low e tested = high_tested e.primary (or_parts (is_continuation e) (is_
 
 -- ---- An anchor's part
 
--- an anchor's elements: its part, and ignorable ones behind it
+-- an anchor's elements: its part, and ignorable ones after it
 pub record IsAnchorPart (level : Level) (es : List DraftElement) (part : AnchorPart) : Type 0 where
   pub trailing : List DraftElement
   pub split : es ≡ part.front ++ part.last ∷ trailing
@@ -190,7 +190,7 @@ pub accepted_is : (level : Level) (found : Option AnchorPart) (part : AnchorPart
 accepted_is level None part accepted = absurd (cc)
 accepted_is level (Some p) part accepted = by_test (takes_no_weight level p.last) refl accepted
   where
-    -- by whether it is refused
+    -- by whether it takes a weight
     by_test : (b : Bool) → takes_no_weight level p.last ≡ b → (if b then None else Some p) ≡ Some part
         → (Some p ≡ Some part) × (takes_no_weight level part.last ≡ false)
     by_test true refused chosen = absurd (cc)

@@ -1,4 +1,4 @@
--- What holds of the elements of all rows and of implicit elements holds of what is read.
+-- What is true of the elements of all rows and of implicit elements is true of what is read.
 use Rattle.std.proofs.Common.{◌≡◌, ℕ, List, [], ◌∷◌, map, get_or, Bool, true, false, cond, Some, Contains, inl, inr, subst}
 use Rattle.std.specs.List.{AllByRecursion}
 use Rattle.std.proofs.lemmas.List.Elements.{recursion_from_All, All-contains_itself}
@@ -14,7 +14,7 @@ use Rattle.uca_plans.proofs.DraftPairs.{read_each}
 pub each_if_contained : {A : Type 0} (P : A → Type 0) (xs : List A) → ((x : A) → Contains xs x → P x) → AllByRecursion P xs
 each_if_contained P xs holds = recursion_from_All P xs (λ k d l. holds (get_or xs k d) (All-contains_itself xs k d l))
 
--- what holds of each row holds of the row of a key
+-- what is true of each row is true of the row of a key
 pub each_at : (P : List DraftElement → Type 0) (rows : List DraftRow) → AllByRecursion (λ row. P row.elements) rows → (key : List ℕ) (es : List DraftElement) →
     draft_at rows key ≡ Some es → P es
 each_at P [] holds key es found = cc

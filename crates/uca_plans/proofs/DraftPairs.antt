@@ -1,4 +1,5 @@
--- What holds of the elements of each draft row and of the implicit elements of each code point holds of the draft elements of a text.
+-- What is true of the elements of each draft row, and of the implicit elements of each code point, is true of the draft
+-- elements of a text.
 use Rattle.std.proofs.Common.{ℕ, Bool, true, false, List, [], ◌∷◌, ◌++◌, map}
 use Rattle.std.proofs.Common.{Some, unwrap_or, if◌then◌else◌}
 use Rattle.std.specs.List.{AllByRecursion, flat_map}
@@ -14,7 +15,7 @@ use Rattle.uca_weights.proofs.Lists.{each_contained}
 use Rattle.uca_plans.specs.declared.drafts.DraftElement.{DraftElement}
 use Rattle.uca_plans.specs.Drafts.{DraftRow, as_draft, has_key, draft_at, part_drafts, draft_elements}
 
--- what holds of each code point of a text holds of each of its letters
+-- what is true of each code point of a text is true of each of its letters
 each_letter : (P : ℕ → Type 0) (points classes : List ℕ) → AllByRecursion P points → AllByRecursion P (code_points (letters points classes))
 each_letter P [] classes all = tt
 each_letter P (c ∷ points) [] all = tt
@@ -31,7 +32,7 @@ module _ (P : List DraftElement → Type 0) (none : P []) (append : (es fs : Lis
       go true rest = all.0
       go false rest = rest
 
-  -- so it holds of the draft elements of a text
+  -- so it is true of the draft elements of a text
   pub read_each : (ranges : List ImplicitRange) (properties : Properties) (rows : List DraftRow) (text : NfdText)
       → AllByRecursion (λ row. P row.elements) rows
       → AllByRecursion (λ c. P (map (as_draft true) (implicit ranges properties c))) text.points

@@ -1,4 +1,4 @@
--- What holds of a level's list from relation to relation.
+-- What is true of a level's list from relation to relation.
 use Rattle.std.proofs.Common.{◌≡◌, ◌⊎◌, inl, inr, ℕ, ◌+◌, ◌<◌, ◌≤◌, Bool, List, [], ◌∷◌, map, refl, sym, ap, ◌∙◌, subst, arith}
 use Rattle.uca_weights.specs.declared.Element.{Element}
 use Rattle.uca_weights.specs.declared.Level.{Level}
@@ -59,7 +59,7 @@ among_or_not (m ∷ ms) w = elim (same_or_other w m) [
   ]
 ]
 
--- beside a weight that is no member nothing is put in
+-- next to a weight that is not a member nothing is put in
 pub not_inserted : (i : Insertion) (ms : List DraftWeight) → (IsAmong ms i.anchor → ⊥) → inserted i ms ≡ ms
 not_inserted i [] none = refl
 not_inserted i (m ∷ ms) none = elim (same_or_other i.anchor m) [
@@ -69,14 +69,14 @@ not_inserted i (m ∷ ms) none = elim (same_or_other i.anchor m) [
 
 -- ---- Good lists
 
--- The list of a level behind n relations: no member comes twice, its base members are the level's base weights in their
+-- The list of a level after n relations: no member comes twice. Its base members are the level's base weights in their
 -- order, and its names are those of the relations.
 pub record IsGoodList (level : Level) (es : List Element) (n : ℕ) (ms : List DraftWeight) : Type 0 where
   pub apart : AreApart ms
   pub base : bases ms ≡ base_weights level es
   pub names : (k : ℕ) → IsAmong ms (New k) → k < n
 
--- What later relations leave of a list behind n relations: its members stand as they did, and no name of the n comes in.
+-- What later relations leave of a list after n relations: its members keep their order, and no name of the n comes in.
 pub record IsGrown (n : ℕ) (ms ns : List DraftWeight) : Type 0 where
   pub old : (w : DraftWeight) → IsAmong ms w → IsAmong ns w
   pub kept : (v w : DraftWeight) → StandsBefore ms v w → StandsBefore ns v w
@@ -88,7 +88,7 @@ pub good_fixed : (level : Level) (es : List Element) (n : ℕ) (ms : List DraftW
     → IsAmong ms (Base (fixed_weight level))
 good_fixed level es n ms good = bases_among ms (fixed_weight level) (subst (λ ws. IsAmong ws (fixed_weight level)) (sym good.base) (fixed_base level es))
 
--- base weights are apart
+-- base weights are distinct
 apart_base : (ws : List ℕ) → IsRising ws → AreApart (map Base ws)
 apart_base [] rising = tt
 apart_base (w ∷ ws) rising = (λ among. twice (among_bases (map Base ws) w among), apart_base ws rising.1)
@@ -111,7 +111,7 @@ good_base level es = record {
   names = λ k among. absurd (no_name (base_weights level es) k among);
 }
 
--- a good list is one behind more relations
+-- a good list is a good list after more relations
 pub good_more : (level : Level) (es : List Element) (n : ℕ) (ms : List DraftWeight) → IsGoodList level es n ms → IsGoodList level es (n + 1) ms
 good_more level es n ms good = record { apart = good.apart; base = good.base; names = λ k among. omega (arith, good.names k among) }
 

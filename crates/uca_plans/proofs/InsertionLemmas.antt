@@ -5,7 +5,7 @@ use Rattle.uca_plans.specs.Lists.{Insertion, inserted, same_weight, before_weigh
 use Rattle.uca_plans.specs.ListLaws.{IsAmong, StandsBefore, AreApart, NewWeightsStandNearest, NothingStandsBetween, NewWeightsTakePlaces}
 use Rattle.uca_plans.proofs.ListMembers.{same_or_other, second_among, behind_first, among_same}
 
--- a new weight put directly before or behind the first place of another
+-- a new weight put directly before or after the first position of another
 pub data Inserts (a n : DraftWeight) : Bool → List DraftWeight → List DraftWeight → Type 0 where
   ahead : {ms : List DraftWeight} → Inserts a n true (a ∷ ms) (n ∷ a ∷ ms)
   behind : {ms : List DraftWeight} → Inserts a n false (a ∷ ms) (a ∷ n ∷ ms)
@@ -13,7 +13,7 @@ pub data Inserts (a n : DraftWeight) : Bool → List DraftWeight → List DraftW
 
 -- ---- The function inserts so
 
--- at the first place
+-- at the first position
 inserts_here : (a n : DraftWeight) (b : Bool) (ms : List DraftWeight) → Inserts a n b (a ∷ ms) (if b then n ∷ a ∷ ms else a ∷ n ∷ ms)
 inserts_here a n true ms = ahead
 inserts_here a n false ms = behind
@@ -23,7 +23,7 @@ pub later_among : (m : DraftWeight) (ms : List DraftWeight) (w : DraftWeight) �
 later_among m ms w other (inl here) = absurd (other (sym here))
 later_among m ms w other (inr there) = there
 
--- an insertion beside a member inserts so
+-- an insertion next to a member puts the new weight there
 pub inserts : (i : Insertion) (ms : List DraftWeight) → IsAmong ms i.anchor → Inserts i.anchor i.new i.before ms (inserted i ms)
 inserts i [] among = absurd among
 inserts i (m ∷ ms) among = elim (same_or_other i.anchor m) [
@@ -89,7 +89,7 @@ inserts_apart {n = n} (later {m = m} other h) apart fresh = (
 
 -- ---- The order
 
--- the new one stands on its side
+-- the new one comes on its side
 inserts_beside : {a n : DraftWeight} {b : Bool} {ms ns : List DraftWeight} → Inserts a n b ms ns
     → ((b ≡ true) × StandsBefore ns n a) ⊎ ((b ≡ false) × StandsBefore ns a n)
 inserts_beside ahead = inl (refl, inl (refl, inl refl))
@@ -99,7 +99,7 @@ inserts_beside (later other h) = elim (inserts_beside h) [
   | inr after ↦ inr (after.0, inr after.1)
 ]
 
--- the old ones stand as they did
+-- the old ones keep their order
 pub inserts_kept : {a n : DraftWeight} {b : Bool} {ms ns : List DraftWeight} (v w : DraftWeight) → Inserts a n b ms ns → StandsBefore ms v w
     → StandsBefore ns v w
 inserts_kept v w ahead stands = inr stands
@@ -108,7 +108,7 @@ inserts_kept v w behind (inr there) = inr (inr there)
 inserts_kept v w (later other h) (inl here) = inl (here.0, inserts_old w h here.1)
 inserts_kept v w (later other h) (inr there) = inr (inserts_kept v w h there)
 
--- what stands before the anchor's weight stands before the new one
+-- what comes before the anchor's weight comes before the new one
 inserts_below : {a n : DraftWeight} {b : Bool} {ms ns : List DraftWeight} (v : DraftWeight) → Inserts a n b ms ns → AreApart ms → StandsBefore ms v a
     → StandsBefore ns v n
 inserts_below {a = a} v (ahead {ms = ms}) apart stands = absurd (apart.0 (behind_first a ms v a stands))
@@ -116,7 +116,7 @@ inserts_below {a = a} v (behind {ms = ms}) apart stands = absurd (apart.0 (behin
 inserts_below v (later other h) apart (inl here) = inl (here.0, inserts_new h)
 inserts_below v (later other h) apart (inr there) = inr (inserts_below v h apart.1 there)
 
--- what stands behind the anchor's weight stands behind the new one
+-- what comes after the anchor's weight comes after the new one
 inserts_above : {a n : DraftWeight} {b : Bool} {ms ns : List DraftWeight} (w : DraftWeight) → Inserts a n b ms ns → StandsBefore ms a w
     → StandsBefore ns n w
 inserts_above {a = a} w (ahead {ms = ms}) stands = inl (refl, inr (behind_first a ms a w stands))
@@ -126,7 +126,7 @@ inserts_above w (later other h) (inr there) = inr (inserts_above w h there)
 
 -- ---- Nothing between
 
--- nothing stands behind the anchor's weight and before the new one
+-- nothing is after the anchor's weight and before the new one
 none_behind : {a n : DraftWeight} {b : Bool} {ms ns : List DraftWeight} (w : DraftWeight) → Inserts a n b ms ns → AreApart ns
     → StandsBefore ns a w → StandsBefore ns w n → ⊥
 none_behind {a = a} {n = n} w (ahead {ms = ms}) apart first second = apart.0 (behind_first n (a ∷ ms) w n second)
@@ -136,7 +136,7 @@ none_behind w (later other h) apart (inl here) second = other (sym here.0)
 none_behind {a = a} w (later {m = m} {ns = ns} other h) apart (inr there) (inl here) = apart.0 (among_same ns w m (sym here.0) (second_among ns a w there))
 none_behind w (later other h) apart (inr there) (inr also) = none_behind w h apart.1 there also
 
--- nothing stands behind the new weight and before the anchor's
+-- nothing is after the new weight and before the anchor's
 none_before : {a n : DraftWeight} {b : Bool} {ms ns : List DraftWeight} (w : DraftWeight) → Inserts a n b ms ns → AreApart ns
     → StandsBefore ns n w → StandsBefore ns w a → ⊥
 none_before {a = a} {n = n} w (ahead {ms = ms}) apart first (inl here) = apart.0 (among_same (a ∷ ms) w n (sym here.0) (behind_first n (a ∷ ms) n w first))
@@ -146,7 +146,7 @@ none_before {n = n} w (later {m = m} {ns = ns} other h) apart (inl here) second 
 none_before {n = n} w (later {m = m} {ns = ns} other h) apart (inr there) (inl here) = apart.0 (among_same ns w m (sym here.0) (second_among ns n w there))
 none_before w (later other h) apart (inr there) (inr also) = none_before w h apart.1 there also
 
--- others than the new one stood as they do
+-- others than the new one were in the order that they are in
 pub inserts_stood : {a n : DraftWeight} {b : Bool} {ms ns : List DraftWeight} (v w : DraftWeight) → Inserts a n b ms ns
     → (v ≡ n → ⊥) → (w ≡ n → ⊥) → StandsBefore ns v w → StandsBefore ms v w
 inserts_stood v w ahead old_v old_w (inl here) = absurd (old_v (sym here.0))
@@ -160,7 +160,7 @@ inserts_stood v w (later other h) old_v old_w (inl here) = elim (inserts_from w 
 ]
 inserts_stood v w (later other h) old_v old_w (inr there) = inr (inserts_stood v w h old_v old_w there)
 
--- ---- Places
+-- ---- Positions
 
 -- the anchor's weight is a member
 inserts_anchor : {a n : DraftWeight} {b : Bool} {ms ns : List DraftWeight} → Inserts a n b ms ns → IsAmong ms a
@@ -175,7 +175,7 @@ not_same f n other = elim (same_or_other f n) [
   | inr not ↦ not.0
 ]
 
--- what an insertion adds to the members before a weight and to those behind it
+-- what an insertion adds to the members before a weight and to those after it
 abbrev TakesOne : DraftWeight → DraftWeight → Bool → List DraftWeight → List DraftWeight → Type 0
 TakesOne f a b ms ns =
     ((StandsBefore ms a f ⊎ ((a ≡ f) × (b ≡ true)))
@@ -189,7 +189,7 @@ takes_later : (f a m : DraftWeight) (b : Bool) (ms ns : List DraftWeight) → sa
 takes_later f a m b ms ns other (inl low) = rw other (inl (elim low.0 [ inl stands ↦ inl (inr stands) | inr same ↦ inr same ], omega (arith, low.1), low.2))
 takes_later f a m b ms ns other (inr high) = rw other (inr (elim high.0 [ inl stands ↦ inl (inr stands) | inr same ↦ inr same ], omega (arith, high.1), high.2))
 
--- an insertion adds one before the weight or one behind it
+-- an insertion adds one before the weight or one after it
 takes_one : {a n : DraftWeight} {b : Bool} {ms ns : List DraftWeight} (f : DraftWeight) → Inserts a n b ms ns → IsAmong ms f → (n ≡ f → ⊥)
     → TakesOne f a b ms ns
 takes_one {a = a} {n = n} f (ahead {ms = ms}) among new =
@@ -211,7 +211,7 @@ takes_one {a = a} {n = n} {b = b} f (later {m = m} {ms = ms} {ns = ns} other h) 
 
 -- ---- The laws
 
--- a new weight stands nearest its anchor's
+-- a new weight is next to its anchor's
 pub stands_nearest : NewWeightsStandNearest
 stands_nearest i members apart among fresh =
     let h = inserts i members among in
@@ -231,7 +231,7 @@ stands_nearest i members apart among fresh =
       above = λ w. inserts_above w h;
     }
 
--- nothing stands between a new weight and its anchor's
+-- nothing is between a new weight and its anchor's
 pub stands_next : NothingStandsBetween
 stands_next i members apart among fresh =
     let h = inserts i members among in
@@ -245,6 +245,6 @@ stands_next i members apart among fresh =
       );
     }
 
--- a new weight takes one place of one segment
+-- a new weight takes one position of one segment
 pub takes_one_place : NewWeightsTakePlaces
 takes_one_place fixed i members among anchor new = takes_one fixed (inserts i members anchor) among new

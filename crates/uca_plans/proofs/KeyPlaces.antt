@@ -1,4 +1,4 @@
--- The places of keys, and what one more key changes.
+-- The positions of keys, and what one more key changes.
 use Rattle.std.proofs.Common.{◌≡◌, ◌≢◌, ℕ, ◌+◌, List, [], ◌∷◌, ◌++◌, Bool, true, false, cond, ◌||◌, is_some, Some, None, refl, sym, ap, ◌∙◌, ⊎_elim}
 use Rattle.std.specs.List.{AllByRecursion}
 use Rattle.std.proofs.Math.Bool.{or-false}
@@ -11,11 +11,11 @@ use Rattle.uca_plans.specs.Readings.{IsOneMore}
 use Rattle.uca_match.specs.Positions.{place_at}
 use Rattle.uca_plans.specs.Keys.{keys_in, is_among, with_key, with_targets}
 
--- other keys are told apart
+-- other keys are not the same key
 pub same_key-other : (a b : List ℕ) → a ≢ b → same_key a b ≡ false
 same_key-other a b other = false_from_ne_true (same_key a b) (λ same. other (same_key-true a b same))
 
--- the test does not tell its two keys apart
+-- the test says that its two keys are the same
 pub same_key-sym : (a b : List ℕ) → same_key a b ≡ same_key b a
 same_key-sym a b =
     ⊎_elim
@@ -51,7 +51,7 @@ keys_with_row new (row ∷ rows) = go (same_key row.key new.key) refl (keys_with
 
 -- ---- One more key
 
--- it stands behind the others, if it is none of them
+-- it comes after the others, if it is none of them
 pub with_key_is : (new : List ℕ) (keys : List (List ℕ)) → with_key new keys ≡ cond (is_among keys new) keys (keys ++ new ∷ [])
 with_key_is new [] = refl
 with_key_is new (key ∷ keys) = go (same_key key new) (is_among keys new) (with_key_is new keys)
@@ -62,7 +62,7 @@ with_key_is new (key ∷ keys) = go (same_key key new) (is_among keys new) (with
     go false true later = ap (λ more. key ∷ more) later
     go false false later = ap (λ more. key ∷ more) later
 
--- what holds of each key and of one more holds of each with it
+-- what is true of each key and of one more is true of each with it
 pub each_with_key : (P : List ℕ → Type 0) (new : List ℕ) (keys : List (List ℕ)) → P new → AllByRecursion P keys → AllByRecursion P (with_key new keys)
 each_with_key P new [] here each = (here, tt)
 each_with_key P new (key ∷ keys) here each = go (same_key key new) (each_with_key P new keys here each.1)
@@ -86,7 +86,7 @@ among_with_key new (k ∷ keys) key = go (same_key k new) refl (same_key k key) 
         ap (λ d. d || is_among keys key) f ∙ sym (ap (λ d. is_among keys key || d) other ∙ or-false (is_among keys key))
     go false e false f later = ap (λ d. d || is_among (with_key new keys) key) f ∙ later
 
--- a key keeps its place, unless it is the new one
+-- a key keeps its position, unless it is the new one
 pub place_stays : (place : ℕ) (new : List ℕ) (keys : List (List ℕ)) (key : List ℕ) → (same_key new key ≡ true → is_among keys key ≡ true) →
     place_at place (with_key new keys) key ≡ place_at place keys key
 place_stays place new [] key there =
@@ -141,7 +141,7 @@ row_of_others new (row ∷ rows) key other = go (same_key row.key new.key) refl 
         ∙ sym (cond-false (same_key row.key key) (Some row.elements) (draft_at rows key) (ap (λ k. same_key k key) (same_key-true row.key new.key e) ∙ not_new))
     go false e later = ap (cond (same_key row.key key) (Some row.elements)) later
 
--- one more row: what each key then has, and where it stands
+-- one more row: what each key then has, and where it is
 pub one_more_row : (new : DraftRow) (rows : List DraftRow) → IsOneMore new rows
 one_more_row new rows =
     record {

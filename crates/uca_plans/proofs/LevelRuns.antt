@@ -25,7 +25,7 @@ use Rattle.uca_plans.proofs.GoodLists.{IsGoodList, good_fixed}
 
 -- ---- Runs that rise from 1 on
 
--- runs that rise behind a run
+-- runs that rise after a run
 rising_behind : (level : Level) (s : Run) (runs : List Run) → 0 < s.from → 0 < s.to
     → AreRunsFrom (weights_end level) (s.from + s.count) (s.to + s.count) runs → AreRising level (Some s) runs
 rising_behind level s [] from to rise = tt
@@ -38,7 +38,7 @@ rising_behind level s (r ∷ runs) from to rise = (
   rising_behind level r runs (omega (arith, rise.1)) (omega (arith, rise.2)) rise.5,
 )
 
--- runs that rise from 1 on are proper, one behind the other
+-- runs that rise from 1 on are proper
 pub rising_from_one : (level : Level) (runs : List Run) → AreRunsFrom (weights_end level) 1 1 runs → AreRising level None runs
 rising_from_one level [] rise = tt
 rising_from_one level (r ∷ runs) rise = (

@@ -1,4 +1,4 @@
--- Members of a level's list, and how they stand to one another.
+-- Members of a level's list, and their order.
 use Rattle.std.proofs.Common.{◌≡◌, ◌⊎◌, inl, inr, true, false, List, [], ◌∷◌, ◌++◌, refl, sym, ap, arith, subst}
 use Rattle.std.proofs.lemmas.Bool.{cases_eq}
 use Rattle.std.proofs.lemmas.Bool.Decides.{nat_tests}
@@ -10,7 +10,7 @@ use Rattle.uca_plans.specs.ListLaws.{IsAmong, StandsBefore, AreApart}
 
 -- ---- Equal weights
 
--- the test of two weights answers as they are
+-- the test of two weights says whether they are the same
 pub same_or_other : (v w : DraftWeight) → ((same_weight v w ≡ true) × (v ≡ w)) ⊎ ((same_weight v w ≡ false) × (v ≡ w → ⊥))
 same_or_other (Base v) (Base w) = elim (cases_eq v w) [
   | inl same ↦ inl (grind (arith, nat_tests), ap Base same)
@@ -32,30 +32,30 @@ same_itself v w same = elim (same_or_other v w) [
 
 -- ---- Members
 
--- what holds of each holds of a member
+-- what is true of each is true of a member
 pub of_each : {A : Type 0} (P : A → Type 0) (xs : List A) (x : A) → AllByRecursion P xs → IsAmong xs x → P x
 of_each P [] x all among = absurd among
 of_each P (y ∷ xs) x all (inl here) = subst P here all.0
 of_each P (y ∷ xs) x all (inr there) = of_each P xs x all.1 there
 
--- what holds of each member holds of each
+-- what is true of each member is true of each
 pub each_of : {A : Type 0} (P : A → Type 0) (xs : List A) → ((x : A) → IsAmong xs x → P x) → AllByRecursion P xs
 each_of P [] each = tt
 each_of P (x ∷ xs) each = (each x (inl refl), each_of P xs (λ y among. each y (inr among)))
 
--- what stands before another is a member
+-- what comes before another is a member
 pub first_among : (ms : List DraftWeight) (v w : DraftWeight) → StandsBefore ms v w → IsAmong ms v
 first_among [] v w stands = stands
 first_among (m ∷ ms) v w (inl here) = inl here.0
 first_among (m ∷ ms) v w (inr there) = inr (first_among ms v w there)
 
--- what stands behind another is a member
+-- what comes after another is a member
 pub second_among : (ms : List DraftWeight) (v w : DraftWeight) → StandsBefore ms v w → IsAmong ms w
 second_among [] v w stands = stands
 second_among (m ∷ ms) v w (inl here) = inr here.1
 second_among (m ∷ ms) v w (inr there) = inr (second_among ms v w there)
 
--- what stands behind the first is a member of the rest
+-- what comes after the first is a member of the rest
 pub behind_first : (m : DraftWeight) (ms : List DraftWeight) (v w : DraftWeight) → StandsBefore (m ∷ ms) v w → IsAmong ms w
 behind_first m ms v w (inl here) = here.1
 behind_first m ms v w (inr there) = second_among ms v w there
@@ -64,7 +64,7 @@ behind_first m ms v w (inr there) = second_among ms v w there
 pub among_same : (ms : List DraftWeight) (v w : DraftWeight) → v ≡ w → IsAmong ms v → IsAmong ms w
 among_same ms v w same among = subst (λ x. IsAmong ms x) same among
 
--- where no member comes twice, none stands before itself
+-- where no member comes twice, none comes before itself
 pub not_before_itself : (ms : List DraftWeight) (v : DraftWeight) → AreApart ms → StandsBefore ms v v → ⊥
 not_before_itself [] v apart stands = stands
 not_before_itself (m ∷ ms) v apart (inl here) = apart.0 (among_same ms v m (sym here.0) here.1)
@@ -72,7 +72,7 @@ not_before_itself (m ∷ ms) v apart (inr there) = not_before_itself ms v apart.
 
 -- ---- Lists cut at a member
 
--- a list is the members before one, that one, and those behind it
+-- a list is the members before one, that one, and those after it
 pub weight_split : (w : DraftWeight) (ms : List DraftWeight) → IsAmong ms w → before_weight w ms ++ w ∷ behind_weight w ms ≡ ms
 weight_split w [] among = absurd among
 weight_split w (m ∷ ms) among = elim (same_or_other w m) [

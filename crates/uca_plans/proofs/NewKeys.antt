@@ -1,4 +1,4 @@
--- The keys of a plan's rows: those of the base, and behind them the targets that are none of them.
+-- The keys of a plan's rows: those of the base, and after them the targets that are none of them.
 use Rattle.std.proofs.Common.{◌≡◌, ◌≢◌, inl, inr, ℕ, Bool, true, false, cond, not, ◌||◌, List, [], ◌∷◌, ◌++◌, map, refl, sym, ap, ◌∙◌, append_assoc}
 use Rattle.std.specs.List.{AllByRecursion, filter}
 use Rattle.std.proofs.Math.Bool.{or-false}
@@ -24,7 +24,7 @@ targets relations = map (λ r. r.target.points) relations
 abbrev others_than : List (List ℕ) → List (List ℕ) → List (List ℕ)
 others_than keys texts = filter (λ key. not (is_among keys key)) texts
 
--- what holds of each relation with others before and behind it holds of all
+-- what is true of each relation, with others before and after it, is true of all
 each_part : (P : Relation → Type 0) (relations : List Relation)
     → ((before after : List Relation) (r : Relation) → relations ≡ before ++ r ∷ after → P r) → AllByRecursion P relations
 each_part P [] parts = tt
@@ -55,7 +55,7 @@ others_kept new keys (s ∷ relations) others =
     ap (λ b. cond (not b) (s.target.points ∷ others_than (with_key new keys) (targets relations)) (others_than (with_key new keys) (targets relations))) same
     ∙ ap (λ rest. cond (not (is_among keys s.target.points)) (s.target.points ∷ rest) rest) (others_kept new keys relations others.1)
 
--- targets stand behind keys, without those that are among them
+-- targets come after keys, without those that are among them
 behind_keys : (keys : List (List ℕ)) (relations : List Relation) → AreDistinct relations
     → with_targets relations keys ≡ keys ++ others_than keys (targets relations)
 behind_keys keys [] distinct = sym (append-nil keys)

@@ -12,7 +12,7 @@ use Rattle.uca_plans.specs.OnePass.{one_further, numbers_from}
 
 -- ---- One member more
 
--- the place behind one more member
+-- the position after one more member
 pub pushed_more : (least : ℕ) (xs : List DraftWeight) (m : DraftWeight) → pushed_up (least + 1) (xs ++ m ∷ []) ≡ one_further m (pushed_up least xs)
 pushed_more least [] (Base w) = omega arith
 pushed_more least [] (New n) = refl
@@ -20,13 +20,13 @@ pushed_more least (Base v ∷ xs) (Base w) = let more = pushed_more least xs (Ba
 pushed_more least (Base v ∷ xs) (New n) = let more = pushed_more least xs (New n) in let longer = length-append xs (New n ∷ []) in omega arith
 pushed_more least (New p ∷ xs) m = pushed_more least xs m
 
--- what is reached behind one more member
+-- what is reached after one more member
 pub reached_more : (segment : Segment) (xs : List DraftWeight) (m : DraftWeight) → reached segment (xs ++ m ∷ []) ≡ one_further m (reached segment xs)
 reached_more segment xs m =
     let longer : segment.below + length (xs ++ m ∷ []) ≡ (segment.below + length xs) + 1 = omega (arith, length-append xs (m ∷ [])) in
     ap (λ least. pushed_up least (xs ++ m ∷ [])) longer ∙ pushed_more (segment.below + length xs) xs m
 
--- all members stand above the least
+-- all members are above the least
 pub pushed_least : (least : ℕ) (xs : List DraftWeight) → least ≤ pushed_up least xs
 pushed_least least [] = omega arith
 pushed_least least (Base w ∷ xs) = let more = pushed_least least xs in omega arith
@@ -38,7 +38,7 @@ pushed_further least [] ys = pushed_least (least + length ys) ys
 pushed_further least (Base v ∷ xs) ys = let more = pushed_further least xs ys in let longer = length-append xs ys in omega arith
 pushed_further least (New p ∷ xs) ys = pushed_further least xs ys
 
--- behind more members is reached at least as many places more
+-- after more members is reached at least as many positions more
 pub reached_further : (segment : Segment) (xs ys : List DraftWeight) → reached segment xs + length ys ≤ reached segment (xs ++ ys)
 reached_further segment xs ys =
     let further = pushed_further (segment.below + length xs) xs ys in
@@ -46,11 +46,11 @@ reached_further segment xs ys =
     let same = ap (λ least. pushed_up least (xs ++ ys)) longer in
     omega (arith, further, same)
 
--- a first base member is at the first place
+-- a first base member is at the first position
 base_first : (w : ℕ) (xs : List DraftWeight) → IsBaseAt (Base w ∷ xs) 1 w
 base_first w xs = ([], xs, refl, refl)
 
--- a base member stands one place further behind one more member
+-- a base member is one position further after one more member
 base_later : (x : DraftWeight) (xs : List DraftWeight) (j w : ℕ) → IsBaseAt xs j w → IsBaseAt (x ∷ xs) (j + 1) w
 base_later x xs j w at = (x ∷ at.0, at.1, ap (λ rest. x ∷ rest) at.2, omega (arith, at.3))
 
@@ -58,7 +58,7 @@ base_later x xs j w at = (x ∷ at.0, at.1, ap (λ rest. x ∷ rest) at.2, omega
 base_longer : (xs ys : List DraftWeight) (j w : ℕ) → IsBaseAt xs j w → IsBaseAt (xs ++ ys) j w
 base_longer xs ys j w at = (at.0, at.1 ++ ys, ap (λ rest. rest ++ ys) at.2 ∙ append_assoc at.0 (Base w ∷ at.1) ys, at.3)
 
--- the last place is the least that leaves each base member room
+-- the last position is the least that leaves each base member room
 pub pushed_most : (least top : ℕ) (xs : List DraftWeight) → least < top → ((j w : ℕ) → IsBaseAt xs j w → w + (length xs - j) < top)
     → pushed_up least xs < top
 pushed_most least top [] low each = low
@@ -71,7 +71,7 @@ pushed_most least top (New n ∷ xs) low each =
 
 -- ---- The number of a member
 
--- the number of the member behind some others
+-- the number of the member after some others
 pub number_here : (segment : Segment) (before : List DraftWeight) (m : DraftWeight) (behind : List DraftWeight)
     → number segment (before ++ m ∷ behind) (length before + 1) ≡ min (one_further m (reached segment before)) (segment.top - length behind)
 number_here segment before m behind =
@@ -139,7 +139,7 @@ less_number segment members places i m i_within m_within less = elim (cases_lt i
   ]
 ]
 
--- the same, by the members before it and behind it
+-- the same, by the members before it and after it
 kept_here : (segment : Segment) (before behind : List DraftWeight) (weight : ℕ)
     → HasRoomAt segment (before ++ Base weight ∷ behind) (length before + 1) weight
     → number segment (before ++ Base weight ∷ behind) (length before + 1) ≡ weight
@@ -160,7 +160,7 @@ number_kept segment members i weight at room =
     let here : HasRoomAt segment (at.0 ++ Base weight ∷ at.1) (length at.0 + 1) weight = rw (at.2, at.3) at room in
     rw (at.2, at.3) (kept_here segment at.0 at.1 weight here)
 
--- a number stands above the segment's beginning
+-- a number is above the segment's beginning
 pub number_above : (segment : Segment) (members : List DraftWeight) → HasPlaces segment members → (i : ℕ) → 1 ≤ i → i ≤ length members
     → segment.below < number segment members i
 number_above segment members places i first within =

@@ -1,4 +1,4 @@
--- Rows by their places: where one more row stands.
+-- Rows by their positions: where one more row goes.
 use Rattle.std.proofs.Common.{◌≡◌, ℕ, suc, ◌+◌, ◌<◌, List, [], ◌∷◌, ◌++◌, length, set, Bool, true, false, ◌||◌}
 use Rattle.std.proofs.Common.{Some, None, refl, sym, ap, ◌∙◌, arith}
 use Rattle.std.proofs.lemmas.Bool.{false≢true, cond-true, cond-false, or_parts}
@@ -8,9 +8,9 @@ use Rattle.uca_plans.specs.Drafts.{DraftRow, with_row, has_key}
 use Rattle.uca_match.specs.Positions.{place_at}
 use Rattle.uca_plans.specs.Keys.{keys_in, is_among, with_key}
 
--- ---- Where one more row stands
+-- ---- Where one more row goes
 
--- where its key has a place, the row of that place is replaced
+-- where its key has a position, the row of that position is replaced
 pub record IsRowAt (place : ℕ) (new : DraftRow) (rows : List DraftRow) (i : ℕ) : Type 0 where
   pub within : i < length rows
   pub stands : place_at place (keys_in rows) new.key ≡ Some (place + i)
@@ -43,7 +43,7 @@ row_there place new (row ∷ rows) there = go (same_key row.key new.key) refl (r
           },
         )
 
--- the row of the place that was found
+-- the row of the position that was found
 pub row_at : (new : DraftRow) (rows : List DraftRow) (i : ℕ) → has_key rows new.key ≡ true → place_at 0 (keys_in rows) new.key ≡ Some i →
     (i < length rows) × (with_row new rows ≡ set rows i new)
 row_at new rows i there found =
@@ -53,14 +53,14 @@ row_at new rows i there found =
     let is : here.0 ≡ i = omega (arith, same) in
     (omega (arith, here.1.within), here.1.replaced ∙ ap (λ k. set rows k new) is)
 
--- a row with a new key stands behind the others
+-- a row with a new key comes after the others
 pub row_behind : (new : DraftRow) (rows : List DraftRow) → has_key rows new.key ≡ false → with_row new rows ≡ rows ++ new ∷ []
 row_behind new [] other = refl
 row_behind new (row ∷ rows) other =
     let parts = or_parts (same_key row.key new.key) (has_key rows new.key) other in
     cond-false (same_key row.key new.key) (new ∷ rows) (row ∷ with_row new rows) parts.0 ∙ ap (λ more. row ∷ more) (row_behind new rows parts.1)
 
--- and its place is their number
+-- and its position is their number
 pub place_behind : (place : ℕ) (new : List ℕ) (keys : List (List ℕ)) → is_among keys new ≡ false →
     place_at place (with_key new keys) new ≡ Some (place + length keys)
 place_behind place new [] other =

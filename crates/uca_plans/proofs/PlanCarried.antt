@@ -31,7 +31,7 @@ use Rattle.uca_plans.proofs.PlanHolds.{IsListed, FitsWeight, IsFitting, Holds, C
 
 -- ---- Rows
 
--- what holds of a row and of others holds of each with it in its place
+-- what is true of a row and of others is true of each with it in its position
 pub with_row_each : (P : DraftRow → Type 0) (new : DraftRow) (rows : List DraftRow) → P new → AllByRecursion P rows
     → AllByRecursion P (with_row new rows)
 with_row_each P new [] it all = (it, tt)
@@ -126,8 +126,8 @@ same_level_itself One = refl
 same_level_itself Two = refl
 same_level_itself Three = refl
 
--- What a step at a level does: an accepted part of the anchor is found; its last element was held, is no gap's, and has a weight
--- of the level's list; and the new weight is in the list behind it.
+-- What a step at a level does. An accepted part of the anchor is found. Its last element was there, has no gap, and has
+-- a weight of the level's list. The new weight is in the list after the step.
 pub record IsPlacedStep (basis : Basis) (n : ℕ) (rule : Relation) (a b : Drafting) (holds : Holds basis n a) (step : IsStep basis n rule a b)
     (level : Level) : Type 1 where
   pub placed : IsPlacedDraft level rule.before n (anchor_at basis a rule) (draft_expansion basis a rule.expansion) step.new
@@ -143,7 +143,7 @@ pub part_each : (P : DraftElement → Type 0) (level : Level) (es : List DraftEl
 part_each P level es part found all =
     let parts = each_parts P part.front (part.last ∷ found.trailing) (subst (AllByRecursion P) found.split all) in (parts.0, parts.1.0)
 
--- the list behind a step at a level is the one before it, with the new weight put in
+-- the list after a step at a level is the one before it, with the new weight put in
 pub placed_list : (basis : Basis) (n : ℕ) (rule : Relation) (a b : Drafting) (step : IsStep basis n rule a b) (level : Level) (i : Insertion)
     → i.level ≡ level → step.new.insertions ≡ i ∷ [] → list_at level basis b ≡ inserted i (list_at level basis a)
 placed_list basis n rule a b step level i at_level insertions =
@@ -152,7 +152,7 @@ placed_list basis n rule a b step level i at_level insertions =
     ∙ ap (λ test. if test then inserted i (list_at level basis a) else list_at level basis a)
     (ap (λ other. same_level other level) at_level ∙ same_level_itself level)
 
--- the new weight is in the list behind a step
+-- the new weight is in the list after a step
 new_member : (basis : Basis) (n : ℕ) (rule : Relation) (a b : Drafting) (step : IsStep basis n rule a b) (level : Level) (before : Bool)
     (anchor expansion : List DraftElement) (placed : IsPlacedDraft level before n anchor expansion step.new)
     → IsAmong (list_at level basis a) (draft_weight level placed.part.last) → IsAmong (list_at level basis b) (New n)
@@ -171,7 +171,7 @@ scalar_below c scalar = grind arith
 pub text_points : (text : NfdText) → IsRuleText text → AllByRecursion (λ c. c < 0x11_0000) text.points
 text_points text is = each_weaker IsScalar (λ c. c < 0x11_0000) scalar_below text.points is.normal.scalars
 
--- the elements of an expansion are held, without gaps
+-- the elements of an expansion are among the elements so far, without gaps
 expansion_held : (basis : Basis) (n : ℕ) (a : Drafting) (holds : Holds basis n a) → AreImplicitRanges basis.ranges → (expansion : Option NfdText)
     → IfSome expansion IsRuleText
     → AllByRecursion holds.E (draft_expansion basis a expansion) × HasNoGaps None (draft_expansion basis a expansion)
@@ -180,7 +180,7 @@ expansion_held basis n a holds ranges (Some text) texts = read_held basis n a ho
 
 -- ---- One step
 
--- the invariant holds behind a step, of any elements that are listed and fit, where the new row is made of them
+-- the invariant holds after a step, of any elements that are listed and fit, where the new row is made of them
 step_holds : (basis : Basis) (n : ℕ) (rule : Relation) (a b : Drafting) (holds : Holds basis n a) (step : IsStep basis n rule a b) (F : DraftElement → Type 0)
     → ((e : DraftElement) → holds.E e → F e)
     → ((e : DraftElement) → F e → IsListed (list_at One basis b) (list_at Two basis b) (list_at Three basis b) e)

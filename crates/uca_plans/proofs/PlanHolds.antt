@@ -1,4 +1,4 @@
--- What holds of drafts behind some relations, and how texts are read then.
+-- What is true of drafts after some relations, and how texts are read then.
 use Rattle.std.proofs.Common.{◌≡◌, ◌⊎◌, inl, inr, ℕ, ◌+◌, ◌<◌, ◌≤◌, true, false, List, [], ◌∷◌, ◌++◌, map, None, refl, sym, ap, arith, subst}
 use Rattle.std.proofs.lemmas.Bool.{cases_lt}
 use Rattle.std.specs.Bool.{⊤}
@@ -63,9 +63,9 @@ IsReadImplicit e =
 
 -- ---- The invariant
 
--- What holds of drafts behind n relations: the list of each level is good; the elements so far, those of replaced rows
--- and all that implicit weights give among them, have weights of the lists, of 16 bits; the rows are made of these, without
--- gaps.
+-- What is true of drafts after n relations. The list of each level is good. The elements so far include those of
+-- replaced rows and all that implicit weights give; they have weights of the lists, of 16 bits. The rows are made of
+-- these, without gaps.
 pub record Holds (basis : Basis) (n : ℕ) (a : Drafting) : Type 1 where
   pub E : DraftElement → Type 0
   pub lists : HasGoodLists basis n a
@@ -75,7 +75,7 @@ pub record Holds (basis : Basis) (n : ℕ) (a : Drafting) : Type 1 where
   pub held : AllByRecursion (λ row. AllByRecursion E row.elements) a.rows
   pub gapless : AllByRecursion (λ row. HasNoGaps None row.elements) a.rows
 
--- What later relations make of it: it holds behind them, no element is lost, and the lists have grown.
+-- What later relations make of it: it is true after them, no element is lost, and the lists have grown.
 pub record Carries (basis : Basis) (n m : ℕ) (a b : Drafting) (holds : Holds basis n a) : Type 1 where
   pub behind : Holds basis m b
   pub elements : (e : DraftElement) → holds.E e → behind.E e
@@ -83,7 +83,7 @@ pub record Carries (basis : Basis) (n m : ℕ) (a b : Drafting) (holds : Holds b
 
 -- ---- Texts
 
--- the elements of a text are held, without gaps
+-- the elements of a text are among the elements so far, without gaps
 pub read_held : (basis : Basis) (n : ℕ) (a : Drafting) (holds : Holds basis n a) → AreImplicitRanges basis.ranges → (text : NfdText)
     → AllByRecursion (λ c. c < 0x11_0000) text.points
     → AllByRecursion holds.E (draft_elements basis.ranges basis.properties a.rows text)

@@ -67,7 +67,7 @@ contained_among (k ∷ keys) key h =
     (λ later. let there = contained_among keys key later in (suc there.0, omega (arith, there.1), there.2))
     (or_cases (same_key k key) (is_among keys key) h)
 
--- keys that are apart are those of distinct rows
+-- distinct keys are those of distinct rows
 pub apart_of_distinct : (rows : List Entry) → AreDistinct rows → AreApart (keys_of rows)
 apart_of_distinct [] distinct = tt
 apart_of_distinct (row ∷ rows) distinct = (
@@ -80,7 +80,7 @@ distinct_of_apart [] apart = tt
 distinct_of_apart (row ∷ rows) apart =
     (λ there. false≢true (sym apart.0 ∙ among_contained (keys_of rows) row.key there), distinct_of_apart rows apart.1)
 
--- one more key keeps them apart
+-- they are distinct with one more key
 pub apart_with_key : (new : List ℕ) (keys : List (List ℕ)) → AreApart keys → AreApart (with_key new keys)
 apart_with_key new [] apart = (refl, tt)
 apart_with_key new (key ∷ keys) apart = go (same_key key new) refl (apart_with_key new keys apart.1)

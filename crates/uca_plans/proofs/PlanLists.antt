@@ -20,7 +20,7 @@ use Rattle.uca_plans.proofs.PlanSteps.{IsStep, AreSteps, IsPlanned, planned_is}
 
 -- ---- Insertions
 
--- insertions one after the other
+-- insertions after others
 pub inserted_behind : (level : Level) (is js : List Insertion) (ms : List DraftWeight)
     → all_inserted level (is ++ js) ms ≡ all_inserted level js (all_inserted level is ms)
 inserted_behind level [] js ms = refl
@@ -44,7 +44,7 @@ named_at (Some level) before n anchor expansion new is = go (accepted_part level
         let i : Insertion = record { level = level; before = before; anchor = draft_weight level part.last; new = New n } in
         let same : placed_behind level before (New n) part expansion ≡ new = cc in inr (i, sym (ap (λ d. d.insertions) same), refl)
 
--- a good list is good behind the insertions of a relation, and has grown so
+-- a good list is good after the insertions of a relation, and has grown
 good_all : (level : Level) (es : List Element) (n : ℕ) (is : List Insertion) (ms : List DraftWeight) → AreNamed n is → IsGoodList level es n ms
     → IsGoodList level es (n + 1) (all_inserted level is ms) × IsGrown n ms (all_inserted level is ms)
 good_all level es n is ms (inl none) good = rw none (good_more level es n ms good, grown_same n ms)
@@ -57,11 +57,11 @@ good_all level es n is ms (inr one) good = rw one.1 (go (same_level one.0.level 
 
 -- ---- Steps
 
--- the list of a level behind some drafts
+-- the list of a level after some drafts
 abbrev pub list_at : Level → Basis → Drafting → List DraftWeight
 list_at level basis a = members_of level (elements_of basis.base) a.insertions
 
--- the list of each level is good behind n relations
+-- the list of each level is good after n relations
 abbrev pub HasGoodLists : Basis → ℕ → Drafting → Type 0
 HasGoodLists basis n a = (level : Level) → IsGoodList level (elements_of basis.base) n (list_at level basis a)
 
@@ -75,14 +75,14 @@ step_named basis n rule a b step =
     named_at (level_of rule.strength) rule.before n
     (draft_elements basis.ranges basis.properties a.rows rule.anchor) (draft_expansion basis a rule.expansion) step.new step.is_drafted
 
--- the lists behind a step are those before it with its insertions
+-- the lists after a step are those before it with its insertions
 pub step_list : (basis : Basis) (n : ℕ) (rule : Relation) (a b : Drafting) (step : IsStep basis n rule a b) (level : Level)
     → list_at level basis b ≡ all_inserted level step.new.insertions (list_at level basis a)
 step_list basis n rule a b step level =
     ap (λ is. members_of level (elements_of basis.base) is) step.insertions
     ∙ inserted_behind level a.insertions step.new.insertions (map Base (base_weights level (elements_of basis.base)))
 
--- good lists are good behind a step, and have grown so
+-- good lists are good after a step, and have grown
 pub good_step : (basis : Basis) (n : ℕ) (rule : Relation) (a b : Drafting) → IsStep basis n rule a b → HasGoodLists basis n a
     → HasGoodLists basis (n + 1) b × HasGrownLists basis n a b
 good_step basis n rule a b step good = (λ level. (both level).0, λ level. (both level).1)
@@ -94,7 +94,7 @@ good_step basis n rule a b step good = (λ level. (both level).0, λ level. (bot
         rw (step_list basis n rule a b step level)
         (good_all level (elements_of basis.base) n step.new.insertions (list_at level basis a) (step_named basis n rule a b step) (good level))
 
--- good lists are good behind steps, and have grown so
+-- good lists are good after steps, and have grown
 pub good_steps : (basis : Basis) (n : ℕ) (relations : List Relation) (a b : Drafting) → AreSteps basis n relations a b → HasGoodLists basis n a
     → HasGoodLists basis (n + length relations) b × HasGrownLists basis n a b
 good_steps basis n [] a b steps good =

@@ -56,14 +56,14 @@ number_fits level es is room w =
     let top = top_fits level in
     omega (arith, within, top)
 
--- what holds of a plan's drafts
+-- what is true of a plan's drafts
 pub holds_planned : (basis : Basis) (relations : List Relation) (plan : Plan) (made : IsPlanned basis relations plan) → AreRows basis.base
     → AllByRecursion MeetsWF1 basis.base
     → AreImplicitRanges basis.ranges → AllByRecursion HasRuleTexts relations → Holds basis (0 + length relations) made.drafting
 holds_planned basis relations plan made rows whole ranges texts =
     (carried basis 0 relations (begun basis) made.drafting (start basis rows.entries whole) ranges texts made.steps).behind
 
--- what holds of each element of rows holds of each of the numbered ones
+-- what is true of each element of rows is true of each of the numbered ones
 pub numbered_each : (P : DraftElement → Type 0) (Q : Element → Type 0) (plans : LevelPlans) → ((e : DraftElement) → P e → Q (numbered plans e))
     → (rows : List DraftRow) → AllByRecursion (λ row. AllByRecursion P row.elements) rows
     → AllByRecursion (λ row. AllByRecursion Q row.elements) (map (numbered_row plans) rows)

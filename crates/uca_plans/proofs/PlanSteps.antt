@@ -1,4 +1,4 @@
--- A plan taken apart: a step for each relation, then the numbers of each level.
+-- The parts of a plan: a step for each relation, then the numbers of each level.
 use Rattle.std.proofs.Common.{◌≡◌, ℕ, ◌+◌, List, [], ◌∷◌, ◌++◌, Bool, true, false, cond, not, Option, Some, None, Result, Ok, Err, refl, sym, subst}
 use Rattle.uca_weights.specs.declared.Element.{Element}
 use Rattle.uca_weights.specs.declared.Level.TheVariants.{One, Two, Three}
@@ -18,7 +18,7 @@ use Rattle.uca_plans.specs.Plans.{with_relations, begun, level_plan, LevelPlans,
 abbrev pub target_row : Relation → Drafted → DraftRow
 target_row r new = record { key = r.target.points; elements = new.elements }
 
--- one relation that is not refused: what it gives its target, and the drafting behind it
+-- one relation that is not rejected: what it gives its target, and the drafting after it
 pub record IsStep (basis : Basis) (n : ℕ) (r : Relation) (here behind : Drafting) : Type 0 where
   pub new : Drafted
   pub is_drafted : drafted basis here (New n) r ≡ Some new
@@ -28,7 +28,7 @@ pub record IsStep (basis : Basis) (n : ℕ) (r : Relation) (here behind : Drafti
   pub within : passes_limit (target_row r new) behind.rows ≡ false
   pub outside : holds_implicit_variable (elements_of basis.base) (target_row r new) ≡ false
 
--- relations that are not refused, of which n come before these, from one drafting to another
+-- relations that are not rejected, after n others, from one drafting to another
 abbrev pub AreSteps : Basis → ℕ → List Relation → Drafting → Drafting → Type 0
 AreSteps basis n [] here behind = here ≡ behind
 AreSteps basis n (r ∷ relations) here behind = (next : Drafting) × IsStep basis n r here next × AreSteps basis (n + 1) relations next behind
@@ -38,7 +38,7 @@ abbrev pub level_plans : List Element → List Insertion → LevelPlans
 level_plans base insertions =
     record { primary = level_plan One base insertions; secondary = level_plan Two base insertions; tertiary = level_plan Three base insertions }
 
--- what holds of rules that have a plan: the steps of the relations, and room at each level
+-- what is true of rules that have a plan: the steps of the relations, and room at each level
 pub record IsPlanned (basis : Basis) (relations : List Relation) (plan : Plan) : Type 0 where
   pub drafting : Drafting
   pub steps : AreSteps basis 0 relations (begun basis) drafting
@@ -77,12 +77,12 @@ drafted_step : (basis : Basis) (n : ℕ) (r : Relation) (here behind : Drafting)
 drafted_step basis n r here behind None is_drafted h = cc
 drafted_step basis n r here behind (Some new) is_drafted h = accepted_step basis n r here behind new is_drafted h
 
--- a relation that is not refused is a step
+-- a relation that is not rejected is a step
 pub step_of : (basis : Basis) (n : ℕ) (r : Relation) (here behind : Drafting) → with_relation basis here n r ≡ Ok behind →
     IsStep basis n r here behind
 step_of basis n r here behind h = drafted_step basis n r here behind (drafted basis here (New n) r) refl h
 
--- and relations that are not refused are steps
+-- and relations that are not rejected are steps
 pub steps_of : (basis : Basis) (n : ℕ) (relations : List Relation) (here behind : Drafting) → with_relations basis n relations here ≡ Ok behind →
     AreSteps basis n relations here behind
 steps_of basis n [] here behind h = let same : here ≡ behind = cc in same

@@ -22,7 +22,7 @@ use Rattle.uca_plans.proofs.NumberLemmas.{number_above, number_within, number_or
 
 -- ---- Numbers of one segment
 
--- what holds of a function's value at each of some numbers in a row holds of each of these values
+-- what is true of a function's value at each of some numbers in a row is true of each of these values
 each_counted : (P : ℕ → Type 0) (f : ℕ → ℕ) (from n : ℕ) → ((i : ℕ) → from ≤ i → i < from + n → P (f i)) → AllByRecursion P (map f (range_with_len from n))
 each_counted P f from zero each = tt
 each_counted P f from (suc n) each =
@@ -40,7 +40,7 @@ rising_counted f from (suc n) rise = (
 pub numbers_length : (segment : Segment) (ms : List DraftWeight) → length (numbers_of segment ms) ≡ length ms
 numbers_length segment ms = length-map-range_with_len (number segment ms) 1 (length ms)
 
--- in a segment with room numbers are its places
+-- in a segment with room numbers are its positions
 pub segment_numbers : (segment : Segment) (ms : List DraftWeight) → HasPlaces segment ms
     → AllByRecursion (λ n. (segment.below < n) × (n ≤ segment.top)) (numbers_of segment ms)
 segment_numbers segment ms room =
@@ -54,7 +54,7 @@ numbers_rising segment ms room =
 
 -- ---- Joined lists
 
--- what holds of each of two lists and of one between holds of each
+-- what is true of each of two lists and of one between is true of each
 pub each_joined : {A : Type 0} (P : A → Type 0) (xs : List A) (x : A) (ys : List A) → AllByRecursion P xs → P x → AllByRecursion P ys
     → AllByRecursion P (xs ++ x ∷ ys)
 each_joined P [] x ys first it second = (it, second)
@@ -71,7 +71,7 @@ rising_joined (y ∷ xs) x ys first below above second = (
 
 -- ---- The number of a member
 
--- what holds of each number holds of a member's
+-- what is true of each number is true of a member's
 pub number_each : (P : ℕ → Type 0) (ms : List DraftWeight) (ns : List ℕ) (w : DraftWeight) → length ns ≡ length ms → IsAmong ms w
     → AllByRecursion P ns → P (number_in ms ns w)
 number_each P [] ns w same among all = absurd among
@@ -108,7 +108,7 @@ numbers_in_order (m ∷ ms) (n ∷ ns) v w same apart rising (inr there) = elim 
   ]
 ]
 
--- the number at the place of a member
+-- the number at the position of a member
 pub number_at : (w : DraftWeight) (ms : List DraftWeight) (lows : List ℕ) (n : ℕ) (highs : List ℕ) → IsAmong ms w
     → length lows ≡ length (before_weight w ms)
     → number_in ms (lows ++ n ∷ highs) w ≡ n
@@ -126,11 +126,11 @@ number_at w (m ∷ ms) (low ∷ lows) n highs among same = elim (same_or_other w
 
 -- ---- The numbers of a level
 
--- a segment with room has places for its members
+-- a segment with room has positions for its members
 pub room_places : (segment : Segment) (ms : List DraftWeight) → has_room segment ms ≡ true → segment.below + length ms ≤ segment.top
 room_places segment ms room = grind (arith, nat_tests)
 
--- the places of a level's segments
+-- the positions of a level's segments
 pub level_places : (level : Level) (ms : List DraftWeight) → level_has_room level ms ≡ true
     → ((low_segment level).below + length (low_members level ms) ≤ (low_segment level).top)
     × ((high_segment level).below + length (high_members level ms) ≤ (high_segment level).top)
@@ -153,7 +153,7 @@ fixed_within One = omega arith
 fixed_within Two = omega arith
 fixed_within Three = omega arith
 
--- with room the numbers of the lower members stand between 0 and the fixed weight
+-- with room the numbers of the lower members are between 0 and the fixed weight
 pub low_numbers : (level : Level) (ms : List DraftWeight) → level_has_room level ms ≡ true
     → AllByRecursion (λ n. (0 < n) × (n < fixed_weight level)) (lows level ms)
 low_numbers level ms room =

@@ -24,7 +24,7 @@ use Rattle.uca_plans.proofs.SidesOfFixed.{HasSide, HasSides, goes}
 
 -- ---- Insertion by insertion
 
--- the members of each side behind insertions are those before them and the new ones that go there
+-- the members of each side after insertions are those before them and the new ones that go there
 abbrev AreCounted : Level → List Insertion → List DraftWeight → List DraftWeight → Type 0
 AreCounted level is ms lows =
     (length (low_members level (all_inserted level is ms)) ≡ length (low_members level ms) + low_count level lows is)
@@ -63,7 +63,8 @@ counted_along level (i ∷ is) ms lows has anchored =
 as_member : (ws : List ℕ) (w : ℕ) → IsAmong ws w → IsAmong (map Base ws) (Base w)
 as_member ws w among = bases_among (map Base ws) w (subst (λ vs. IsAmong vs w) (sym (bases_of_base ws)) among)
 
--- of rising weights each is less than one of them, and stands before it, or is it, or is greater, and stands behind it
+-- each of some rising weights is less than one of them and comes before it, or is the same, or is greater and comes
+-- after it
 base_side : (ws : List ℕ) (f v : ℕ) → IsRising ws → IsAmong ws f → IsAmong ws v
     → (StandsBefore (map Base ws) (Base v) (Base f) × (nat_lt v f ≡ true))
     ⊎ (((Base v ≡ Base f) ⊎ StandsBefore (map Base ws) (Base f) (Base v)) × (nat_lt v f ≡ false))
@@ -122,7 +123,7 @@ all_greater f (w ∷ ws) above = go (nat_lt f w) (grind (arith, nat_tests, above
     go true e rest = ap suc rest
     go false e rest = absurd (false≢true e)
 
--- of rising weights those before one of them are less, and those behind it greater
+-- among rising weights those before one of them are less, and those after it are greater
 base_counts : (ws : List ℕ) (f : ℕ) → IsRising ws → IsAmong ws f
     → (length (before_weight (Base f) (map Base ws)) ≡ length (filter (λ v. nat_lt v f) ws))
     × (length (behind_weight (Base f) (map Base ws)) ≡ length (filter (λ v. nat_lt f v) ws))
@@ -143,7 +144,7 @@ base_counts (w ∷ ws) f rising (inr there) =
 
 -- ---- Room
 
--- a segment has room for as many members as it has places
+-- a segment has room for as many members as it has positions
 places_room : (segment : Segment) (ms : List DraftWeight) → segment.below ≤ segment.top → length ms ≤ places segment → has_room segment ms ≡ true
 places_room segment ms proper few = grind (arith, nat_tests)
 
@@ -151,7 +152,7 @@ places_room segment ms proper few = grind (arith, nat_tests)
 low_proper : (level : Level) → (low_segment level).below ≤ (low_segment level).top
 low_proper level = omega arith
 
--- a level has room where no side has more members than places
+-- a level has room where no side has more members than positions
 room_is : (level : Level) (ms : List DraftWeight) (low high : ℕ) → length (low_members level ms) ≡ low → length (high_members level ms) ≡ high
     → level_has_room level ms ≡ true ↔ ((low ≤ places (low_segment level)) × (high ≤ places (high_segment level)))
 room_is level ms low high lows highs = (

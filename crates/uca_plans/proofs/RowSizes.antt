@@ -63,7 +63,7 @@ module _ (ranges : List ImplicitRange) (properties : Properties) (rows : List Dr
 
 -- ---- What a relation gives
 
--- whatever level it has, where its anchor has elements it gives some
+-- at any level, if its anchor has elements it gives some
 some_drafted : (level : Option Level) (before : Bool) (weight : DraftWeight) (anchor expansion : List DraftElement) (new : Drafted) → 1 ≤ length anchor →
     drafted_at level before weight anchor expansion ≡ Some new → 1 ≤ length new.elements
 some_drafted None before weight anchor expansion new some gives =
@@ -94,7 +94,7 @@ pub record AreSizedDrafts (rows : List DraftRow) : Type 0 where
   pub apart : AreApart (keys_in rows)
   pub few : length rows ≤ 200000
 
--- what holds of all rows and of one more holds of all with it
+-- what is true of all rows and of one more is true of all with it
 pub each_with_row : (P : DraftRow → Type 0) (new : DraftRow) (rows : List DraftRow) → P new → AllByRecursion P rows → AllByRecursion P (with_row new rows)
 each_with_row P new [] here all = (here, tt)
 each_with_row P new (row ∷ rows) here all = go (same_key row.key new.key) (each_with_row P new rows here all.1)

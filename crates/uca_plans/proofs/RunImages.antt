@@ -136,11 +136,11 @@ first_base w n ms ns = go (runs_of ms ns) (run_before w n (runs_of ms ns))
     go : (a b : List Run) → ((w ≡ 0) × ((if nat_eq w 0 then a else b) ≡ a)) ⊎ ((if nat_eq w 0 then a else b) ≡ b)
     go a b = grind (arith, nat_tests)
 
--- the number of a base weight behind another
+-- the number of a base weight after another
 number_later : (w v n : ℕ) (ms : List DraftWeight) (ns : List ℕ) → (w ≡ v → ⊥) → number_in (Base v ∷ ms) (n ∷ ns) (Base w) ≡ number_in ms ns (Base w)
 number_later w v n ms ns other = go (number_in ms ns (Base w))
   where
-    -- for any number behind it
+    -- for any number after it
     go : (k : ℕ) → (if nat_eq w v then n else k) ≡ k
     go k = grind (arith, nat_tests)
 
@@ -148,7 +148,7 @@ number_later w v n ms ns other = go (number_in ms ns (Base w))
 number_first : (w v n : ℕ) (ms : List DraftWeight) (ns : List ℕ) → w ≡ v → number_in (Base v ∷ ms) (n ∷ ns) (Base w) ≡ n
 number_first w v n ms ns same = go (number_in ms ns (Base w))
   where
-    -- for any number behind it
+    -- for any number after it
     go : (k : ℕ) → (if nat_eq w v then n else k) ≡ n
     go k = grind (arith, nat_tests)
 
@@ -171,7 +171,7 @@ runs_send (Base v ∷ ms) (n ∷ ns) w same some among = elim (cases_eq w v) [
       ]
 ]
   where
-    -- another than the first is behind it
+    -- another than the first comes after it
     behind : (w ≡ v → ⊥) → IsAmong (Base v ∷ ms) (Base w) → IsAmong ms (Base w)
     behind other (inl here) = absurd (other (cc))
     behind other (inr there) = there

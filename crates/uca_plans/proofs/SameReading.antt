@@ -31,7 +31,7 @@ target_or_not (r ∷ relations) text =
     (target_or_not relations text))
     (cases_Bool (same_key r.target.points text))
 
--- keys are kept where targets come behind them
+-- keys are kept where targets come after them
 pub among_kept : (relations : List Relation) (keys : List (List ℕ)) (key : List ℕ) → is_among keys key ≡ true →
     is_among (with_targets relations keys) key ≡ true
 among_kept [] keys key there = there

@@ -12,7 +12,7 @@ use Rattle.uca_plans.proofs.InsertionLemmas.{stands_nearest, takes_one_place}
 use Rattle.uca_plans.specs.Room.{is_below_fixed, goes_low}
 use Rattle.uca_plans.proofs.AnchoredInsertions.{IsAnchored}
 
--- where none comes twice, two do not stand before each other
+-- if none comes twice, two do not come before each other
 never_both : (ms : List DraftWeight) (v w : DraftWeight) → AreApart ms → StandsBefore ms v w → StandsBefore ms w v → ⊥
 never_both [] v w apart first second = first
 never_both (m ∷ ms) v w apart (inl here) (inl also) = apart.0 (among_same ms w m (sym also.0) here.1)
@@ -26,14 +26,14 @@ never_both (m ∷ ms) v w apart (inr there) (inr also) = never_both ms v w apart
 abbrev pub fixed : Level → DraftWeight
 fixed level = Base (fixed_weight level)
 
--- a member stands below the fixed weight and is low, or stands there or above it and is not
+-- a member is low if it is below the fixed weight, and not low if it is the fixed weight or above it
 abbrev pub HasSide : Level → List DraftWeight → List DraftWeight → DraftWeight → Type 0
 HasSide level ms lows w =
     (StandsBefore ms w (fixed level) × (is_below_fixed level lows w ≡ true))
     ⊎ (((w ≡ fixed level) ⊎ StandsBefore ms (fixed level) w) × (is_below_fixed level lows w ≡ false))
 
--- What holds of a list and the new weights of it that went low: no member comes twice, the fixed weight is one, each has a side,
--- and those that went low are members.
+-- What is true of a list and its new weights that went low. No member comes twice, the fixed weight is a member, each
+-- member has a side, and those that went low are members.
 pub record HasSides (level : Level) (ms lows : List DraftWeight) : Type 0 where
   pub apart : AreApart ms
   pub there : IsAmong ms (fixed level)
@@ -56,7 +56,7 @@ low_side level ms lows i has among (inr at) =
     or_right (is_below_fixed level lows i.anchor) (same_weight i.anchor (fixed level) && i.before)
     (ap (λ b. b && i.before) (same_itself i.anchor (fixed level) at.0) ∙ at.1)
 
--- and one that goes high is told to go there
+-- and the test says so of one that goes high
 high_side : (level : Level) (ms lows : List DraftWeight) (i : Insertion) → HasSides level ms lows → IsAmong ms i.anchor
     → GoesHigh (fixed level) i ms → goes_low level lows i ≡ false
 high_side level ms lows i has among high =
@@ -81,7 +81,7 @@ high_side level ms lows i has among high =
       | inr other ↦ ap (λ b. b && i.before) other.0
     ]
 
--- ---- The sides behind an insertion
+-- ---- The sides after an insertion
 
 -- a weight that went low makes no other weight low
 is_low_kept : (level : Level) (lows : List DraftWeight) (new w : DraftWeight) → (w ≡ new → ⊥) → is_below_fixed level (new ∷ lows) w ≡ is_below_fixed level lows w
@@ -122,7 +122,7 @@ module _ (level : Level) (ms lows : List DraftWeight) (i : Insertion) (has : Has
   still_there : (n : ℕ) → list_any (same_weight (New n)) lows ≡ true → IsAmong (inserted i ms) (New n)
   still_there n went = (nearest.each (New n)).1 (inr (has.went n went))
 
-  -- a new weight that goes low stands below the fixed one
+  -- a new weight that goes low is below the fixed one
   new_below : GoesLow (fixed level) i ms → StandsBefore (inserted i ms) i.new (fixed level)
   new_below (inl stands) = nearest.above (fixed level) stands
   new_below (inr is) = elim nearest.beside [

@@ -28,7 +28,7 @@ as_draft implicit e = record { primary = Base e.primary; secondary = Base e.seco
 abbrev pub row_as_draft : Entry → DraftRow
 row_as_draft row = record { key = row.key; elements = map (as_draft false) row.elements }
 
--- the row in place of the one with its key, or else behind the others
+-- the row instead of the one with its key, or else after the others
 abbrev pub with_row : DraftRow → List DraftRow → List DraftRow
 with_row new [] = new ∷ []
 with_row new (row ∷ rows) = if same_key row.key new.key then new ∷ rows else row ∷ with_row new rows
@@ -83,7 +83,7 @@ abbrev pub anchor_part : Level → List DraftElement → Option AnchorPart
 anchor_part level [] = None
 anchor_part level (e ∷ es) = behind_front level e (anchor_part level es)
 
--- a weight from 8000 up, where implicit weights stand
+-- a weight from 8000 up, where implicit weights are
 abbrev pub is_implicit_primary : DraftWeight → Bool
 is_implicit_primary (Base w) = nat_le 0x8000 w
 is_implicit_primary (New _) = false
@@ -91,7 +91,8 @@ is_implicit_primary (New _) = false
 abbrev pub is_continuation : DraftElement → Bool
 is_continuation e = not (is_zero e.primary) && (is_zero e.secondary && is_zero e.tertiary)
 
--- an element that gets no new weight: a continuation, and at level 1 one whose primary has no place below the implicit ones
+-- an element that gets no new weight: a continuation, and at level 1 one whose primary has no position below the
+-- implicit ones
 abbrev pub takes_no_weight : Level → DraftElement → Bool
 takes_no_weight One e = is_continuation e || is_implicit_primary e.primary
 takes_no_weight Two e = is_continuation e

@@ -1,4 +1,4 @@
--- The words for why there is no plan: `relation 3: NeedsPrefix`, `NoRoom 3`, `Memory`.
+-- The text of why there is no plan: `relation 3: NeedsPrefix`, `NoRoom 3`, `Memory`.
 use Rattle.std.specs.Prelude.{ℕ, List, ◌++◌, codes, decimal, nat_eq, if◌then◌else◌}
 use Rattle.uca_weights.specs.Levels.{level_number}
 use Rattle.uca_plans.specs.declared.faults.TailorKind.{TailorKind}

@@ -19,12 +19,12 @@ abbrev pub is_among : List (List ℕ) → List ℕ → Bool
 is_among [] key = false
 is_among (k ∷ keys) key = same_key k key || is_among keys key
 
--- the key behind the others, if it is none of them
+-- the key after the others, if it is none of them
 abbrev pub with_key : List ℕ → List (List ℕ) → List (List ℕ)
 with_key new [] = new ∷ []
 with_key new (key ∷ keys) = if same_key key new then key ∷ keys else key ∷ with_key new keys
 
--- the targets of relations behind other keys, each once
+-- the targets of relations after other keys, each once
 abbrev pub with_targets : List Relation → List (List ℕ) → List (List ℕ)
 with_targets [] keys = keys
 with_targets (r ∷ relations) keys = with_targets relations (with_key r.target.points keys)

@@ -39,7 +39,7 @@ BaseWeightsOfElements = (level : Level) (es : List Element) → AreBaseWeights l
 
 -- ---- New weights
 
--- the first stands before the second
+-- the first comes before the second
 abbrev pub StandsBefore : List DraftWeight → DraftWeight → DraftWeight → Type 0
 StandsBefore [] v w = ⊥
 StandsBefore (m ∷ members) v w = ((m ≡ v) × IsAmong members w) ⊎ StandsBefore members v w
@@ -49,13 +49,13 @@ abbrev pub AreApart : List DraftWeight → Type 0
 AreApart [] = ⊤
 AreApart (m ∷ members) = (IsAmong members m → ⊥) × AreApart members
 
--- the new weight stands on the side of the anchor's that the insertion says
+-- the new weight is on the side of the anchor's that the insertion says
 abbrev pub StandsBeside : Insertion → List DraftWeight → Type 0
 StandsBeside i members = ((i.before ≡ true) × StandsBefore members i.new i.anchor) ⊎ ((i.before ≡ false) × StandsBefore members i.anchor i.new)
 
--- What an insertion makes of a list that has the anchor's weight and not the new one: the new weight is added, on its
--- side of the anchor's; all others stand as they did; and towards each of them the new weight stands as the anchor's does,
--- so that none stands between the two.
+-- What an insertion makes of a list that has the anchor's weight and not the new one. The new weight is added on its
+-- side of the anchor's. All others keep their order. The new weight has the same order to each of them as the anchor's,
+-- so that none is between the two.
 pub record IsInserted (i : Insertion) (members : List DraftWeight) : Type 0 where
   pub apart : AreApart (inserted i members)
   pub more : length (inserted i members) ≡ length members + 1
@@ -82,14 +82,14 @@ NumbersRiseAlongLists = (level : Level) (members : List DraftWeight) → AreApar
 
 -- ---- Segments
 
--- the anchor's weight stands below the fixed weight, or is the fixed weight and the new one goes before it
+-- the anchor's weight is below the fixed weight, or is the fixed weight and the new one goes before it
 abbrev pub GoesLow : DraftWeight → Insertion → List DraftWeight → Type 0
 GoesLow fixed i members = StandsBefore members i.anchor fixed ⊎ ((i.anchor ≡ fixed) × (i.before ≡ true))
 
 abbrev pub GoesHigh : DraftWeight → Insertion → List DraftWeight → Type 0
 GoesHigh fixed i members = StandsBefore members fixed i.anchor ⊎ ((i.anchor ≡ fixed) × (i.before ≡ false))
 
--- each new weight takes one place of one segment: of the low one where it goes low, else of the high one
+-- each new weight takes one position of one segment: of the low one if it goes low, else of the high one
 abbrev pub TakesOnePlace : DraftWeight → Insertion → List DraftWeight → Type 0
 TakesOnePlace fixed i members =
     (GoesLow fixed i members × (length (before_weight fixed (inserted i members)) ≡ length (before_weight fixed members) + 1) × (length (behind_weight fixed (inserted i members)) ≡ length (behind_weight fixed members)))
@@ -98,8 +98,8 @@ TakesOnePlace fixed i members =
 abbrev pub NewWeightsTakePlaces : Type 0
 NewWeightsTakePlaces = (fixed : DraftWeight) (i : Insertion) (members : List DraftWeight) → IsAmong members fixed → IsAmong members i.anchor → (i.new ≡ fixed → ⊥) → TakesOnePlace fixed i members
 
--- nothing of the list stands between an anchor's weight and the new one; and of the weights that were there, one stands
--- before another exactly where it did
+-- nothing of the list is between an anchor's weight and the new one; and the weights that were there keep their
+-- order
 pub record StandsNext (i : Insertion) (members : List DraftWeight) : Type 0 where
   pub none_behind : (w : DraftWeight) → StandsBefore (inserted i members) i.anchor w → StandsBefore (inserted i members) w i.new → ⊥
   pub none_before : (w : DraftWeight) → StandsBefore (inserted i members) i.new w → StandsBefore (inserted i members) w i.anchor → ⊥

@@ -7,18 +7,18 @@ use Rattle.uca_plans.specs.declared.drafts.Segment.{Segment}
 
 -- ---- The numbers
 
--- the greatest of `least` and, for each base member, its weight plus the number of members behind it
+-- the greatest of `least` and, for each base member, its weight plus the number of members after it
 abbrev pub pushed_up : ℕ → List DraftWeight → ℕ
 pushed_up least [] = least
 pushed_up least (Base weight ∷ behind) = max (weight + length behind) (pushed_up least behind)
 pushed_up least (New _ ∷ behind) = pushed_up least behind
 
--- where the last of some members stands if none of them stands below its weight: behind the weight below the segment, and
--- behind the weight of each base member, there is a place for each member that follows
+-- The position of the last of some members, if none of them is below its weight. After the weight below the segment,
+-- and after the weight of each base member, there is a position for each member that follows.
 abbrev pub reached : Segment → List DraftWeight → ℕ
 reached segment members = pushed_up (segment.below + length members) members
 
--- the number of the i-th member, counted from 1: as far up, or as much lower as the members behind it need
+-- the number of the i-th member, counted from 1: as far up, or as much lower as the members after it need
 abbrev pub number : Segment → List DraftWeight → ℕ → ℕ
 number segment members i = min (reached segment (take i members)) (segment.top - (length members - i))
 
@@ -32,15 +32,15 @@ numbers_of segment members = map (number segment members) (range_with_len 1 (len
 abbrev pub IsBaseAt : List DraftWeight → ℕ → ℕ → Type 0
 IsBaseAt members i weight = (before : List DraftWeight) × (behind : List DraftWeight) × (members ≡ before ++ Base weight ∷ behind) × (i ≡ length before + 1)
 
--- there is room for the i-th member at the weight: below it for those before, and above it for those behind
+-- there is room for the i-th member at the weight: below it for those before, and above it for those after
 pub record HasRoomAt (segment : Segment) (members : List DraftWeight) (i weight : ℕ) : Type 0 where
   pub below : segment.below + i ≤ weight
   pub before : (j earlier : ℕ) → j < i → IsBaseAt members j earlier → earlier + (i - j) ≤ weight
   pub above : weight + (length members - i) ≤ segment.top
 
--- What holds of the numbers where there are enough places: they are places of the segment, one for each member, in the
--- order of the members; no other member's number lies between those of neighbours; and a base weight keeps its number
--- where there is room.
+-- What is true of the numbers if there are enough positions. They are positions of the segment, one for each member, in
+-- the order of the members. No other member's number lies between those of neighbours. A base weight keeps its number
+-- if there is room.
 pub record AreNumbers (segment : Segment) (members : List DraftWeight) : Type 0 where
   pub above : (i : ℕ) → 1 ≤ i → i ≤ length members → segment.below < number segment members i
   pub within : (i : ℕ) → i ≤ length members → number segment members i ≤ segment.top
@@ -48,7 +48,7 @@ pub record AreNumbers (segment : Segment) (members : List DraftWeight) : Type 0 
   pub between : (i m j : ℕ) → i ≤ length members → m ≤ length members → j ≤ length members → number segment members i < number segment members m → number segment members m < number segment members j → (i < m) × (m < j)
   pub kept : (i weight : ℕ) → IsBaseAt members i weight → HasRoomAt segment members i weight → number segment members i ≡ weight
 
--- the members have places in the segment
+-- the members have positions in the segment
 abbrev pub HasPlaces : Segment → List DraftWeight → Type 0
 HasPlaces segment members = segment.below + length members ≤ segment.top
 

@@ -4,12 +4,12 @@ use Rattle.std.specs.Prelude.{ℕ, ◌+◌, ◌-◌, List, [], ◌∷◌, length
 use Rattle.uca_plans.specs.declared.drafts.DraftWeight.{DraftWeight}
 use Rattle.uca_plans.specs.declared.drafts.DraftWeight.TheVariants.{Base, New}
 
--- one place further up, or at the weight of a base member where that is higher
+-- one position further up, or at the weight of a base member where that is higher
 abbrev pub one_further : DraftWeight → ℕ → ℕ
 one_further (Base weight) place = max weight (place + 1)
 one_further (New _) place = place + 1
 
--- the numbers of members that follow a place
+-- the numbers of members that follow a position
 abbrev pub numbers_from : ℕ → ℕ → List DraftWeight → List ℕ
 numbers_from top place [] = []
 numbers_from top place (m ∷ behind) = min (one_further m place) (top - length behind) ∷ numbers_from top (one_further m place) behind

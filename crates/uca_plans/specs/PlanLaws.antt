@@ -31,14 +31,14 @@ RunsAreLongest = (members : List DraftWeight) (numbers : List ℕ) → AreLonges
 abbrev pub new_keys : Basis → List Relation → List (List ℕ)
 new_keys basis relations = filter (λ key. not (is_key (rows_of basis.base) key)) (map (λ r. r.target.points) relations)
 
--- the rows of a plan are the base's in their order, and behind them those of the targets that are no base keys
+-- the rows of a plan are the base's in their order, and after them those of the targets that are not base keys
 abbrev pub KeysOfPlans : Type 0
 KeysOfPlans = (basis : Basis) (relations : List Relation) (plan : Plan) → AreDistinct relations → planned basis relations ≡ Ok plan →
     keys_of plan.rows ≡ keys_of basis.base ++ new_keys basis relations
 
--- ---- Refusals
+-- ---- Rejections
 
--- Where there is a plan, nothing but an allocation that fails is a refusal; and all other refusals are one.
+-- If there is a plan, only an allocation that fails can be a rejection. All other rejections are the same one.
 pub record OneOutcome : Type 0 where
   pub plan_or_refusal : (base : TableContent) (properties : Properties) (relations : List Relation) (table : TableContent)
       (certificate : CertificateContent) (fault : TailorFault) → IsPlanOf base properties relations table certificate →

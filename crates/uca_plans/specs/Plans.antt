@@ -51,7 +51,7 @@ abbrev pub placed_if_accepted : Level → Bool → DraftWeight → Option Anchor
 placed_if_accepted level before new None expansion = None
 placed_if_accepted level before new (Some part) expansion = Some (placed_behind level before new part expansion)
 
--- what a relation gives its target; nothing where the anchor is refused
+-- what a relation gives its target; nothing if the anchor is rejected
 abbrev pub drafted_at : Option Level → Bool → DraftWeight → List DraftElement → List DraftElement → Option Drafted
 drafted_at None before new anchor expansion = Some (record { elements = anchor ++ expansion; insertions = [] })
 drafted_at (Some level) before new anchor expansion = placed_if_accepted level before new (accepted_part level (anchor_part level anchor)) expansion
@@ -67,7 +67,7 @@ drafted basis so_far new r =
     (draft_elements basis.ranges basis.properties so_far.rows r.anchor)
     (draft_expansion basis so_far r.expansion)
 
--- ---- Why a relation is refused
+-- ---- Why a relation is rejected
 
 abbrev pub ends_with_non_starter : (ℕ → ℕ) → List ℕ → Bool
 ends_with_non_starter class [] = false
@@ -92,7 +92,7 @@ abbrev pub is_among_variables : List Element → DraftWeight → Bool
 is_among_variables base (Base w) = list_any (λ v. v.mark && nat_le v.primary w) base && list_any (λ v. v.mark && nat_le w v.primary) base
 is_among_variables base (New _) = false
 
--- an element that implicit weights gave stands among the variable ones of the base
+-- an element that implicit weights gave is among the variable ones of the base
 abbrev pub holds_implicit_variable : List Element → DraftRow → Bool
 holds_implicit_variable base row = list_any (λ e. e.implicit && is_among_variables base e.primary) row.elements
 
@@ -118,7 +118,7 @@ abbrev pub and_then : Basis → ℕ → Result Drafting TailorKind → (Drafting
 and_then basis n (Err kind) more = Err (record { kind = kind; relation = n + 1 })
 and_then basis n (Ok so_far) more = more so_far
 
--- with all relations, of which n come before these
+-- with all these relations, after n others
 abbrev pub with_relations : Basis → ℕ → List Relation → Drafting → Result Drafting TailorFault
 with_relations basis n [] so_far = Ok so_far
 with_relations basis n (r ∷ relations) so_far = and_then basis n (with_relation basis so_far n r) (λ next. with_relations basis (n + 1) relations next)

@@ -18,7 +18,8 @@ use Rattle.uca_plans.specs.Keys.{keys_in}
 abbrev pub valued_rows : (DraftElement → Element) → List DraftRow → List Entry
 valued_rows value rows = map (λ row. record { key = row.key; elements = map value row.elements }) rows
 
--- whatever weights the names get, the draft elements of a text are, with these, its collation elements under the rows with these
+-- With any weights for the names, the draft elements of a text are its collation elements under the rows with these
+-- weights.
 abbrev pub DraftsReadAsRows : Type 0
 DraftsReadAsRows = (value : DraftElement → Element) (ranges : List ImplicitRange) (properties : Properties) (rows : List DraftRow) (text : NfdText) → ((c : ℕ) → map (λ e. value (as_draft true e)) (implicit ranges properties c) ≡ implicit ranges properties c) → elements_of (record { rows = rows_of (valued_rows value rows); ranges = ranges; properties = properties }) text ≡ map value (draft_elements ranges properties rows text)
 
@@ -46,7 +47,7 @@ pub record IsOneMore (new : DraftRow) (rows : List DraftRow) : Type 0 where
   pub its_own : draft_at (with_row new rows) new.key ≡ Some new.elements
   pub others : (key : List ℕ) → key ≢ new.key → draft_at (with_row new rows) key ≡ draft_at rows key
   pub keys : keys_in (with_row new rows) ≡ (if has_key rows new.key then keys_in rows else keys_in rows ++ new.key ∷ [])
-  -- a key that was there keeps its place
+  -- a key that was there keeps its position
   pub places : (key : List ℕ) → has_key rows key ≡ true → place_at 0 (keys_in (with_row new rows)) key ≡ place_at 0 (keys_in rows) key
 
 abbrev pub OneMoreRow : Type 0

@@ -18,7 +18,7 @@ use Rattle.uca_plans.specs.Tailors.{basis_of}
 
 -- ---- Sides
 
--- whether a weight stands below the fixed one: a base weight that is less, or a new weight that went low
+-- whether a weight is below the fixed one: a base weight that is less, or a new weight that went low
 abbrev pub is_below_fixed : Level → List DraftWeight → DraftWeight → Bool
 is_below_fixed level lows (Base w) = nat_lt w (fixed_weight level)
 is_below_fixed level lows (New n) = list_any (same_weight (New n)) lows
@@ -27,7 +27,7 @@ is_below_fixed level lows (New n) = list_any (same_weight (New n)) lows
 abbrev pub goes_low : Level → List DraftWeight → Insertion → Bool
 goes_low level lows i = is_below_fixed level lows i.anchor || (same_weight i.anchor (Base (fixed_weight level)) && i.before)
 
--- how many insertions of the level go low, and how many do not, behind new weights that went low
+-- how many insertions of the level go low, and how many do not, after new weights that went low
 abbrev pub low_count : Level → List DraftWeight → List Insertion → ℕ
 low_count level lows [] = 0
 low_count level lows (i ∷ insertions) =
@@ -44,7 +44,7 @@ high_count level lows (i ∷ insertions) =
 
 -- ---- Counts
 
--- how many weights stand below the fixed one: those of the base and the new ones that go low
+-- how many weights are below the fixed one: those of the base and the new ones that go low
 abbrev pub low_total : Level → List Element → List Insertion → ℕ
 low_total level es insertions = length (filter (λ w. nat_lt w (fixed_weight level)) (base_weights level es)) + low_count level [] insertions
 
@@ -52,19 +52,19 @@ low_total level es insertions = length (filter (λ w. nat_lt w (fixed_weight lev
 abbrev pub high_total : Level → List Element → List Insertion → ℕ
 high_total level es insertions = length (filter (λ w. nat_lt (fixed_weight level) w) (base_weights level es)) + high_count level [] insertions
 
--- how many places a segment has
+-- how many positions a segment has
 abbrev pub places : Segment → ℕ
 places segment = segment.top - segment.below
 
--- The members of each segment are as many as the base weights on its side and the new weights that go there, and the level has
--- room exactly where neither number is greater than that of the segment's places.
+-- The members of each segment are as many as the base weights on its side and the new weights that go there. The level
+-- has room exactly if neither number is greater than the number of the segment's positions.
 pub record IsCounted (level : Level) (es : List Element) (insertions : List Insertion) : Type 0 where
   pub low : length (low_members level (members_of level es insertions)) ≡ low_total level es insertions
   pub high : length (high_members level (members_of level es insertions)) ≡ high_total level es insertions
   pub room : level_has_room level (members_of level es insertions) ≡ true
       ↔ ((low_total level es insertions ≤ places (low_segment level)) × (high_total level es insertions ≤ places (high_segment level)))
 
--- over a well-formed base it is so at each level, where no relation is refused
+-- over a well-formed base this is so at each level, if no relation is rejected
 abbrev pub RoomIsCounted : Type 0
 RoomIsCounted = (base : TableContent) (properties : Properties) (relations : List Relation) (final : Drafting) →
     IsTable base → IsWellFormed properties.class base.rows → AreRules relations →

@@ -1,4 +1,4 @@
--- The sizes of a plan's rows: those that every table has, but for the bits of weights.
+-- The sizes of a plan's rows: those that every table has, except the bits of weights.
 use Rattle.std.specs.Prelude.{◌≡◌, ◌≤◌, List, length, Ok}
 use Rattle.std.specs.List.{AllByRecursion}
 use Rattle.std.specs.Char.{IsScalar}

@@ -30,7 +30,7 @@ pub record IsPlanOf (base : TableContent) (properties : Properties) (relations :
   pub header : table.header ≡ base.header
   pub plan : planned (basis_of base properties) relations ≡ Ok (plan_in table certificate)
 
--- the base is well-formed, and this refusal comes first
+-- the base is well-formed, and this rejection comes first
 pub record IsRefusedBy (base : TableContent) (properties : Properties) (relations : List Relation) (fault : TailorFault) : Type 0 where
   pub well_formed : IsWellFormed properties.class base.rows
   pub first : planned (basis_of base properties) relations ≡ Err fault
@@ -39,7 +39,7 @@ pub record IsRefusedBy (base : TableContent) (properties : Properties) (relation
 abbrev pub out_of_memory : TailorFault
 out_of_memory = record { kind = kinds.Memory; relation = 0 }
 
--- why there is no tailored table, by the kind of the fault; any allocation may fail
+-- why there is no tailored table, by the kind of the error; `Memory` may always come, since any allocation may fail
 abbrev pub CauseOf : TableContent → Properties → List Relation → TailorFault → TailorKind → Type 0
 CauseOf base properties relations fault kinds.BaseIllFormed = (fault.relation ≡ 0) × ¬ (IsWellFormed properties.class base.rows)
 CauseOf base properties relations fault kinds.Memory = fault.relation ≡ 0

@@ -24,7 +24,7 @@ over rows = record { ranges = small_ranges; properties = small_properties; base 
 abbrev pub small : Basis
 small = over small_rows
 
--- a relation without expansion: the target is behind the anchor, or before it
+-- a relation without expansion: the target comes after the anchor, or before it
 abbrev pub behind : List ℕ → Strength → List ℕ → Relation
 behind anchor strength target = record { anchor = small_text anchor; before = false; strength = strength; target = small_text target; expansion = None }
 
@@ -62,7 +62,7 @@ same_runs = run 0x209 0x209 1 ∷ run 0x1C47 0x1C47 1 ∷ run 0x1C60 0x1C60 1 �
 abbrev pub with_rows : List Entry → Result Plan TailorFault
 with_rows rows = Ok (record { rows = small_rows ++ rows; primary = same_runs; secondary = small_secondary; tertiary = small_tertiary })
 
--- the small table with `b` directly behind `a`
+-- the small table with `b` directly after `a`
 abbrev pub close_rows : ℕ → List Entry
 close_rows b =
     row (0x20 ∷ []) (variable 0x209 0x20 2) ∷
@@ -73,7 +73,7 @@ close_rows b =
     row (0x301 ∷ []) (plain 0 0x24 2) ∷
     row (0x323 ∷ []) (plain 0 0x2C 2) ∷ []
 
--- two variable rows, with primaries where implicit ones stand
+-- two variable rows, with primaries where implicit ones are
 abbrev pub high_variables : ℕ → List Entry
 high_variables primary = row (0x20 ∷ []) (variable 0xFB00 0x20 2) ∷ row (0x21 ∷ []) (variable primary 0x20 2) ∷ []
 
@@ -81,7 +81,7 @@ high_variables primary = row (0x20 ∷ []) (variable 0xFB00 0x20 2) ∷ row (0x2
 abbrev pub same_as_implicit : List Relation
 same_as_implicit = behind (0x4E00 ∷ []) Identical (0x78 ∷ []) ∷ []
 
--- the targets one after the other, each with the one before it as its anchor
+-- the targets in turn, each with the one before it as its anchor
 abbrev pub chained : Strength → ℕ → List ℕ → List Relation
 chained strength anchor [] = []
 chained strength anchor (target ∷ targets) = behind (anchor ∷ []) strength (target ∷ []) ∷ chained strength target targets
@@ -113,7 +113,7 @@ pub record WorkedPlans : Type 0 where
   pub nothing : planned small [] ≡ with_rows []
   -- `&a < x`
   pub letter : planned small (behind (0x61 ∷ []) Primary (0x78 ∷ []) ∷ []) ≡ with_rows (row (0x78 ∷ []) (plain 0x1C48 0x20 2) ∷ [])
-  -- the same where the next letter stands directly behind `a`: it moves up
+  -- the same if the next letter is directly after `a`: it moves up
   pub pushed : planned (over (close_rows 0x1C48)) (behind (0x61 ∷ []) Primary (0x78 ∷ []) ∷ [])
       ≡ Ok (record {
         rows = close_rows 0x1C49 ++ row (0x78 ∷ []) (plain 0x1C48 0x20 2) ∷ [];
@@ -121,10 +121,10 @@ pub record WorkedPlans : Type 0 where
         secondary = small_secondary;
         tertiary = small_tertiary;
       })
-  -- `&a < x &a < y`: the later one stands nearer
+  -- `&a < x &a < y`: the later one is nearer to `a`
   pub later : planned small (behind (0x61 ∷ []) Primary (0x78 ∷ []) ∷ behind (0x61 ∷ []) Primary (0x79 ∷ []) ∷ [])
       ≡ with_rows (row (0x78 ∷ []) (plain 0x1C49 0x20 2) ∷ row (0x79 ∷ []) (plain 0x1C48 0x20 2) ∷ [])
-  -- `&[before 3]a <<< x`, and with a second `<<< y` there is no place left below 0002
+  -- `&[before 3]a <<< x`, and with a second `<<< y` there is no position left below 0002
   pub ahead_of : planned small (ahead (0x61 ∷ []) Tertiary (0x78 ∷ []) ∷ [])
       ≡ Ok (record {
         rows = small_rows ++ row (0x78 ∷ []) (plain 0x1C47 0x20 1) ∷ [];
@@ -141,7 +141,7 @@ pub record WorkedPlans : Type 0 where
   -- `&U+4E00 < x`, `&U+4E00 = x`
   pub implicit_anchor : planned small (behind (0x4E00 ∷ []) Primary (0x78 ∷ []) ∷ []) ≡ refused 1 kinds.Anchor
   pub implicit_same : planned small same_as_implicit ≡ with_rows (record { key = 0x78 ∷ []; elements = plain 0xFB40 0x20 2 ∷ plain 0xCE00 0 0 ∷ [] } ∷ [])
-  -- the same where the primary FB40 of U+4E00 stands between two of variable elements, and where it stands above all of them
+  -- the same where the primary FB40 of U+4E00 is between two of variable elements, and where it is above all of them
   pub implicit_among_variables : planned (over (high_variables 0xFFFF)) same_as_implicit ≡ refused 1 kinds.ImplicitVariable
   pub implicit_above_variables : planned (over (high_variables 0xFB3F)) same_as_implicit ≡ Ok (record {
     rows = high_variables 0xFB3F ++ record { key = 0x78 ∷ []; elements = plain 0xFB40 0x20 2 ∷ plain 0xCE00 0 0 ∷ [] } ∷ [];
@@ -178,7 +178,8 @@ pub record WorkedPlans : Type 0 where
   pub longest_row : planned small (with_many 15)
       ≡ with_rows (record { key = 0x78 ∷ []; elements = many 16 } ∷ record { key = 0x79 ∷ []; elements = many 31 } ∷ [])
   pub too_long_row : planned small (with_many 16) ≡ refused 2 kinds.Limit
-  -- `&a < b U+0301 U+0300` where the rules were read with another data file: the class is that of the data handed in
+  -- `&a < b U+0301 U+0300` where the rules were read with another data file: the class is that of the data that is
+  -- given
   pub lacks_prefix_by_data : planned small (record {
     anchor = small_text (0x61 ∷ []);
     before = false;
@@ -187,7 +188,7 @@ pub record WorkedPlans : Type 0 where
     expansion = None;
   } ∷ [])
       ≡ refused 1 kinds.NeedsPrefix
-  -- `&a < b`: the row of a base key is replaced in its place, and its weight stays listed
+  -- `&a < b`: the row of a base key is replaced in its position, and its weight stays listed
   pub base_key : planned small (behind (0x61 ∷ []) Primary (0x62 ∷ []) ∷ [])
       ≡ Ok (record { rows = close_rows 0x1C48; primary = same_runs; secondary = small_secondary; tertiary = small_tertiary })
   -- `&[before 1]U+0020 < x`: the new element is variable as its anchor's

@@ -5,7 +5,7 @@ use uca_weights::Level;
 /// A weight before weights are numbered.
 #[derive(Clone, Copy, Debug, PartialEq, Eq)]
 pub enum DraftWeight {
-    /// A weight of the base; 0 is none.
+    /// A weight of the base; 0 means none.
     Base(u16),
     /// The new weight of the relation with this index, from 0.
     New(u32),
@@ -22,7 +22,7 @@ pub struct DraftElement {
     pub tertiary: DraftWeight,
     /// Whether the element is variable.
     pub mark: bool,
-    /// Whether the implicit weights of a code point gave it, and no row.
+    /// Whether the implicit weights of a code point gave it, and not a row.
     pub implicit: bool,
 }
 
@@ -39,11 +39,11 @@ pub struct Insertion {
     pub new: DraftWeight,
 }
 
-/// The weights above one up to another: the places for the members of a list.
+/// The weights above one up to another: the positions for the members of a list.
 #[derive(Clone, Copy, Debug, PartialEq, Eq)]
 pub struct Segment {
-    /// The weight below all places.
+    /// The weight below all positions.
     pub below: u16,
-    /// The greatest place.
+    /// The greatest position.
     pub top: u16,
 }

@@ -9,23 +9,23 @@ use std::fmt;
 use thiserror::Error;
 use uca_weights::{Level, Message};
 
-/// Why rules can't be planned over a base.
+/// Why there is no plan of rules over a base.
 #[derive(Clone, Copy, Debug, PartialEq, Eq)]
 pub enum TailorKind {
     /// The base is not well-formed (UTS #10, section 9.2).
     BaseIllFormed,
     /// The elements of an anchor have no last one that a new weight can be put on.
     Anchor,
-    /// A target of three or more code points ends in a non-starter, and without it is neither a base key nor an earlier
-    /// target.
+    /// A target of three or more code points ends in a non-starter, and without it is neither a base key nor the target
+    /// of an earlier relation.
     NeedsPrefix,
-    /// On one side of the weight that stays, a level has more weights than places. At level 2 that weight is 0020, and at
-    /// level 3 it is 0002. At level 1 there is none: the weights below 8000 would be more than 32,767.
+    /// On one side of the weight that stays, a level has more weights than numbers. At level 2 that weight is 0020, and
+    /// at level 3 it is 0002. At level 1 there is none: the weights below 8000 would be more than 32,767.
     NoRoom(Level),
     /// A target has more than 32 elements, or the table more than 200,000 rows.
     Limit,
-    /// The elements of a target hold one of implicit weights (UTS #10, section 10.1.3) whose primary lies from the least to
-    /// the greatest primary of the base's variable elements, so it would have to be variable.
+    /// A target has an element of implicit weights (UTS #10, section 10.1.3) whose primary is from the least to the
+    /// greatest primary of the base's variable elements. So this element would have to be variable.
     ImplicitVariable,
     /// An allocation failed.
     Memory,
@@ -57,12 +57,12 @@ impl fmt::Display for TailorKind {
     }
 }
 
-/// Rules can't be planned over a base.
+/// There is no plan of rules over a base.
 #[derive(Clone, Copy, Debug, PartialEq, Eq, Error)]
 pub struct TailorFault {
     /// Why.
     pub kind: TailorKind,
-    /// The relation, counted from 1; 0 where no single one is to blame.
+    /// The relation, counted from 1; 0 if the error is not that of a single relation.
     pub relation: u32,
 }
 

@@ -11,43 +11,43 @@ ghost use Rattle.uca_plans.specs.PlanLaws.{KeysOfPlans, OneOutcome, RunsAreLonge
 ghost use Rattle.uca_plans.specs.WorkedPlans.{WorkedPlans};
 
 /// The plans of some rules, as they were worked out by hand: new letters, accents and capitals, weights that have to move,
-/// expansions, and refusals of most kinds.
+/// expansions, and rejections of most kinds.
 pub fn worked_plans()
     ensures { WorkedPlans }
 {}
 
-/// Where a segment has places for some members, their numbers are places of the segment, in the order of the members, with no
-/// other member's number between those of neighbours; and a base weight keeps its number where there is room.
+/// If a segment has positions for some members, their numbers are positions of the segment, in the order of the
+/// members. No other member's number is between those of neighbours. A base weight keeps its number if there is room.
 pub fn numbers_are_proper()
     ensures { NumbersAreProper }
 {}
 
-/// The base weights of a level are the weights of its elements that are numbered, and the one that stays, each once, in rising
-/// order.
+/// The base weights of a level are the weights of its elements that are numbered, and the fixed weight, each once, in
+/// rising order.
 pub fn base_weights_of_elements()
     ensures { BaseWeightsOfElements }
 {}
 
-/// Where a list has the anchor's weight and not the new one, the new weight is added on its side of the anchor's. All others
-/// stand as they did, and towards each of them the new weight stands as the anchor's does.
+/// If a list has the anchor's weight and not the new one, the new weight is added on its side of the anchor's. All
+/// others keep their order, and the new weight has the same order to each of them as the anchor's.
 pub fn new_weights_stand_nearest()
     ensures { NewWeightsStandNearest }
 {}
 
-/// Then no weight stands between the anchor's and the new one, and of the weights that were there, one stands before another
-/// exactly where it did.
+/// Then no weight is between the anchor's and the new one, and the weights that were there keep their
+/// order.
 pub fn nothing_stands_between()
     ensures { NothingStandsBetween }
 {}
 
-/// Each new weight takes one place of one segment: of the low one where its anchor's weight stands below the fixed one, or is
-/// it and the new weight goes before it; and else of the high one.
+/// Each new weight takes one position of one segment: of the low or of the high one. It takes one of the low segment if
+/// its anchor's weight is below the fixed one, or is the fixed one and the new weight goes before it.
 pub fn new_weights_take_places()
     ensures { NewWeightsTakePlaces }
 {}
 
-/// Where both segments of a level have room, its numbers rise along its list, the fixed weight keeps its own, and none is above
-/// the level's greatest.
+/// If both segments of a level have room, its numbers rise along its list, the fixed weight keeps its own, and none is
+/// above the level's greatest.
 pub fn numbers_rise_along_lists()
     ensures { NumbersRiseAlongLists }
 {}
@@ -57,8 +57,8 @@ pub fn runs_send_base_weights()
     ensures { RunsSendBaseWeights }
 {}
 
-/// One more draft row: its key then has its elements and every other key what it had. It replaces the row with its key in
-/// its place, or stands behind all others; each key that was there keeps its place.
+/// One more draft row. Then its key has its elements, and every other key has what it had. It replaces the row with its
+/// key at its position, or comes after all others. Each key that was there keeps its position.
 pub fn one_more_row()
     ensures { OneMoreRow }
 {}
@@ -68,14 +68,14 @@ pub fn keys_read_as_their_rows()
     ensures { KeysReadAsTheirRows }
 {}
 
-/// Drafts that agree at the keys that occur in order in a text give it the same elements: rows that come later change
+/// Drafts that agree at the keys that occur in order in a text give it the same elements. Rows that come later change
 /// nothing for it, unless their target occurs in it.
 pub fn drafts_read_by_what_occurs()
     ensures { DraftsReadByWhatOccurs }
 {}
 
-/// Numbering and reading may be done in either order: whatever elements draft elements are numbered as, a text that is
-/// read under the numbered rows has its draft elements, numbered. Implicit elements have to stay as they are.
+/// Numbering and reading may be done in either order: with any numbering, a text that is read under the numbered rows
+/// has its draft elements, numbered. Implicit elements have to stay as they are.
 pub fn drafts_read_as_rows()
     ensures { DraftsReadAsRows }
 {}
@@ -85,14 +85,14 @@ pub fn drafts_come_from_rows()
     ensures { DraftsComeFromRows }
 {}
 
-/// All keys may be listed before any relation is read: those of the base, and then those of the targets, of which the later
-/// ones have no row yet. Each relation's anchor and expansion is read over these keys as over the rows so far.
+/// All keys may be listed before any relation is read: those of the base, and then those of the targets, although the
+/// later ones have no row yet. Each relation's anchor and expansion is read over these keys as over the rows so far.
 pub fn relations_read_over_all_keys()
     ensures { RelationsReadOverAllKeys }
 {}
 
-/// The rows of a plan have the sizes that the rows of every table have: 1 to 16 code points, 1 to 32 elements, no key
-/// twice, and at most 200,000 rows.
+/// The rows of a plan keep the limits of every table. Each has 1 to 16 code points and 1 to 32 elements, no key comes
+/// twice, and there are at most 200,000 rows.
 pub fn plans_have_sized_rows()
     ensures { PlansHaveSizedRows }
 {}
@@ -102,14 +102,14 @@ pub fn runs_are_longest()
     ensures { RunsAreLongest }
 {}
 
-/// The rows of a plan are those of the base, in their order, and behind them those of the targets that are no base keys, in
-/// the order of the rules.
+/// The rows of a plan are those of the base, in their order. After them come those of the targets that are not base
+/// keys, in the order of the rules.
 pub fn keys_of_plans()
     ensures { KeysOfPlans }
 {}
 
-/// Rules have one outcome over a base: where there is a plan, they are refused for nothing but an allocation that fails; and all
-/// refusals but that one are the same fault.
+/// Rules have one outcome over a base. If there is a plan, they are rejected only for an allocation that fails. All
+/// other rejections are the same error.
 pub fn one_outcome()
     ensures { OneOutcome }
 {}

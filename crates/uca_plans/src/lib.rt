@@ -1,5 +1,5 @@
 //! Plans of tailorings: which weights the targets of rules get, and which weights of the base move for that. These are
-//! definitions, as functions that compute a plan or the first refusal, and laws of them.
+//! definitions, as functions that compute a plan or the first error, and laws about them.
 #![tactic(auto)]
 
 mod drafts;

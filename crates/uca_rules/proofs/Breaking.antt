@@ -1,4 +1,4 @@
--- Where a text breaks off: a piece begins and none stands.
+-- Where a text breaks off: a piece begins, and it is not a whole piece.
 use Rattle.std.proofs.Common.{◌≡◌, ◌≢◌, ◌⊎◌, inl, inr, ℕ, ◌<◌, Bool, true, false, ◌&&◌, ◌==◌, IsTrue, IsFalse, List, [], ◌∷◌, ◌++◌, length, get_or, Option, Some, None, MatchOption, refl, eq-eqb, arith}
 use Rattle.std.proofs.lemmas.Bool.{ne_eqb}
 use Rattle.std.specs.Option.{unwrap_or}

@@ -1,4 +1,4 @@
--- The causes of faults in characters are causes in bytes.
+-- The causes of errors in characters are causes in bytes.
 use Rattle.std.proofs.Common.{◌≡◌, ℕ, ◌≤◌, ⊎_elim, Bool, true, false, List, length, sym, subst, inl, inr, Result, Ok, Err, IfOk, IfErr}
 use Rattle.std.specs.Prelude.{IsUtf8}
 use Rattle.uca_values.specs.Content.{Properties}
@@ -87,7 +87,7 @@ pub fault_of : (properties properties' : Properties) (end end' : ℕ) (cs cs' : 
 fault_of properties properties' end end' cs cs' fault p n c h =
     subst (λ (p : Properties). IsReadingFault p end' cs' fault) p (subst (λ (n : ℕ). IsReadingFault properties n cs' fault) n (subst (λ (c : List Character). IsReadingFault properties end c fault) c h))
 
--- a fault of the characters is one of the bytes
+-- an error of the characters is one of the bytes
 pub rejected : {A : Type 0} (properties : Properties) (bytes : List ℕ) (cs : List Character) (result : Result A RuleFault) → length bytes ≤ 1048576 → IsUtf8 bytes → cs ≡ characters bytes
     → IfErr result (IsReadingFault properties (length bytes) cs) → IfErr result (λ fault. IsCause properties bytes fault.byte fault.kind)
 rejected properties bytes cs (Ok value) few utf8 are h = tt

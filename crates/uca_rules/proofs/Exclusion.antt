@@ -1,4 +1,4 @@
--- Rules in which a cause stands mean no list of relations.
+-- Rules with a cause mean no list of relations.
 use Rattle.std.proofs.Common.{◌≡◌, ◌≢◌, ◌⊎◌, ℕ, suc, ◌+◌, ◌<◌, ◌≤◌, List, [], ◌∷◌, ◌++◌, length, take, drop, Bool, true, false, ◌&&◌, Option, None, Some, option_map, inl, inr, refl, sym, ap, ◌∙◌, subst, arith}
 use Rattle.std.specs.Prelude.{if◌then◌else◌, ◌==◌, IfSome, IsTrue, IsUtf8}
 use Rattle.std.specs.List.{AllByRecursion}
@@ -220,7 +220,7 @@ pub length-starred_relations : (properties : Properties) (anchor : Anchor) (stre
 length-starred_relations properties anchor strength [] = refl
 length-starred_relations properties anchor strength (c ∷ targets) = ap suc (length-starred_relations properties (behind_target (one_letter properties c)) strength targets)
 
--- where a sign stands, the statement gives a relation
+-- if there is a sign, the statement gives a relation
 sign_gives : (properties : Properties) (anchor : Anchor) (cs rest : List Character) (s : Statement) → BeginsStatement cs s rest → IsSign cs → 1 ≤ length (relations_in properties anchor s)
 sign_gives properties anchor cs rest (Reset before text) begins sign =
     absurd (no_sign_at_ampersand begins.due.first begins.due.behind sign.0 begins.due.is (ap sign_at (sym begins.due.are) ∙ sign.1))
@@ -240,7 +240,7 @@ count_excluded properties anchor count cs (s ∷ back) on few full sign =
 
 -- ---- The sorts of causes
 
--- where statements stand in order no cause of a statement does
+-- where statements come in order there is no cause of a statement
 pub statement_excluded : (properties : Properties) (anchor : Anchor) (end : ℕ) (last : Preceding) (count : ℕ) (cs : List Character) (place : ℕ) (kind : RuleFaultKind) (back : List Statement)
     → GoOn cs back → AreInOrder last back → MayEnd (last_of last back) → count + length (relations_from properties anchor back) ≤ 5000 → ¬ (StatementCause end last count cs place kind)
 statement_excluded properties anchor end last count cs place kinds.Syntax back on ordered ended few (inl (inl misplaced, at)) = misplaced_excluded last cs back on ordered ended misplaced

@@ -1,4 +1,4 @@
--- One more relation after others, and the texts that they hold.
+-- One more relation after others, and the texts that they keep.
 use Rattle.std.proofs.Common.{◌≡◌, ◌↔◌, ◌⊎◌, ℕ, ◌+◌, ◌<◌, List, [], ◌∷◌, ◌++◌, length, take, get_or, refl, sym, ap, subst, ◌∙◌, inl, inr, ⊎_elim, arith, lit≤, append_assoc, Contains, Option, Some, None, IsSomeAnd}
 use Rattle.std.specs.List.{AllByRecursion}
 use Rattle.std.proofs.lemmas.List.{length-append, take_more}
@@ -42,9 +42,9 @@ last_or_earlier (x ∷ rs) (b ∷ before) after t r e =
     (λ earlier. inr (record { more = earlier.more; behind = earlier.behind; parts = ap (λ (y : Relation). y ∷ rs) first ∙ ap (λ (l : List Relation). b ∷ l) earlier.parts }))
     (last_or_earlier rs before after t r others)
 
--- ---- Texts that are held
+-- ---- Texts that are kept
 
--- one more relation holds what the others hold, and its own texts that are no target before it
+-- one more relation keeps what the others keep, and its own texts that are not a target before it
 pub held_more : (rs : List Relation) (t : Relation) (text : List ℕ) → IsHeld (rs ++ t ∷ []) text ↔ (IsHeld rs text ⊎ (IsUsedBy t text × ¬ (IsTarget rs text)))
 held_more rs t text = (forth, ⊎_elim earlier own)
   where
@@ -68,7 +68,7 @@ held_more rs t text = (forth, ⊎_elim earlier own)
     own : IsUsedBy t text × ¬ (IsTarget rs text) → IsHeld (rs ++ t ∷ []) text
     own h = record { before = rs; after = []; r = t; parts = refl; used = h.0; free = h.1 }
 
--- no relations hold a text
+-- no relations keep no text
 pub held_none : (text : List ℕ) → ¬ (IsHeld [] text)
 held_none text held = none held.before held.parts
   where
@@ -123,7 +123,7 @@ rules_none = record {
     no_split [] r after e = cc
     no_split (b ∷ before) r after e = cc
 
--- ---- Texts one after the other
+-- ---- Texts in turn
 
 -- a part that occurs in none of the texts so far, and not in the next one
 pub none_further : (part : List ℕ) (xs : List (List ℕ)) (i : ℕ) (x : List ℕ) → i < length xs → x ≡ get_or xs i x → ¬ (OccursInOrder part x)
@@ -136,7 +136,7 @@ none_further part xs i x has is none before text contained =
     (λ here. subst (λ (t : List ℕ). ¬ (OccursInOrder part t)) here none)
     (Contains-push_cases (take i xs) x text (subst (λ (l : List (List ℕ)). Contains l text) more contained))
 
--- one more text is held
+-- one more text is kept
 pub holds_one : (held : List (List ℕ)) (text : List ℕ) (P : Type 0) → P → (t : List ℕ) → Contains (held ++ text ∷ []) t ↔ (Contains held t ⊎ ((t ≡ text) × P))
 holds_one held text P p t = (
   (λ h. ⊎_elim (λ before. inl before) (λ last. inr (sym last, p)) (Contains-push_cases held text t h)),
@@ -149,7 +149,7 @@ holds_none held text P p t = ((λ h. inl h), (λ h. ⊎_elim (λ before. before)
 
 -- ---- The growing rules
 
--- they hold an anchor in addition, and then an expansion
+-- they keep an anchor in addition, and then an expansion
 pub both_held : (target : List ℕ → Type 0) (old middle new : List (List ℕ)) (r : Relation) (expansion : NfdText) → r.expansion ≡ Some expansion
     → ((t : List ℕ) → Contains middle t ↔ (Contains old t ⊎ ((t ≡ r.anchor.points) × ¬ (target r.anchor.points))))
     → ((t : List ℕ) → Contains new t ↔ (Contains middle t ⊎ ((t ≡ expansion.points) × ¬ (target expansion.points))))
@@ -177,7 +177,7 @@ both_held target old middle new r expansion is first second t = (forth, back)
         own.0)
         h
 
--- they hold an anchor alone
+-- they keep only an anchor
 pub anchor_held : (target : List ℕ → Type 0) (old new : List (List ℕ)) (r : Relation) → r.expansion ≡ None
     → ((t : List ℕ) → Contains new t ↔ (Contains old t ⊎ ((t ≡ r.anchor.points) × ¬ (target r.anchor.points))))
     → (t : List ℕ) → Contains new t ↔ (Contains old t ⊎ (IsUsedBy r t × ¬ (target t)))

@@ -26,7 +26,7 @@ last_of : {A : Type 0} (xs : List A) → (xs ≡ []) ⊎ HasLast xs
 last_of [] = inl refl
 last_of (x ∷ xs) = inr (has_last x xs)
 
--- where a member stands in a list with one more, it stands at the end or in the list
+-- a member of a list with one more member is at the end or in the list
 record IsBefore {A : Type 0} (xs : List A) (last : A) (front : List A) (here : A) (back : List A) : Type 0 where
   more : List A
   ends : back ≡ more ++ last ∷ []

@@ -1,4 +1,4 @@
--- What bytes mean is what reading them gives, a failed allocation aside.
+-- What bytes mean is what reading them gives, unless an allocation fails.
 use Rattle.std.proofs.Common.{◌≡◌, ℕ, List, Result, Ok, Err, IfOk, IfErr, MatchResult, refl}
 use Rattle.uca_values.specs.Content.{Properties}
 use Rattle.uca_rules.specs.declared.relations.Relation.{Relation}
@@ -10,7 +10,7 @@ use Rattle.uca_rules.specs.Faults.{IsCause}
 use Rattle.uca_rules.proofs.MeaningLaws.{one_meaning}
 use Rattle.uca_rules.proofs.Exclusion.{a_cause_excludes_a_meaning}
 
--- where bytes mean relations, no other cause stands
+-- if bytes mean relations, there is no other cause
 only_memory : (properties : Properties) (bytes : List ℕ) (place : ℕ) (kind : RuleFaultKind) (relations : List Relation) → IsCause properties bytes place kind → Means properties bytes relations → kind ≡ kinds.Memory
 only_memory properties bytes place kinds.Memory relations cause means = refl
 only_memory properties bytes place kinds.Utf8 relations cause means = absurd (a_cause_excludes_a_meaning properties bytes place kinds.Utf8 relations (λ e. cc) cause means)

@@ -1,4 +1,4 @@
--- One more statement after those that have been read, and the faults that it may have.
+-- One more statement after those that have been read, and the errors that it may have.
 use Rattle.std.proofs.Common.{◌≡◌, ◌≢◌, ◌⊎◌, ℕ, ◌+◌, ◌<◌, ◌≤◌, List, [], ◌∷◌, ◌++◌, length, ◌==◌, true, Option, refl, sym, ap, subst, ◌∙◌, inl, inr, arith}
 use Rattle.std.specs.List.{AllByRecursion}
 use Rattle.std.proofs.lemmas.Bool.Decides.{nat_tests}
@@ -21,7 +21,7 @@ use Rattle.uca_rules.specs.Reading.{State, start, BeginsNext, ReadsAll, IsMemory
 use Rattle.uca_rules.proofs.MeaningLaws.{anchor_behind_all, anchor_behind_more, taken_more, relations_more}
 use Rattle.uca_rules.proofs.Suffixes.{statements_end, statement_behind, behind_length, ends_length, gaps_end, ends_trans}
 
--- the characters begin with statements that give the state, and after them and what stands between, the rest follows
+-- the characters begin with statements that give the state, and the rest follows after them and what comes between
 pub record HasRead (properties : Properties) (cs : List Character) (state : State) (rest : List Character) : Type 0 where
   pub statements : List Statement
   pub lead : AreStatements cs statements rest
@@ -83,13 +83,13 @@ reads_all properties cs state read ended = record {
 pub none_left : (cs : List Character) → true ≡ (length cs == 0) → cs ≡ []
 none_left cs e = nil_from_length cs (grind (arith, nat_tests))
 
--- rules may end where no reset stands last
+-- rules may end if the last statement is not a reset
 pub may_end : (last : Preceding) → ((asked : Option Strength) → last ≡ lasts.Reset asked → ⊥) → MayEnd last
 may_end lasts.Nothing other = tt
 may_end (lasts.Reset asked) other = other asked refl
 may_end lasts.Relation other = tt
 
--- ---- Faults
+-- ---- Errors
 
 pub memory_behind : (end : ℕ) (cs front here : List Character) (fault : RuleFault) → cs ≡ front ++ here → IsMemoryIn end here fault → IsMemoryIn end cs fault
 memory_behind end cs front here fault parts memory =
@@ -174,7 +174,7 @@ fault_behind properties end cs here state fault read (In_target next) =
       })));
     })
 
--- a reset stands last
+-- the last statement is a reset
 pub ends_behind_reset : (properties : Properties) (end : ℕ) (cs : List Character) (state : State) → HasRead properties cs state [] → ¬ (MayEnd state.last)
     → IsReadingFault properties end cs (record { byte = end; kind = kinds.Syntax })
 ends_behind_reset properties end cs state read open_chain =

@@ -19,7 +19,7 @@ behind_one : (front : List Symbol) (c : Character) (piece : Option Piece) → be
 behind_one front c None = refl
 behind_one front c (Some piece) = rw append_assoc refl
 
--- of the inside of quotes so many characters are read, and they are not its end
+-- `at` characters of the inside of quotes were read, and they are not its end
 pub record IsInside (old new : List Symbol) (cs : List Character) (at : ℕ) : Type 0 where
   pub front : List Symbol
   pub written : new ≡ old ++ front

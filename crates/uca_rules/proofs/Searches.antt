@@ -21,7 +21,7 @@ found_same x y xs ys same = (⊎_elim (λ here. here.1) (λ later. occurs_less x
 pub found_other : (x y : ℕ) (xs ys : List ℕ) → x ≢ y → OccursInOrder (x ∷ xs) (y ∷ ys) ↔ OccursInOrder (x ∷ xs) ys
 found_other x y xs ys other = (⊎_elim (λ here. absurd (other here.0)) (λ later. later), λ h. inr h)
 
--- one place further in the text, and in the part
+-- one position further in the text, and in the part
 pub both_further : (part text : List ℕ) (at i x y : ℕ) → at < length part → i < length text → x ≡ get_or part at x → y ≡ get_or text i y → x ≡ y
     → (OccursInOrder part text ↔ OccursInOrder (drop at part) (drop i text))
     → OccursInOrder part text ↔ OccursInOrder (drop (at + 1) part) (drop (i + 1) text)
@@ -65,7 +65,7 @@ some_left part text at i over less so_far h =
     let left : OccursInOrder (drop at part) [] = subst (λ (s : List ℕ). OccursInOrder (drop at part) s) (drop_of_length-le text over) (so_far.0 h) in
     nothing_there (drop at part) some left
 
--- how much of the part has been found tells
+-- how much of the part has been found says whether it occurs
 pub ended : (part text : List ℕ) (at i : ℕ) → length text ≤ i → at ≤ length part
     → (OccursInOrder part text ↔ OccursInOrder (drop at part) (drop i text)) → IsTrue (nat_eq at (length part)) ↔ OccursInOrder part text
 ended part text at i over within so_far = (
@@ -77,7 +77,7 @@ ended part text at i over within so_far = (
   (λ h. ⊎_elim (λ same. eq-eqb at (length part) same) (λ less. absurd (some_left part text at i over less so_far h)) (eq-or-lt_of_le within)),
 )
 
--- ---- Relations one after the other
+-- ---- Relations in turn
 
 -- a test of all relations is one of those that are left
 pub target_further : (relations : List Relation) (text : List ℕ) (i : ℕ) (r : Relation) → i < length relations → r ≡ get_or relations i r → r.target.points ≢ text

@@ -44,7 +44,7 @@ no_sign_at_ampersand c cs sign at is = other c.code at (sign_begins c cs sign is
     other code at (inl less) = omega arith
     other code at (inr equal) = omega arith
 
--- `<` stands where some are counted
+-- a `<` comes first if some are counted
 pub less_begins : (c : Character) (cs : List Character) → 1 ≤ count_less (c ∷ cs) → c.code ≡ less_than
 less_begins c cs some =
     (cond_both (c.code == less_than) (suc (count_less cs)) 0 (λ n. 1 ≤ n → c.code ≡ less_than) (λ is some. eqb-true c.code less_than is) (λ other some. absurd (omega arith))) some

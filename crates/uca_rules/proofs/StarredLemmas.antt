@@ -1,4 +1,4 @@
--- Targets of a starred text one after the other: what they add, their faults, and the symbols that they are written with.
+-- The targets of a starred text in turn: what they add, their errors, and the symbols that they are written with.
 use Rattle.std.proofs.Common.{◌≡◌, ◌≢◌, ◌⊎◌, ℕ, suc, ◌+◌, ◌-◌, ◌<◌, ◌≤◌, List, [], ◌∷◌, ◌++◌, length, take, drop, get_or, map, zero, Bool, true, None, refl, sym, ap, subst, ◌∙◌, inl, inr, ⊎_elim, arith, append_assoc}
 use Rattle.std.specs.List.{AllByRecursion, range_with_len}
 use Rattle.std.specs.Char.{OutOfScalarRange}
@@ -23,7 +23,7 @@ use Rattle.uca_rules.specs.Views.{IsMemoryAt}
 use Rattle.uca_rules.proofs.Suffixes.{pieces_end}
 use Rattle.uca_rules.specs.Reading.{Adds, AddsOne, HasRelationCause, HasTargetFault, IsOverLimit, IsReady, IsStarredFault, IsTextOf, Keeps, State, anchor_of, properties_in, relation_of, state_of}
 
--- ---- The relations of targets one after the other
+-- ---- The relations of targets in turn
 
 pub relations_further : (properties : Properties) (anchor : Anchor) (strength : Strength) (xs ys : List Character)
     → starred_relations properties anchor strength (xs ++ ys) ≡ starred_relations properties anchor strength xs ++ starred_relations properties (behind_targets properties anchor xs) strength ys
@@ -236,7 +236,7 @@ range_at symbols at before x p c d ranges has ends is =
     (λ none. absurd ((ranges front back p parts).1 (IsNoRange.Wrong_ends before (drop (at + 1) symbols) x c refl refl none)))
     (range_or_not x.code c.code)
 
--- ---- Faults of some of the targets
+-- ---- Errors of some of the targets
 
 pub fault_within : {A T : Type 0} (strength : Strength) (front mid back : List Character) (here : ℕ) (fault : RuleFault) (old new : Reader A T)
     → Adds (Starred strength front) old new → HasTargetFault (properties_in new.texts) (state_of new) strength mid here fault
@@ -431,7 +431,7 @@ pub no_literal : (s : Symbol) → ((x : Character) → s ≢ Literal x) → (p :
 no_literal (Literal x) other = absurd (other x refl)
 no_literal (Hyphen p) other = (p, refl)
 
--- ---- Faults of starred texts
+-- ---- Errors of starred texts
 
 -- its targets are rejected
 pub starred_fault : (properties : Properties) (end : ℕ) (state : State) (strength : Strength) (text : List Character) (symbols : List Symbol) (rest : List Character) (here : ℕ) (fault : RuleFault)

@@ -9,7 +9,7 @@ use Rattle.uca_rules.proofs.TextLaws.{one_text, one_written}
 use Rattle.uca_rules.proofs.SignLaws.{no_sign_at_ampersand, bracket_begins}
 use Rattle.uca_rules.proofs.Suffixes.{statement_behind, behind_length}
 
--- ---- Where texts are due
+-- ---- Where texts must come
 
 -- a front that is not this character is none of it
 at_not : (code : ℕ) (cs : List Character) (first : Character) (behind : List Character) → cs ≡ first ∷ behind → first.code ≡ code → ¬ (IsNotAt code cs)
@@ -31,7 +31,7 @@ one_anchor cs text text' before before' due due' =
     let behind : due'.behind ≡ due.behind = cc in
     one_bracket (behind_gaps due.behind) text text' before before' due.perhaps (subst (λ behind. BeginsBracket (behind_gaps behind) before' text') behind due'.perhaps)
 
--- both ends of a sign that stands there are one
+-- there is at most one sign at the front
 one_sign : (cs : List Character) (sign sign' : SignAt) → sign_at cs ≡ Some sign → sign_at cs ≡ Some sign' → sign ≡ sign'
 one_sign cs sign sign' is is' = cc
 
@@ -47,12 +47,12 @@ one_expansion cs text text' due due' =
     let behind : due.behind ≡ due'.behind = cc in
     sym due.gap ∙ ap behind_gaps behind ∙ due'.gap
 
--- where an anchor is due no target is
+-- where an anchor must come no target may
 pub no_target_at_anchor : (cs text text' : List Character) (before : Option Strength) (strength : Strength) (starred : Bool) → IsAnchorDue cs before text → ¬ (IsTargetDue cs strength starred text')
 no_target_at_anchor cs text text' before strength starred due due' =
     no_sign_at_ampersand due.first due.behind (record { strength = strength; starred = starred; rest = due'.behind }) due.is (ap sign_at (sym due.are) ∙ due'.sign)
 
--- where an expansion is due another character than `/` is not
+-- an expansion comes only after `/`
 pub slash_at : (cs text : List Character) → IsExpansionDue cs text → ¬ (IsNotAt slash (behind_gaps cs))
 slash_at cs text due other = at_not slash (behind_gaps cs) due.first due.behind due.are due.is other
 

@@ -110,7 +110,7 @@ starred_next_fault properties end state cs text strength fault due follows few (
       over = over;
     })
 
--- the relations of a statement have been added, and it stands last
+-- the relations of a statement have been added, and it is the last one
 pub goes_on : {A T : Type 0} (s : Statement) (old new : Reader A T) (cs rest : List Character) → BeginsStatement cs s rest → MayFollow old.last (opening s) → last_is s ≡ lasts.Relation → Adds s old new
     → GoesOn old (record { texts = new.texts; rules = new.rules; anchor = new.anchor; before = new.before; last = lasts.Relation }) cs rest
 goes_on {A} s old new cs rest begins follows is adds = record {
@@ -141,7 +141,7 @@ starred_goes_on {A} old new strength cs text rest due follows h =
 
 -- ---- A target and an expansion
 
--- a fault in the expansion is one after the target
+-- an error in the expansion is one after the target
 pub expansion_fault : (properties : Properties) (end : ℕ) (state : State) (strength : Strength) (text more expansion : List Character) (target : Written) (fault : RuleFault)
     → BeginsWritten text target more → IsExpansionDue more expansion → IsTextFault end false expansion fault → IsPlainFault properties end state strength text fault
 expansion_fault properties end state strength text more expansion target fault begins due (inl memory) =
@@ -238,7 +238,7 @@ written_place end [] text rest begins = absurd (no_text begins.begins.pieces beg
     no_text (symbols ∷ pieces) some are = let e : None ≡ Some (record { symbols = symbols; rest = are.0 }) = are.1 in cc
 written_place end (c ∷ cs) text rest begins = sym (ap (λ (w : Written). w.place) begins.is)
 
--- after the sign that was found a target is due
+-- after the sign that was found a target must come
 pub target_due : (cs : List Character) (strength : Strength) (starred is : Bool) (behind text : List Character) → sign_at cs ≡ Some (record { strength = strength; starred = starred; rest = behind })
     → starred ≡ is → text ≡ behind_gaps behind → IsTargetDue cs strength is text
 target_due cs strength starred is behind text sign same gap = record {
@@ -259,7 +259,7 @@ reset_goes_on {A} old texts cs text rest asked before written anchor is growing 
       (sym is) (reset_next (properties_in old.texts) (state_of old) cs text rest asked written anchor due follows begins found);
 }
 
--- after `&` a bracket stands, and the anchor is due after it
+-- a bracket comes after `&`, and the anchor must come after it
 pub bracketed : (cs behind text : List Character) (strength : Strength) → first_code cs ≡ ampersand → behind ≡ behind_gaps (drop 1 cs) →
     bracket_at behind ≡ Some strength → text ≡ behind_gaps (drop 10 behind) → IsAnchorDue cs (Some strength) text
 bracketed [] behind text strength is gap found due = absurd (let e : 0 ≡ ampersand = is in omega (arith, e))
@@ -275,7 +275,7 @@ bracketed (first ∷ cs) behind text strength is gap found due =
       );
     }
 
--- after `&` a bracket stands that is none of the three
+-- a bracket comes after `&` that is none of the three
 pub wrong_bracket : (cs behind : List Character) (c : Character) → first_code cs ≡ ampersand → behind ≡ behind_gaps (drop 1 cs) → Some c ≡ slice_get behind 0 → c.code ≡ bracket → bracket_at behind ≡ None
     → IsWrongBracket cs c.place
 wrong_bracket [] behind c is gap at square none = absurd (let e : 0 ≡ ampersand = is in omega (arith, e))

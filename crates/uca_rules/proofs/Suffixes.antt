@@ -16,11 +16,11 @@ use Rattle.uca_rules.specs.Statements.{SignAt, perhaps_starred, count_less, behi
 
 -- ---- Ends of characters
 
--- the rest stands at the end of the characters
+-- the characters end with the rest
 abbrev pub EndsWith : List Character → List Character → Type 0
 EndsWith cs rest = (front : List Character) × (cs ≡ front ++ rest)
 
--- and one or more stand before it
+-- and one or more come before it
 abbrev pub HasBehind : List Character → List Character → Type 0
 HasBehind cs rest = (c : Character) × (front : List Character) × (cs ≡ c ∷ (front ++ rest))
 
@@ -51,7 +51,7 @@ then_behind cs more rest ([], same) other = (other.0, other.1, same ∙ other.2)
 then_behind cs more rest (c ∷ front, same) other =
     (c, front ++ (other.0 ∷ other.1), same ∙ ap (λ more. c ∷ (front ++ more)) other.2 ∙ ap (λ cs. c ∷ cs) (sym (append_assoc front (other.0 ∷ other.1) rest)))
 
--- an end is no longer, and shorter where something stands before it
+-- an end is no longer than the whole, and shorter if something comes before it
 pub ends_length : (cs rest : List Character) → EndsWith cs rest → length rest ≤ length cs
 ends_length cs rest ends = let all = ap length ends.1 ∙ length-append ends.0 rest in omega arith
 
@@ -254,9 +254,9 @@ statements_end cs (s ∷ statements) rest are =
     (ends_trans cs (behind_gaps cs) are.0 (gaps_end cs) (behind_ends (behind_gaps cs) are.0 (statement_behind (behind_gaps cs) s are.0 are.1)))
     (statements_end are.0 statements rest are.2)
 
--- ---- Places
+-- ---- Positions
 
--- where the rest of characters stands that begin at a place
+-- the position of the rest of characters that begin at a position
 placed_within : (place : ℕ) (codes : List ℕ) (front rest : List Character) → placed_from place codes ≡ front ++ rest → place_of (place + length (encodes codes)) rest ≤ place + length (encodes codes)
 placed_within place [] [] rest are = subst (λ rest. place_of (place + length (encodes [])) rest ≤ place + length (encodes [])) are (omega arith)
 placed_within place (c ∷ codes) [] rest are = subst (λ rest. place_of (place + length (encodes (c ∷ codes))) rest ≤ place + length (encodes (c ∷ codes))) are (omega arith)
@@ -267,7 +267,7 @@ placed_within place (x ∷ codes) (c ∷ front) rest are =
     let long : place + length (encodes (x ∷ codes)) ≡ place + len_utf8 x + length (encodes codes) = (let all = length-append (encode x) (encodes codes) in let one = length-encode x in omega arith) in
     subst (λ end. place_of end rest ≤ end) (sym long) within
 
--- the place of what stands at the end of the rules is within them
+-- the position of an end of the rules is within them
 pub place_within : (bytes : List ℕ) (rest : List Character) → IsUtf8 bytes → EndsWith (characters bytes) rest → place_of (length bytes) rest ≤ length bytes
 place_within bytes rest utf8 ends =
     let long = ap length (encodes-chars bytes utf8) in

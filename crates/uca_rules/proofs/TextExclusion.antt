@@ -1,4 +1,4 @@
--- Where a text of a statement stands, no cause does.
+-- Where a text of a statement is there, no cause is.
 use Rattle.std.proofs.Common.{◌≡◌, ◌⊎◌, ℕ, ◌<◌, ◌≤◌, List, [], ◌∷◌, ◌++◌, length, Bool, true, false, ◌||◌, Option, None, Some, inl, inr, refl, sym, ap, ◌∙◌, subst, arith}
 use Rattle.std.specs.Prelude.{if◌then◌else◌, ◌==◌, IfSome, IsTrue, IsFalse}
 use Rattle.std.specs.List.{AllByRecursion}
@@ -20,7 +20,7 @@ use Rattle.uca_rules.proofs.TextLaws.{StandBehind, pieces_prefix, no_pieces, one
 use Rattle.uca_rules.proofs.StatementLaws.{one_anchor, one_target, one_expansion, no_target_at_anchor, slash_at, GoOn}
 use Rattle.uca_rules.proofs.Suffixes.{HasBehind, behind_length, anchor_due_behind, target_due_behind}
 
--- ---- Where a text is due one stands
+-- ---- Where a text must come there is one
 
 -- what is asked of the text
 abbrev pub IsFit : Bool → List Symbol → Type 0
@@ -38,7 +38,7 @@ written_stands text rest written begins short =
     let points : written.points ≡ points_of begins.symbols = ap (λ (written : Written). written.points) begins.is in
     record { symbols = begins.symbols; rest = rest; begins = begins.begins; fit = subst IsShort points short }
 
--- after the target of a statement and `/` its expansion stands
+-- the expansion of a statement comes after the target and `/`
 expansion_stands : (cs rest text : List Character) (expansion : Option Written) → BeginsExpansion cs expansion rest → IfSome expansion (λ text. IsShort text.points) → IsExpansionDue cs text → TextStands false text
 expansion_stands cs rest text None begins short due = absurd (slash_at cs text due begins.0)
 expansion_stands cs rest text (Some expansion) begins short due =
@@ -76,7 +76,7 @@ statement_text_stands cs rest text (Plain strength' target expansion) (Signs str
 statement_text_stands cs rest text (Starred strength' targets) (Signs strength) false begins short (inl due) = absurd (one_star cs text begins.text strength strength' due begins.due)
 statement_text_stands cs rest text (Starred strength' targets) (Signs strength) false begins short (inr behind) = absurd (one_star cs behind.first begins.text strength strength' behind.due begins.due)
 
--- nothing stands at the end
+-- at the end there is no text
 nothing_behind : (text : List Character) → ¬ (HasBehind [] text)
 nothing_behind text behind = let less = behind_length [] text behind in omega arith
 
@@ -87,7 +87,7 @@ no_text_due text (Signs strength) true due = nothing_behind text (target_due_beh
 no_text_due text (Signs strength) false (inl due) = nothing_behind text (target_due_behind [] strength false text due)
 no_text_due text (Signs strength) false (inr behind) = nothing_behind behind.first (target_due_behind [] strength false behind.first behind.due)
 
--- where a text is due in the statement that stands there, a text stands
+-- where a text must come in the statement that is there, there is a text
 pub text_stands : (cs text : List Character) (statements : List Statement) (opens : Opening) (starred : Bool) → GoOn cs statements → AllByRecursion HasShortTexts statements → IsTextDue cs opens starred text → TextStands starred text
 text_stands cs text [] opens starred on short due = absurd (no_text_due text opens starred (subst (λ cs. IsTextDue cs opens starred text) on due))
 text_stands cs text (s ∷ statements) opens starred on short due = statement_text_stands cs on.0 text s opens starred on.1 short.0 due
@@ -166,7 +166,7 @@ long_excluded text symbols rest begins short long =
 
 -- ---- Hyphens
 
--- what stands around a hyphen stays wrong, whatever follows
+-- wrong symbols around a hyphen stay wrong with any text after them
 no_range_more : (front back more : List Symbol) → IsNoRange front back → IsNoRange front (back ++ more)
 no_range_more front back more (No_start none) = No_start none
 no_range_more front back more (Hyphen_before before place is) = Hyphen_before before place is
@@ -247,7 +247,7 @@ hyphen_excluded text place symbols rest begins ranges hyphen = wrong_excluded hy
 
 -- ---- All causes of texts
 
--- a text that stands has no cause
+-- a text that is there has no cause
 pub text_excluded : (end : ℕ) (starred : Bool) (text : List Character) (place : ℕ) (kind : RuleFaultKind) → TextStands starred text → ¬ (TextCause end starred text place kind)
 text_excluded end starred text place kinds.EmptyText stands cause = not_at_end starred text stands.symbols stands.rest stands.begins (empty_ends starred text cause.0)
 text_excluded end false text place kinds.Escape stands cause = broken_excluded false text backslash place stands.symbols stands.rest refl stands.begins cause

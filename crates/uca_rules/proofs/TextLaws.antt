@@ -1,4 +1,4 @@
--- Texts end at one place.
+-- Texts end at one position.
 use Rattle.std.proofs.Common.{◌≡◌, List, [], ◌∷◌, ◌++◌, Bool, true, false, ◌&&◌, ◌||◌, Option, None, Some, refl, sym, ap, ◌∙◌, subst}
 use Rattle.std.specs.Prelude.{if◌then◌else◌, ◌==◌, IsFalse}
 use Rattle.std.proofs.lemmas.List.{append-nil}
@@ -6,7 +6,7 @@ use Rattle.uca_rules.specs.declared.characters.Character.{Character}
 use Rattle.uca_rules.specs.Characters.{place_of, apostrophe, backslash, hyphen}
 use Rattle.uca_rules.specs.Pieces.{BeginsText, Symbol, Literal, Hyphen, Piece, is_plain, piece_at, behind_apostrophe, behind_backslash, ArePieces, EndsText, symbols_of, Written, BeginsWritten, points_of}
 
--- ---- Where a text ends no piece stands
+-- ---- Where a text ends there is no piece
 
 no_test : {A : Type 0} (a b c d : Bool) (x y z w : Option A)
     → IsFalse (a || b || c || d) → (if a then x else if b then y else if c then z else if d then w else None) ≡ None
@@ -24,7 +24,7 @@ none_at_end starred (c ∷ cs) ends =
 
 -- ---- Pieces
 
--- after pieces that lead somewhere the rest of all pieces stand
+-- after some of the pieces the rest of the pieces follow
 pub record StandBehind (starred : Bool) (front pieces : List (List Symbol)) (more rest : List Character) : Type 0 where
   pub back : List (List Symbol)
   pub parts : pieces ≡ front ++ back
@@ -59,7 +59,7 @@ no_pieces starred cs rest (symbols ∷ pieces) ends are =
 
 -- ---- Texts
 
--- a text, starred or not, ends at one place and gives one list of characters
+-- a text, starred or not, ends at one position and gives one list of characters
 abbrev pub OneText : Type 0
 OneText = (starred : Bool) (cs rest rest' : List Character) (symbols symbols' : List Symbol) → BeginsText starred cs symbols rest → BeginsText starred cs symbols' rest' → (symbols ≡ symbols') × (rest ≡ rest')
 

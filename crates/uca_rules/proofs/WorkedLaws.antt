@@ -56,7 +56,7 @@ late_target = record {
   occurs = inl (refl, inr (inl (refl, tt)));
 }
 
--- an anchor that is an earlier target is not held
+-- an anchor that is an earlier target is not kept
 not_held : (before after : List Relation) (r : Relation) → less (121 ∷ []) marked ∷ less marked (120 ∷ []) ∷ [] ≡ before ++ r ∷ after → IsUsedBy r marked → ¬ (IsTarget before marked) → ⊥
 not_held [] after r parts used free =
     let same : less (121 ∷ []) marked ≡ r = cc in

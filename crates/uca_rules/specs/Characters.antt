@@ -1,4 +1,4 @@
--- The characters of rules, with their places, and which of them are white space and comments.
+-- The characters of rules, with their positions, and which of them are white space and comments.
 use Rattle.std.specs.Prelude.{ℕ, ◌+◌, ◌==◌, ◌&&◌, ◌||◌, not, nat_le, Bool, true, false, List, [], ◌∷◌, chars, if◌then◌else◌}
 use Rattle.std.specs.Char.{len_utf8}
 use Rattle.std.specs.Str.{byte}
@@ -37,18 +37,18 @@ bracket = byte "["
 abbrev pub backslash : ℕ
 backslash = 92
 
--- ---- Characters with their places
+-- ---- Characters with their positions
 
--- these characters, the first of which stands at a place
+-- these characters, with the first at this position
 abbrev pub placed_from : ℕ → List ℕ → List Character
 placed_from place [] = []
 placed_from place (c ∷ cs) = record { code = c; place = place } ∷ placed_from (place + len_utf8 c) cs
 
--- the characters of a text in UTF-8, each with the place of its first byte
+-- the characters of a text in UTF-8, each with the position of its first byte
 abbrev pub characters : List ℕ → List Character
 characters bytes = placed_from 0 (chars bytes)
 
--- where the rest of a text begins, of which `length` is the length in bytes
+-- where the rest of a text begins, when `length` is the length of the text in bytes
 abbrev pub place_of : ℕ → List Character → ℕ
 place_of length [] = length
 place_of length (c ∷ rest) = c.place

@@ -1,4 +1,4 @@
--- The text of a fault: `byte 13: LateTarget`.
+-- The text of an error: `byte 13: LateTarget`.
 use Rattle.std.specs.Prelude.{ℕ, List, ◌++◌, codes}
 use Rattle.std.specs.Fmt.{decimal}
 use Rattle.uca_rules.specs.declared.faults.RuleFaultKind.{RuleFaultKind}

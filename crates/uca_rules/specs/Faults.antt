@@ -16,7 +16,7 @@ use Rattle.uca_rules.specs.Statements.{Statement, Starred, Opening, Resets, Sign
 use Rattle.uca_rules.specs.Relations.{IsTarget, IsLate}
 use Rattle.uca_rules.specs.Meaning.{Taken, taken, relations_of}
 
--- ---- Causes where a text is due
+-- ---- Causes where a text must come
 
 -- `&`, `<`, `=` or `/`
 abbrev pub is_part : ℕ → Bool
@@ -32,8 +32,8 @@ abbrev pub IsNoText : Bool → List Character → Type 0
 IsNoText starred [] = ⊥
 IsNoText starred (c ∷ rest) = IsFalse (is_part c.code) × IsFalse (begins_piece starred c.code)
 
--- Behind some pieces of the text one more begins with this character, and is none: a backslash without its character or
--- its digits, or a quote without an end.
+-- After some pieces of the text one more begins with this character, and is not a whole piece. It is a backslash
+-- without its character or its digits, or a quote without an end.
 pub record IsBroken (starred : Bool) (text : List Character) (code place : ℕ) : Type 0 where
   pub pieces : List (List Symbol)
   pub first : Character
@@ -56,7 +56,7 @@ opened [] = []
 opened (c ∷ []) = []
 opened (c ∷ d ∷ cs) = if c.code == apostrophe then (if d.code == apostrophe then [] else Literal d ∷ []) else []
 
--- the `-` at a place stands for no range: by what stands around it, or because the text ends after it
+-- the `-` at a position stands for no range: because of what is around it, or because the text ends after it
 pub record IsWrongHyphen (text : List Character) (place : ℕ) : Type 0 where
   pub pieces : List (List Symbol)
   pub rest : List Character
@@ -66,7 +66,7 @@ pub record IsWrongHyphen (text : List Character) (place : ℕ) : Type 0 where
   pub symbols : symbols_of pieces ++ opened rest ≡ front ++ Hyphen place ∷ back
   pub wrong : IsNoRange front back ⊎ (EndsText true rest × (back ≡ []))
 
--- a cause in a text that is due; `end` is the length of the rules
+-- a cause in a text that must come; `end` is the length of the rules
 abbrev pub TextCause : ℕ → Bool → List Character → ℕ → RuleFaultKind → Type 0
 TextCause end starred text place kinds.EmptyText = IsEmptyText text × (place ≡ place_of end text)
 TextCause end starred text place kinds.Escape = IsBroken starred text backslash place
@@ -75,7 +75,7 @@ TextCause end true text place kinds.Syntax = (IsNoText true text × (place ≡ p
 TextCause end false text place kinds.Limit = IsLong text × (place ≡ place_of end text)
 TextCause end starred text place _ = ⊥
 
--- after a target that is not starred, and `/`, an expansion is due
+-- after a target that is not starred, and `/`, an expansion must come
 pub record IsSlashBehind (cs : List Character) (strength : Strength) (text : List Character) : Type 0 where
   pub first : List Character
   pub due : IsTargetDue cs strength false first
@@ -84,14 +84,14 @@ pub record IsSlashBehind (cs : List Character) (strength : Strength) (text : Lis
   pub begins : BeginsWritten first target more
   pub slashed : IsExpansionDue more text
 
--- a text, starred or not, is due in the statement that begins there
+-- a text, starred or not, must come in the statement that begins there
 abbrev pub IsTextDue : List Character → Opening → Bool → List Character → Type 0
 IsTextDue cs Resets true text = ⊥
 IsTextDue cs Resets false text = (before : Option Strength) × IsAnchorDue cs before text
 IsTextDue cs (Signs strength) true text = IsTargetDue cs strength true text
 IsTextDue cs (Signs strength) false text = IsTargetDue cs strength false text ⊎ IsSlashBehind cs strength text
 
--- in the statement that begins there, and may follow the last one, a text is due, and it has a cause
+-- in the statement that begins there, and may follow the last one, a text must come, and it has a cause
 pub record InText (end : ℕ) (last : Preceding) (cs : List Character) (place : ℕ) (kind : RuleFaultKind) : Type 0 where
   pub opens : Opening
   pub starred : Bool
@@ -125,7 +125,7 @@ pub record IsWrongBracket (cs : List Character) (place : ℕ) : Type 0 where
   pub none : bracket_at (opens ∷ more) ≡ None
   pub at : place ≡ opens.place
 
--- a sign stands there
+-- there is a sign
 abbrev pub IsSign : List Character → Type 0
 IsSign cs = (sign : SignAt) × (sign_at cs ≡ Some sign)
 
@@ -134,7 +134,7 @@ abbrev pub IsWrongStrength : Preceding → List Character → Type 0
 IsWrongStrength (lasts.Reset (Some asked)) cs = (sign : SignAt) × (sign_at cs ≡ Some sign) × (sign.strength ≢ asked)
 IsWrongStrength last cs = ⊥
 
--- a cause at the first character of a statement, after others that give so many relations
+-- a cause at the first character of a statement, after others that give this many relations
 abbrev pub StatementCause : ℕ → Preceding → ℕ → List Character → ℕ → RuleFaultKind → Type 0
 StatementCause end last count cs place kinds.Syntax =
     ((IsMisplaced last cs ⊎ (4 ≤ count_less cs)) × (place ≡ place_of end cs)) ⊎ (MayFollow last Resets × IsWrongBracket cs place)
@@ -149,7 +149,7 @@ RelationCause before r kinds.DuplicateTarget = IsTarget before r.target.points
 RelationCause before r kinds.LateTarget = IsLate before r
 RelationCause before r _ = ⊥
 
--- of these relations one has a cause, after those before it; the place is that of its target
+-- one of these relations has a cause after those before it, and the position is that of its target
 pub record InRelation (ts : List Taken) (place : ℕ) (kind : RuleFaultKind) : Type 0 where
   pub before : List Taken
   pub t : Taken
@@ -172,7 +172,7 @@ pub record InStarred (properties : Properties) (statements : List Statement) (pl
 
 -- ---- All causes
 
--- The characters of rules, which end at `end`, begin with whole statements in order. Behind these, where `rest` begins,
+-- The characters of rules, which end at `end`, begin with whole statements in order. After these, where `rest` begins,
 -- or in what they give there is a cause.
 pub record HasCause (properties : Properties) (end : ℕ) (cs : List Character) (place : ℕ) (kind : RuleFaultKind) : Type 0 where
   pub statements : List Statement
@@ -190,7 +190,7 @@ pub record IsInside (properties : Properties) (bytes : List ℕ) (place : ℕ) (
   pub utf8 : IsUtf8 bytes
   pub has : HasCause properties (length bytes) (characters bytes) place kind
 
--- A cause of the kind stands at the byte; any allocation may fail.
+-- A cause of the kind is at the byte. `Memory` may come at any byte, since any allocation may fail.
 abbrev pub IsCause : Properties → List ℕ → ℕ → RuleFaultKind → Type 0
 IsCause properties bytes place kinds.Memory = place ≤ length bytes
 IsCause properties bytes place kinds.Utf8 = (length bytes ≤ 1048576) × IsValidUpTo bytes place

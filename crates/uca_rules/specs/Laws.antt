@@ -11,6 +11,6 @@ use Rattle.uca_rules.specs.Faults.{IsCause}
 abbrev pub OneMeaning : Type 0
 OneMeaning = (properties : Properties) (bytes : List ℕ) (relations relations' : List Relation) → Means properties bytes relations → Means properties bytes relations' → relations ≡ relations'
 
--- bytes at which a cause stands, a failed allocation aside, mean no list of relations
+-- bytes with a cause that is not a failed allocation mean no list of relations
 abbrev pub ACauseExcludesAMeaning : Type 0
 ACauseExcludesAMeaning = (properties : Properties) (bytes : List ℕ) (place : ℕ) (kind : RuleFaultKind) (relations : List Relation) → kind ≢ kinds.Memory → IsCause properties bytes place kind → ¬ (Means properties bytes relations)

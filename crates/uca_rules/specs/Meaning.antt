@@ -11,7 +11,7 @@ use Rattle.uca_rules.specs.Characters.{characters}
 use Rattle.uca_rules.specs.Statements.{Statement, Reset, Plain, Starred, AreStatements, AreChains}
 use Rattle.uca_rules.specs.Relations.{AreRules}
 
--- a relation, and the place where its target is written
+-- a relation, and the position where its target is written
 pub record Taken : Type 0 where
   pub relation : Relation
   pub place : ℕ
@@ -61,7 +61,7 @@ relations_from properties anchor (s ∷ statements) = relations_in properties an
 abbrev pub no_anchor : Anchor
 no_anchor = behind_target (record { points = []; classes = [] })
 
--- the relations of statements, each with the place of its target
+-- the relations of statements, each with the position of its target
 abbrev pub taken : Properties → List Statement → List Taken
 taken properties statements = relations_from properties no_anchor statements
 

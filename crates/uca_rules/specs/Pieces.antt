@@ -99,7 +99,7 @@ points_of [] = []
 points_of (Literal c ∷ symbols) = c.code ∷ points_of symbols
 points_of (Hyphen place ∷ symbols) = points_of symbols
 
--- a text as it is written: where its first byte stands, and its code points
+-- a text as it is written: the position of its first byte, and its code points
 pub record Written : Type 0 where
   pub place : ℕ
   pub points : List ℕ

@@ -81,7 +81,7 @@ pub record ReadsAll (properties : Properties) (cs : List Character) (relations :
   pub short : AllByRecursion HasShortTexts statements
   pub give : relations ≡ relations_of (taken properties statements)
 
--- ---- Faults
+-- ---- Errors
 
 -- an allocation failed where some of the characters had been read
 pub record IsMemoryIn (end : ℕ) (cs : List Character) (fault : RuleFault) : Type 0 where
@@ -109,7 +109,7 @@ pub record IsOverLimit (count : ℕ) (targets : List Character) (fault : RuleFau
   pub at : fault.byte ≡ c.place
   pub over : (count + length front ≡ 5000) ⊎ (16 < length (nfd (c.code ∷ [])))
 
--- a target that is not starred is due, and the relation is rejected
+-- a target that is not starred must come, and the relation is rejected
 pub data IsPlainFault (properties : Properties) (end : ℕ) (state : State) (strength : Strength) (text : List Character) (fault : RuleFault) : Type 0 where
   In_memory : IsMemoryIn end text fault → IsPlainFault properties end state strength text fault
   In_target : TextCause end false text fault.byte fault.kind → IsPlainFault properties end state strength text fault
@@ -118,7 +118,7 @@ pub data IsPlainFault (properties : Properties) (end : ℕ) (state : State) (str
   In_relation : (target : Written) (more : List Character) (expansion : Option Written) (rest : List Character) → BeginsWritten text target more → BeginsExpansion more expansion rest
       → HasRelationCause properties state (Plain strength target expansion) fault → IsPlainFault properties end state strength text fault
 
--- a starred text is due, and it or one of its relations is rejected
+-- a starred text must come, and it or one of its relations is rejected
 pub data IsStarredFault (properties : Properties) (end : ℕ) (state : State) (strength : Strength) (text : List Character) (fault : RuleFault) : Type 0 where
   In_memory : IsMemoryIn end text fault → IsStarredFault properties end state strength text fault
   In_text : TextCause end true text fault.byte fault.kind → IsStarredFault properties end state strength text fault

@@ -25,7 +25,7 @@ perhaps_starred strength (c ∷ cs) =
     then record { strength = strength; starred = true; rest = cs }
     else record { strength = strength; starred = false; rest = c ∷ cs }
 
--- how many `<` stand at the front, and what follows them
+-- how many `<` come at the front, and what follows them
 abbrev pub count_less : List Character → ℕ
 count_less [] = 0
 count_less (c ∷ cs) = if c.code == less_than then suc (count_less cs) else 0
@@ -67,7 +67,7 @@ abbrev pub BeginsBracket : List Character → Option Strength → List Character
 BeginsBracket cs None rest = IsNotAt bracket cs × (cs ≡ rest)
 BeginsBracket cs (Some strength) rest = (bracket_at cs ≡ Some strength) × (behind_gaps (drop 10 cs) ≡ rest)
 
--- ---- Where a text is due
+-- ---- Where a text must come
 
 -- an anchor: after `&` and perhaps a bracket
 pub record IsAnchorDue (cs : List Character) (before : Option Strength) (text : List Character) : Type 0 where
@@ -93,13 +93,13 @@ pub record IsExpansionDue (cs text : List Character) : Type 0 where
 
 -- ---- Starred texts
 
--- `x-y` stands for code points from x to y, of which none is a surrogate
+-- `x-y` stands for code points from x to y, and none of them is a surrogate
 pub record IsRange (x y : ℕ) : Type 0 where
   pub rising : x < y
   pub apart : (y < 0xD800) ⊎ (0xDFFF < x)
 
--- What may not be around the `-` of a range: no character before it, or the end of a range; no character after
--- it; or two characters that give no range.
+-- What may not be around the `-` of a range. No character, or the end of a range, comes before it; no character
+-- comes after it; or the two characters give no range.
 pub data IsNoRange (front back : List Symbol) : Type 0 where
   No_start : front ≡ [] → IsNoRange front back
   Hyphen_before : (before : List Symbol) (place : ℕ) → front ≡ before ++ Hyphen place ∷ [] → IsNoRange front back
@@ -107,7 +107,7 @@ pub data IsNoRange (front back : List Symbol) : Type 0 where
   Hyphen_behind : (place : ℕ) (more : List Symbol) → back ≡ Hyphen place ∷ more → IsNoRange front back
   Wrong_ends : (before more : List Symbol) (x y : Character) → front ≡ before ++ Literal x ∷ [] → back ≡ Literal y ∷ more → ¬ (IsRange x.code y.code) → IsNoRange front back
 
--- no `-` of the symbols is known to stand for no range, whatever follows them
+-- no `-` of the symbols is known to stand for no range; what follows the symbols is not considered
 abbrev pub HasRangesSoFar : List Symbol → Type 0
 HasRangesSoFar symbols = (front back : List Symbol) (place : ℕ) → symbols ≡ front ++ Hyphen place ∷ back → ¬ (IsNoRange front back)
 
@@ -118,12 +118,12 @@ HasRanges symbols = (front back : List Symbol) (place : ℕ) → symbols ≡ fro
 abbrev pub placed_at : ℕ → List ℕ → List Character
 placed_at place points = map (λ point. record { code = point; place = place }) points
 
--- the code points between the ends of a range, rising, each at the place of the `-`
+-- the code points between the ends of a range, rising, each at the position of the `-`
 abbrev pub between : ℕ → ℕ → ℕ → List Character
 between place x y = placed_at place (range_with_len (x + 1) (y - (x + 1)))
 
 -- The targets of a starred text: each character, and for the `-` of a range the code points between its ends.
--- (Where a `-` stands for no range the text is none, and what is said of it here does not matter.)
+-- (If a `-` stands for no range, there is no such text, and its value here does not matter.)
 abbrev pub targets_of : List Symbol → List Character
 targets_of [] = []
 targets_of (Hyphen place ∷ symbols) = targets_of symbols

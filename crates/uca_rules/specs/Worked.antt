@@ -8,7 +8,7 @@ use Rattle.uca_rules.specs.declared.relations.Relation.{Relation}
 use Rattle.uca_rules.specs.Relations.{IsHeld, IsLate}
 use Rattle.uca_rules.specs.Statements.{Reset, Plain, sign_at, bracket_at, targets_of, AreStatements}
 
--- the characters of ASCII text, from a place on
+-- the characters of ASCII text, from a position on
 abbrev pub from : ℕ → List ℕ → List Character
 from place text = placed_from place text
 
@@ -53,6 +53,7 @@ pub record WorkedRules : Type 0 where
       ∷ Plain Primary (record { place = 15; points = codes "x" }) None
       ∷ Plain Identical (record { place = 19; points = codes "y" }) (Some (record { place = 21; points = codes "z" }))
       ∷ []) []
-  -- `&n\u0323\u0303 < x &n < n\u0303`: others may stand between; after the rule `&y < n\u0323\u0303` the anchor would be a target
+  -- `&n\u0323\u0303 < x &n < n\u0303`: others may come between; after the rule `&y < n\u0323\u0303` the anchor would be
+  -- a target
   pub late : IsLate (less (110 ∷ 0x323 ∷ 0x303 ∷ []) (120 ∷ []) ∷ []) (less (110 ∷ []) (110 ∷ 0x303 ∷ []))
   pub exempt : IsHeld (less (121 ∷ []) (110 ∷ 0x323 ∷ 0x303 ∷ []) ∷ less (110 ∷ 0x323 ∷ 0x303 ∷ []) (120 ∷ []) ∷ []) (110 ∷ 0x323 ∷ 0x303 ∷ []) → ⊥

@@ -6,7 +6,7 @@ ghost use Rattle.uca_rules.specs.Characters;
 use crate::faults::{RuleFault, RuleFaultKind};
 use std::alloc::Allocator;
 
-/// A character of rules, or one that an escape stands for.
+/// A character of rules, or one that an escape gives.
 #[derive(Clone, Copy)]
 pub(crate) struct Character {
     /// The character.

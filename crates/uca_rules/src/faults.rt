@@ -12,22 +12,23 @@ use uca_weights::Message;
 /// Why rules are rejected.
 #[derive(Clone, Copy, Debug, PartialEq, Eq)]
 pub enum RuleFaultKind {
-    /// A character stands where it may not; a bracket is none of the three forms; a quote has no end; four or more `<`
-    /// stand in a row; a chain has no relation; or a `-` of a starred text stands for no range.
+    /// A character comes where it may not; a bracket is none of `[before 1]`, `[before 2]` and `[before 3]`; a quote
+    /// has no end; or four or more `<` come in a row. Or a chain has no relation, or a `-` of a starred text stands for
+    /// no range.
     Syntax,
-    /// A backslash stands at the end, or its digits are missing, or give a surrogate or a number above 10FFFF.
+    /// A backslash comes at the end, its digits are missing, or they give a surrogate or a number above 10FFFF.
     Escape,
     /// The first relation after `[before 1]`, `[before 2]` or `[before 3]` has another strength.
     BeforeStrength,
-    /// A text must begin there, and there is the end, `&`, `<`, `=` or `/`.
+    /// A text must begin there, but the end, `&`, `<`, `=` or `/` comes.
     EmptyText,
     /// There are more than 1,048,576 bytes or more than 5,000 relations, or a text has more than 16 code points in
     /// Normalization Form D.
     Limit,
     /// The target is the target of an earlier relation.
     DuplicateTarget,
-    /// The target occurs in order in an anchor or an expansion, of its own or of an earlier relation. That text is not itself
-    /// the target of a relation before it, so the new target would change how it is read.
+    /// The target occurs in order in an anchor or an expansion of its own relation or of an earlier one. That text is
+    /// not itself the target of a relation before it, so the new target would change how it is read.
     LateTarget,
     /// An allocation failed.
     Memory,
@@ -65,7 +66,7 @@ impl fmt::Display for RuleFaultKind {
 /// Rules are rejected: at which byte, and why.
 #[derive(Clone, Copy, Debug, PartialEq, Eq, Error)]
 pub struct RuleFault {
-    /// The byte, counted from 0; the length of the rules is their end.
+    /// The byte, counted from 0. An error at the end of the rules has their length.
     pub byte: usize,
     /// Why they are rejected.
     pub kind: RuleFaultKind,

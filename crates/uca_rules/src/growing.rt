@@ -1,4 +1,4 @@
-//! Rules to which one relation after another is added.
+//! Rules to which relations are added one at a time.
 
 ghost use Rattle.std.specs.Prelude.{◌≡◌, ◌<◌, ◌++◌, ◌∷◌, [], ◌⊎◌, ℕ, Contains, IfErr, IsFalse, IsTrue, List, OnOk, length};
 ghost use Rattle.uca_text.specs.Occurring.{OccursInOrder};
@@ -22,7 +22,7 @@ pub(crate) struct RulesBuilder<A: Allocator> {
     held: Vec<HeldText<A>, A>,
 }
 
-/// A text that is held.
+/// A text in which no later target may occur.
 #[derive(Drop)]
 struct HeldText<A: Allocator> {
     text: Vec<char, A>,
@@ -60,8 +60,9 @@ impl<A: Allocator + Copy> RulesBuilder<A> {
     ///
     /// # Errors
     ///
-    /// `DuplicateTarget` where its target is the target of an earlier one; otherwise `LateTarget` where its target occurs in
-    /// order in a text that is held, its own ones included; `Memory`.
+    /// - `DuplicateTarget`: its target is the target of an earlier one.
+    /// - `LateTarget`: otherwise, its target occurs in order in a text that is kept, its own texts included.
+    /// - `Memory`: an allocation failed.
     pub(crate) fn add(&mut self, relation: Relation) -> Result<(), RuleFaultKind>
         requires growing { AreGrowing self.old }
         requires few { length self.old.relations.items < 5000 }
@@ -75,7 +76,7 @@ impl<A: Allocator + Copy> RulesBuilder<A> {
         Ok(())
     }
 
-    /// Tests one more relation, and holds its texts. The relation itself is not added.
+    /// Tests one more relation, and keeps its texts. The relation itself is not added.
     fn admit(&mut self, relation: &Relation) -> Result<(), RuleFaultKind>
         requires growing { AreGrowing self.old }
         ensures admitted { OnOk result (Admits relation.now self.old self.new) }
@@ -92,7 +93,7 @@ impl<A: Allocator + Copy> RulesBuilder<A> {
         Ok(())
     }
 
-    /// Holds the texts of a relation, unless they are targets.
+    /// Keeps the texts of a relation, unless they are targets.
     fn hold_own(&mut self, relation: &Relation) -> Result<(), AllocError>
         ensures { OnOk result (HoldsOwn relation.now self.old self.new) }
     {
@@ -103,7 +104,7 @@ impl<A: Allocator + Copy> RulesBuilder<A> {
         Ok(())
     }
 
-    /// Holds a text, unless it is the target of a relation.
+    /// Keeps a text, unless it is the target of a relation.
     fn hold(&mut self, text: &[char]) -> Result<(), AllocError>
         ensures { OnOk result (Holds text.now self.old self.new) }
     {

@@ -8,14 +8,14 @@ ghost use Rattle.uca_rules.specs.Views.{Takes, escaped_piece, one_symbol, slice_
 use crate::characters::{Character, Symbol, is_white};
 use std::alloc::{AllocError, Allocator};
 
-/// Whether a piece may begin with the character: of a starred text also `-`.
+/// Whether a piece may begin with the character. A piece of a starred text may also begin with `-`.
 pub(crate) fn begins_piece(starred: bool, c: char) -> bool
     ensures { result ≡ Pieces.begins_piece starred c }
 {
     c == '\'' || c == '\\' || is_plain(c) || (starred && c == '-')
 }
 
-/// An ASCII letter or digit, or a character from U+0080 on that is no white space.
+/// An ASCII letter or digit, or a character from U+0080 on that is not white space.
 fn is_plain(c: char) -> bool
     ensures { result ≡ Pieces.is_plain c }
 {
@@ -38,7 +38,7 @@ fn push_symbol<'a, A: Allocator>(
 }
 
 /// Takes the piece at the front: its symbols are written after those that are there. Returns the characters after the
-/// piece, or nothing where there is no piece.
+/// piece, or `None` if there is no piece.
 pub(crate) fn take_piece<'a, A: Allocator>(
     symbols: &mut Vec<Symbol, A>,
     characters: &'a [Character],

@@ -40,9 +40,12 @@ pub(crate) const MOST_RELATIONS: usize = 5000;
 ///
 /// # Errors
 ///
-/// The first error, as the rules are read from left to right: `Limit` at byte 1,048,576 where there are more bytes; otherwise `Utf8`
-/// at the first byte that is not part of a valid beginning; otherwise what [`RuleFaultKind`] says. `Memory` may
-/// come at any byte, where an allocation fails.
+/// The first error, as the rules are read from left to right:
+///
+/// - `Limit` at byte 1,048,576, if there are more bytes.
+/// - Otherwise `Utf8`, at the first byte that is not part of a valid beginning.
+/// - Otherwise what [`RuleFaultKind`] says.
+/// - `Memory` at any byte, if an allocation fails.
 pub fn read_rules<A: Allocator>(
     alloc: Global,
     bytes: &[u8],
@@ -57,11 +60,11 @@ pub fn read_rules<A: Allocator>(
 }
 
 /// Reads rules as [`read_rules`] does, in memory of the caller's choice. Texts in Normalization Form D are taken from
-/// `global`; everything else, the list of relations among it, is taken from `alloc`.
+/// `global`; everything else, also the list of relations, is taken from `alloc`.
 ///
 /// # Errors
 ///
-/// Those of [`read_rules`]: `Memory` comes where an allocation from either fails.
+/// Those of [`read_rules`]: `Memory` comes if an allocation from either fails.
 pub fn read_rules_in<A: Allocator + Copy, T: Allocator>(
     alloc: A,
     global: Global,
@@ -346,7 +349,7 @@ fn behind_ampersand<'c>(
 ///
 /// # Errors
 ///
-/// `Syntax` where four or more `<` stand in a row, then `Limit` where there are as many relations as there may be, then
+/// `Syntax` if four or more `<` come in a row, then `Limit` if there are 5,000 relations already, then
 /// `BeforeStrength`.
 fn sign_of_relation<'c>(
     last: Preceding,

@@ -10,24 +10,24 @@ use uca_text::Normal;
 use uca_weights::Strength;
 
 /// A relation between two texts (UTS #35 Part 5, section 3.3): the target comes after the anchor, or before it, and
-/// differs from it at the strength. At `Identical` it sorts as the anchor and the expansion do.
+/// differs from it at the strength. At `Identical` it sorts like the anchor and then the expansion.
 #[derive(Drop)]
 pub struct Relation {
-    /// The text that the target is placed by.
+    /// The text next to which the target is put.
     pub anchor: Normal,
-    /// Whether the target stands before the anchor.
+    /// Whether the target comes before the anchor.
     pub before: bool,
     /// How strongly the target differs from the anchor.
     pub strength: Strength,
-    /// The text that is placed.
+    /// The text that gets a new place in the order.
     pub target: Normal,
     /// A text whose collation elements follow those of the target.
     pub expansion: Option<Normal>,
 }
 
 /// The relations of rules, in their order. There are at most 5,000, and each text has 1 to 16 code points in Normalization
-/// Form D. No two have the same target. No anchor and no expansion of a relation holds, in order, the relation's own target
-/// or a later one, unless it is itself the target of a relation before that one.
+/// Form D. No two have the same target. No anchor and no expansion of a relation contains, in order, the relation's own
+/// target or a later one. The exception is a text that is itself the target of a relation before that one.
 #[derive(Drop)]
 pub struct Rules<A: Allocator = Global> {
     pub(crate) relations: Vec<Relation, A>,
@@ -54,8 +54,8 @@ impl<A: Allocator> Rules<A> {
         self.relations.as_slice()
     }
 
-    /// Whether the rules leave a text as it is: no target's code points all occur in it, in their order. Others may stand
-    /// between.
+    /// Whether the rules leave a text as it is: no target's code points all occur in it, in their order. Others may
+    /// come between them.
     pub fn untouched(&self, text: &Normal) -> bool
         ensures { IsTrue result ↔ IsUntouched self.now text.now.points }
     {

@@ -49,7 +49,7 @@ pub(crate) fn sign_at<'a>(characters: &'a [Character]) -> Option<Sign<'a>>
     Some(perhaps_starred(strength, &characters[count..]))
 }
 
-/// How many `<` stand at the front.
+/// How many `<` come at the front.
 fn count_less(characters: &[Character]) -> usize
     ensures count { result ≡ Statements.count_less characters.now }
     ensures behind { drop result characters.now ≡ Statements.behind_less characters.now }
@@ -86,7 +86,7 @@ fn perhaps_starred<'a>(strength: Strength, characters: &'a [Character]) -> Sign<
 /// How long a bracket is, in characters.
 pub(crate) const BRACKET_LENGTH: usize = 10;
 
-/// The strength that `[before 1]`, `[before 2]` or `[before 3]` asks for, if one of them stands at the front.
+/// The strength that `[before 1]`, `[before 2]` or `[before 3]` asks for, if one of them comes at the front.
 pub(crate) fn bracket_at(characters: &[Character]) -> Option<Strength>
     ensures { result ≡ Statements.bracket_at characters.now }
 {

@@ -129,7 +129,7 @@ impl<'a, A: Allocator + Copy, T: Allocator> Reader<'a, A, T> {
     }
 }
 
-/// The character before the `-` with which the symbols end, and the place of the `-`, if they end so.
+/// The character before the `-` with which the symbols end, and the position of the `-`, if they end so.
 fn open_range(symbols: &[Symbol]) -> Option<(Character, usize)>
     ensures found { IfSome result (λ found. (front : List Symbol) × (symbols.now ≡ front ++ Symbol.Literal found.0 ∷ Symbol.Hyphen found.1 ∷ [])) }
     ensures none { IfNone result ((front : List Symbol) (x : Character) (place : ℕ) → symbols.now ≢ front ++ Symbol.Literal x ∷ Symbol.Hyphen place ∷ []) }

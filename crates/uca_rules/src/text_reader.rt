@@ -32,7 +32,7 @@ pub(crate) struct TextReader<'a, A: Allocator, T: Allocator> {
 }
 
 impl<'a, A: Allocator + Copy, T: Allocator> TextReader<'a, A, T> {
-    /// For rules of a length.
+    /// A reader for rules that end at `end`.
     pub(crate) fn new(
         alloc: A,
         global: Global,

@@ -75,7 +75,7 @@ pub(crate) fn read_text<'a, A: Allocator>(
     }
 }
 
-/// Why there is no piece where one begins. The symbols are those of the pieces before.
+/// Why there is no whole piece where one begins. The symbols are those of the pieces before.
 fn broken(symbols: &[Symbol], rest: &[Character], starred: bool) -> RuleFault
     requires begins { ¬ (EndsText starred rest.now) }
     requires none { piece_at starred rest.now ≡ None }
@@ -120,7 +120,7 @@ fn test_hyphens(symbols: &[Symbol], count: usize) -> Result<(), RuleFault>
     Ok(())
 }
 
-/// The `-` that is no range, as the symbol after the others shows.
+/// The `-` that stands for no range, as the symbol after the others shows.
 fn wrong_hyphen(before: &[Symbol], symbol: Symbol) -> Option<usize>
     requires { HasRangesSoFar before.now }
     ensures { MatchOption result (HasRangesSoFar (before.now ++ symbol ∷ [])) (ShowsWrongHyphen (before.now ++ symbol ∷ [])) }
@@ -166,7 +166,7 @@ fn begins_range(symbols: &[Symbol], end: Symbol) -> bool
     }
 }
 
-/// Whether `x-y` stands for code points from x to y, of which none is a surrogate.
+/// Whether `x-y` stands for code points from x to y, and none of them is a surrogate.
 fn is_range(x: char, y: char) -> bool
     ensures { IsTrue result ↔ IsRange x y }
 {

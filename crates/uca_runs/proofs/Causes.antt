@@ -41,7 +41,7 @@ too_many_points text long = rw (lt-ltb 1048576 (length text.points) long) refl
 pub long_run : (text : NfdText) (place : ℕ) → length text.points ≤ 1048576 → IsFirstLongRun text.classes place → text_cause text ≡ Some (LongRun place)
 long_run text place few run = rw (le-ltb 1048576 (length text.points) few, first_long_run_is text.classes place run) refl
 
--- a text that is refused has the cause of its kind
+-- a text that is rejected has the cause of its kind
 pub refused_text : (properties : Properties) (before : ℕ) (line : List ℕ) (fault : TextFault) → before < 1000000 → length line ≤ 4194304 → IsUtf8 line → IsCause (nfd_text properties (chars line)) fault → HasTextCause properties before line (text_kind fault)
 refused_text properties before line text_fault.TooLong h short text cause = text_cause_of properties before line h short text ∙ too_many_points (nfd_text properties (chars line)) cause
 refused_text properties before line (text_fault.LongRun place) h short text cause = text_cause_of properties before line h short text ∙ long_run (nfd_text properties (chars line)) place cause.0 cause.1

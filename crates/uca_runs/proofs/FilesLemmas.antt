@@ -10,7 +10,7 @@ use Rattle.uca_runs.specs.declared.faults.Role.TheVariants as roles
 use Rattle.uca_runs.specs.Files.{MeansOne, OverFile, Reading, Done, Then, Over, HaveFailed, IsStop, fault_of, is_role, ended_by_file, is_file_read, is_read_fault}
 use Rattle.uca_runs.specs.ReadFiles.{IsRefused}
 
--- ---- Roles of faults
+-- ---- Roles of errors
 
 -- a role is itself
 pub same_role : (role : Role) → is_role role role ≡ true
@@ -21,11 +21,11 @@ same_role roles.Certificate = refl
 same_role roles.Base = refl
 same_role roles.Tailored = refl
 
--- a fault of this role is a failed read where its cause is one
+-- an error of this role is a failed read if its cause is one
 pub read_of_role : (role : Role) (new old reads : Bool) → new ≡ (old || reads) → new ≡ (old || (is_role role role && reads))
 read_of_role role new old reads same = same ∙ ap (λ b. old || (b && reads)) (sym (same_role role))
 
--- what is no file's fault is of no role
+-- what is not an error of a file has no role
 pub no_fault : {A : Type 0} (role : Role) (result : Result A RunFault) → ended_by_file result ≡ false → fault_of role result ≡ None
 no_fault role (Ok x) h = refl
 no_fault role (Err (File other fault)) h = let never : ⊥ = cc in absurd never
@@ -37,7 +37,7 @@ no_file_read role (Ok x) h = refl
 no_file_read role (Err (File other fault)) h = let never : ⊥ = cc in absurd never
 no_file_read role (Err _) h = refl
 
--- a fault has its role whatever else would have been returned
+-- an error has its role also where the other results have another type
 pub same_fault : (A B : Type 0) (role : Role) (fault : RunFault) → fault_of {A = A} role (Err fault) ≡ fault_of {A = B} role (Err fault)
 same_fault A B role (File other cause) = refl
 same_fault A B role _ = refl
@@ -84,7 +84,7 @@ known_weaker known left (Some fault) Means Refuses K L weaker over = over
 
 -- ---- All files of a run
 
--- what holds of their meaning may be changed, and so may the result, where it is the same for the files
+-- what is true of their meaning may be changed, and so may the result, where it is the same for the files
 pub over_weaker : {A B C : Type 0} (reading : Reading C) (olds news : List SourceState) (K L : C → Type 0)
     (one : Result A RunFault) (other : Result B RunFault) → ((role : Role) → fault_of role one ≡ fault_of role other)
     → ((content : C) → K content → L content) → Over reading olds news K one → Over reading olds news L other
@@ -114,7 +114,7 @@ runs_over_all reading olds news K L files result no_file weaker over =
 
 -- ---- Which sources have failed
 
--- those that a result says, whatever else it says
+-- those that a result says, with anything else that it says
 pub failed_alike : {A B : Type 0} (of : List Role) (olds news : List SourceState) (one : Result A RunFault) (other : Result B RunFault)
     → ((role : Role) → is_file_read role one ≡ is_file_read role other) → HaveFailed of olds news one → HaveFailed of olds news other
 failed_alike [] [] [] one other same failed = tt

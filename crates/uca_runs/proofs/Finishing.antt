@@ -109,7 +109,7 @@ module _ (properties : Properties) (bytes_of : List ℕ → List ℕ) where
   of_lines start begun input buffer out (Err Memory) rest = absurd rest.1
   of_lines start begun input buffer out (Err _) rest = refl
 
--- what ended by the lines is no file's fault
+-- an end by the lines is not an error of a file
 pub before_file : {A : Type 0} (end : Result A RunFault) → ended_before_input end ≡ false → ended_by_file end ≡ false
 before_file (Ok x) h = refl
 before_file (Err (File role fault)) h = let never : ⊥ = cc in absurd never

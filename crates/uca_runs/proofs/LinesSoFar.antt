@@ -56,7 +56,7 @@ more_clean : (properties : Properties) (before : List (List ℕ)) (line : List �
 more_clean properties before line lines clean =
     rw (clean_more properties (length before) line lines clean, length-append before (line ∷ [])) (sym (append_assoc before (line ∷ []) (clean_from properties (length before + 1) lines)))
 
--- the next line is not faulty
+-- the next line has no error
 next_clean : (properties : Properties) (bytes left : List ℕ) (before : List (List ℕ)) (line : List ℕ) (is_cut : Bool)
     → IsNext properties bytes left is_cut before line → cause_of properties (length before) line ≡ None → IsAfter properties bytes left is_cut (before ++ line ∷ [])
 next_clean properties bytes left before line is_cut n clean = record {

@@ -4,7 +4,7 @@ use Rattle.std.proofs.lemmas.Bool.{lt-ltb, ltb-true, and_parts, and_from}
 use Rattle.uca_text.specs.Limits.{IsLongRun, HasNoLongRun, IsFirstLongRun}
 use Rattle.uca_runs.specs.Input.{begins_with_marks, first_long_run}
 
--- as many non-starters as are asked for stand at the front
+-- as many non-starters as are asked for come at the front
 marks_pass : (n : ℕ) (classes : List ℕ) → n ≤ length classes → ((k : ℕ) → k < n → 0 < get_or classes k 0) → begins_with_marks n classes ≡ true
 unfolding begins_with_marks
 marks_pass zero classes h marks = refl

@@ -1,4 +1,4 @@
--- The text of a line without fault is in Normalization Form D, within the limits, and of Unicode scalar values.
+-- The text of a line without an error is in Normalization Form D, within the limits, and of Unicode scalar values.
 use Rattle.std.proofs.Common.{◌≡◌, ℕ, ◌+◌, ◌-◌, ◌/◌, ◌%◌, ◌≤◌, Bool, true, false, List, [], ◌∷◌, length, flat_map, chars, Option, Some, None, option_map, nat_lt, nat_le, refl, sym, subst, inl, inr, arith}
 use Rattle.std.proofs.lemmas.Bool.{cases_Bool, cases_eq, cond-false, and_parts, and_from, ltb-false}
 use Rattle.std.proofs.lemmas.List.{length-map}
@@ -25,7 +25,7 @@ use Rattle.uca_runs.specs.declared.faults.InputKind.TheVariants.{Utf8, TooLong, 
 use Rattle.uca_runs.specs.Input.{first_long_run, text_cause, cause_of}
 use Rattle.uca_runs.proofs.LongRuns.{none_is_long}
 
--- the mapping of a code point holds scalar values alone
+-- the mapping of a code point has only scalar values
 mapped_scalars : (c : ℕ) → list_all scalar (canonical_decomposition c) ≡ true
 unfolding tables values_ok canonical_decomposition_stepped
 mapped_scalars c = Stepped-at_values canonical_decomposition canonical_decomposition_stepped (λ v. list_all scalar v) refl c
@@ -77,7 +77,7 @@ each_scalar : (points : List ℕ) → list_all scalar points ≡ true → AllByR
 each_scalar [] all = tt
 each_scalar (c ∷ points) all = let parts = and_parts (scalar c) (list_all scalar points) all in (parts.0, each_scalar points parts.1)
 
--- ---- A line without fault
+-- ---- A line without an error
 
 -- what its test says
 without : (properties : Properties) (before : ℕ) (line : List ℕ) (limit long text : Bool) → nat_le 1000000 before ≡ limit → nat_lt 4194304 (length line) ≡ long →

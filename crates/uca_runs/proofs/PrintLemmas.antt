@@ -22,13 +22,13 @@ pub groups_none : printed_groups [] ≡ []
 unfolding printed_groups
 groups_none = refl
 
--- ---- The groups, each behind a space
+-- ---- The groups, each after a space
 
 pub spaced_none : spaced_groups [] ≡ []
 unfolding spaced_groups
 spaced_none = refl
 
--- behind whole groups others begin
+-- after whole groups others begin
 pub spaced-append : (xs ys : List ℕ) → length xs % 2 ≡ 0 → spaced_groups (xs ++ ys) ≡ spaced_groups xs ++ spaced_groups ys
 unfolding spaced_groups
 spaced-append [] ys even = refl
@@ -82,7 +82,7 @@ pair_byte : (k n j : ℕ) (xs d : List ℕ) → n < k → j < 2 → get_or (get_
 pair_byte k n j xs d below first =
     ap (λ (pair : List ℕ). get_or pair j 0) (get_or-pairs k n xs d below) ∙ get_or-take 2 (drop (2 * n) xs) j 0 first ∙ get_or-drop (2 * n) xs j 0
 
--- a group written behind others
+-- a group written after others
 written_more : (groups : List (List ℕ)) (n : ℕ) (group text : List ℕ) → n < length groups → flat_map (λ g. g) (take n groups) ≡ text → flat_map (λ g. g) (take (n + 1) (set groups n group)) ≡ text ++ group
 written_more groups n group text within written =
     ap (flat_map (λ g. g)) (take_more_set groups n group within) ∙ flat_map-append (λ g. g) (take n groups) (group ∷ [])
@@ -116,7 +116,7 @@ pair_written groups pairs part first second d n are below within written one two
     ∙ ap (λ (l : List ℕ). text ++ (32 ∷ (byte_digits x ++ (get_or l 0 0 ∷ get_or l 1 0 ∷ [])))) low
     ∙ sym (spaced_pair part n (omega arith))
 
--- all were written, of which the last has two bytes
+-- all were written, and the last has two bytes
 pub pairs_written : (groups : List (List ℕ)) (part : List ℕ) (n len : ℕ) → n ≡ length part / 2 → length part % 2 ≡ 0 → flat_map (λ g. g) (take n groups) ≡ spaced_groups (take (2 * n) part) → len ≡ 5 * n
     → take len (flat_map (λ g. g) groups) ≡ spaced_groups part
 pairs_written groups part n len half even written long =
@@ -145,7 +145,7 @@ last_written groups part last digits n b len half odd within written behind is a
 
 -- ---- One more part
 
--- between the groups stand the spaces before them, but for the first
+-- the groups have spaces before them, except the first
 printed_is : (key : List ℕ) → printed_groups key ≡ drop 1 (spaced_groups key)
 unfolding printed_groups spaced_groups
 printed_is key = join_is (groups key)
@@ -155,14 +155,14 @@ printed_is key = join_is (groups key)
     join_is (x ∷ []) = sym (append-nil x)
     join_is (x ∷ y ∷ more) = ap (λ l. x ++ 32 ∷ l) (join_is (y ∷ more))
 
--- behind whole groups the others have each a space
+-- after whole groups the others have each a space
 printed-append : (xs ys : List ℕ) → length xs % 2 ≡ 0 → 0 < length xs → printed_groups (xs ++ ys) ≡ printed_groups xs ++ spaced_groups ys
 printed-append xs ys even some =
     let count : 2 * length (spaced_groups xs) ≡ 5 * length xs = length-spaced xs even in
     printed_is (xs ++ ys) ∙ ap (drop 1) (spaced-append xs ys even) ∙ drop-append-le 1 (spaced_groups xs) (spaced_groups ys) (omega arith)
     ∙ ap (λ l. l ++ spaced_groups ys) (sym (printed_is xs))
 
--- a key of which so much is left was written that far
+-- a key was written up to the part that is left
 pub record IsWrittenUpTo (key rest : List ℕ) (begin : ℕ) (out now : SinkState) (buffer held : BufferState) : Type 0 where
   pub done : List ℕ
   pub key_is : key ≡ done ++ rest
@@ -186,7 +186,7 @@ text_from key rest part left text begin size out now buffer held upto cut is spa
     let some = some_spaced part (omega (arith, cut.1, cut.2, is)) in
     omega (arith, upto.begins, some, ap length spaced)
 
--- the printed groups of a key go on behind each of its parts
+-- the printed groups of a key go on after each of its parts
 pub record GoesOn (key done part piece : List ℕ) : Type 0 where
   pub more : List ℕ
   pub grown : printed_groups (done ++ part) ≡ printed_groups done ++ piece
@@ -235,7 +235,7 @@ piece_fits key done part piece out now buffer held written_through on room =
     let front = printed_groups done in
     omega (arith, written_through.count, room, ap length on.line, length-append (front ++ piece) on.more, length-append front piece)
 
--- and behind it the rest is left
+-- and after it the rest is left
 pub written_up_to_more : (key rest part left : List ℕ) (begin size : ℕ) (out now next : SinkState) (buffer held kept : BufferState) (upto : IsWrittenUpTo key rest begin out now buffer held) → size ≡ 256
     → (rest ≡ part ++ left) × (length part ≡ min size (length rest)) × (0 < length rest) → HasWrittenThrough (printed_groups (upto.done ++ part)) buffer kept out next → IsWrittenUpTo key left 0 out next buffer kept
 written_up_to_more key rest part left begin size out now next buffer held kept upto is cut written_through =
@@ -272,7 +272,7 @@ line_is_short depth key points short few =
     let level = printed_behind depth points in
     omega (arith, short, few, length-append (printed_groups key) (level ++ 10 ∷ []), length-append level (10 ∷ []), length-groups key, length-level depth points)
 
--- all groups of a key of which nothing is left were written
+-- all groups of a key were written when nothing is left
 pub all_groups : (key rest : List ℕ) (begin : ℕ) (out now : SinkState) (buffer held : BufferState) → IsWrittenUpTo key rest begin out now buffer held → length rest ≡ 0
     → HasWrittenThrough (printed_groups key) buffer held out now
 all_groups key [] begin out now buffer held upto none =

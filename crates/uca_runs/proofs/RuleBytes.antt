@@ -1,4 +1,4 @@
--- What bytes of rules mean and why they are refused, from the first 1,048,577 of them.
+-- What bytes of rules mean and why they are rejected, from the first 1,048,577 of them.
 use Rattle.std.proofs.Common.{◌≡◌, ◌⊎◌, inl, inr, ℕ, ◌+◌, ◌<◌, ◌≤◌, List, [], ◌++◌, length, Option, Some, None, IfSome, Ok, Err, refl, ap, sym, subst, ◌∙◌, arith}
 use Rattle.std.proofs.lemmas.Bool.{cases_lt}
 use Rattle.std.proofs.lemmas.List.{length-append, append-nil}
@@ -24,7 +24,7 @@ no_more bytes (Some rest) read all are is =
     let parts : all ≡ read ++ rest = (subst (λ b. AreRead b (Some rest) read) is are).loses in
     omega (arith, ap length parts ∙ length-append read rest)
 
--- where rules may have so many bytes as were read, these are all
+-- if rules may have as many bytes as were read, these are all
 are_all : (bytes : List ℕ) (left : Option (List ℕ)) (read : List ℕ) → AreRead (Some bytes) left read → length read ≤ 1048576 → bytes ≡ read
 are_all bytes None read are few = absurd are.loses
 are_all bytes (Some rest) read are few =
@@ -70,13 +70,13 @@ known_cause : (properties : Properties) (bytes : List ℕ) (left : Option (List 
 known_cause properties bytes left read place kind are (inl many) cause = too_many properties bytes read place kind (no_more (Some bytes) left read bytes are refl) many cause
 known_cause properties bytes left read place kind are (inr few) cause = subst (λ b. IsCause properties b place kind) (sym (are_all bytes left read are few)) cause
 
--- what one more read gives comes behind what was read before
+-- what one more read gives comes after what was read before
 pub one_more : (start old new : Option (List ℕ)) (before more : List ℕ) → Consumes start old before → Consumes old new more → length before + length more ≤ 1048577
     → (part : List ℕ) × Consumes start new part × (length part ≤ 1048577)
 one_more start old new before more earlier later few =
     (before ++ more, Consumes-trans start old new before more earlier later, omega (arith, few, length-append before more))
 
--- of known bytes at most so many are lost
+-- at most `most` of the known bytes are read
 loses_few : (most : ℕ) (bytes : List ℕ) (left : Option (List ℕ)) (part : List ℕ) → Consumes (Some bytes) left part → length part ≤ most → LosesAtMost most bytes left
 loses_few most bytes None part loses few = absurd loses
 loses_few most bytes (Some rest) part loses few = (part, loses, few)

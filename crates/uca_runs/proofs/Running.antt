@@ -15,7 +15,7 @@ use Rattle.uca_runs.specs.Runs.{is_input_read, ended_by_output}
 
 -- ---- Before the input
 
--- a file's fault is none of the output, and none of the input
+-- a file's error is none of the output, and none of the input
 pub no_write_before : (A B : Type 0) (fault : RunFault) → ended_before_input {A = B} (Err fault) ≡ true → ended_by_output {A = A} (Err fault) ≡ false
 no_write_before A B (File role cause) before = refl
 no_write_before A B Memory before = refl
@@ -26,7 +26,7 @@ no_input_before A B (File role cause) before = refl
 no_input_before A B Memory before = refl
 no_input_before A B _ before = let never : ⊥ = cc in absurd never
 
--- a file's fault comes before the input
+-- a file's error comes before the input
 pub file_before : (A B : Type 0) (fault : RunFault) → ended_by_file {A = A} (Err fault) ≡ true → ended_before_input {A = B} (Err fault) ≡ true
 file_before A B (File role cause) file = refl
 file_before A B _ file = let never : ⊥ = cc in absurd never
@@ -36,7 +36,7 @@ pub as_before : (failed now : Bool) → now ≡ false → failed ≡ (failed || 
 as_before true now same = refl
 as_before false now same = sym same
 
--- what holds of all bytes
+-- what is true of all bytes
 pub whatever_bytes : {X : Type 0} (known : Option X) → IfSome known (λ bytes. ⊤)
 whatever_bytes None = tt
 whatever_bytes (Some bytes) = tt

@@ -1,4 +1,4 @@
--- Lines in whose texts no target occurs stand under a tailored table as under the base.
+-- Lines in whose texts no target occurs have the same order under a tailored table as under the base.
 use Rattle.std.proofs.Common.{◌≡◌, List, ℕ, Option, chars, ap, sym, ◌∙◌}
 use Rattle.uca_weights.specs.declared.Depth.{Depth}
 use Rattle.uca_weights.specs.declared.Depth.TheVariants.{Weights}

@@ -21,7 +21,7 @@ verdict_cut Is verdict line begun now fault is fails =
 
 -- ---- Compare
 
--- what is written of two texts is what a run answers of them
+-- what is written of two texts is what a run returns for them
 pub run_compares : (asked : Option Weighting) (depth : Depth) (left right : List ℕ) (out out_new : SinkState) (files : TableAndData) (result : Result (Unit {0}) RunFault)
     → WritesComparison (key_settings asked depth files.table files.properties) left right out.contents out_new.contents result → RunsCompare asked depth left right out out_new result files
 run_compares asked depth left right out out_new files (Ok x) writes = writes

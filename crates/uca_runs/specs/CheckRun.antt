@@ -1,4 +1,4 @@
--- What a run of check answers and writes.
+-- What a run of check returns and writes.
 use Rattle.std.specs.Prelude.{◌≡◌, ℕ, List, [], ◌∷◌, ◌++◌, ◌||◌, Bool, true, false, Result, codes}
 use Rattle.uca_weights.specs.Streams.{SourceState, SinkState}
 use Rattle.uca_values.specs.Content.{Entry}
@@ -15,12 +15,12 @@ abbrev pub IsVerdict : (ℕ → ℕ) → List Entry → Bool → List ℕ → Ty
 IsVerdict class rows true line = IsWellFormed class rows × (line ≡ codes "well-formed" ++ 10 ∷ [])
 IsVerdict class rows false line = (fault : IllFormed) × IsFirstFailure class rows fault.wf fault.row × (line ≡ ill_formed_text fault ++ 10 ∷ [])
 
--- what a run of check answers under a table and properties
+-- what a run of check returns under a table and properties
 abbrev pub RunsCheck : SinkState → SinkState → Result Bool RunFault → TableAndData → Type 0
 RunsCheck out out_new result files = WritesVerdict (IsVerdict files.properties.class files.table.rows) out.contents out_new.contents result
 
--- A run of check: what it returns where the bytes of its files are known; and whatever its files and its output are,
--- when nothing is written, and what has failed.
+-- A run of check: what it returns if the bytes of its files are known. And for any files and output, when nothing is
+-- written, and what has failed.
 pub record Checks (olds news : List SourceState) (out out_new : SinkState) (result : Result Bool RunFault) : Type 0 where
   pub runs : Over table_and_data olds news (RunsCheck out out_new result) result
   pub nothing_written : ended_before_output result ≡ true → out_new ≡ out

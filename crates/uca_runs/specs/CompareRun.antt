@@ -1,4 +1,4 @@
--- What a run of compare answers and writes.
+-- What a run of compare returns and writes.
 use Rattle.std.specs.Prelude.{◌≡◌, ℕ, ◌+◌, ◌||◌, List, [], ◌∷◌, Bool, true, false, Option, Result, Ok, Err, chars}
 use Rattle.std.specs.declared.cmp.Ordering.{Ordering}
 use Rattle.std.specs.declared.cmp.Ordering.TheVariants.{Less, Equal, Greater}
@@ -34,12 +34,12 @@ comparison_line comparison = sign_of comparison.order ∷ 32 ∷ (48 + compariso
 abbrev pub IsWithinLimits : Properties → List ℕ → Type 0
 IsWithinLimits properties text = IsAccepted (nfd_text properties (chars text))
 
--- the fault of a text, which is the right one of the two or the left one
+-- the error of a text, which is the right one of the two or the left one
 abbrev pub RefusesWord : Properties → Bool → List ℕ → RunFault → Type 0
 RefusesWord properties right text fault = (cause : TextFault) × (fault ≡ Text right cause) × IsCause (nfd_text properties (chars text)) cause
 
--- What is written of two texts, by a writer that held `begun` and holds `now`: how they compare level by level, or as
--- much of it as a fault of the writer leaves; or the right text is refused, or before it the left one.
+-- What is written of two texts by a writer that had `begun` and has `now`. It is how they compare level by level, or
+-- as much of it as an error of the writer leaves. Or the right text is rejected, or before it the left one.
 abbrev pub WritesComparison : {A : Type 0} → KeySettings → List ℕ → List ℕ → Option (List ℕ) → Option (List ℕ) → Result A RunFault → Type 0
 WritesComparison c left right begun now (Ok x) = IsWithinLimits c.collation.properties left × IsWithinLimits c.collation.properties right × Appends begun now (comparison_line (lines_compared c left right))
 WritesComparison c left right begun now (Err (Text false fault)) = IsCause (nfd_text c.collation.properties (chars left)) fault
@@ -47,13 +47,13 @@ WritesComparison c left right begun now (Err (Text true fault)) = IsWithinLimits
 WritesComparison c left right begun now (Err (Write written)) = IsWithinLimits c.collation.properties left × IsWithinLimits c.collation.properties right × WentOut begun now (comparison_line (lines_compared c left right)) written
 WritesComparison c left right begun now (Err _) = ⊥
 
--- What a run of compare answers under a table and properties. An allocation that failed for looking up rows says nothing of
--- the texts, and nothing was written.
+-- What a run of compare returns under a table and properties. An allocation that failed for looking up rows says
+-- nothing of the texts, and nothing was written.
 abbrev pub RunsCompare : {A : Type 0} → Option Weighting → Depth → List ℕ → List ℕ → SinkState → SinkState → Result A RunFault → TableAndData → Type 0
 RunsCompare asked depth left right out out_new (Err Memory) files = out_new ≡ out
 RunsCompare asked depth left right out out_new result files = WritesComparison (key_settings asked depth files.table files.properties) left right out.contents out_new.contents result
 
--- what a run of compare goes by: the weighting that is asked for, the depth and the two texts
+-- what a run of compare uses: the weighting that is asked for, the depth and the two texts
 pub record Comparing : Type 0 where
   pub weighting : Option Weighting
   pub depth : Depth
@@ -64,8 +64,8 @@ pub record Comparing : Type 0 where
 abbrev pub comparing : Option Weighting → Depth → List ℕ → List ℕ → Comparing
 comparing weighting depth left right = record { weighting = weighting; depth = depth; left = left; right = right }
 
--- A run of compare: what it returns where the bytes of its files are known; and whatever its files and its output are,
--- when nothing is written, and what has failed.
+-- A run of compare: what it returns if the bytes of its files are known. And for any files and output, when nothing is
+-- written, and what has failed.
 pub record Compares {A : Type 0} (asked : Comparing) (olds news : List SourceState) (out out_new : SinkState)
     (result : Result A RunFault) : Type 0 where
   pub runs : Over table_and_data olds news

@@ -1,4 +1,4 @@
--- The words of a fault: its line on standard error, without the LF.
+-- The text of an error: its line on standard error, without the LF.
 use Rattle.std.specs.Prelude.{ℕ, List, [], ◌++◌, Bool, codes, decimal, nat_eq, if◌then◌else◌}
 use Rattle.uca_values.specs.FaultText.{table_fault_text}
 use Rattle.uca_rules.specs.FaultText.{rule_fault_text}
@@ -26,7 +26,7 @@ input_kind_text input_kind.Read = codes "Read"
 input_kind_text input_kind.Limit = codes "Limit"
 input_kind_text input_kind.Memory = codes "Memory"
 
--- where a file of this name is refused, and why
+-- where a file of this name is rejected, and why
 abbrev pub file_fault_text : List ℕ → FileFault → List ℕ
 file_fault_text name (Lines fault) = name ++ codes " " ++ table_fault_text fault
 file_fault_text name (Rules fault) = name ++ codes " " ++ rule_fault_text fault
@@ -43,7 +43,7 @@ word_fault_text words.Weighting = codes "weighting: unknown"
 word_fault_text words.Memory = codes "memory"
 word_fault_text (words.Refused error) = []
 
--- why there is no plan, with the relation that is to blame, if one is
+-- why there is no plan, with the relation that has the error, if one has
 abbrev pub tailor_text : TailorFault → List ℕ
 tailor_text fault = line_by fault.kind
   where
@@ -51,7 +51,7 @@ tailor_text fault = line_by fault.kind
     line_by planner.Memory = codes "memory"
     line_by _ = (if nat_eq fault.relation 0 then codes "tailor: " else codes "tailor ") ++ tailor_fault_text fault
 
--- the line of a fault
+-- the line of an error
 abbrev pub fault_text : RunFault → List ℕ
 fault_text (File role fault) = file_fault_text (role_text role) fault
 fault_text (Input line kind) = codes "input line " ++ decimal line ++ codes ": " ++ input_kind_text kind

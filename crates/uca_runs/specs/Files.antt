@@ -1,4 +1,4 @@
--- The files that a run reads one after the other, and what a run returns of them.
+-- The files that a run reads in turn, and what a run returns for them.
 use Rattle.std.specs.Prelude.{◌≡◌, ℕ, ◌≤◌, ◌&&◌, ◌||◌, List, [], ◌∷◌, ◌++◌, Bool, true, false, if◌then◌else◌, Option, Some, None, IfSome, IsSomeAnd, MatchOption, Result, Ok, Err, length, ⊤}
 use Rattle.uca_weights.specs.Streams.{SourceState}
 use Rattle.uca_values.specs.Content.{TableContent, Properties}
@@ -20,7 +20,7 @@ use Rattle.uca_runs.specs.declared.faults.RunFault.TheVariants.{File, Memory, Wr
 use Rattle.uca_runs.specs.declared.faults.Role.{Role}
 use Rattle.uca_runs.specs.declared.faults.Role.TheVariants as roles
 
--- ---- Faults of files
+-- ---- Errors of files
 
 -- whether two roles are the same
 abbrev pub is_role : Role → Role → Bool
@@ -38,13 +38,13 @@ fault_of role (Ok x) = None
 fault_of role (Err (File other fault)) = if is_role role other then Some fault else None
 fault_of role (Err _) = None
 
--- whether the fault is a file's
+-- whether the error is a file's
 abbrev pub ended_by_file : {A : Type 0} → Result A RunFault → Bool
 ended_by_file (Ok x) = false
 ended_by_file (Err (File role fault)) = true
 ended_by_file (Err _) = false
 
--- whether the fault is that reading the file failed
+-- whether the error is that reading the file failed
 abbrev pub is_read_fault : FileFault → Bool
 is_read_fault (Lines fault) = lines.is_read_kind fault.kind
 is_read_fault (Rules fault) = false
@@ -58,7 +58,7 @@ is_file_read role (Ok x) = false
 is_file_read role (Err (File other fault)) = is_role role other && is_read_fault fault
 is_file_read role (Err _) = false
 
--- the file is not to blame: a read failed, or an allocation
+-- the error is not in the file: a read failed, or an allocation
 abbrev pub IsFileStop : FileFault → Type 0
 IsFileStop (Lines fault) = lines.IsStop fault.kind
 IsFileStop (Rules fault) = fault.kind ≡ rule_kinds.Memory
@@ -75,15 +75,15 @@ IsStop _ = ⊥
 
 -- ---- One file
 
--- the file means a value, as its bytes say where they are known, and this holds of it
+-- the file means a value, as its bytes say where they are known, and this is true of it
 pub record MeansOne {V : Type 0} (Means : List ℕ → V → Type 0) (known : Option (List ℕ)) (K : V → Type 0) : Type 0 where
   pub value : V
   pub means : IfSome known (λ bytes. Means bytes value)
   pub holds : K value
 
--- What a run returns by the file of this role, whose source had some bytes and has something left: at a fault of that
--- role the bytes are rejected so; else the file means a value, of which K holds. Where the bytes are not known, nothing
--- is said of which value that is, nor of why they are rejected.
+-- What a run returns by the file of this role, whose source had some bytes and has something left. At an error of that
+-- role the bytes are rejected for that cause. Otherwise the file means a value for which K holds. If the bytes are not
+-- known, nothing is said of the value, or of why they are rejected.
 abbrev pub OverFile : {A V : Type 0} → Role → SourceState → SourceState → (List ℕ → V → Type 0)
     → (List ℕ → Option (List ℕ) → FileFault → Type 0) → (V → Type 0) → Result A RunFault → Type 0
 OverFile role old new Means Refuses K result = MatchOption (fault_of role result) (MeansOne Means old.remaining K)
@@ -98,8 +98,8 @@ pub data Reading (C : Type 0) : Type 1 where
   Then : {V : Type 0} → Role → (List ℕ → V → Type 0) → (List ℕ → Option (List ℕ) → FileFault → Type 0)
       → (V → Reading C) → Reading C
 
--- What a run returns by its files, whose sources were `olds` and are `news`: each file in turn is rejected, or means a
--- value; and K holds of what all of them mean.
+-- What a run returns by its files, whose sources were `olds` and are `news`. Each file in turn is rejected, or means a
+-- value, and K holds for what all of them mean.
 abbrev pub Over : {A C : Type 0} → Reading C → List SourceState → List SourceState → (C → Type 0)
     → Result A RunFault → Type 0
 Over (Done content) [] [] K result = K content
@@ -136,12 +136,13 @@ then_table role next = Then role tables.Means (OfLines tables.Refuses) next
 abbrev pub then_data : {C : Type 0} → (Properties → Reading C) → Reading C
 then_data next = Then roles.Data data_files.Means (OfLines data_files.Refuses) next
 
--- of the bytes at most so many were read, and the others are left
+-- at most this many of the bytes were read, and the others are left
 abbrev pub LosesAtMost : ℕ → List ℕ → Option (List ℕ) → Type 0
 LosesAtMost most bytes left = IsSomeAnd left (λ rest. (part : List ℕ) × (bytes ≡ part ++ rest) × (length part ≤ most))
 
--- Why the bytes of a file of rules are rejected, and how many were read at most: by a cause in them, or reading them
--- failed, or an allocation for them. Rules have 1,048,576 bytes at most, and one more is read of longer ones.
+-- Why the bytes of a file of rules are rejected, and how many were read at most. There is a cause in them, or reading
+-- them failed, or an allocation for them failed. Rules have 1,048,576 bytes at most, and one more is read of longer
+-- ones.
 abbrev pub RefusesRules : Properties → List ℕ → Option (List ℕ) → FileFault → Type 0
 RefusesRules properties bytes left (Rules fault) =
     rule_faults.IsCause properties bytes fault.byte fault.kind × LosesAtMost 1048577 bytes left

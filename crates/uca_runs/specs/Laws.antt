@@ -1,4 +1,4 @@
--- What holds of lines and their keys in all runs.
+-- What is true of lines and their keys in all runs.
 use Rattle.std.specs.Prelude.{◌≡◌, ◌↔◌, ℕ, List, Option, None, chars}
 use Rattle.uca_weights.specs.declared.Depth.{Depth}
 use Rattle.uca_weights.specs.declared.Depth.TheVariants.{Identical}
@@ -50,7 +50,7 @@ base_keying asked depth tailoring = key_settings asked depth tailoring.base tail
 abbrev pub tailored_keying : Option Weighting → Depth → Tailoring → KeySettings
 tailored_keying asked depth tailoring = key_settings asked depth tailoring.tailored tailoring.properties
 
--- behind so many lines the line is not faulty, and no target occurs in its text in order
+-- after this many lines the line has no error, and no target occurs in its text in order
 pub record IsUntouchedLine (tailoring : Tailoring) (line : List ℕ) : Type 0 where
   pub before : ℕ
   pub faultless : cause_of tailoring.properties before line ≡ None
@@ -67,8 +67,9 @@ pub record HasOneKey (one other : KeySettings) (line : List ℕ) : Type 0 where
   pub key : line_key one line ≡ line_key other line
   pub printed : printed_key one line ≡ printed_key other line
 
--- Where a tailoring is accepted, lines in whose texts no target occurs stand under the tailored table as under the base, whatever the
--- depth and the weighting that is asked for; where the maps change no weight, each of them has the same key and the same key line.
+-- A tailoring is accepted, and no target occurs in the texts of some lines. Then these lines have the same order
+-- under the tailored table as under the base, at any depth and under any weighting that is asked for. If the maps
+-- change no weight, each of them has the same key and the same key line.
 pub record UntouchedLinesStay (tailoring : Tailoring) (asked : Option Weighting) (depth : Depth) : Type 0 where
   pub alike : (left right : List ℕ) → IsUntouchedLine tailoring left → IsUntouchedLine tailoring right →
       StandAlike (tailored_keying asked depth tailoring) (base_keying asked depth tailoring) left right

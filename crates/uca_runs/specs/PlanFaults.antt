@@ -1,11 +1,11 @@
--- What becomes of the faults of the planner.
+-- How the errors of the planner are returned.
 use Rattle.uca_plans.specs.declared.faults.TailorFault.{TailorFault}
 use Rattle.uca_plans.specs.declared.faults.TailorKind.{TailorKind}
 use Rattle.uca_plans.specs.declared.faults.TailorKind.TheVariants as kinds
 use Rattle.uca_runs.specs.declared.faults.RunFault.{RunFault}
 use Rattle.uca_runs.specs.declared.faults.RunFault.TheVariants.{Tailor, Memory}
 
--- what becomes of a fault of the planner: an allocation that failed is no fault of the rules
+-- how an error of the planner is returned: an allocation that failed is not an error of the rules
 abbrev pub refused_plan : TailorFault → RunFault
 refused_plan fault = refused_by fault.kind
   where

@@ -20,7 +20,7 @@ groups (a ∷ b ∷ more) = (byte_digits a ++ byte_digits b) ∷ groups more
 unfoldable pub printed_groups : List ℕ → List ℕ
 printed_groups key = join_with_byte 32 (groups key)
 
--- the groups, each behind a space
+-- the groups, each after a space
 unfoldable pub spaced_groups : List ℕ → List ℕ
 spaced_groups key = flat_map (λ group. 32 ∷ group) (groups key)
 
@@ -31,11 +31,11 @@ point_digits c = flat_map byte_digits (point_bytes c)
 abbrev pub spaced_point : ℕ → List ℕ
 spaced_point c = 32 ∷ point_digits c
 
--- the identical level behind the others: `0000`, and each code point behind a space
+-- the identical level after the others: `0000`, and each code point after a space
 abbrev pub identical_level : List ℕ → List ℕ
 identical_level points = 32 ∷ 48 ∷ 48 ∷ 48 ∷ 48 ∷ flat_map spaced_point points
 
--- what is printed behind the weights
+-- what is printed after the weights
 abbrev pub printed_behind : Depth → List ℕ → List ℕ
 printed_behind Weights points = []
 printed_behind Identical points = identical_level points

@@ -1,4 +1,4 @@
--- The word for what a file is for.
+-- The name of what a file is for.
 use Rattle.std.specs.Prelude.{ℕ, List, codes}
 use Rattle.uca_runs.specs.declared.faults.Role.{Role}
 use Rattle.uca_runs.specs.declared.faults.Role.TheVariants as roles

@@ -19,14 +19,14 @@ pub record FailsBehind (bytes left : List ℕ) (before : List (List ℕ)) : Type
   pub lacks : Lacks is_lf part
   pub short : length part ≤ 4194304
 
--- the line behind these has this cause
+-- the line after these has this cause
 pub record HasLineCause (properties : Properties) (before rest : List (List ℕ)) (kind : InputKind) : Type 0 where
   pub line : List ℕ
   pub later : List (List ℕ)
   pub next : rest ≡ line ∷ later
   pub cause : cause_of properties (length before) line ≡ Some kind
 
--- why the line behind these is not read, where an allocation may fail at any line
+-- why the line after these is not read, where an allocation may fail at any line
 abbrev pub HasCause : Properties → List ℕ → Option (List ℕ) → List (List ℕ) → List (List ℕ) → InputKind → Type 0
 HasCause properties bytes left before rest Utf8 = HasLineCause properties before rest Utf8
 HasCause properties bytes left before rest TooLong = HasLineCause properties before rest TooLong
@@ -35,7 +35,7 @@ HasCause properties bytes left before rest Limit = HasLineCause properties befor
 HasCause properties bytes left before rest Read = IsSomeAnd left (λ unread. FailsBehind bytes unread before)
 HasCause properties bytes left before rest InputMemory = rest ≢ []
 
--- A fault at line `number`: the lines before it are not faulty, and it has this cause.
+-- An error at line `number`: the lines before it have no error, and it has this cause.
 pub record IsInputFault (properties : Properties) (bytes : List ℕ) (left : Option (List ℕ)) (before : List (List ℕ)) (number : ℕ) (kind : InputKind) : Type 0 where
   pub rest : List (List ℕ)
   pub lines : lines_of bytes ≡ before ++ rest
@@ -43,7 +43,7 @@ pub record IsInputFault (properties : Properties) (bytes : List ℕ) (left : Opt
   pub clean : (more : List (List ℕ)) × (clean_lines properties (lines_of bytes) ≡ before ++ more)
   pub cause : HasCause properties bytes left before rest kind
 
--- no line of the bytes is faulty
+-- no line of the bytes has an error
 abbrev pub IsClean : Properties → List ℕ → Type 0
 IsClean properties bytes = clean_lines properties (lines_of bytes) ≡ lines_of bytes
 
@@ -55,8 +55,8 @@ is_input_read (Err _) = false
 
 -- ---- The output
 --
--- A sink has a fault of its own, which says how much went out to it. That of the output is Write; another sink of a run
--- has another, and what is said here of the output is not touched by it.
+-- Each sink has its own error, which says how much went out to it. That of the output is Write. Another sink of a run
+-- has another one, which changes nothing of what is said here of the output.
 
 -- whether writing the output failed
 abbrev pub ended_by_output : {A : Type 0} → Result A RunFault → Bool
@@ -70,6 +70,6 @@ ended_before_output (Ok x) = false
 ended_before_output (Err (Write written)) = false
 ended_before_output (Err _) = true
 
--- The fault of a sink says how much of a text went out to it.
+-- The error of a sink says how much of a text went out to it.
 abbrev pub FailsToWrite : (ℕ → RunFault) → Option (List ℕ) → Option (List ℕ) → List ℕ → RunFault → Type 0
 FailsToWrite Fault begun now text fault = (written : ℕ) × (fault ≡ Fault written) × WentOut begun now text written

@@ -30,7 +30,7 @@ text_kind text_fault.TooLong = TooLong
 text_kind (text_fault.LongRun place) = LongRun place
 text_kind text_fault.Memory = Memory
 
--- the cause for which a line after so many others has no text; an allocation may fail at any line
+-- the cause for which a line after this many others has no text; an allocation may fail at any line
 abbrev pub HasTextCause : Properties → ℕ → List ℕ → InputKind → Type 0
 HasTextCause properties before line Utf8 = cause_of properties before line ≡ Some Utf8
 HasTextCause properties before line TooLong = cause_of properties before line ≡ Some TooLong
@@ -54,7 +54,7 @@ pub record TextsState : Type 0 where
   pub text : NfdText
   pub is_cut : Bool
 
--- These lines, none of them faulty, were read since the input had `start`.
+-- These lines, none of them with an error, were read since the input had `start`.
 pub record HasRead (properties : Properties) (start : Option (List ℕ)) (before : List (List ℕ)) (texts : TextsState) (input : SourceState) : Type 0 where
   pub after : OnKnown start (left_of texts.reader input) (λ bytes left. IsAfter properties bytes left texts.is_cut before)
   pub count : texts.reader.number ≡ length before
@@ -72,18 +72,18 @@ pub record HasLine (properties : Properties) (start : Option (List ℕ)) (before
   pub next : OnKnown start (left_of texts.reader input) (λ bytes left. IsNext properties bytes left texts.is_cut before texts.line)
   pub count : texts.reader.number ≡ length before + 1
 
--- what is returned where a line is due: the next line, that none is left, or why it is not read
+-- what is returned where a line may come: the next line, that none is left, or why it is not read
 abbrev pub ReadsLine : Properties → Option (List ℕ) → List (List ℕ) → TextsState → SourceState → Result Bool InputKind → Type 0
 ReadsLine properties start before texts input (Ok more) = MatchBool more (HasLine properties start before texts input) (HasReadAll properties start before)
 ReadsLine properties start before texts input (Err kind) = HasNoText properties start before input (suc (length before)) kind
 
--- The next line is not faulty, and this is its text. An allocation that fails now is an error of this line.
+-- The next line has no error, and this is its text. An allocation that fails now is an error of this line.
 pub record HasText (properties : Properties) (start : Option (List ℕ)) (before : List (List ℕ)) (texts : TextsState) (input : SourceState) : Type 0 where
   pub read : HasRead properties start (before ++ texts.line ∷ []) texts input
   pub text : texts.text ≡ nfd_text properties (chars texts.line)
   pub memory : HasNoText properties start before input texts.reader.number Memory
 
--- what is returned where a text is due: the text of the next line, that no line is left, or why there is no text
+-- what is returned where a text may come: the text of the next line, that no line is left, or why there is no text
 abbrev pub ReadsNext : Properties → Option (List ℕ) → List (List ℕ) → TextsState → SourceState → Result Bool RunFault → Type 0
 ReadsNext properties start before texts input (Ok more) = MatchBool more (HasText properties start before texts input) (HasReadAll properties start before)
 ReadsNext properties start before texts input (Err (Input number kind)) = HasNoText properties start before input number kind

@@ -5,8 +5,8 @@ use Rattle.uca_weights.specs.Writes.{WentOut}
 use Rattle.uca_runs.specs.declared.faults.RunFault.{RunFault}
 use Rattle.uca_runs.specs.declared.faults.RunFault.TheVariants.{Write}
 
--- What is written by a writer that held `begun` and holds `now`: a verdict and its line, which belong together by (Is
--- verdict line), or as much of the line as a fault of the writer leaves.
+-- What is written by a writer that had `begun` and has `now`. It is a verdict and its line, which belong together by
+-- (Is verdict line), or as much of the line as an error of the writer leaves.
 abbrev pub WritesVerdict : {V : Type 0} → (V → List ℕ → Type 0) → Option (List ℕ) → Option (List ℕ) → Result V RunFault → Type 0
 WritesVerdict Is begun now (Ok verdict) = (line : List ℕ) × Is verdict line × Appends begun now line
 WritesVerdict {V} Is begun now (Err (Write written)) = (verdict : V) × (line : List ℕ) × Is verdict line × WentOut begun now line written

@@ -1,4 +1,4 @@
-//! The five files that an audit goes by.
+//! The five files that an audit uses.
 
 ghost use Rattle.std.specs.Prelude.{◌≡◌, ◌||◌, ◌∷◌, [], is_err, IfOk, IfErr, IfSome};
 ghost use Rattle.uca_tailorings.specs.Inputs.{tailoring_of};
@@ -28,15 +28,15 @@ pub struct AuditFiles<A: Allocator = Global> {
     pub rules: Rules<A>,
     /// The weight table after the tailoring.
     pub tailored: Table<A>,
-    /// What becomes of the base's weights.
+    /// The images of the base's weights.
     pub certificate: Certificate<A>,
 }
 
-/// Reads the files of an audit, one after the other, each to its end or its first fault.
+/// Reads the files of an audit, in turn, each to its end or its first error.
 ///
 /// # Errors
 ///
-/// `File` for the first that is refused.
+/// `File` for the first that is rejected.
 pub fn read_audit_files<A: Allocator + Copy, B: Read, D: Read, U: Read, T: Read, C: Read>(
     alloc: A,
     global: Global,
@@ -69,7 +69,7 @@ pub fn read_audit_files<A: Allocator + Copy, B: Read, D: Read, U: Read, T: Read,
     })
 }
 
-// Reads the certificate, to its end or its first fault.
+// Reads the certificate, to its end or its first error.
 fn read_certificate_file<A: Allocator + Copy, C: Read>(
     alloc: A,
     source: &mut Source<C>,

@@ -17,12 +17,12 @@ use uca_check::{IllFormed, check};
 use uca_weights::{Sink, Source};
 
 /// Checks whether the table is well-formed (UTS #10, section 9.2) with the properties of the data file,
-/// writes the verdict as a line, and answers whether it is: `well-formed`, or the first condition that
-/// fails and the first row that fails it, as `WF5 row 8`.
+/// and returns whether it is. Writes the verdict as a line: `well-formed`, or the first condition that fails and the
+/// first row that fails it, such as `WF5 row 8`.
 ///
 /// # Errors
 ///
-/// `File` where the table, or else the data file, is refused: nothing was written. `Write` where the
+/// `File` if the table, or else the data file, is rejected: nothing was written. `Write` if the
 /// writer failed: the first `written` bytes of the verdict went out.
 pub fn run_check<A: Allocator + Copy, T: Read, D: Read, W: Write>(
     alloc: A,

@@ -21,12 +21,12 @@ use uca_text::{Normal, normal};
 use uca_values::Data;
 use uca_weights::{Depth, Sink, Source, Weighting};
 
-/// Compares two texts, and writes a line: `<`, `=` or `>`, one space, and the level at which they differ, 0 where none
+/// Compares two texts, and writes a line: `<`, `=` or `>`, one space, and the level at which they differ, or 0 if none
 /// does. The texts are in `global` while they are compared; no key is made.
 ///
 /// # Errors
 ///
-/// `Text` where the left text, or else the right one, is refused: nothing was written. `Write` where the writer failed:
+/// `Text` if the left text, or else the right one, is rejected: nothing was written. `Write` if the writer failed:
 /// the first `written` bytes of the line went out.
 pub fn compare_words<L: Lookup, A: Allocator, W: Write>(
     global: Global,
@@ -49,15 +49,17 @@ pub fn compare_words<L: Lookup, A: Allocator, W: Write>(
     write_text(&line_of(compared), out)
 }
 
-/// Compares two texts under the table and the data file that are read first, by the weighting that is
-/// asked for, or else that of the table's `@variable`, or else shifted (UTS #10, section 4), and writes a
-/// line: `<`, `=` or `>`, one space, and the level at which they differ, 0 where none does.
+/// Compares two texts under the table and the data file that are read first. The weighting is the one
+/// that is asked for, or else that of the table's `@variable`, or else shifted (UTS #10, section 4). Writes a line:
+/// `<`, `=` or `>`, one space, and the level at which they differ, or 0 if none does.
 ///
 /// # Errors
 ///
-/// `File` where the table, or else the data file, is refused; `Memory` where an allocation failed for
-/// looking up rows, before the texts are judged; `Text` where the left text, or else the right one, is
-/// refused. Nothing was written then. No key is made, so the comparison itself takes no memory. `Write` where the
+/// - `File`: the table, or else the data file, is rejected.
+/// - `Memory`: an allocation failed for looking up rows, before the texts are read.
+/// - `Text`: the left text, or else the right one, is rejected.
+///
+/// Nothing was written then. No key is made, so the comparison itself takes no memory. `Write` if the
 /// writer failed: the first `written` bytes of the line went out.
 pub fn run_compare<T: Read, D: Read, W: Write>(
     alloc: Global,
@@ -77,8 +79,12 @@ pub fn run_compare<T: Read, D: Read, W: Write>(
     )
 }
 
-/// The same with the allocations of the two files and the trie in memory of any allocator; those of Normalization Form D
-/// are in `global`.
+/// As [`run_compare`], with the two files and the trie in memory of any allocator. Texts in Normalization Form D are in
+/// `global`.
+///
+/// # Errors
+///
+/// Those of [`run_compare`].
 pub fn run_compare_in<A: Allocator + Copy, T: Read, D: Read, W: Write>(
     alloc: A,
     global: Global,
@@ -98,7 +104,7 @@ pub fn run_compare_in<A: Allocator + Copy, T: Read, D: Read, W: Write>(
     compare_words(global, &collator, read.weighting, depth, left, right, out)
 }
 
-// The text of a word, which is the right one of the two or the left one.
+// The text of an argument, which is the right one of the two or the left one.
 fn text_of<D: Allocator>(
     global: Global,
     word: &str,

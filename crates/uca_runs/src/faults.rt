@@ -27,14 +27,14 @@ pub enum Role {
     Rules,
     /// The certificate of a tailoring.
     Certificate,
-    /// The weight table before a tailoring, where the tailoring is audited. Where it is made, that table is `Table`.
+    /// The weight table before a tailoring, when the tailoring is audited. When it is made, that table is `Table`.
     Base,
     /// The weight table after a tailoring.
     Tailored,
 }
 
 impl Role {
-    /// The word for it.
+    /// Its name in an error line.
     pub fn name(self) -> &'static str
         ensures { result.now ≡ role_text self }
     {
@@ -57,7 +57,7 @@ impl fmt::Display for Role {
     }
 }
 
-/// Why a line of standard input is refused.
+/// Why a line of standard input is rejected.
 #[derive(Clone, Copy, Debug, PartialEq, Eq, Error)]
 pub enum InputKind {
     /// It is not UTF-8.
@@ -65,7 +65,7 @@ pub enum InputKind {
     /// It has more than 4,194,304 bytes, or its text more than 1,048,576 code points in
     /// Normalization Form D (UAX #15).
     TooLong,
-    /// More than 64 non-starters stand in a row in Normalization Form D: the index, from 0, of the
+    /// More than 64 non-starters come in a row in Normalization Form D: the index, from 0, of the
     /// first one of the first such run.
     LongRun(u32),
     /// The reader failed.
@@ -101,7 +101,7 @@ impl fmt::Display for InputKind {
     }
 }
 
-/// Where a file is refused, and why. Its text follows the word for the role of the file.
+/// Where a file is rejected, and why. Its text follows the name of the role of the file.
 #[derive(Clone, Copy, Debug, PartialEq, Eq, Error)]
 pub enum FileFault {
     /// In a line of a table or of a data file: `line 7: Range`.
@@ -138,21 +138,21 @@ impl FileFault {
     }
 }
 
-/// Why a run ends without its whole output. Its text is the fault line on standard error.
+/// Why a run ends without its whole output. Its text is the error line on standard error.
 #[derive(Debug, Drop, Error)]
 pub enum RunFault {
-    /// A file is refused, or cannot be read.
+    /// A file is rejected, or cannot be read.
     File {
         /// What the file is for.
         role: Role,
-        /// Where it is refused, and why.
+        /// Where it is rejected, and why.
         fault: FileFault,
     },
-    /// A line of the input is refused, or cannot be read.
+    /// A line of the input is rejected, or cannot be read.
     Input {
         /// The line, counted from 1.
         line: u32,
-        /// Why it is refused.
+        /// Why it is rejected.
         kind: InputKind,
     },
     /// The writer failed.
@@ -162,11 +162,11 @@ pub enum RunFault {
     },
     /// An allocation failed that belongs to no file and to no line.
     Memory,
-    /// A word that is to be compared is refused.
+    /// An argument that is to be compared is rejected.
     Text {
-        /// Whether it is the second of the two words.
+        /// Whether it is the second of the two arguments.
         right: bool,
-        /// Why it is refused.
+        /// Why it is rejected.
         fault: TextFault,
     },
     /// There is no plan, and so no tailored table: `tailor relation 3: Anchor`, `tailor: NoRoom 2`.
@@ -180,12 +180,12 @@ pub enum RunFault {
     Open(Role),
     /// The certificate is to be written over this file, which the run reads: `certificate: SameAs table`.
     SameAs(Role),
-    /// The command line is refused.
+    /// The command line is rejected.
     Words(WordFault),
 }
 
 impl RunFault {
-    /// Its line on standard error, without the LF: empty for an error of `clap`, which has a text of its own.
+    /// Its line on standard error, without the LF: empty for an error of `clap`, which has its own text.
     pub fn message(&self) -> Message
         ensures text { result ≡ fault_text self.now }
         ensures short { length result ≤ 120 }

@@ -1,4 +1,4 @@
-//! The table and the data file that a run goes by.
+//! The table and the data file that a run uses.
 
 ghost use Rattle.std.specs.Prelude.{◌≡◌, ◌||◌, ◌∷◌, [], true, is_err, IfOk, IfErr, IfSome, MatchResult};
 ghost use Rattle.uca_values.specs.Content.{Properties, properties_of};
@@ -30,11 +30,11 @@ pub struct Files<A: Allocator = Global> {
     pub properties: Data<A>,
 }
 
-/// Reads the table, and then the data file, each to its end or its first fault.
+/// Reads the table, and then the data file, each to its end or its first error.
 ///
 /// # Errors
 ///
-/// `File` where the table, or else the data file, is refused.
+/// `File` if the table, or else the data file, is rejected.
 pub fn read_files<A: Allocator + Copy, T: Read, D: Read>(
     alloc: A,
     table: &mut Source<T>,
@@ -51,11 +51,11 @@ pub fn read_files<A: Allocator + Copy, T: Read, D: Read>(
     Ok(Files { table, properties })
 }
 
-/// Reads a table that has this role, to its end or its first fault.
+/// Reads a table that has this role, to its end or its first error.
 ///
 /// # Errors
 ///
-/// `File` with this role, where the table is refused.
+/// `File` with this role, if the table is rejected.
 pub fn read_table_file<A: Allocator + Copy, T: Read>(
     alloc: A,
     role: Role,
@@ -75,11 +75,11 @@ pub fn read_table_file<A: Allocator + Copy, T: Read>(
     }
 }
 
-/// Reads the data file, to its end or its first fault.
+/// Reads the data file, to its end or its first error.
 ///
 /// # Errors
 ///
-/// `File` with the role `Data`, where it is refused.
+/// `File` with the role `Data`, if it is rejected.
 pub fn read_data_file<A: Allocator + Copy, D: Read>(
     alloc: A,
     source: &mut Source<D>,
@@ -127,7 +127,7 @@ impl<A: Allocator> ReadCollation<A> {
 ///
 /// # Errors
 ///
-/// `File` where the table, or else the data file, is rejected; then `Memory` where an allocation fails for the rows.
+/// `File` if the table, or else the data file, is rejected; then `Memory` if an allocation fails for the rows.
 pub fn read_collation<A: Allocator + Copy, T: Read, D: Read>(
     alloc: A,
     table: &mut Source<T>,

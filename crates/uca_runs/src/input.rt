@@ -21,7 +21,7 @@ use uca_weights::Source;
 /// How many bytes a line of the input may have, its LF not counted.
 pub const LONGEST_INPUT_LINE: usize = 4_194_304;
 
-/// The lines of an input, one after the other, each with its text in Normalization Form D.
+/// The lines of an input, in turn, each with its text in Normalization Form D.
 #[derive(Drop)]
 pub struct InputTexts<A: Allocator> {
     reader: LineReader,
@@ -43,7 +43,7 @@ impl<A: Allocator> Model for InputTexts<A> {
 }
 
 impl<A: Allocator> InputTexts<A> {
-    /// The texts of an input of which no line was read. It takes no memory.
+    /// The texts of an input, before any line is read. It takes no memory.
     pub fn new(alloc: A, global: Global) -> InputTexts<A>
         ensures read { (properties : Properties) (input : SourceState) →
             HasRead properties input.remaining [] result input }
@@ -80,13 +80,13 @@ impl<A: Allocator> InputTexts<A> {
         &self.text
     }
 
-    /// Reads the next line of the input and its text, in place of those that were read before, and returns whether there
+    /// Reads the next line of the input and its text, over those that were read before, and returns whether there
     /// was a line. After a line that no LF ends nothing more is read.
     ///
     /// # Errors
     ///
-    /// `Input`, for the first that holds of the line: `Limit`, `TooLong` by its bytes, `Utf8`, `TooLong` by its code
-    /// points, `LongRun`; `Read` where the source failed, and `Memory` where an allocation failed.
+    /// `Input`, with the first of these that is true of the line: `Limit`, `TooLong` by its bytes, `Utf8`, `TooLong`
+    /// by its code points, `LongRun`. `Read` if the source failed, and `Memory` if an allocation failed.
     pub fn next<I: Read, D: Allocator>(
         &mut self,
         input: &mut Source<I>,

@@ -80,8 +80,12 @@ pub fn run_keyed_lines<T: Read, D: Read, I: Read, W: Write>(
     )
 }
 
-/// The same with the allocations of the two files, the trie, the lines and the keys in memory of any
-/// allocator; those of Normalization Form D are in `global`.
+/// As [`run_keys`], with the two files, the trie, the lines and the keys in memory of any allocator. Texts in
+/// Normalization Form D are in `global`.
+///
+/// # Errors
+///
+/// Those of [`run_keys`].
 pub fn run_keyed_lines_in<A: Allocator + Copy, T: Read, D: Read, I: Read, W: Write>(
     alloc: A,
     global: Global,

@@ -63,7 +63,7 @@ fn depth_of(form: KeyForm, depth: Depth) -> Depth
     }
 }
 
-// The lines of the input, and what is used for one after the other.
+// The lines of the input, and what is used again for each of them.
 #[derive(Drop)]
 struct KeyRun<A: Allocator> {
     texts: InputTexts<A>,
@@ -179,12 +179,12 @@ pub(crate) fn print_lines<L: Lookup, T: Allocator, A: Allocator + Copy, I: Read,
     end_output(&mut run.output, out, end)
 }
 
-/// Prints the sort key of each line of the input, until its end or its first faulty line.
+/// Prints the sort key of each line of the input, until its end or its first line with an error.
 ///
 /// # Errors
 ///
-/// `Input` for the first faulty line, where the keys of the lines before it were written; `Write`
-/// where the writer failed, also where a later line is faulty.
+/// `Input` for the first line with an error, if the keys of the lines before it were written.
+/// `Write` if the writer failed, also if a later line has an error.
 pub fn print_keys<L: Lookup, T: Allocator, A: Allocator + Copy, I: Read, W: Write>(
     alloc: A,
     global: Global,
@@ -215,17 +215,18 @@ pub fn print_keys<L: Lookup, T: Allocator, A: Allocator + Copy, I: Read, W: Writ
     )
 }
 
-/// Prints the sort key of each line of `input`, under the table and the data file that are read first:
-/// by the weighting that is asked for, or else that of the table's `@variable`, or else shifted
-/// (UTS #10, section 4). At the depth `Identical` the code points of Normalization Form D follow as one more level,
-/// six digits each.
+/// Prints the sort key of each line of `input`, under the table and the data file that are read first.
+/// The weighting is the one that is asked for, or else that of the table's `@variable`, or else shifted (UTS #10,
+/// section 4). At the depth `Identical` the code points of Normalization Form D follow as one more level, six digits
+/// each.
 ///
 /// # Errors
 ///
-/// `File` where the table, or else the data file, is refused, and then `Memory` where an allocation failed
-/// for looking up rows: nothing was written, and nothing of the input was read. `Input` for the first
-/// faulty line, where the keys of the lines before it were written. `Write` where the writer failed, also
-/// where a later line is faulty: the first `written` bytes of the whole output went out.
+/// - `File`: the table, or else the data file, is rejected. Nothing was written, and nothing of the input was read.
+/// - `Memory`: an allocation failed for looking up rows. Nothing was written, and nothing of the input was read.
+/// - `Input`: the first line with an error, if the keys of the lines before it were written.
+/// - `Write`: the writer failed, also if a later line has an error. The first `written` bytes of the whole output
+///   went out.
 pub fn run_keys<T: Read, D: Read, I: Read, W: Write>(
     alloc: Global,
     table: &mut Source<T>,
@@ -243,8 +244,12 @@ pub fn run_keys<T: Read, D: Read, I: Read, W: Write>(
     )
 }
 
-/// The same with the allocations of the two files, the trie, the lines and the keys in memory of any
-/// allocator; those of Normalization Form D are in `global`.
+/// As [`run_keys`], with the two files, the trie, the lines and the keys in memory of any allocator. Texts in
+/// Normalization Form D are in `global`.
+///
+/// # Errors
+///
+/// Those of [`run_keys`].
 pub fn run_keys_in<A: Allocator + Copy, T: Read, D: Read, I: Read, W: Write>(
     alloc: A,
     global: Global,

@@ -1,4 +1,4 @@
-//! What holds of lines and their keys in all runs. The functions at most call the laws of keys that theirs follow
+//! What is true of lines and their keys in all runs. The functions at most call the laws of keys that theirs follow
 //! from: their contracts are the laws.
 
 ghost use Rattle.uca_runs.specs.AffectedRun.{AffectedTextsAreTheOthers};
@@ -8,8 +8,8 @@ use uca_key::laws::{identical_keys_are_of_equivalent_texts, keys_compare_as_text
 use uca_tailorings::accepted_tailorings_are_faithful;
 
 /// Between two lines of an input the byte order of their keys is the multilevel order of their texts
-/// (UTS #10, sections 1.1 and 7.4), whatever the table, the data file, the weighting and the depth; the keys
-/// are equal exactly where no level differs.
+/// (UTS #10, sections 1.1 and 7.4). This is so with any table, data file, weighting and depth. The keys are equal
+/// exactly if no level differs.
 pub fn line_keys_compare_as_lines()
     ensures { LineKeysCompareAsLines }
 {
@@ -28,17 +28,17 @@ pub fn identical_line_keys_are_of_equivalent_lines()
     identical_keys_are_of_equivalent_texts();
 }
 
-/// The lines of an input have one key order, the rearrangement in which keys never fall and lines of equal
-/// keys keep their order, whatever the table, the data file, the weighting and the depth. So the text that a run of sort
+/// The lines of an input have one key order with any table, data file, weighting and depth. It is the
+/// rearrangement in which keys never fall and lines of equal keys keep their order. So the text that a run of sort
 /// is promised to write is the only one that its definition allows.
 pub fn key_order_is_one()
     ensures { KeyOrderIsOne }
 {}
 
-/// What an accepted tailoring means for the lines of an input. Lines that are not faulty and in whose texts no target occurs
-/// compare under the tailored table as under the base, by order and by the level at which they differ, and so do the bytes of
-/// their keys, whatever the depth and the weighting that is asked for. Where the maps change no weight, each such line has the
-/// same key and the same key line under both tables.
+/// What an accepted tailoring means for the lines of an input. Take lines without an error in whose texts no target
+/// occurs. They compare under the tailored table as under the base, by order and by the level at which they differ, and
+/// so do the bytes of their keys. This is so at any depth and under any weighting that is asked for. If the maps change
+/// no weight, each such line has the same key and the same key line under both tables.
 pub fn untouched_lines_keep_their_order()
     ensures { UntouchedLinesKeepTheirOrder }
 {

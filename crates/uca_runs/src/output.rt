@@ -20,7 +20,7 @@ use uca_weights::{Sink, WriteFault};
 ///
 /// # Errors
 ///
-/// `Write` where the writer failed: the first `written` bytes of the text went out.
+/// `Write` if the writer failed: the first `written` bytes of the text went out.
 pub fn write_text<W: Write>(text: &[u8], out: &mut Sink<W>) -> Result<(), RunFault>
     ensures written { OnOk result (Appends out.old.contents out.new.contents text.now) }
     ensures failed_in { IfErr result (FailsToWrite RunFault.Write out.old.contents out.new.contents text.now) }

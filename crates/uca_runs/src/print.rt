@@ -1,4 +1,4 @@
-//! The printed form of keys.
+//! Keys as they are printed.
 
 ghost use Rattle.std.specs.Prelude.{◌≡◌, ◌≤◌, length};
 ghost use Rattle.std.specs.List.{flat_map};
@@ -19,9 +19,12 @@ const PART: usize = 256;
 const GROUPS: usize = PART / 2;
 
 /// Writes a key as a line: groups of two bytes as four upper-case hexadecimal digits, one space
-/// between two groups, and LF. The key is that of the weights alone; at the depth `Identical` the code points of the
-/// text follow, after a group `0000`, as six digits each. It takes no memory. A fault says how many bytes went out of
-/// all that was written to the buffer.
+/// between two groups, and LF. The key is that of the weights; at the depth `Identical` the code points of the
+/// text follow, after a group `0000`, as six digits each. It takes no memory.
+///
+/// # Errors
+///
+/// The sink failed: `written` says how many bytes went out, counted over all that was written to the buffer.
 pub fn print_key<W: Write>(
     buffer: &mut OutputBuffer,
     out: &mut Sink<W>,
@@ -80,7 +83,7 @@ fn digits_in<'a>(digits: &'a mut [[u8; 2]; PART], part: &[u8]) -> &'a [u8]
     &digits.as_flattened()[..2 * part.len()]
 }
 
-// Writes what stands behind the weights: nothing, or the identical level.
+// Writes what comes after the weights: nothing, or the identical level.
 fn write_level<W: Write>(
     buffer: &mut OutputBuffer,
     out: &mut Sink<W>,
@@ -109,7 +112,7 @@ fn write_identical_level<W: Write>(
     write_points(buffer, out, points)
 }
 
-// Writes code points, each behind a space.
+// Writes code points, each after a space.
 fn write_points<W: Write>(
     buffer: &mut OutputBuffer,
     out: &mut Sink<W>,
@@ -124,7 +127,7 @@ fn write_points<W: Write>(
     Ok(())
 }
 
-// A code point as six digits behind a space.
+// A code point as six digits after a space.
 fn spaced_point(point: char) -> [u8; 7]
     ensures { result ≡ Print.spaced_point point }
 {
@@ -156,7 +159,7 @@ fn write_groups<W: Write>(
     Ok(())
 }
 
-// Writes a part of a key: its groups, each behind a space. The text lies in the array.
+// Writes a part of a key: its groups, each after a space. The text lies in the array.
 fn spaced_text<'a>(groups: &'a mut [[u8; 5]; GROUPS], part: &[u8]) -> &'a [u8]
     requires { length part.now ≤ PART }
     ensures { result.now ≡ spaced_groups part.now }

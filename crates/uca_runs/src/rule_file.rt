@@ -1,4 +1,4 @@
-//! The file of rules that a run goes by.
+//! The file of rules that a run uses.
 
 ghost use Rattle.std.specs.Prelude.{◌≡◌, ◌<◌, ◌≤◌, ◌||◌, ℕ, List, Option, IfOk, IfErr, IfSome, OnOk, MatchBool, length};
 ghost use Rattle.std.specs.Io.KnownBytes.{Consumes, IsAtEnd};
@@ -20,12 +20,12 @@ const MOST_BYTES: usize = 1_048_577;
 /// How many bytes a read asks for.
 const CHUNK: usize = 4096;
 
-/// Reads the rules, whose texts have the classes of `properties`, to their end or their first fault. No byte past the
-/// first that is too many is asked for. Texts in Normalization Form D are taken from `global`, all else from `alloc`.
+/// Reads the rules, whose texts have the classes of `properties`, to their end or their first error. It reads at most
+/// one byte more than rules may have. Texts in Normalization Form D are taken from `global`, all else from `alloc`.
 ///
 /// # Errors
 ///
-/// `File` with the role `Rules`, where they are refused.
+/// `File` with the role `Rules`, if they are rejected.
 pub fn read_rule_file<A: Allocator + Copy, U: Read>(
     alloc: A,
     global: Global,

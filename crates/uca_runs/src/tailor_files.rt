@@ -25,11 +25,11 @@ pub struct TailorFiles<A: Allocator = Global> {
     pub rules: Rules<A>,
 }
 
-/// Reads the files of a tailoring, one after the other, each to its end or its first fault.
+/// Reads the files of a tailoring, in turn, each to its end or its first error.
 ///
 /// # Errors
 ///
-/// `File` for the first that is refused.
+/// `File` for the first that is rejected.
 pub fn read_tailor_files<A: Allocator + Copy, B: Read, D: Read, U: Read>(
     alloc: A,
     global: Global,

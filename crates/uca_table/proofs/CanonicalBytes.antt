@@ -38,7 +38,7 @@ up_to_all p (b ∷ bs) h = rw h.0 (ap (λ zs. b ∷ zs) (up_to_all p bs h.1))
 
 -- ---- Blanks
 
--- no blank stands at the front
+-- there is no blank at the front
 pub skip_front : (xs ys : List ℕ) → 1 ≤ length xs → Lacks is_blank xs → skip_blanks (xs ++ ys) ≡ xs ++ ys
 skip_front [] ys some h = absurd (omega arith)
 skip_front (x ∷ xs) ys some h = rw h.0 refl
@@ -59,7 +59,7 @@ keeps_plain : (xs : List ℕ) → Lacks is_blank xs → no_end_blanks xs ≡ xs
 keeps_plain [] h = refl
 keeps_plain (x ∷ xs) h = rw h.0 (ap (λ zs. x ∷ zs) (keeps_plain xs h.1))
 
--- no blank stands at the end
+-- there is no blank at the end
 pub keeps_end : (xs ys : List ℕ) → 1 ≤ length ys → Lacks is_blank ys → no_end_blanks (xs ++ ys) ≡ xs ++ ys
 keeps_end xs [] some h = absurd (omega arith)
 keeps_end [] (y ∷ ys) some h = keeps_plain (y ∷ ys) h

@@ -176,7 +176,7 @@ row_has_no_lf row h = lacks_row is_lf no_lf refl refl row h
 lead_fits : (r : ImplicitRange) → IsImplicitRange r → r.lead < 0x1_0000
 lead_fits r h = omega (arith, h.high)
 
--- what stands between the word of the line and its lead
+-- what is between the word of the line and its lead
 abbrev pub ends_text : ImplicitRange → List ℕ
 ends_text r = point_text r.first ++ 46 ∷ 46 ∷ point_text r.last
 

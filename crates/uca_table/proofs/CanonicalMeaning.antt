@@ -27,7 +27,7 @@ zip_append R [] ys (u ∷ us) vs h k = absurd h
 zip_append R (x ∷ xs) ys [] vs h k = absurd h
 zip_append R (x ∷ xs) ys (u ∷ us) vs h k = (h.0, zip_append R xs ys us vs h.1 k)
 
--- a line for each of some things, of which P holds
+-- a line for each of some things for which P holds
 each_line : {X : Type 0} (P : X → Type 0) (line : X → List ℕ) → ((x : X) → P x → IsFileLine TABLE_FORM (line x)) → (xs : List X) → AllByRecursion P xs
     → AllByRecursion (IsFileLine TABLE_FORM) (map line xs)
 each_line P line is [] h = tt

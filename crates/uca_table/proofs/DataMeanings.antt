@@ -1,4 +1,4 @@
--- The lines of a data file say one thing, and a line in which a cause stands is part of no data file.
+-- The lines of a data file say one thing, and a line with a cause is part of no data file.
 use Rattle.std.proofs.Common.{◌≡◌, ◌⊎◌, inl, inr, ℕ, ◌<◌, ◌≤◌, Bool, true, false, List, [], ◌∷◌, ◌++◌, codes, Result, Ok, Err, refl, sym, ap, ◌∙◌, subst, arith, append_assoc, append-nil, ⊎_elim}
 use Rattle.std.specs.List.{AllByRecursion, AllZip}
 use Rattle.std.proofs.lemmas.List.{length_push}
@@ -22,7 +22,7 @@ use Rattle.uca_table.specs.DataSteps.{Takes, IsAdded, Adds, with_range}
 use Rattle.uca_table.proofs.DataSoFarLemmas.{Apart, AllApart, IsRising, apart_swap, put_last, ranges_more, ranges_nothing, ranges_start, summary_more, within_append}
 use Rattle.uca_table.proofs.DataWords.{words_same}
 
--- ---- A line has one form
+-- ---- A line has one format
 
 header_words : AreWords header (codes "@data" ∷ codes "1" ∷ [])
 header_words = (codes " 1", record { some = omega arith; word = refl; rest = refl }, ([], record { some = omega arith; word = refl; rest = refl }, refl))
@@ -153,7 +153,7 @@ range_order (OfRange s ∷ items) r started h = absurd h
 
 -- ---- Ranges
 
--- what holds of a range among others that are apart
+-- what is true of a range among others that are apart
 record IsOut {X : Type 0} (first last : X → ℕ) (x : X) (others : List X) : Type 0 where
   rising : first x ≤ last x
   apart : AllByRecursion (Apart first last x) others

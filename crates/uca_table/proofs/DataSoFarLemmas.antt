@@ -341,7 +341,7 @@ may_stand_more content (Other r) may rising apart room = record {
   few_other = omega (arith, length_push content.other r);
 }
 
--- a range with which the header stands
+-- a range, when the header was there before
 range_says : (lines : List (List ℕ)) (old : Said) (line : List ℕ) (new : Said) (r : RangeLine) → Says lines old → IsLine line (OfRange r)
     → old.started ≡ true → IsAdded old r new → Says (lines ++ line ∷ []) new
 range_says lines old line new r before form started added =

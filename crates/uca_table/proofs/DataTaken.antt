@@ -1,4 +1,4 @@
--- Where a range is due, a line is taken or refused by what its words say.
+-- Where a range must come, a line is taken or rejected by what its words say.
 use Rattle.std.proofs.Common.{◌≡◌, ◌≢◌, ◌⊎◌, inl, inr, ℕ, Bool, true, false, List, Result, Ok, IfErr, OnOk, sym, ◌∙◌, subst}
 use Rattle.std.specs.Str.{bytes_eq}
 use Rattle.std.proofs.lemmas.Slice.Eq.{bytes_eq-Decides}
@@ -32,7 +32,7 @@ words_take old new line text is due r value added =
     let P : List ℕ → Type 0 = λ t. AreWords t words.0 in
     record { item = OfRange r; form = (words.0, subst P is words.1, sym (value words.0 words.1)); adds = (due.started, added) }
 
--- ---- By the answer of the addition
+-- ---- By the result of the addition
 
 pub added_takes : (old new : DataContent) (started : Bool) (line text : List ℕ) → text ≡ text_of line → IsRangeDue (summary started old) text
     → (r : RangeLine) → ((words : List (List ℕ)) → AreWords text words → Ok r ≡ read_words words) → (result : Result (Unit {0}) FaultKind)

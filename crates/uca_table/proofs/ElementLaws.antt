@@ -134,7 +134,7 @@ after_element text e more h =
     grown : (b : ℕ) (xs ys : List ℕ) → length text ≡ length (b ∷ xs ++ ys) → length ys < length text
     grown b xs ys k = omega (arith, k, length-append xs ys)
 
--- ---- Why some elements are refused
+-- ---- Why some elements are rejected
 
 pub weight_cause : (text : List ℕ) (front : List Element) (rest : List ℕ) → Leads BeginsElement text front rest → opens rest ≡ true
     → None ≡ element_at rest → ElementsCause text kinds.Weight

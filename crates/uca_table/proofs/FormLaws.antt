@@ -1,4 +1,4 @@
--- A text says one thing, and one in which a cause stands says nothing that may follow.
+-- A text says one thing, and one with a cause says nothing that may follow.
 use Rattle.std.proofs.Common.{◌≡◌, ◌≢◌, ℕ, ◌≤◌, ◌&&◌, ◌||◌, ◌==◌, leb, Result, Bool, true, false, List, [], ◌∷◌, length, Some, None, Ok, refl, ap, sym, subst, ◌∙◌, inl, inr, arith}
 use Rattle.std.proofs.lemmas.Option.{same_Some}
 use Rattle.std.proofs.lemmas.Bool.{false≢true}

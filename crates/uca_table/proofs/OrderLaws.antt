@@ -12,7 +12,7 @@ use Rattle.uca_table.specs.TableSoFar.{TableSoFar, IsTableSoFar}
 use Rattle.uca_table.specs.Headers.{MayFollow}
 use Rattle.uca_table.specs.TableLines.{Item, Nothing, OfVersion, OfSetting, OfRange, OfRow, said, in_order}
 
--- ---- What holds of the beginning of a list
+-- ---- What is true of the beginning of a list
 
 keys_of-last : (rows : List Entry) (row : Entry) → keys_of (rows ++ row ∷ []) ≡ keys_of rows ++ row.key ∷ []
 keys_of-last rows row = map-append (λ (r : Entry). r.key) rows (row ∷ [])

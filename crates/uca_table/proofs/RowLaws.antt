@@ -9,7 +9,7 @@ use Rattle.uca_values.specs.Content.{Entry}
 use Rattle.uca_table.specs.Elements.{AreElements, ElementsCause}
 use Rattle.uca_table.specs.Rows.{IsKey, IsRow, RowTextCause}
 
--- where something stands at the cut, it is the `;`
+-- if something is at the cut, it is the `;`
 pub after_semicolon : (text back : List ℕ) (b : ℕ) (rest : List ℕ) → back ≡ from_first is_semicolon text → back ≡ b ∷ rest
     → from_first is_semicolon text ≡ 59 ∷ rest
 after_semicolon text back b rest h k =

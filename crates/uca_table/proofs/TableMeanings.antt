@@ -1,4 +1,4 @@
--- The lines of a table file say one thing, and a line in which a cause stands is not taken.
+-- The lines of a table file say one thing, and a line with a cause is not taken.
 use Rattle.std.proofs.Common.{◌≡◌, ℕ, ◌⊎◌, List, [], ◌∷◌, ◌++◌, length, Option, Some, None, refl, ap, sym, subst, ◌∙◌, inl, inr, arith, length-append, append-nil}
 use Rattle.std.proofs.lemmas.Option.{same_Some}
 use Rattle.std.specs.Prelude.{IsSome, is_some, true}
@@ -95,7 +95,7 @@ due_range s t r h e = (
   sym (rows_with s t (OfRange r) e ∙ append-nil s.rows) ∙ no_rows_left s t (OfRange r) e (λ row q. cc),
 )
 
--- ---- A line in which a cause stands is not taken
+-- ---- A line with a cause is not taken
 
 follow_barred : (s t : TableSoFar) (r : ImplicitRange) (kind : FaultKind) → IsTableSoFar t → in_order t ≡ in_order s ++ OfRange r ∷ [] → FollowCause s.ranges r kind → ⊥
 follow_barred s t r kinds.Range h e c = c (ranges_last s.ranges r (subst AreImplicitRanges (ranges_with s t (OfRange r) e) h.ranges))
@@ -134,7 +134,7 @@ purpose_barred s t text ForRow kind h w (inr c) =
     let same = row_same text c.0 i.0 c.1 (form_of text h.item (OfRow i.0) i.1 h.form) in
     add_barred s t i.0 kind h.begun (order_of s t h.item (OfRow i.0) i.1 refl h.order) (subst (λ (r : Entry). AddCause s.rows r kind) same c.2)
 
--- a line that is taken was due
+-- a line that is taken may come there
 taken_is_due : (s t : TableSoFar) (text : List ℕ) (purpose : Purpose) → TakesText s text t → Has text purpose → IsDue s purpose
 taken_is_due s t text ForVersion h w = let i = is_version text h.item w h.form in due_version s t i.0 (order_of s t h.item (OfVersion i.0) i.1 refl h.order)
 taken_is_due s t text ForSetting h w = let i = is_setting text h.item w h.form in

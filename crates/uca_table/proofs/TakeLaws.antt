@@ -30,7 +30,7 @@ use Rattle.uca_table.specs.Taking.{TakesText}
 use Rattle.uca_table.proofs.KeepingLaws.{some_not_none, rows_push}
 use Rattle.uca_table.proofs.OrderLaws.{in_order-row, in_order-range, ranges_push}
 
--- ---- A row that is read may stand in a table
+-- ---- A row that is read may be in a table
 
 last_true : (a b c d : Bool) → (a && b && c && d) ≡ true → d ≡ true
 last_true true true true d h = h
@@ -133,7 +133,7 @@ takes_row old inside new text row same h v form absent few whole =
       };
     })) absent few whole
 
--- ---- Why a line is refused
+-- ---- Why a line is rejected
 
 pub out_of_order : (b : TableSoFar) (text : List ℕ) (purpose : Purpose) (due : Bool) → Has text purpose → (due ≡ true) ↔ IsDue b purpose → due ≡ false
     → (kinds.Order ≡ kinds.Memory) ⊎ TextCause b text kinds.Order
@@ -191,7 +191,7 @@ pub keeps_ranges : {K : Type 0} (points : K → List ℕ) (has : K → Bool) (in
     → Keeps points has inside → TakesText old text (record inside { ranges = all }) → Keeps points has (record inside { ranges = all })
 keeps_ranges points has inside old text all h t = record { keys = h.keys; named = h.named; begun = t.begun }
 
--- ---- Why a range or a row is refused
+-- ---- Why a range or a row is rejected
 
 pub range_text_fault : (b : TableSoFar) (text rest : List ℕ) (kind : FaultKind) → word_of text ≡ at_ranges → rest ≡ after_word text
     → RangeTextCause rest kind → (kind ≡ kinds.Memory) ⊎ TextCause b text kind

@@ -1,4 +1,4 @@
--- The parts of the canonical text of a table, each as lines with their LF. Private contracts alone cite this.
+-- The parts of the canonical text of a table, each as lines with their LF. Only private contracts cite this.
 use Rattle.std.specs.Prelude.{ℕ, List, map, Option}
 use Rattle.std.specs.List.{flat_map}
 use Rattle.std.specs.Option.{option_to_list}

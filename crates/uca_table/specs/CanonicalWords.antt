@@ -1,4 +1,4 @@
--- The words of the lines of a table before its rows (UTS #10, section 9.1).
+-- The words in the lines of a table before its rows (UTS #10, section 9.1).
 use Rattle.std.specs.Prelude.{ℕ, List, codes}
 use Rattle.uca_weights.specs.declared.Weighting.{Weighting}
 use Rattle.uca_weights.specs.declared.Weighting.TheVariants as weightings

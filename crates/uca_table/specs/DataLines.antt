@@ -32,9 +32,9 @@ class_read (Err kind) class = Err kind
 class_read (Ok r) None = Err kinds.Weight
 class_read (Ok r) (Some class) = Ok (Class (record { first = r.first; last = r.last; class = class }))
 
--- What the words of a line say: `core FIRST..LAST`, `other FIRST..LAST` or `ccc FIRST..LAST N`. Of the
--- causes in other words it is the first: another first word or another number of words, no `..`, no code
--- point, no class.
+-- What the words of a line say: `core FIRST..LAST`, `other FIRST..LAST` or `ccc FIRST..LAST N`. For
+-- other words it is the first of these causes: another first word or another number of words, no `..`, no code point,
+-- no class.
 abbrev pub read_words : List (List ℕ) → Result RangeLine FaultKind
 read_words (word ∷ range ∷ []) =
     if bytes_eq word (codes "core") then han_read Core (range_read (range_of range)) else

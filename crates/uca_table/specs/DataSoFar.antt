@@ -1,4 +1,4 @@
--- What the lines of a data file say together, and why a line is refused.
+-- What the lines of a data file say together, and why a line is rejected.
 use Rattle.std.specs.Prelude.{◌≡◌, ◌≢◌, ◌⊎◌, ℕ, ◌<◌, ◌≤◌, ⊤, Bool, true, false, List, [], ◌∷◌, ◌++◌, length, Option, Result, Ok, Err}
 use Rattle.std.specs.List.{AllByRecursion, AllZip}
 use Rattle.uca_lines.specs.Fields.{text_of}
@@ -14,7 +14,7 @@ use Rattle.uca_table.specs.DataLines.{Item, Nothing, Start, OfRange, AreWords, r
 
 -- ---- All lines
 
--- whether the header stands, the properties that the ranges give, and how many ranges of each kind there are
+-- whether the header was there, the properties that the ranges give, and how many ranges of each kind there are
 pub record Said : Type 0 where
   pub started : Bool
   pub properties : Properties
@@ -76,7 +76,7 @@ pub record Says (lines : List (List ℕ)) (said : Said) : Type 0 where
   pub ranges : MayStand (ranges_of items)
   pub sum : said ≡ summary said.started (ranges_of items)
 
--- where the header stands, the properties that the ranges give
+-- if the header was there, the properties that the ranges give
 pub record Gives (said : Said) (properties : Properties) : Type 0 where
   pub started : said.started ≡ true
   pub same : said.properties ≡ properties
@@ -89,7 +89,7 @@ Means bytes properties = files.Means TABLE_FORM Says Gives bytes properties
 abbrev pub IsUnfinished : Said → Type 0
 IsUnfinished said = said.started ≡ false
 
--- ---- Why a line is refused
+-- ---- Why a line is rejected
 
 -- the range is empty, or has a code point in common with those before it
 abbrev pub IsBarred : Said → RangeLine → Type 0
@@ -97,35 +97,35 @@ IsBarred said (Class r) = (r.last < r.first) ⊎ HasClassBetween said.properties
 IsBarred said (Core r) = (r.last < r.first) ⊎ HasHanBetween said.properties r.first r.last
 IsBarred said (Other r) = (r.last < r.first) ⊎ HasHanBetween said.properties r.first r.last
 
--- how many ranges of its kind stand before it
+-- how many ranges of its kind come before it
 abbrev pub count_before : Said → RangeLine → ℕ
 count_before said (Class r) = said.classes
 count_before said (Core r) = said.core
 count_before said (Other r) = said.other
 
--- a second header, or something else where the header is due
+-- a second header, or something else where the header must come
 abbrev pub OrderCause : Said → List ℕ → Type 0
 OrderCause said text = ((said.started ≡ true) × (text ≡ header)) ⊎ ((said.started ≡ false) × (text ≢ []) × (text ≢ header))
 
--- the text stands where a range is due
+-- the text is where a range must come
 pub record IsRangeDue (said : Said) (text : List ℕ) : Type 0 where
   pub started : said.started ≡ true
   pub some : text ≢ []
   pub other : text ≢ header
 
--- by what the words of the text say: they are no range; the range is barred; it is one too many
+-- by what the words of the text say: they are not a range; the range may not be added; it is one too many
 abbrev pub RangeCause : Said → Result RangeLine FaultKind → FaultKind → Type 0
 RangeCause said (Err fault) kind = kind ≡ fault
 RangeCause said (Ok r) kinds.Range = IsBarred said r
 RangeCause said (Ok r) kinds.Limit = (IsBarred said r → ⊥) × (4096 ≤ count_before said r)
 RangeCause said (Ok r) _ = ⊥
 
--- a cause of the kind stands in the next line
+-- a cause of the kind is in the next line
 abbrev pub Cause : Said → List ℕ → FaultKind → Type 0
 Cause said line kind =
     ((kind ≡ kinds.Order) × OrderCause said (text_of line))
     ⊎ (IsRangeDue said (text_of line) × ((words : List (List ℕ)) × AreWords (text_of line) words × RangeCause said (read_words words) kind))
 
--- why the bytes of a data file are refused, of which the source has `left` left
+-- why the bytes of a data file are rejected, when the source has `left` left of them
 abbrev pub Refuses : List ℕ → Option (List ℕ) → TableFault → Type 0
 Refuses bytes left fault = files.Refuses TABLE_FORM Says Cause IsUnfinished bytes left fault.line fault.kind

@@ -18,7 +18,7 @@ abbrev pub IsNumbered : RangeLine → Type 0
 IsNumbered (Class r) = IsClass r.class
 IsNumbered _ = ⊤
 
--- the range may stand there, and the second is what is said with it
+-- the range may be added to the first, and the second is what is said with it
 pub record IsAdded (old : Said) (r : RangeLine) (new : Said) : Type 0 where
   pub free : IsBarred old r → ⊥
   pub room : count_before old r < 4096

@@ -13,7 +13,7 @@ unfoldable pub after_byte : ℕ → List ℕ → Option (List ℕ)
 after_byte byte [] = None
 after_byte byte (b ∷ bs) = if b == byte then Some bs else None
 
--- whether `*` or `.` stands at the front, and what follows it
+-- whether `*` or `.` is at the front, and what follows it
 unfoldable pub mark_at : List ℕ → Option (Bool × List ℕ)
 mark_at [] = None
 mark_at (b ∷ bs) = if b == 46 then Some (false, bs) else (if b == 42 then Some (true, bs) else None)

@@ -25,8 +25,8 @@ opens [] = false
 opens (a ∷ []) = false
 opens (a ∷ b ∷ bs) = a == 91 && (b == 46 || b == 42)
 
--- A cause of the kind in the text of some elements: there is none, or after some of them stands something
--- else; one begins and does not go on as an element does; or there are more than 32.
+-- A cause of the kind in the text of some elements: there is none, or something else comes after some
+-- of them. One begins, and does not go on as an element does. Or there are more than 32.
 abbrev pub ElementsCause : List ℕ → FaultKind → Type 0
 ElementsCause text kinds.Line = (skip_blanks text ≡ []) ⊎ ((front : List Element) × (rest : List ℕ) × Leads BeginsElement text front rest
     × (rest ≢ []) × (opens rest ≡ false))

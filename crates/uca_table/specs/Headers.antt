@@ -12,7 +12,7 @@ use Rattle.uca_values.specs.declared.ImplicitRange.{ImplicitRange}
 use Rattle.uca_values.specs.Content.{is_version_name, IsImplicitRange, Agree}
 use Rattle.uca_table.specs.CanonicalWords.{at_version, at_variable, at_ranges, setting_word}
 
--- what follows the first word, blanks between them aside
+-- what follows the first word, without the blanks between them
 abbrev pub argument_of : List ℕ → List ℕ
 argument_of text = skip_blanks (after_word text)
 
@@ -27,14 +27,14 @@ pub record IsSetting (text : List ℕ) (setting : Weighting) : Type 0 where
   pub word : word_of text ≡ at_variable
   pub argument : argument_of text ≡ setting_word setting
 
--- `FIRST..LAST; LEAD`, whatever the numbers
+-- `FIRST..LAST; LEAD`, with any numbers
 pub record IsRangeText (text : List ℕ) (r : ImplicitRange) : Type 0 where
   pub rest : List ℕ
   pub cut : from_first is_semicolon text ≡ 59 ∷ rest
   pub ends : range_of (trim (up_to is_semicolon text)) ≡ Ok (r.first, r.last)
   pub lead : weight_of (trim rest) ≡ Some r.lead
 
--- the range may stand after these
+-- the range may come after these
 pub record MayFollow (earlier : List ImplicitRange) (r : ImplicitRange) : Type 0 where
   pub alone : IsImplicitRange r
   pub agrees : AllByRecursion (λ s. Agree s r) earlier
@@ -51,7 +51,7 @@ RangeTextCause text kinds.CodePoint = range_of (trim (up_to is_semicolon text)) 
 RangeTextCause text kinds.Weight = (rest : List ℕ) × (from_first is_semicolon text ≡ 59 ∷ rest) × (weight_of (trim rest) ≡ None)
 RangeTextCause text _ = ⊥
 
--- why a range can't stand after these
+-- why a range may not come after these
 abbrev pub FollowCause : List ImplicitRange → ImplicitRange → FaultKind → Type 0
 FollowCause earlier r kinds.Range = MayFollow earlier r → ⊥
 FollowCause earlier r kinds.Limit = 256 ≤ length earlier

@@ -3,7 +3,7 @@ use Rattle.std.specs.Prelude.{◌≡◌, ℕ, ◌↔◌, Bool, true, List, Some,
 use Rattle.uca_values.specs.Content.{Entry, is_version_name, keys_of}
 use Rattle.uca_table.specs.TableSoFar.{TableSoFar, IsTableSoFar}
 
--- A set, which has the keys that `has` says, holds the keys of these rows. A key in memory holds the list
+-- A set, which has the keys that `has` says, has the keys of these rows. A key in memory has the list
 -- that `points` says.
 abbrev pub HoldsKeysOf : {K : Type 0} → (K → List ℕ) → (K → Bool) → List Entry → Type 0
 HoldsKeysOf {K} points has rows = (key : K) → (has key ≡ true) ↔ Contains (keys_of rows) (points key)

@@ -21,7 +21,7 @@ pub record IsRow (text : List ℕ) (row : Entry) : Type 0 where
   pub key : IsKey (up_to is_semicolon text) row.key
   pub elements : AreElements rest row.elements
 
--- A cause of the kind in the text of a key: there is no word; after some code points stands another word;
+-- A cause of the kind in the text of a key: there is no word; after some code points comes another word;
 -- or there are more than 16.
 abbrev pub KeyCause : List ℕ → FaultKind → Type 0
 KeyCause text kinds.Line = skip_blanks text ≡ []
@@ -29,18 +29,18 @@ KeyCause text kinds.CodePoint = (front : List ℕ) × (rest : List ℕ) × Leads
 KeyCause text kinds.Limit = (front : List ℕ) × (rest : List ℕ) × Leads BeginsCodePoint text front rest × (16 < length front)
 KeyCause text _ = ⊥
 
--- why a row can't stand after these
+-- why a row may not come after these
 abbrev pub AddCause : List Entry → Entry → FaultKind → Type 0
 AddCause rows row kinds.DuplicateKey = Contains (keys_of rows) row.key
 AddCause rows row kinds.Limit = 200000 ≤ length rows
 AddCause rows row _ = ⊥
 
--- A cause of the kind in the text of a row: in its key; no `;` stands in it; or in its elements.
+-- A cause of the kind in the text of a row: in its key; it has no `;`; or in its elements.
 abbrev pub RowTextCause : List ℕ → FaultKind → Type 0
 RowTextCause text kind = KeyCause (up_to is_semicolon text) kind
     ⊎ ((from_first is_semicolon text ≡ []) × (kind ≡ kinds.Line))
     ⊎ ((rest : List ℕ) × (from_first is_semicolon text ≡ 59 ∷ rest) × ElementsCause rest kind)
 
--- the same of a row that follows others
+-- the same for a row that follows others
 abbrev pub RowCause : List Entry → List ℕ → FaultKind → Type 0
 RowCause rows text kind = RowTextCause text kind ⊎ ((row : Entry) × IsRow text row × AddCause rows row kind)

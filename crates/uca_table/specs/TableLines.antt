@@ -1,4 +1,4 @@
--- What the lines of a table file say, and why a line is refused.
+-- What the lines of a table file say, and why a line is rejected.
 use Rattle.std.specs.Prelude.{◌≡◌, ◌≢◌, ℕ, ◌⊎◌, ◌==◌, Bool, true, false, List, [], ◌∷◌, ◌++◌, map, Option, Some, None, IsSome}
 use Rattle.std.specs.List.{AllZip}
 use Rattle.std.specs.Option.{option_to_list}
@@ -73,7 +73,7 @@ Means bytes table = Files.Means TABLE_FORM Says Gives bytes table
 abbrev pub IsUnfinished : TableSoFar → Type 0
 IsUnfinished b = b.version ≡ None
 
--- ---- Why a line is refused
+-- ---- Why a line is rejected
 
 -- what a line that says something is for, by its beginning
 pub data Purpose : Type 0 where
@@ -93,7 +93,7 @@ Has text ForSetting = word_of text ≡ at_variable
 Has text ForRange = word_of text ≡ at_ranges
 Has text ForRow = (text ≢ []) × (begins_at text ≡ false)
 
--- such a line may stand next
+-- such a line may come next
 abbrev pub IsDue : TableSoFar → Purpose → Type 0
 IsDue b ForVersion = b.version ≡ None
 IsDue b ForSetting = IsSome b.version × (b.setting ≡ None) × (b.ranges ≡ []) × (b.rows ≡ [])
@@ -107,8 +107,8 @@ PurposeCause b text ForSetting kind = (kind ≡ kinds.Line) × ((setting : Weigh
 PurposeCause b text ForRange kind = RangeCause b.ranges (after_word text) kind
 PurposeCause b text ForRow kind = RowCause b.rows text kind
 
--- A cause of the kind in the text of a line, after lines that say what is begun: an `@` with another word;
--- a line out of order; or one in what the line takes.
+-- A cause of the kind in the text of a line, after lines that say what is begun. It is an `@` with another
+-- word, a line out of order, or a cause in what the line says.
 abbrev pub TextCause : TableSoFar → List ℕ → FaultKind → Type 0
 TextCause b text kind = ((kind ≡ kinds.Line) × (begins_at text ≡ true) × ((purpose : Purpose) → Has text purpose → ⊥))
     ⊎ ((kind ≡ kinds.Order) × ((purpose : Purpose) × Has text purpose × (IsDue b purpose → ⊥)))
@@ -117,6 +117,6 @@ TextCause b text kind = ((kind ≡ kinds.Line) × (begins_at text ≡ true) × (
 abbrev pub Cause : TableSoFar → List ℕ → FaultKind → Type 0
 Cause b line kind = TextCause b (text_of line) kind
 
--- why the bytes of a table file are refused, of which the source has `left` left
+-- why the bytes of a table file are rejected, when the source has `left` left of them
 abbrev pub Refuses : List ℕ → Option (List ℕ) → TableFault → Type 0
 Refuses bytes left fault = Files.Refuses TABLE_FORM Says Cause IsUnfinished bytes left fault.line fault.kind

@@ -10,7 +10,7 @@ pub record TableSoFar : Type 0 where
   pub ranges : List ImplicitRange
   pub rows : List Entry
 
--- Nothing stands before the version, and the ranges and rows are those of some table.
+-- Nothing comes before the version, and the ranges and rows are those of some table.
 pub record IsTableSoFar (b : TableSoFar) : Type 0 where
   pub versioned : b.version ≡ None → (b.setting ≡ None) × (b.ranges ≡ []) × (b.rows ≡ [])
   pub ranges : AreImplicitRanges b.ranges

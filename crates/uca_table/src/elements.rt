@@ -16,9 +16,9 @@ use uca_weights::Element;
 ///
 /// # Errors
 ///
-/// At the first element that is none: `Line` where it does not begin as an element does, `Weight` where
-/// it does not go on so, and `Limit` where it is the thirty-third. `Line` where there is no element,
-/// `Memory` where an allocation failed.
+/// At the first text that is not an element: `Line` if it does not begin as an element does, `Weight` if
+/// it does not go on like one. `Limit` at the thirty-third element, `Line` if there is no element, `Memory` if an
+/// allocation failed.
 pub fn read_elements<A: Allocator>(alloc: A, text: &[u8]) -> Result<Vec<Element, A>, FaultKind>
     ensures found { IfOk result (λ elements. AreElements text.now elements.items) }
     ensures fault { IfErr result (λ kind. (kind ≡ FaultKind.Memory) ⊎ ElementsCause text.now kind) }

@@ -43,7 +43,7 @@ fn is_name_byte(byte: u8) -> bool
     matches!(byte, b'0'..=b'9' | b'A'..=b'Z' | b'a'..=b'z' | b'.' | b'-')
 }
 
-/// The weighting that a word after `@variable` names.
+/// The weighting that the word after `@variable` names, or `None` for another word.
 pub fn setting(word: &[u8]) -> Option<Weighting>
     ensures { MatchOption result ((w : _) → word.now ≡ setting_word w → ⊥) (λ w. word.now ≡ setting_word w) }
 {
@@ -61,7 +61,7 @@ pub fn setting(word: &[u8]) -> Option<Weighting>
 ///
 /// # Errors
 ///
-/// `Line` where no `;` or no `..` stands, then `CodePoint` and `Weight`.
+/// `Line` if there is no `;` or no `..`, then `CodePoint` and `Weight`.
 pub fn read_range(text: &[u8]) -> Result<ImplicitRange, FaultKind>
     ensures found { IfOk result (λ range. IsRangeText text.now range) }
     ensures fault { IfErr result (λ kind. RangeTextCause text.now kind) }
@@ -85,7 +85,7 @@ pub fn read_range(text: &[u8]) -> Result<ImplicitRange, FaultKind>
     })
 }
 
-/// Whether a range may stand after these.
+/// Whether a range may come after these.
 pub fn may_follow(earlier: &[ImplicitRange], range: ImplicitRange) -> bool
     ensures { IsTrue result ↔ MayFollow earlier.now range }
 {
@@ -109,7 +109,7 @@ fn is_implicit_range(range: ImplicitRange) -> bool
         && u32::from(range.last) < u32::from(range.first) + CODE_POINTS_BELOW_LEAD
 }
 
-// Whether two ranges are apart and, where they have one lead, all their code points have room below it.
+// Whether two ranges have no code point in common and, if they have one lead, all their code points have room below it.
 fn agree(range: ImplicitRange, other: ImplicitRange) -> bool
     ensures { IsTrue result ↔ Agree range other }
 {

@@ -1,9 +1,9 @@
-//! What follows from the definitions alone.
+//! What is true by the definitions alone.
 
 ghost use Rattle.uca_table.specs.Laws.{CanonicalTextMeansItsTable, CanonicalTextMeansTheSame};
 ghost use Rattle.uca_table.specs.Worked.{WorkedLines};
 
-/// Lines of a table file, worked out over the definition of what a line says.
+/// The law that the definition of what a line says gives the values that were worked out by hand for some lines.
 pub fn worked_lines()
     ensures { WorkedLines }
 {}
@@ -14,8 +14,8 @@ pub fn canonical_text_means_its_table()
     ensures { CanonicalTextMeansItsTable }
 {}
 
-/// The law that the canonical text of the table that a file means is a file that means the same: what is
-/// read can be written, and read again.
+/// The law that the canonical text of the table that a file means is a file that means the same. So what
+/// was read can be written, and read again.
 pub fn canonical_text_means_the_same()
     ensures { CanonicalTextMeansTheSame }
 {}

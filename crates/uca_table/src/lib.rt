@@ -1,6 +1,6 @@
-//! Table files: collation elements in the form of Unicode's `allkeys.txt` (UTS #10, section 9), read line
-//! by line. What they are read into, the check of what was read, the writer of its canonical text, and the
-//! reader of data files are offered here too.
+//! Table files: collation elements in the format of Unicode's `allkeys.txt` (UTS #10, section 9), read line
+//! by line. This crate also has the types of what was read, its check, the writer of its canonical text,
+//! and the reader of data files.
 #![tactic(auto)]
 
 mod canonical;

@@ -75,7 +75,7 @@ impl<A: Allocator + Copy> TableLines<A> {
         }
     }
 
-    /// The table, or None where no version is said.
+    /// The table, or `None` if there was no version.
     pub fn into_table(self) -> Option<Table<A>>
         ensures { MatchOption result (IsUnfinished self) (λ table. Gives self table) }
     {
@@ -242,7 +242,7 @@ impl<A: Allocator + Copy> TableLines<A> {
         let text = line_text(line);
         match text.first() {
             None => {
-                // Looked at, so that the proof knows what always holds of the rows.
+                // Looked at, so that the proof knows what is always true of the rows.
                 let _ = &self.rows;
                 Ok(())
             }
@@ -276,7 +276,7 @@ impl<A: Allocator + Copy> LineParser for TableLines<A> {
     }
 }
 
-// What follows the first word of a text, blanks between them aside.
+// What follows the first word of a text, without the blanks between them.
 fn argument(text: &[u8]) -> &[u8]
     ensures { result.now ≡ argument_of text.now }
 {

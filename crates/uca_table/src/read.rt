@@ -12,33 +12,33 @@ use uca_lines::files::read_lines;
 use uca_values::{FaultKind, Table, TableFault};
 use uca_weights::Source;
 
-/// Reads a table file: collation elements in the form of Unicode's own `allkeys.txt` (UTS #10, section
+/// Reads a table file: collation elements in the format of Unicode's `allkeys.txt` (UTS #10, section
 /// 9.1).
 ///
 /// One line `@version V` comes first, then at most one line `@variable non-ignorable` or
 /// `@variable shifted`, then lines `@implicitweights FIRST..LAST; LEAD`, then rows
-/// `CP CP ; [.W.W.W][*W.W.W]`. Empty lines may stand anywhere, and `#` begins a comment. All numbers are
+/// `CP CP ; [.W.W.W][*W.W.W]`. Empty lines may be anywhere, and `#` begins a comment. All numbers are
 /// hexadecimal with upper-case digits.
 ///
 /// # Errors
 ///
-/// The first line that is refused, and why: of several causes in a line the first in this order.
+/// The first line that is rejected, and why. If a line has several causes, the first in this order is returned.
 ///
 /// - `Limit`: line 1,000,001, or a line of more than 4,096 bytes without its LF.
-/// - In a line that begins with `@`: `Line` for another first word; `Order` where the line is not due;
-///   `Line` for another version or setting. In a range `Line` where no `;` or no `..` stands, then
-///   `CodePoint`, then `Weight` for a lead that is not four digits, then `Range` where the range is empty,
-///   has a lead outside FB00 to FB3F, overlaps an earlier one, or lies too far from those with its lead,
-///   then `Limit` for the 257th such line.
-/// - In a row: `Order` where no version stands before it. Word by word `CodePoint`, and `Limit` for the
-///   seventeenth code point; `Line` where there is no word, or no `;` after them. Element by element
-///   `Line` where it does not begin as an element does, `Weight` where it does not go on so, and `Limit`
-///   for the 33rd; `Line` where there is none. Then `DuplicateKey`, and `Limit` for row 200,001.
+/// - In a line that begins with `@`: `Line` for another first word; `Order` if the line may not come here; `Line` for
+///   another version or setting.
+/// - In a range: `Line` if there is no `;` or no `..`, then `CodePoint`, then `Weight` for a lead that is not four
+///   digits. Then `Range` if the range is empty, has a lead outside FB00 to FB3F, overlaps an earlier one, or is too
+///   far from those with its lead. Then `Limit` for the 257th such line.
+/// - In a row: `Order` if no version comes before it. For each word `CodePoint`, and `Limit` for the
+///   seventeenth; `Line` if there is no word, or no `;` after the words. For each element `Line` if it does not begin
+///   as an element does, `Weight` if it does not go on like one, and `Limit` for the 33rd. `Line` if there is no
+///   element. Then `DuplicateKey`, and `Limit` for row 200,001.
 /// - `Line`: no LF ends the line.
 /// - `Order`, with the number of lines plus one: the file ends without a version.
 ///
-/// `Read` where the source failed, and `Memory` where an allocation failed, come with the line that was
-/// being read.
+/// `Read` (the source failed) and `Memory` (an allocation failed) come with the line that was being
+/// read.
 pub fn read_table<A: Allocator + Copy, R: Read>(
     alloc: A,
     source: &mut Source<R>,

@@ -15,7 +15,7 @@ const MOST_CODE_POINTS: usize = 16;
 ///
 /// # Errors
 ///
-/// Those of the key, then `Line` where no `;` stands, then those of the elements.
+/// Those of the key, then `Line` if there is no `;`, then those of the elements.
 pub fn read_row<A: Allocator + Copy>(alloc: A, text: &[u8]) -> Result<Row<A>, FaultKind>
     ensures found { IfOk result (λ row. IsRow text.now row) }
     ensures fault { IfErr result (λ kind. (kind ≡ FaultKind.Memory) ⊎ RowTextCause text.now kind) }
@@ -33,8 +33,8 @@ pub fn read_row<A: Allocator + Copy>(alloc: A, text: &[u8]) -> Result<Row<A>, Fa
 ///
 /// # Errors
 ///
-/// At the first word that is refused: `CodePoint` where it is no code point, and `Limit` where it is the
-/// seventeenth. `Line` where there is no word, `Memory` where an allocation failed.
+/// At the first word that is rejected: `CodePoint` if it is not a code point, and `Limit` if it is the
+/// seventeenth. `Line` if there is no word, `Memory` if an allocation failed.
 pub fn read_key<A: Allocator>(alloc: A, text: &[u8]) -> Result<Vec<char, A>, FaultKind>
     ensures found { IfOk result (λ key. IsKey text.now key.items) }
     ensures fault { IfErr result (λ kind. (kind ≡ FaultKind.Memory) ⊎ KeyCause text.now kind) }

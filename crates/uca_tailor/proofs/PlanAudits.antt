@@ -40,7 +40,7 @@ module _ (base : TableContent) (points : Properties) (relations : List Relation)
 
   module _ (well : IsWellFormed points.class base.rows) (result : Result (TableContent × CertificateContent) TailorFault)
       (made : IfOk result (λ answer. IsMade base points relations answer.0 answer.1)) where
-    -- so it is where a plan is answered
+    -- so it is when a plan is returned
     pub answer_accepted : ((table : TableContent) (certificate : CertificateContent) → IsPlanOf base points relations table certificate →
         IsAudited table certificate) → IfOk result (λ answer. IsAccepted (tailoring_of base points relations answer.0 answer.1))
     answer_accepted audited = go result made

@@ -23,13 +23,13 @@ use Rattle.uca_tailor.specs.PlanParts.{IsNotMade}
 
 -- ---- Kinds
 
--- the kinds of a fault of a plan's definition
+-- the kinds of an error of a plan's definition
 abbrev IsPlanKind : TailorKind → Type 0
 IsPlanKind kinds.BaseIllFormed = ⊥
 IsPlanKind kinds.Memory = ⊥
 IsPlanKind _ = Unit {0}
 
--- a relation is refused for one of these
+-- a relation is rejected for one of these
 relation_kind : (basis : Basis) (so_far : Drafting) (n : ℕ) (r : Relation) (kind : TailorKind) → with_relation basis so_far n r ≡ Err kind → IsPlanKind kind
 relation_kind basis so_far n r kind refused = go (drafted basis so_far (New n) r) refused
   where
@@ -66,7 +66,7 @@ relations_kind basis n (r ∷ relations) so_far fault refused =
         subst (λ f. IsPlanKind f.kind) same (relation_kind basis so_far n r kind e)
     go (Ok next) e refused later = later next refused
 
--- a fault of a plan's definition is of one of these kinds
+-- an error of a plan's definition is of one of these kinds
 planned_kind : (basis : Basis) (relations : List Relation) (fault : TailorFault) → planned basis relations ≡ Err fault → IsPlanKind fault.kind
 planned_kind basis relations fault refused = go (with_relations basis 0 relations (begun basis)) refl refused
   where
@@ -90,7 +90,7 @@ planned_kind basis relations fault refused = go (with_relations basis 0 relation
         rooms (level_has_room One plans.primary.members) (level_has_room Two plans.secondary.members) (level_has_room Three plans.tertiary.members)
         (plan_of drafting.rows plans) refused
 
--- such a fault says that the definition refuses the rules
+-- such an error says that the definition rejects the rules
 cause_by_kind : (base : TableContent) (properties : Properties) (relations : List Relation) (fault : TailorFault) (kind : TailorKind)
     → IsPlanKind kind → IsRefusedBy base properties relations fault → CauseOf base properties relations fault kind
 cause_by_kind base properties relations fault kinds.BaseIllFormed none refused = absurd none
@@ -101,7 +101,7 @@ cause_by_kind base properties relations fault kinds.Limit is refused = refused
 cause_by_kind base properties relations fault kinds.ImplicitVariable is refused = refused
 cause_by_kind base properties relations fault kinds.Memory none refused = absurd none
 
--- ---- Refusals
+-- ---- Rejections
 
 -- where there is no plan
 pub refused_plan : (base : TableContent) (properties : Properties) (relations : List Relation) (fault : TailorFault)
@@ -114,7 +114,7 @@ refused_plan base properties relations fault well (inr memory) =
 
 -- ---- The base
 
--- what a check answers decides whether a table is well-formed
+-- what a check returns decides whether a table is well-formed
 pub check_decides : {X : Type 0} (class : ℕ → ℕ) (rows : List Entry) (answer : Result X IllFormed) → OnOk answer (IsWellFormed class rows)
     → IfErr answer (λ fault. IsFirstFailure class rows fault.wf fault.row) → IsTrue (is_ok answer) ↔ IsWellFormed class rows
 check_decides class rows (Ok done) well ill = (λ is. well, λ is. refl)

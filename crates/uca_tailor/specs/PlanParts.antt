@@ -12,7 +12,7 @@ use Rattle.uca_plans.specs.Tailors.{basis_of, plan_in, table_of, certificate_of,
 abbrev pub certificate_by : LevelPlans → CertificateContent
 certificate_by numbers = certificate_of (plan_of [] numbers)
 
--- whatever numbers make the drafts a plan, its rows are those of a table, and its numbers those of a certificate
+-- If some numbers make the drafts a plan, its rows are those of a table, and its numbers those of a certificate.
 abbrev pub AreSound : TableContent → Drafting → Type 0
 AreSound base drafting = (numbers : LevelPlans) →
     plan_drafted (elements_of base.rows) (Ok drafting) ≡ Ok (plan_of drafting.rows numbers) →

@@ -95,7 +95,7 @@ impl<A: Allocator> Model for Numbers<A> {
     ghost view = { λ n. record { primary = n.primary; secondary = n.secondary; tertiary = n.tertiary } };
 }
 
-/// The numbers of the weights of all levels. Where a level has no room, the fault names the lowest such level.
+/// The numbers of the weights of all levels. If a level has no room, the error names the lowest such level.
 fn number_levels<A: Allocator + Copy, T: Allocator>(
     alloc: A,
     base: &Table<T>,
@@ -157,7 +157,7 @@ fn number_table<A: Allocator + Copy, T: Allocator>(
     Ok(Table { header, rows })
 }
 
-/// The header in memory of its own.
+/// A copy of the header.
 fn copy_header<A: Allocator + Copy, T: Allocator>(
     alloc: A,
     header: &Header<T>,
@@ -231,7 +231,7 @@ fn number_element<A: Allocator>(numbers: &Numbers<A>, element: DraftElement) -> 
     }
 }
 
-/// What becomes of the base's weights.
+/// The images of the base's weights.
 fn certificate_by<A: Allocator + Copy>(
     alloc: A,
     numbers: &Numbers<A>,

@@ -19,15 +19,15 @@ use uca_rules::Rules;
 use uca_values::{Data, Table};
 
 /// Makes a tailored table from a base and rules, and its certificate. The table has the base's header, then its rows in their
-/// order, then those of the targets that are no base keys, in the order of the rules. Weights of the base move only where a
-/// new weight needs their place. Both take their memory from `alloc`; the base, the data and the rules may have theirs from
-/// another allocator.
+/// order, then those of the targets that are not base keys, in the order of the rules. Weights of the base move only
+/// where a new weight needs their position. Both take their memory from `alloc`; the base, the data and the rules may
+/// have theirs from another allocator.
 ///
 /// # Errors
 ///
 /// `BaseIllFormed` comes first. Then, relation by relation, `Anchor`, `NeedsPrefix`, `Limit` and `ImplicitVariable`; then
-/// `NoRoom` of the lowest level that has none. `Memory` may come at any point. Each of the others comes exactly where its cause
-/// stands first.
+/// `NoRoom` for the lowest level that has none. `Memory` may come at any point. Each of the others comes exactly if its
+/// cause comes first.
 pub fn tailor<A: Allocator + Copy, T: Allocator>(
     alloc: A,
     base: &Table<T>,

@@ -72,7 +72,7 @@ compared_itself es =
 
 -- ---- One level
 
--- elements one after the other
+-- elements in turn
 level_weights-append : (level : Level) (es fs : List Element) → level_weights level (es ++ fs) ≡ level_weights level es ++ level_weights level fs
 level_weights-append level es fs =
     ap (filter (λ w. not (nat_eq w 0))) (map-append (weight level) es fs)
@@ -136,7 +136,7 @@ decides : (is_before : Bool) (level : Level) (later : Comparison) → decided (s
 decides false level later = refl
 decides true level later = refl
 
--- the anchor's side stands where its relation says
+-- the anchor is on the side that its relation says
 pub holds_placed : (is_before : Bool) (level : Level) (before : List Element) (last : Element) (trailing expansion : List Element) (w : ℕ) →
     AllByRecursion (IsIgnorableTo level) trailing → weight level last ≢ 0 → w ≢ 0 → IsOnSide is_before (weight level last) w →
     compared NonIgnorable ((before ++ last ∷ trailing) ++ expansion) (placed level before last expansion w) ≡ stands is_before (Some level)

@@ -4,7 +4,7 @@ use Rattle.std.proofs.Common.{ap₂}
 use Rattle.uca_weights.specs.declared.Element.{Element}
 use Rattle.uca_tailorings.specs.Images.{Maps, IsImage, AreImages, KeepAllWeights}
 
--- lists of images stay so where they are put one after the other
+-- lists of images, put together, are lists of images
 pub images-append : (maps : Maps) (es fs gs hs : List Element) → AreImages maps es fs → AreImages maps gs hs → AreImages maps (es ++ gs) (fs ++ hs)
 images-append maps [] [] gs hs first second = second
 images-append maps [] (f ∷ fs) gs hs first second = absurd first

@@ -1,4 +1,4 @@
--- Where each weight of the tailored table comes from, and why each target stands nearest its anchor.
+-- Where each weight of the tailored table comes from, and why each target is next to its anchor.
 use Rattle.std.proofs.Common.{◌≡◌, ◌⊎◌, inl, inr, ⊎_elim, ℕ, ◌<◌, ◌≤◌, List, [], ◌∷◌, ◌++◌, map, Option, Some, None, Contains}
 use Rattle.std.proofs.Common.{refl, sym, ap, subst, ◌∙◌, arith, nat_eq}
 use Rattle.std.specs.List.{AllByRecursion}
@@ -165,7 +165,7 @@ made_by tailoring level before r after whole (Some strength) placement anchor ex
 
 -- ---- All weights of the tailored table
 
--- what holds of a function's values at each member holds of each member of the mapped list
+-- what is true of a function's values at each member is true of each member of the mapped list
 each_mapped : {X Y : Type 0} (P : Y → Type 0) (f : X → Y) (xs : List X) → AllByRecursion (λ x. P (f x)) xs → AllByRecursion P (map f xs)
 each_mapped P f [] all = tt
 each_mapped P f (x ∷ xs) all = (all.0, each_mapped P f xs all.1)
@@ -199,7 +199,7 @@ source tailoring is accepted level w weight_there =
         All-contains (HasSource tailoring level) (map (weight level) es) v
         (All-from_recursion (HasSource tailoring level) (map (weight level) es) (each_mapped (HasSource tailoring level) (weight level) es each)) there
 
--- ---- Targets stand nearest
+-- ---- Targets are next to their anchors
 
 -- no high weight lies between two low ones
 pub not_high : (level : Level) (old new w : ℕ) → IsLow level old → IsLow level new → IsHigh level w → ¬ (IsBetween old new w)
@@ -244,14 +244,14 @@ nearest_at tailoring is accepted before r after whole level old new at =
           (source tailoring is accepted level w there);
     }
 
--- so each target stands nearest its anchor, where its relation puts a new weight
+-- so each target is next to its anchor, if its relation puts a new weight
 nearest_by : (tailoring : Tailoring) → IsTailoring tailoring → IsAccepted tailoring → (before : List Relation) (r : Relation) (after : List Relation) →
     tailoring.relations ≡ before ++ r ∷ after → (level : Option Level) → IsPlacedBy tailoring r level → NearestAt tailoring before r after level
 nearest_by tailoring is accepted before r after whole None placement = tt
 nearest_by tailoring is accepted before r after whole (Some level) placement =
     (placement.0, placement.1, placement.2, nearest_at tailoring is accepted before r after whole level placement.0 placement.1 placement.2)
 
--- the target of each relation of an accepted tailoring stands nearest its anchor
+-- the target of each relation of an accepted tailoring is next to its anchor
 pub all_nearest : (tailoring : Tailoring) → IsTailoring tailoring → IsAccepted tailoring → AllRelations (StandsNearest tailoring) tailoring.relations
 all_nearest tailoring is accepted before r after whole =
     nearest_by tailoring is accepted before r after whole (level_of r.strength)

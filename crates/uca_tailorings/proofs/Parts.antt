@@ -1,9 +1,9 @@
--- What holds of each member of a list, by the parts of the list before and after it.
+-- What is true of each member of a list, by the parts of the list before and after it.
 use Rattle.std.proofs.Common.{◌≡◌, List, [], ◌∷◌, ◌++◌, refl, ap, subst}
 use Rattle.std.specs.List.{AllByRecursion}
 use Rattle.uca_weights.proofs.Lists.{each_parts}
 
--- what holds of a member at each split holds of each member
+-- what is true of a member at each split is true of each member
 pub each_by_parts : {X : Type 0} (P : X → Type 0) (xs : List X) → ((before : List X) (x : X) (after : List X) → xs ≡ before ++ x ∷ after → P x) →
     AllByRecursion P xs
 each_by_parts P [] holds = tt
@@ -12,7 +12,7 @@ each_by_parts P (x ∷ xs) holds = (
   each_by_parts P xs (λ before y after whole. holds (x ∷ before) y after (ap (λ ys. x ∷ ys) whole)),
 )
 
--- what holds of each member holds of the member at a split
+-- what is true of each member is true of the member at a split
 pub of_part : {X : Type 0} (P : X → Type 0) (xs before : List X) (x : X) (after : List X) → AllByRecursion P xs → xs ≡ before ++ x ∷ after → P x
 of_part P xs before x after all whole =
     let parts = each_parts P before (x ∷ after) (subst (AllByRecursion P) whole all) in parts.1.0

@@ -1,4 +1,4 @@
--- What holds of the elements of each row and of the implicit weights that a text may read as holds of all its elements.
+-- What is true of the elements of each row and of the implicit weights that a text may read as is true of all its elements.
 use Rattle.std.proofs.Common.{◌≡◌, ℕ, List, [], ◌∷◌, length, Option, Some, None, refl, ap, arith}
 use Rattle.std.specs.List.{AllByRecursion}
 use Rattle.uca_weights.specs.declared.Element.{Element}
@@ -28,7 +28,8 @@ module _ (P : Element → Type 0) (implicit : ℕ → List Element) (rows : Rows
   each_row None holds = tt
   each_row (Some elements) holds = holds elements refl
 
-  -- what holds of each row that occurs in order in a text, and of the implicit weights of its code points, holds of its elements
+  -- What is true of each row that occurs in order in a text, and of the implicit weights of its code points, is true of
+  -- its elements.
   pub read_each : (t : Text) → ((key : List ℕ) (row : List Element) → OccursInOrder key (code_points t) → rows key ≡ Some row → AllByRecursion P row) →
       AllByRecursion (λ c. AllByRecursion P (implicit c)) (code_points t) → AllByRecursion P (read implicit rows t)
   read_each t at_rows at_points =

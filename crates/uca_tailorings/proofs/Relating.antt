@@ -128,7 +128,7 @@ one_new tailoring r level old new was now at also =
     let changed : reweighted level new at.last ≡ reweighted level now at.last = cc in
     sym (weight_of_new level new at.last) ∙ ap (weight level) changed ∙ weight_of_new level now at.last
 
--- a relation puts its new weight in the place of one old one
+-- a relation puts its new weight in place of one old one
 pub one_old : (tailoring : Tailoring) (r : Relation) (level : Level) (old new was now : ℕ) → IsPlacedAt tailoring r level old new →
     IsPlacedAt tailoring r level was now → old ≡ was
 one_old tailoring r level old new was now at also =

@@ -13,7 +13,7 @@ use Rattle.uca_tailorings.specs.Images.{AreImages}
 use Rattle.uca_tailorings.specs.Tailorings.{Tailoring, IsAccepted, IsExpectedRow, IsPresentRow, IsUnchangedRow}
 use Rattle.uca_tailorings.specs.declared.conditions.Condition.TheVariants.{RowChanged, RowMissing, RowExtra}
 
--- what holds of each row holds of the one that is found at a key
+-- what is true of each row is true of the one that is found at a key
 pub at_row : (P : Entry → Type 0) (table : List Entry) (key : List ℕ) (row : List Element) → AllByRecursion P table →
     rows_of table key ≡ Some row → P (record { key = key; elements = row })
 at_row P [] key row all found = cc

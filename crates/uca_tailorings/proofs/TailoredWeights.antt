@@ -1,5 +1,5 @@
--- What holds of the elements that the base and implicit weights give, and of a target's where it holds of its anchor's and expansion's,
--- holds of each element of each tailored row.
+-- Take a property of the elements that the base and implicit weights give. If a target's elements have it whenever its
+-- anchor's and expansion's have it, then each element of each tailored row has it.
 use Rattle.std.proofs.Common.{◌≡◌, ◌⊎◌, inl, inr, ⊎_elim, ℕ, ◌<◌, List, [], ◌∷◌, ◌++◌, Option, Some, None, IfSome, IsSomeAnd, refl, sym, subst, ◌∙◌}
 use Rattle.std.proofs.Common.{append_assoc, append-nil}
 use Rattle.std.specs.List.{AllByRecursion}
@@ -47,7 +47,7 @@ target_is_key tailoring (r ∷ relations) text present target =
 
 -- ---- Induction over the relations
 
--- it holds of the target's elements where it holds of those of anchor and expansion
+-- it is true of the target's elements where it is true of those of anchor and expansion
 abbrev pub IsMade : (Element → Type 0) → Tailoring → Relation → Type 0
 IsMade P tailoring r = AllByRecursion P (anchor_elements tailoring r) → AllByRecursion P (expansion_elements tailoring r) →
     (row : List Element) → IsTargetRow tailoring r row → AllByRecursion P row
@@ -57,11 +57,11 @@ module _ (P : Element → Type 0) (tailoring : Tailoring) (is : IsTailoring tail
     (at_others : (key : List ℕ) (row : List Element) → ¬ (IsTarget tailoring.relations key) → rows_of tailoring.tailored.rows key ≡ Some row →
     AllByRecursion P row)
     (made : (before : List Relation) (r : Relation) (after : List Relation) → tailoring.relations ≡ before ++ r ∷ after → IsMade P tailoring r) where
-  -- it holds of the rows of these relations' targets
+  -- it is true of the rows of these relations' targets
   abbrev AreKnown : List Relation → Type 0
   AreKnown relations = (key : List ℕ) (row : List Element) → IsTarget relations key → rows_of tailoring.tailored.rows key ≡ Some row → AllByRecursion P row
 
-  -- a text that holds no later target, or is an earlier one
+  -- a text that contains no later target, or is an earlier one
   each_of_text : (earlier later : List Relation) → tailoring.relations ≡ earlier ++ later → AreKnown earlier → (text : NfdText) → IsRuleText text →
       (¬ (IsTarget earlier text.points) → IsUntouched later text.points) → AllByRecursion P (elements_of (tailored_reading tailoring) text)
   each_of_text earlier later whole known text rule_text untouched =
@@ -89,7 +89,7 @@ module _ (P : Element → Type 0) (tailoring : Tailoring) (is : IsTailoring tail
       (subst (AllByRecursion (λ c. AllByRecursion P (of_point c))) (sym points) implicit_hold))
       (target_or_not earlier text.points)
 
-  -- an expansion, if there is one, that holds no later target or is an earlier one
+  -- an expansion, if there is one, that contains no later target or is an earlier one
   each_of_expansion : (earlier later : List Relation) → tailoring.relations ≡ earlier ++ later → AreKnown earlier → (expansion : Option NfdText) →
       IfSome expansion IsRuleText → ((text : List ℕ) → IsSomeAnd expansion (λ e. text ≡ e.points) → ¬ (IsTarget earlier text) → IsUntouched later text) →
       AllByRecursion P (elements_of_expansion (tailored_reading tailoring) expansion)
@@ -119,7 +119,7 @@ module _ (P : Element → Type 0) (tailoring : Tailoring) (is : IsTailoring tail
   known_all earlier (r ∷ later) whole known =
       known_all (earlier ++ r ∷ []) later (whole ∙ sym (append_assoc earlier (r ∷ []) later)) (known_more earlier r later whole known)
 
-  -- it holds of the elements of each tailored row
+  -- it is true of the elements of each tailored row
   pub each_of_rows : (key : List ℕ) (row : List Element) → rows_of tailoring.tailored.rows key ≡ Some row → AllByRecursion P row
   each_of_rows key row found =
       ⊎_elim

@@ -87,7 +87,7 @@ images_read tailoring is accepted text normal untouched =
 
 -- ---- Comparison
 
--- where the lists of each level have the order that they had, so have the texts, whatever stands behind the levels
+-- if the lists of each level have the order that they had, so do the texts, with anything after the levels
 levels_alike : (n from : ℕ) (ls rs xs ys : List ElementWeights) (left right : List (List ℕ)) →
     ((level : ℕ) → lexicographic (level_list level xs) (level_list level ys) ≡ lexicographic (level_list level ls) (level_list level rs)) →
     compare_from from (level_lists_from from n xs ++ left) (level_lists_from from n ys ++ right)

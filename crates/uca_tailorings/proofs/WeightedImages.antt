@@ -25,7 +25,7 @@ level_images maps (suc (suc (suc (suc level)))) = maps.primary
 abbrev pub AreSentWeights : Maps → Weights → Weights → Type 0
 AreSentWeights maps ws xs = (level : ℕ) → Sends (level_images maps level) (weight_at level ws) (weight_at level xs)
 
--- the same of the weights of each element
+-- the same for the weights of each element
 abbrev pub AreAllSent : Maps → List Weights → List Weights → Type 0
 AreAllSent maps [] [] = ⊤
 AreAllSent maps [] (x ∷ xs) = ⊥

@@ -1,4 +1,4 @@
--- The worked tailoring is one, is accepted, and is refused where the row of `x` is another.
+-- The worked tailoring is one, is accepted, and is rejected if the row of `x` is another.
 use Rattle.std.proofs.Common.{◌≡◌, ◌⊎◌, ℕ, ◌<◌, List, [], ◌∷◌, ◌++◌, true, false, Some, inl, inr, ⊎_elim}
 use Rattle.std.proofs.Common.{refl, sym, ap, subst, subst₂, ◌∙◌, arith}
 use Rattle.std.specs.List.{AllByRecursion}
@@ -31,7 +31,7 @@ use Rattle.uca_tailorings.proofs.WorkedSteps.{header, letter_text, image_found, 
 base_letters : AllByRecursion IsLetterRow a_and_b
 base_letters = (letter_row 0x61 0x1C47 0x20 2 refl refl, (letter_row 0x62 0x1C60 0x20 2 refl refl, tt))
 
--- the element directly behind the anchor
+-- the element directly after the anchor
 abbrev accepted_element : Element
 accepted_element = plain 0x1C48 0x20 2
 
@@ -64,7 +64,7 @@ rules =
           (anchor_untouched text (subst (λ (s : Relation). IsUsedBy s text) (sym parts.1) used));
     }
 
--- tables, rules and maps keep what holds of every tailoring
+-- tables, rules and maps keep what is true of every tailoring
 is_tailoring : IsTailoring (with_x (plain 0x1C48 0x20 2))
 is_tailoring =
     record {
@@ -94,7 +94,7 @@ a_is_anchor =
       low = omega arith;
     }
 
--- a greater one puts the target behind it
+-- a greater one puts the target after it
 x_is_placed : (new : ℕ) → 0x1C47 < new → IsPlacedAt (with_x (plain new 0x20 2)) x_behind_a One 0x1C47 new
 x_is_placed new above =
     record {

@@ -159,7 +159,7 @@ rules =
           (subst (λ all. IsUntouched all text) split (of_part UsedTextsStay relations before r after all_untouched split text used))).1;
     }
 
--- tables, rules and maps keep what holds of every tailoring
+-- tables, rules and maps keep what is true of every tailoring
 pub is_tailoring : IsTailoring with_moved_b
 is_tailoring =
     record {
@@ -208,7 +208,7 @@ one_anchor_element Two p s t some more low =
 one_anchor_element Three p s t some more low =
     record { whole = refl; ignorable = tt; not_ignorable = λ none. some none.0; alone = λ continues. more continues.1; low = low }
 
--- `x` behind `a`, `z` behind `A`, and `y` before `c`
+-- `x` after `a`, `z` after `A`, and `y` before `c`
 abbrev x_place : Place
 x_place = record { level = One; old = 0x1C47; new = 0x1C48 }
 

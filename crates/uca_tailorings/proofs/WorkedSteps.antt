@@ -72,7 +72,7 @@ at_split P front (x ∷ xs) each (b ∷ before) y after split =
     subst (λ whole. P whole y after) (append_assoc front (b ∷ []) before)
     (at_split P (front ++ b ∷ []) xs (subst (λ z. AtEachPart P (front ++ z ∷ []) xs) first each.1) before y after rest)
 
--- the same of all members
+-- the same for all members
 pub at_parts : {A : Type 0} (P : List A → A → List A → Type 0) (xs : List A) → AtEachPart P [] xs → (before : List A) (y : A) (after : List A) →
     xs ≡ before ++ y ∷ after → P before y after
 at_parts P xs each before y after split = at_split P [] xs each before y after split
@@ -98,7 +98,7 @@ module _ (tailoring : Tailoring) where
   HavePlaces (r ∷ relations) [] = ⊥
   HavePlaces (r ∷ relations) (p ∷ places) = HasPlace r p × HavePlaces relations places
 
-  -- no other place has the relation
+  -- no other position has the relation
   pub one_place : (Q : Level → ℕ → ℕ → Type 0) (r : Relation) (p : Place) → IsPlacedAt tailoring r p.level p.old p.new → Q p.level p.old p.new →
       (level : Level) (old new : ℕ) → IsPlacedAt tailoring r level old new → Q level old new
   one_place Q r p at holds level old new other =
@@ -115,7 +115,7 @@ module _ (tailoring : Tailoring) where
           let now : p.new ≡ new = one_new tailoring r p.level p.old p.new old new at here in
           subst₂ (Q level) was now (subst (λ l. Q l p.old p.new) same holds)
 
-  -- one of the places has the new weight
+  -- one of the positions has the new weight
   abbrev pub IsNewOf : List (Option Place) → Level → ℕ → Type 0
   IsNewOf [] level w = ⊥
   IsNewOf (None ∷ places) level w = IsNewOf places level w
@@ -136,7 +136,7 @@ module _ (tailoring : Tailoring) where
 
   -- ---- Known weights
 
-  -- what holds of each image of a weight of a base row holds of all
+  -- what is true of each image of a weight of a base row is true of all
   pub image_is : (P : ℕ → Type 0) (level : Level) →
       AllByRecursion (λ (r : Entry). AllByRecursion (λ e. IfSome (at_level level tailoring.maps (weight level e)) P) r.elements) tailoring.base.rows →
       (w : ℕ) → IsImageOfBase tailoring level w → P w
@@ -146,7 +146,7 @@ module _ (tailoring : Tailoring) where
       (each_contained (λ (r : Entry). AllByRecursion (λ e. IfSome (at_level level tailoring.maps (weight level e)) P) r.elements) tailoring.base.rows image.row
       each image.is_row) image.is_element)
 
-  -- and of all known weights, where it holds of that of implicit weights
+  -- and of all known weights, where it is true of that of implicit weights
   pub known_is : (P : ℕ → Type 0) (level : Level) →
       AllByRecursion (λ (r : Entry). AllByRecursion (λ e. IfSome (at_level level tailoring.maps (weight level e)) P) r.elements) tailoring.base.rows →
       ((w : ℕ) → IsPairWeight level w → P w) → (w : ℕ) → IsKnownWeight tailoring level w → P w
@@ -158,7 +158,7 @@ module _ (tailoring : Tailoring) where
   abbrev pub IsFreshAndNearest : List Relation → Relation → List Relation → Type 0
   IsFreshAndNearest before r after = IsFresh tailoring before r after × IsNearest tailoring before r after
 
-  -- by its place, where no weight lies between the two
+  -- by its position, where no weight lies between the two
   pub at_place : (before : List Relation) (r : Relation) (after : List Relation) (earlier : List (Option Place)) (p : Place)
       (later : List (Option Place)) → HavePlaces before earlier → IsPlacedAt tailoring r p.level p.old p.new → HavePlaces after later →
       ¬ (IsKnownWeight tailoring p.level p.new) → ¬ (IsNewOf earlier p.level p.new) → ¬ (IsNewOf later p.level p.new) → IsLow p.level p.new →

@@ -137,11 +137,11 @@ wf2_at rows r h = each_weaker IsFull _ (λ e full. (λ second. absurd (full.prim
 wf3_at : (r : Entry) → IsLetterRow r → MeetsWF3 r
 wf3_at r h = each_weaker IsFull (λ e. IsVariable e → e.primary ≢ 0) (λ e full variable. full.primary) r.elements h.full
 
--- and none that stands between variable ones, since there are no variable ones
+-- and no element is between variable ones, since there are no variable ones
 wf4_at : (rows : List Entry) → AllByRecursion IsLetterRow rows → (r : Entry) → MeetsWF4 rows r
 wf4_at rows letters r = each_any (IsVariableBetween (elements_of rows)) between r.elements
   where
-    -- no two variable elements stand around an element
+    -- no element is between two variable elements
     between : (e : Element) → IsVariableBetween (elements_of rows) e
     between e =
         each_weaker IsFull _

@@ -1,4 +1,4 @@
--- A tailoring, as the values that are handed in.
+-- A tailoring, as the values that are given.
 use Rattle.std.specs.Prelude.{List}
 use Rattle.uca_weights.specs.declared.Level.TheVariants.{One, Two, Three}
 use Rattle.uca_weights.specs.Runs.{weight_image}

@@ -13,19 +13,20 @@ use Rattle.uca_tailorings.specs.Images.{KeepAllWeights}
 use Rattle.uca_tailorings.specs.Tailorings.{Tailoring, IsTailoring, base_reading, tailored_reading, IsAccepted}
 use Rattle.uca_tailorings.specs.Meaning.{IsFaithful}
 
--- A yes holds for all texts: where a tailoring is accepted, the tailored table is well-formed, each relation holds with its target
--- nearest its anchor, and texts that no target touches compare as before.
+-- Acceptance is about all texts. If a tailoring is accepted, the tailored table is well-formed, each relation holds
+-- with its target next to its anchor, and texts that no target touches compare as before.
 abbrev pub AcceptedTailoringsAreFaithful : Type 0
 AcceptedTailoringsAreFaithful = (tailoring : Tailoring) → IsTailoring tailoring → IsAccepted tailoring → IsFaithful tailoring
 
--- texts are read so, whatever looks the rows up
+-- texts are read so by any lookup of the rows
 pub record ReadsAs (given reading : Collation) : Type 0 where
   pub rows : (key : List ℕ) → given.rows key ≡ reading.rows key
   pub ranges : given.ranges ≡ reading.ranges
   pub properties : given.properties ≡ reading.properties
 
--- The same for a caller who reads texts by lookups of his own, `old` of the base and `new` of the tailored table: two texts that no
--- target touches compare as before, and so do the bytes of their keys, by order and level; where no weight is changed a text keeps its key.
+-- The same for a caller who reads texts by other lookups, `old` of the base and `new` of the tailored table. Two texts
+-- that no target touches compare as before, and so do the bytes of their keys, by order and level. If no weight is
+-- changed, a text keeps its key.
 pub record UntouchedTextsStay (tailoring : Tailoring) (old new : Collation) : Type 0 where
   pub compared : (depth : Depth) (weighting : Weighting) (left right : NfdText) → IsNormal left → IsNormal right →
       IsUntouched tailoring.relations left.points → IsUntouched tailoring.relations right.points →

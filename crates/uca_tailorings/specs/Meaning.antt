@@ -28,8 +28,8 @@ stands before None = record { order = Equal; level = 0 }
 stands false (Some level) = record { order = Less; level = level_number level }
 stands true (Some level) = record { order = Greater; level = level_number level }
 
--- Under the tailored table, anchor and expansion differ from the target at the level of the relation's strength, and stand before
--- it, for a before-relation after it. At identical strength they differ at no level.
+-- Under the tailored table, anchor and expansion differ from the target at the level of the relation's strength. They
+-- come before it, or after it in a before-relation. At identical strength they differ at no level.
 abbrev pub Holds : Tailoring → Relation → Type 0
 Holds tailoring r = compared NonIgnorable (anchor_elements tailoring r ++ expansion_elements tailoring r) (elements_of (tailored_reading tailoring) r.target) ≡ stands r.before (level_of r.strength)
 
@@ -54,7 +54,7 @@ pub record StandsNearestAt (tailoring : Tailoring) (before after : List Relation
   pub fresh : IsFreshWeight tailoring before after level new
   pub between : (w : ℕ) → IsTailoredWeight tailoring level w → IsBetween old new w → IsNewWeight tailoring level w after
 
--- the target of a relation of strength 1 to 3 stands nearest its anchor
+-- the target of a relation of strength 1 to 3 is next to its anchor
 abbrev pub NearestAt : Tailoring → List Relation → Relation → List Relation → Option Level → Type 0
 NearestAt tailoring before r after None = ⊤
 NearestAt tailoring before r after (Some level) = (old : ℕ) × (new : ℕ) × IsPlacedAt tailoring r level old new × StandsNearestAt tailoring before after level old new
@@ -80,7 +80,7 @@ KeepsKey tailoring depth weighting text =
 pub record IsFaithful (tailoring : Tailoring) : Type 0 where
   -- the tailored table is well-formed
   pub well_formed : IsWellFormed tailoring.properties.class tailoring.tailored.rows
-  -- each relation holds, and each target of strength 1 to 3 stands nearest its anchor
+  -- each relation holds, and each target of strength 1 to 3 is next to its anchor
   pub holds : AllByRecursion (Holds tailoring) tailoring.relations
   pub nearest : AllRelations (StandsNearest tailoring) tailoring.relations
   -- texts in which no target occurs in order compare as before, at either depth and under either weighting

@@ -13,7 +13,7 @@ IsIgnorableTo One e = e.primary ≡ 0
 IsIgnorableTo Two e = (e.primary ≡ 0) × (e.secondary ≡ 0)
 IsIgnorableTo Three e = (e.primary ≡ 0) × (e.secondary ≡ 0) × (e.tertiary ≡ 0)
 
--- new primaries stand below the primaries of implicit weights
+-- new primaries are below the primaries of implicit weights
 abbrev pub IsLow : Level → ℕ → Type 0
 IsLow One w = w < 0x8000
 IsLow Two w = ⊤

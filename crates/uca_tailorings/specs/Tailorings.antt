@@ -19,8 +19,8 @@ use Rattle.uca_tailorings.specs.Placing.{IsLow, IsAnchor, placed, IsOnSide}
 use Rattle.uca_tailorings.specs.declared.conditions.Condition.{Condition}
 use Rattle.uca_tailorings.specs.declared.conditions.Condition.TheVariants.{BaseIllFormed, TailoredIllFormed, Header, Uncovered, RowChanged, RowMissing, RowExtra, Anchor, NotPlaced, NotFresh, NotNearest}
 
--- a base table, the table that is tailored from it, what a data file says of code points, the relations of rules, and what
--- becomes of the base's weights
+-- a base table, the table that is tailored from it, what a data file says of code points, the relations of rules, and
+-- the images of the base's weights
 pub record Tailoring : Type 0 where
   pub base : TableContent
   pub tailored : TableContent
@@ -28,7 +28,7 @@ pub record Tailoring : Type 0 where
   pub relations : List Relation
   pub maps : Maps
 
--- what holds of every tailoring, by what its parts are
+-- what is true of every tailoring, by what its parts are
 pub record IsTailoring (tailoring : Tailoring) : Type 0 where
   pub base : IsTable tailoring.base
   pub tailored : IsTable tailoring.tailored
@@ -99,8 +99,8 @@ HasAnchorAt tailoring r (Some level) = (before : List Element) × (last : Elemen
 abbrev pub HasAnchor : Tailoring → Relation → Type 0
 HasAnchor tailoring r = HasAnchorAt tailoring r (level_of r.strength)
 
--- The target has the anchor's elements, where the last weight at the level is no longer the old one but the new one, on the
--- relation's side of the old one, and then the expansion's.
+-- The target has the anchor's elements and then the expansion's. In the anchor's, the last weight at the level is not
+-- the old one but the new one, on the relation's side of the old one.
 pub record IsPlacedAt (tailoring : Tailoring) (r : Relation) (level : Level) (old new : ℕ) : Type 0 where
   pub strength : level_of r.strength ≡ Some level
   pub before : List Element
@@ -145,7 +145,7 @@ pub record IsImageOfBase (tailoring : Tailoring) (level : Level) (w : ℕ) : Typ
 abbrev pub IsKnownWeight : Tailoring → Level → ℕ → Type 0
 IsKnownWeight tailoring level w = IsImageOfBase tailoring level w ⊎ IsPairWeight level w
 
--- the weight lies strictly between the two, of which either may be the greater
+-- the weight lies strictly between the two; either of the two may be the greater
 abbrev pub IsBetween : ℕ → ℕ → ℕ → Type 0
 IsBetween old new w = ((old < w) × (w < new)) ⊎ ((new < w) × (w < old))
 
@@ -161,7 +161,7 @@ pub record IsNearestWeight (tailoring : Tailoring) (before : List Relation) (lev
   pub known : (w : ℕ) → IsKnownWeight tailoring level w → ¬ (IsBetween old new w)
   pub earlier : (w : ℕ) → IsNewWeight tailoring level w before → ¬ (IsBetween old new w)
 
--- the same of the new weight of a relation that stands before some relations and after others
+-- the same for the new weight of a relation that comes before some relations and after others
 abbrev pub IsFresh : Tailoring → List Relation → Relation → List Relation → Type 0
 IsFresh tailoring before r after = (level : Level) (old new : ℕ) → IsPlacedAt tailoring r level old new → IsFreshWeight tailoring before after level new
 

@@ -1,13 +1,14 @@
 -- Two worked tailorings, with maps that certificates could give.
 --
--- The first has a table of the letters `a` and `b`, and the rule `&a < x`:
+-- The first has a table of the letters `a` and `b`, and the rule `&a < x`.
+-- The table:
 --
 --     @version 1
 --     @implicitweights 17000..18AFF; FB00
 --     0061 ; [.1C47.0020.0002]
 --     0062 ; [.1C60.0020.0002]
 --
--- The tailored tables have one row more, that of `x`. No weight is changed:
+-- The tailored tables have one more row, that of `x`. No weight is changed:
 --
 --     1 1C47 1C47 0001
 --     1 1C60 1C60 0001
@@ -23,7 +24,7 @@
 --     0062 ; [.1C48.0020.0002]
 --     0063 ; [.1C60.0020.0002]
 --
--- Its `b` moves, so that `x` has room behind `a`:
+-- Its `b` moves, so that `x` has room after `a`:
 --
 --     1 1C47 1C47 0001
 --     1 1C48 1C49 0001
@@ -78,7 +79,7 @@ kept_runs = record {
   tertiary = run 2 2 1 ∷ [];
 }
 
--- the tailoring with these rows behind those of the base
+-- the tailoring with these rows after those of the base
 abbrev pub with_rows : List Entry → Tailoring
 with_rows more = record {
   base = record { header = small_header; rows = a_and_b };
@@ -141,16 +142,16 @@ with_moved_b = record {
   maps = maps_of moving_runs;
 }
 
--- ---- What holds of them
+-- ---- What is true of them
 
 pub record WorkedTailorings : Type 0 where
   -- the maps are those of runs which certificates may have
   pub kept : IsCertificate kept_runs
   pub moving : IsCertificate moving_runs
-  -- `x` directly behind `a`
+  -- `x` directly after `a`
   pub is_tailoring : IsTailoring (with_x (plain 0x1C48 0x20 2))
   pub accepted : IsAccepted (with_x (plain 0x1C48 0x20 2))
-  -- with the weight of `b`, and behind it
+  -- with the weight of `b`, and after it
   pub not_fresh : ¬ (Meets (with_x (plain 0x1C60 0x20 2)) NotFresh)
   pub not_nearest : ¬ (Meets (with_x (plain 0x1C61 0x20 2)) NotNearest)
   -- with another weight at level 3

@@ -1,6 +1,6 @@
 //! The conditions on an accepted tailoring, by the names of their failures.
 
-/// The conditions on an accepted tailoring, in the order in which they are looked at. Each has the name of its failure.
+/// The conditions on an accepted tailoring, in the order in which they are tested. Each has the name of its failure.
 #[derive(Clone, Copy, Debug, PartialEq, Eq)]
 pub enum Condition {
     /// The base is not well-formed (UTS #10, section 9.2).
@@ -11,7 +11,7 @@ pub enum Condition {
     Header,
     /// A weight of a base row other than 0 has no image at its level.
     Uncovered,
-    /// The tailored row of a base key that is no target is not the image of its base row.
+    /// The tailored row of a base key that is not a target is not the image of its base row.
     RowChanged,
     /// A base key or a target has no tailored row.
     RowMissing,
@@ -19,10 +19,12 @@ pub enum Condition {
     RowExtra,
     /// The elements of an anchor have no last one that a new weight can be put on.
     Anchor,
-    /// A target has other elements than its relation asks for, whatever the new weight on its side.
+    /// A target has other elements than its relation asks for, with any new weight on the right side.
     NotPlaced,
-    /// A new weight is one that the base gave, that of another relation, or at level 1 one from 8000 up.
+    /// A new weight is one that the base gives: the image of a base weight, or 0020 at level 2 or 0002 at level 3. Or
+    /// it is that of another relation, or at level 1 a weight from 8000 up.
     NotFresh,
-    /// A weight that the base gave, or the new weight of an earlier relation, lies between a new weight and its anchor's.
+    /// A weight that the base gives, or the new weight of an earlier relation, lies between a new weight and its
+    /// anchor's.
     NotNearest,
 }

@@ -25,7 +25,7 @@ occurs_trans (x ∷ xs) (y ∷ ys) (z ∷ zs) h k =
     (λ later. inr (occurs_trans (x ∷ xs) (y ∷ ys) zs h later))
     k
 
--- two lists one after the other
+-- two lists, put together
 pub occurs_append : {A : Type 0} (xs ys us vs : List A) → OccursInOrder xs ys → OccursInOrder us vs → OccursInOrder (xs ++ us) (ys ++ vs)
 occurs_append [] [] us vs h k = k
 occurs_append [] (y ∷ ys) us vs h k = occurs_more us y (ys ++ vs) (occurs_append [] ys us vs tt k)
@@ -56,7 +56,7 @@ occurs_code_points (c ∷ s) [] h = absurd h
 occurs_code_points (c ∷ s) (d ∷ t) h =
     ⊎_elim (λ here. inl (ap (λ l. l.code) here.0, occurs_code_points s t here.1)) (λ later. inr (occurs_code_points (c ∷ s) t later)) h
 
--- what holds of each member of a list holds of each member of one that occurs in it
+-- what is true of each member of a list is true of each member of one that occurs in it
 pub each_occurring : {A : Type 0} (P : A → Type 0) (xs ys : List A) → OccursInOrder xs ys → AllByRecursion P ys → AllByRecursion P xs
 each_occurring P [] ys h all = tt
 each_occurring P (x ∷ xs) [] h all = absurd h

@@ -8,7 +8,8 @@ use Rattle.std.proofs.lemmas.Grind.{common_steps}
 use Rattle.uca_weights.proofs.Lists.{each_push}
 use Rattle.uca_text.specs.Limits.{IsLongRun, HasNoLongRun, IsFirstLongRun}
 
--- of the classes before the place `here`, the last `run` are those of non-starters, and no more; a long run does not stand among them
+-- of the classes before the position `here`, exactly the last `run` are those of non-starters; no long run is among
+-- them
 pub record IsCounted (classes : List ℕ) (here run : ℕ) : Type 0 where
   pub few : run ≤ 64
   pub within : run ≤ here
@@ -79,7 +80,7 @@ first_long_run classes here run counted non_starter full within = record {
 pub no_long_run : (classes : List ℕ) (here run : ℕ) → IsCounted classes here run → length classes ≤ here → HasNoLongRun classes
 no_long_run classes here run counted all place long = counted.none place (omega (arith, long.within)) long
 
--- the class at a place
+-- the class at a position
 pub class_at : (f : ℕ → ℕ) (points : List ℕ) (here point class : ℕ) → here < length points → point ≡ get_or points here point → class ≡ f point →
     get_or (map f points) here 0 ≡ class
 class_at f points here point class within is given = get_or-map f points here point 0 within ∙ ap f (sym is) ∙ sym given

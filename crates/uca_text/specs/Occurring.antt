@@ -1,7 +1,7 @@
 -- Lists whose members occur in order in another.
 use Rattle.std.specs.Prelude.{◌≡◌, ◌⊎◌, List, [], ◌∷◌, ⊤}
 
--- the first list's members all occur in the second, in their order; others may stand between
+-- the first list's members all occur in the second, in their order; others may come between them
 abbrev pub OccursInOrder : {A : Type 0} → List A → List A → Type 0
 OccursInOrder [] ys = ⊤
 OccursInOrder (x ∷ xs) [] = ⊥

@@ -1,4 +1,4 @@
-//! What holds of all texts.
+//! What is true of all texts.
 ghost use Rattle.uca_text.specs.Laws.{CanonicallyEquivalentTextsAreNormalizedAlike};
 
 /// Canonically equivalent texts (The Unicode Standard, section 3.7) have the same code points in Normalization

@@ -6,7 +6,7 @@ use std::marker::Model;
 
 /// A text in Normalization Form D (UAX #15), with the canonical combining class of each of its code points.
 /// The code points are Unicode scalar values, there are at most 1,048,576 of them, and at most 64
-/// non-starters stand in a row.
+/// non-starters come in a row.
 #[derive(Drop)]
 pub struct Normal {
     pub(crate) chars: Vec<char>,

@@ -21,7 +21,7 @@ use unicode_normalization::slice::extend_nfd;
 /// How many code points a text may have in Normalization Form D.
 const LONGEST_TEXT: usize = 1_048_576;
 
-/// How many non-starters may stand in a row.
+/// How many non-starters may come in a row.
 const LONGEST_RUN: usize = 64;
 
 /// Why a text is rejected.
@@ -29,7 +29,7 @@ const LONGEST_RUN: usize = 64;
 pub enum TextFault {
     /// It has more than 1,048,576 code points in Normalization Form D.
     TooLong,
-    /// More than 64 non-starters stand in a row. The number is the index, from 0, of the first of them
+    /// More than 64 non-starters come in a row. The number is the index, from 0, of the first of them
     /// in Normalization Form D, and the run is the first such run.
     LongRun(u32),
     /// An allocation failed.
@@ -86,8 +86,9 @@ impl<T: Drop> From<AllocFailed<T>> for TextFault {
 ///
 /// # Errors
 ///
-/// `TooLong` where the text has more than 1,048,576 code points in that form, and otherwise `LongRun`
-/// where more than 64 non-starters stand in a row there; `Memory` where an allocation fails.
+/// - `TooLong`: the text has more than 1,048,576 code points in Normalization Form D.
+/// - `LongRun`: otherwise, more than 64 non-starters come in a row there.
+/// - `Memory`: an allocation failed.
 pub fn normal<A: Allocator>(
     alloc: Global,
     text: &str,
@@ -107,7 +108,7 @@ impl Normal {
     ///
     /// # Errors
     ///
-    /// Those of [`normal`]. This text is then the empty one.
+    /// Those of [`normal`]. This text is then empty.
     pub fn renew<A: Allocator>(&mut self, text: &str, properties: &Data<A>) -> Result<(), TextFault>
         ensures found { OnOk result (self.new ≡ nfd_text (properties_of properties.now) (chars text.now)) }
         ensures accepted { IsAccepted self.new }
@@ -176,7 +177,7 @@ fn write_points(points: &mut Vec<char>, text: &str) -> Result<(), AllocError>
     Ok(())
 }
 
-/// Writes the class of each code point, unless more than 64 non-starters stand in a row.
+/// Writes the class of each code point, unless more than 64 non-starters come in a row.
 fn classify<A: Allocator>(
     classes: &mut Vec<u8>,
     points: &[char],

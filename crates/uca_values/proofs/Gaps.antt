@@ -1,4 +1,4 @@
--- Where a range fits between ranges in rising order, and what the ranges say once it stands there.
+-- Where a range fits between ranges in rising order, and what the ranges say once it is added.
 use Rattle.std.proofs.Common.{◌≡◌, ◌≢◌, ℕ, ◌+◌, ◌<◌, ◌≤◌, ◌⊎◌, inl, inr, Bool, true, false, max, ◌||◌, cond, not, List, [], ◌∷◌, ◌++◌, length, get_or, take, drop, refl, sym, ap, ◌∙◌, subst, arith, length-take-le, length-drop}
 use mathlib.Core.Path.{Path, fun_ext}
 use Rattle.std.specs.List.{AllByRecursion, insert}
@@ -18,7 +18,7 @@ use Rattle.uca_values.specs.Content.{properties_of, IsClass, IsData, DataContent
 use Rattle.uca_values.specs.Adding.{AddsClass, AddsCore, AddsOther}
 use Rattle.uca_values.proofs.Rising.{all_at, sound_at, apart_at, IsPlace, between_true, between_false, between_from}
 
--- the place of a is a gap if the range there, if any, begins above b
+-- the position of a is a gap if the range there, if any, begins above b
 pub gap_at_place : {X : Type 0} (first last : X → ℕ) (xs : List X) → RiseBy first last xs → (a b at : ℕ) (d : X) → IsPlace last a xs at → (at < length xs → b < first (get_or xs at d)) → IsGap first last a b xs at
 gap_at_place {X = X} first last xs h a b at d place above = (place.0, after)
   where
@@ -107,7 +107,7 @@ none_in_gap xs a b at gap point low high =
     or_from_places (λ rs. is_within rs point) (λ r. is_between r.first r.last point) refl (λ _ _. refl) xs (record { first = 0; last = 0 })
     (λ k l. between_cases _ _ a b point (gap_sides (λ (s : CodePointRange). s.first) (λ s. s.last) xs a b at gap k _ l) low high)
 
--- the range at the place begins at b or below, so it has a code point in common with the range from a to b
+-- the range at the position begins at b or below, so it has a code point in common with the range from a to b
 common : {X : Type 0} (first last : X → ℕ) (xs : List X) → RiseBy first last xs → (a b at : ℕ) (d : X) → IsPlace last a xs at → at < length xs → a ≤ b → first (get_or xs at d) ≤ b → let point = max a (first (get_or xs at d)) in (a ≤ point) × (point ≤ b) × (is_between (first (get_or xs at d)) (last (get_or xs at d)) point ≡ true)
 common first last xs h a b at d place l low meets =
     let begins = first (get_or xs at d) in
@@ -173,11 +173,11 @@ adds_other old r at beside sound bound gap also room = record {
 
 -- ---- Where the lists lie in vectors
 
--- what an insertion leaves, where it was not refused
+-- what an insertion leaves, if it was not rejected
 pub taken : {X : Type 0} (made failed : Bool) (ys after before : List X) → ys ≡ cond made after before → made ≡ not failed → failed ≡ false → ys ≡ after
 taken made failed ys after before is negation false_ = is ∙ ap (λ b. cond b after before) (negation ∙ ap not false_)
 
--- the place lies within the ranges and is a gap for those from a to b
+-- the position lies within the ranges and is a gap for those from a to b
 abbrev pub Fits : {X : Type 0} → (X → ℕ) → (X → ℕ) → ℕ → ℕ → List X → ℕ → Type 0
 Fits first last a b xs at = (at ≤ length xs) × IsGap first last a b xs at
 
@@ -204,7 +204,7 @@ gains_class old xs slice ys core other r at view lent put sound fits room =
     let Q : DataContent → Type 0 = λ content. AddsClass content r (record { classes = ys; core = core; other = other }) in
     subst Q view (subst P (sym put) (adds_class was r at sound here.0 here.1 room))
 
--- the ranges from which Han is told: those that grow, and those beside them
+-- the ranges that say what is Han: those that grow, and those beside them
 fits_lent : (xs slice : List CodePointRange) (r : CodePointRange) (at : ℕ) → slice ≡ xs → Fits (λ s. s.first) (λ s. s.last) r.first r.last slice at → Fits (λ s. s.first) (λ s. s.last) r.first r.last xs at
 fits_lent xs slice r at lent fits = let P : List CodePointRange → Type 0 = λ zs. Fits (λ s. s.first) (λ s. s.last) r.first r.last zs at in subst P lent fits
 

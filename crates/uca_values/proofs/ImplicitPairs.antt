@@ -23,8 +23,8 @@ pub record IsPairOf (point lead low : ℕ) : Type 0 where
   pub within : point < 0x11_0000 → lead ≤ 0xFBFF
   pub near : low < 0x8000
 
--- What holds of each pair holds of the implicit weights of each number. Where the ranges are those of a table, only pairs in these
--- bounds are asked for.
+-- What is true of each pair is true of the implicit weights of each number. If the ranges are those of a table, only
+-- pairs in these bounds have to be considered.
 pub of_pair : (P : List Element → Type 0) (ranges : List ImplicitRange) (properties : Properties) (point : ℕ)
     → ((lead low : ℕ) → (AreImplicitRanges ranges → IsPairOf point lead low) → P (implicit_pair lead low))
     → P (implicit ranges properties point)
@@ -36,7 +36,7 @@ of_pair P ranges properties point pair = by_lead (lead_of ranges point) refl
         pair (lead + point / 0x8000) (point % 0x8000)
         (λ _. record { high = omega (arith, low); within = λ fits. omega (arith, high, fits); near = omega arith })
 
-    -- the pair of a number that no range holds
+    -- the pair of a number that no range contains
     unlisted : P (unlisted_pair properties point)
     unlisted =
         cond_both (properties.is_core point) (block_pair 0xFB40 point) (cond (properties.is_other point) (block_pair 0xFB80 point) (block_pair 0xFBC0 point)) P
@@ -45,7 +45,7 @@ of_pair P ranges properties point pair = by_lead (lead_of ranges point) refl
         (λ other. block 0xFB80 (omega arith) (omega arith))
         (λ not_other. block 0xFBC0 (omega arith) (omega arith)))
 
-    -- by the range that holds the number
+    -- by the range that contains the number
     by_lead : (lead : Option ℕ) → lead_of ranges point ≡ lead → P (pair_by_lead ranges lead (unlisted_pair properties point) point)
     by_lead None found = unlisted
     by_lead (Some lead) found =
@@ -54,7 +54,7 @@ of_pair P ranges properties point pair = by_lead (lead_of ranges point) refl
         let near = near_base ranges are lead point found in
         record { high = bounds.0; within = λ _. omega (arith, bounds.1); near = omega (arith, near) })
 
--- so what holds of each pair with a lead for implicit weights holds of all implicit weights of code points
+-- so what is true of each pair with a lead for implicit weights is true of all implicit weights of code points
 pub each_pair : (P : List Element → Type 0)
     → ((lead low : ℕ) → 0xFB00 ≤ lead → lead ≤ 0xFBFF → low < 0x8000 → P (implicit_pair lead low))
     → (ranges : List ImplicitRange) (properties : Properties) → AreImplicitRanges ranges → (point : ℕ) → point < 0x11_0000

@@ -18,7 +18,7 @@ inside_last r point h = grind (arith, nat_tests)
 abbrev Near : ℕ → ℕ → ImplicitRange → Type 0
 Near lead point s = s.lead ≡ lead → point < s.first + 0x8000
 
--- the range that holds the code point is near those after it, and near one before it
+-- the range that contains the code point is near those after it, and near one before it
 near_after : (r : ImplicitRange) (lead point : ℕ) → r.lead ≡ lead → point ≤ r.last → (xs : List ImplicitRange) → AllByRecursion (Agree r) xs → AllByRecursion (Near lead point) xs
 near_after r lead point e low [] h = tt
 near_after r lead point e low (s ∷ xs) h = (λ same. omega (arith, (h.0.near (e ∙ sym same)).0), near_after r lead point e low xs h.1)

@@ -28,7 +28,7 @@ apart_at first last (x ∷ xs) h i zero d l m = absurd (omega arith)
 apart_at first last (x ∷ xs) h zero (suc j) d l m = all_at (λ s. last x < first s) xs h.1 j d (omega arith)
 apart_at first last (x ∷ xs) h (suc i) (suc j) d l m = apart_at first last xs h.2 i j d (omega arith) (omega arith)
 
--- ---- The place of a code point
+-- ---- The position of a code point
 
 pub parted : {X : Type 0} (first last : X → ℕ) (xs : List X) → RiseBy first last xs → (point : ℕ) → IsPartitionedBy (λ r. ltb (last r) point) xs
 parted first last xs h point i j d l m t =
@@ -41,7 +41,7 @@ parted first last xs h point i j d l m t =
           lt-ltb _ _ (omega (arith, a, b, c))
     ]
 
--- the ranges before the place end below the code point, and those from it on do not
+-- the ranges before the position end below the code point, and those from it on do not
 abbrev pub IsPlace : {X : Type 0} → (X → ℕ) → ℕ → List X → ℕ → Type 0
 IsPlace last point xs at = IsPartitionPoint (λ r. last r < point) (λ r. point ≤ last r) xs at
 
@@ -60,7 +60,7 @@ between_false a b point (inr h) = grind (arith, nat_tests)
 pub between_true : (a b point : ℕ) → is_between a b point ≡ true → (a ≤ point) × (point ≤ b)
 between_true a b point h = grind (arith, nat_tests)
 
--- a range before the place, or after it, does not hold the code point
+-- a range before the position, or after it, does not contain the code point
 others_outside : {X : Type 0} (first last : X → ℕ) (xs : List X) → RiseBy first last xs → (point at : ℕ) → IsPlace last point xs at → (k : ℕ) (d : X) → k < length xs → (k < at) ⊎ (at < k) → is_between (first (get_or xs k d)) (last (get_or xs k d)) point ≡ false
 others_outside first last xs h point at place k d l (inl below) = between_false _ _ point (inr (place.0 k d (omega arith) below))
 others_outside first last xs h point at place k d l (inr above) =
@@ -68,7 +68,7 @@ others_outside first last xs h point at place k d l (inr above) =
     let b = place.1 at d (omega arith) (omega arith) in
     between_false _ _ point (inl (omega (arith, a, b)))
 
--- no range holds the code point, since that at the place does not
+-- no range contains the code point, since that at the position does not
 none_inside : {X : Type 0} (first last : X → ℕ) (xs : List X) → RiseBy first last xs → (point at : ℕ) → IsPlace last point xs at → (d : X) → (at < length xs → point < first (get_or xs at d)) → (k : ℕ) → k < length xs → is_between (first (get_or xs k d)) (last (get_or xs k d)) point ≡ false
 none_inside first last xs h point at place d misses k l =
     elim (cases_order k at) [
@@ -109,7 +109,7 @@ below_all {X = X} first last (x ∷ xs) h point d low = (λ k e a b. absurd (ome
     after zero e a b = omega (arith, h.0, low (omega arith))
     after (suc k) e a b = omega (arith, h.0, low (omega arith), all_at (λ s. last x < first s) xs h.1 k e (omega arith), sound_at first last xs h.2 k e (omega arith))
 
--- no range holds a code point below the first one
+-- no range contains a code point below the first one
 pub class_below : (xs : List ClassRange) → AreRisingClasses xs → (point : ℕ) (d : ClassRange) → (0 < length xs → point < (get_or xs 0 d).first) → class_in xs point ≡ 0
 class_below xs h point d low = class_missed xs h point 0 (below_all (λ (r : ClassRange). r.first) (λ r. r.last) xs h point d low) d low
 

@@ -1,4 +1,4 @@
--- One more range: the properties that it gives, and why it is refused.
+-- One more range: the properties that it gives, and why it is rejected.
 use Rattle.std.specs.Prelude.{◌≡◌, ℕ, ◌+◌, ◌<◌, ◌≤◌, ⊤, length, ◌||◌, if◌then◌else◌}
 use Rattle.uca_values.specs.declared.ClassRange.{ClassRange}
 use Rattle.uca_values.specs.declared.CodePointRange.{CodePointRange}
@@ -46,8 +46,8 @@ pub record AddsOther (old : DataContent) (r : CodePointRange) (new : DataContent
   pub room : length old.other < 4096
   pub other : length new.other ≡ length old.other + 1
 
--- Why a range is not added to the ranges of its kind, of which there are `count`: it is empty; one of its
--- code points has the property that it gives; there are enough ranges; or an allocation failed.
+-- Why a range is not added to the `count` ranges of its kind. It is empty; one of its code points has the
+-- property that it gives; there are 4,096 ranges; or an allocation failed.
 abbrev pub RefusesRange : (ℕ → ℕ → Type 0) → ℕ → ℕ → ℕ → RangeFault → Type 0
 RefusesRange HasBetween count first last faults.Empty = last < first
 RefusesRange HasBetween count first last faults.Overlap = (first ≤ last) × HasBetween first last

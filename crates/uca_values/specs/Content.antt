@@ -1,4 +1,4 @@
--- What tables and data files mean, without where it lies in memory, and what holds of every such value.
+-- What tables and data files mean, without where it lies in memory, and what is true of every such value.
 use Rattle.std.specs.Prelude.{◌≡◌, ◌≢◌, ◌⊎◌, ℕ, ◌+◌, ◌<◌, ◌≤◌, ◌&&◌, ◌||◌, ◌==◌, Bool, true, ⊤, nat_le, List, [], ◌∷◌, length, map, Option, Contains}
 use Rattle.std.specs.List.{list_all, AllByRecursion}
 use Rattle.std.specs.Char.{IsScalar}
@@ -54,7 +54,7 @@ abbrev pub AreImplicitRanges : List ImplicitRange → Type 0
 AreImplicitRanges [] = ⊤
 AreImplicitRanges (r ∷ ranges) = IsImplicitRange r × AllByRecursion (Agree r) ranges × AreImplicitRanges ranges
 
--- what holds of every header
+-- what is true of every header
 pub record IsHeader (header : HeaderContent) : Type 0 where
   pub named : is_version_name header.version ≡ true
   pub ranges : AreImplicitRanges header.ranges
@@ -66,7 +66,7 @@ pub record Fits (e : Element) : Type 0 where
   pub secondary : e.secondary < 0x1_0000
   pub tertiary : e.tertiary < 0x1_0000
 
--- what holds of every row: 1 to 16 code points, and 1 to 32 elements
+-- what is true of every row: 1 to 16 code points, and 1 to 32 elements
 pub record IsEntry (row : Entry) : Type 0 where
   pub points : AllByRecursion IsScalar row.key
   pub some_points : 1 ≤ length row.key
@@ -83,13 +83,13 @@ abbrev pub AreDistinct : List Entry → Type 0
 AreDistinct [] = ⊤
 AreDistinct (row ∷ rows) = (Contains (keys_of rows) row.key → ⊥) × AreDistinct rows
 
--- what holds of the rows of every table
+-- what is true of the rows of every table
 pub record AreRows (rows : List Entry) : Type 0 where
   pub entries : AllByRecursion IsEntry rows
   pub distinct : AreDistinct rows
   pub few : length rows ≤ 200000
 
--- what holds of every table
+-- what is true of every table
 pub record IsTable (table : TableContent) : Type 0 where
   pub header : IsHeader table.header
   pub rows : AreRows table.rows
@@ -123,7 +123,7 @@ HasHanBetween properties first last = (point : ℕ) × (first ≤ point) × (poi
 abbrev pub IsClass : ℕ → Type 0
 IsClass class = (1 ≤ class) × (class ≤ 254)
 
--- what holds of the ranges of every data file
+-- what is true of the ranges of every data file
 pub record IsData (content : DataContent) : Type 0 where
   pub classes : AreRisingClasses content.classes
   pub numbers : AllByRecursion (λ r. IsClass r.class) content.classes

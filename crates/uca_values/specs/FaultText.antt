@@ -1,4 +1,4 @@
--- The words for a fault of a table file or a data file.
+-- The text of an error of a table file or a data file.
 use Rattle.std.specs.Prelude.{ℕ, List, ◌++◌, codes, decimal}
 use Rattle.uca_values.specs.declared.faults.FaultKind.{FaultKind}
 use Rattle.uca_values.specs.declared.faults.FaultKind.TheVariants as kinds

@@ -4,7 +4,7 @@ use Rattle.uca_weights.specs.declared.Element.{Element}
 use Rattle.uca_values.specs.declared.ImplicitRange.{ImplicitRange}
 use Rattle.uca_values.specs.Content.{Properties}
 
--- the lead of the range that holds the code point
+-- the lead of the range that contains the code point
 abbrev pub lead_of : List ImplicitRange → ℕ → Option ℕ
 lead_of [] point = None
 lead_of (r ∷ ranges) point = if nat_le r.first point && nat_le point r.last then Some r.lead else lead_of ranges point
@@ -20,7 +20,7 @@ implicit_pair lead low =
     record { primary = lead; secondary = 0x20; tertiary = 2; mark = false } ∷
     record { primary = 0x8000 + low; secondary = 0; tertiary = 0; mark = false } ∷ []
 
--- by the block of 8000 code points that the code point stands in
+-- by the block of 8000 code points that the code point is in
 abbrev pub block_pair : ℕ → ℕ → List Element
 block_pair lead point = implicit_pair (lead + point / 0x8000) (point % 0x8000)
 

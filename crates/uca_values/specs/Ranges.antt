@@ -4,16 +4,16 @@ use Rattle.std.specs.List.{AllByRecursion}
 use Rattle.uca_values.specs.declared.ClassRange.{ClassRange}
 use Rattle.uca_values.specs.declared.CodePointRange.{CodePointRange}
 
--- whether the code point stands from `first` to `last`
+-- whether the code point is from `first` to `last`
 abbrev pub is_between : ℕ → ℕ → ℕ → Bool
 is_between first last point = nat_le first point && nat_le point last
 
--- whether one of the ranges holds the code point
+-- whether one of the ranges contains the code point
 abbrev pub is_within : List CodePointRange → ℕ → Bool
 is_within [] point = false
 is_within (r ∷ ranges) point = is_between r.first r.last point || is_within ranges point
 
--- the class of the range that holds the code point, or else 0
+-- the class of the range that contains the code point, or else 0
 abbrev pub class_in : List ClassRange → ℕ → ℕ
 class_in [] point = 0
 class_in (r ∷ ranges) point = if is_between r.first r.last point then r.class else class_in ranges point
@@ -26,6 +26,6 @@ RiseBy first last (r ∷ ranges) = (first r ≤ last r) × AllByRecursion (λ s.
 abbrev pub AreRising : List CodePointRange → Type 0
 AreRising ranges = RiseBy (λ r. r.first) (λ r. r.last) ranges
 
--- the same of ranges with a class
+-- the same for ranges with a class
 abbrev pub AreRisingClasses : List ClassRange → Type 0
 AreRisingClasses ranges = RiseBy (λ r. r.first) (λ r. r.last) ranges

@@ -4,7 +4,7 @@ use Rattle.uca_values.specs.declared.ImplicitRange.{ImplicitRange}
 use Rattle.uca_values.specs.Content.{DataContent, properties_of}
 use Rattle.uca_values.specs.Implicit.{implicit}
 
--- Tangut, and as in Unicode's table a second range with its lead; U+18AFF stands in the first one here
+-- Tangut, and as in Unicode's table a second range with its lead; U+18AFF is in the first one here
 abbrev pub worked_ranges : List ImplicitRange
 worked_ranges =
     record { first = 0x1_7000; last = 0x1_8AFF; lead = 0xFB00 } ∷

@@ -39,9 +39,9 @@ const MOST_RANGES: usize = 4096;
 /// Why a range is not added. Of several causes the first of this list is returned.
 #[derive(Clone, Copy, Debug, PartialEq, Eq)]
 pub enum RangeFault {
-    /// Its last code point stands before its first.
+    /// Its last code point is less than its first.
     Empty,
-    /// One of its code points has that property already, or for Han ranges either of the two.
+    /// One of its code points has that property already, or for a Han range either Han property.
     Overlap,
     /// There are 4,096 ranges of its kind.
     Limit,
@@ -80,8 +80,12 @@ impl<A: Allocator> Data<A> {
     ///
     /// # Errors
     ///
-    /// The range stays out, and nothing changes, if it is empty, if one of its code points has a class
-    /// already, if there are 4,096 ranges with a class, or if an allocation fails.
+    /// Nothing changes at an error. The first of these is returned:
+    ///
+    /// - `Empty`: the range is empty.
+    /// - `Overlap`: one of its code points has a class already.
+    /// - `Limit`: there are 4,096 ranges with a class.
+    /// - `Memory`: an allocation failed.
     pub fn add_class(&mut self, range: ClassRange) -> Result<(), RangeFault>
         requires { IsClass range.class }
         ensures added { OnOk result (AddsClass self.old range self.new) }
@@ -106,9 +110,12 @@ impl<A: Allocator> Data<A> {
     ///
     /// # Errors
     ///
-    /// The range stays out, and nothing changes, if it is empty, if one of its code points is core Han or
-    /// another unified ideograph already, if there are 4,096 ranges of core Han, or if an allocation
-    /// fails.
+    /// Nothing changes at an error. The first of these is returned:
+    ///
+    /// - `Empty`: the range is empty.
+    /// - `Overlap`: one of its code points is core Han or another unified ideograph already.
+    /// - `Limit`: there are 4,096 ranges of core Han.
+    /// - `Memory`: an allocation failed.
     pub fn add_core(&mut self, range: CodePointRange) -> Result<(), RangeFault>
         ensures added { OnOk result (AddsCore self.old range self.new) }
         ensures refused { IfErr result (λ fault. (self.new ≡ self.old) × RefusesCore self.old range fault) }
@@ -135,7 +142,7 @@ impl<A: Allocator> Data<A> {
     ///
     /// # Errors
     ///
-    /// As of [`Data::add_core`], of ranges of other ideographs.
+    /// Those of [`Data::add_core`]; `Limit` counts the ranges of other ideographs.
     pub fn add_other(&mut self, range: CodePointRange) -> Result<(), RangeFault>
         ensures added { OnOk result (AddsOther self.old range self.new) }
         ensures refused { IfErr result (λ fault. (self.new ≡ self.old) × RefusesOther self.old range fault) }
@@ -158,7 +165,7 @@ impl<A: Allocator> Data<A> {
         Ok(())
     }
 
-    /// The canonical combining class of a code point (UAX #44); 0 where no range of the file holds it.
+    /// The canonical combining class of a code point (UAX #44); 0 if no range of the file has it.
     pub fn class(&self, point: char) -> u8
         ensures { result ≡ class_in self.now.classes point }
     {
@@ -201,7 +208,7 @@ impl<A: Allocator> Data<A> {
     }
 }
 
-// The place of the first range that ends at the code point or above it.
+// The position of the first range that ends at the code point or above it.
 fn class_place(ranges: &[ClassRange], point: char) -> usize
     requires { AreRisingClasses ranges.now }
     ensures bound { result ≤ length ranges.now }
@@ -210,7 +217,7 @@ fn class_place(ranges: &[ClassRange], point: char) -> usize
     ranges.partition_point(|range| range.last < point)
 }
 
-// The same of ranges without a class.
+// The same for ranges without a class.
 fn range_place(ranges: &[CodePointRange], point: char) -> usize
     requires { AreRising ranges.now }
     ensures bound { result ≤ length ranges.now }
@@ -219,7 +226,7 @@ fn range_place(ranges: &[CodePointRange], point: char) -> usize
     ranges.partition_point(|range| range.last < point)
 }
 
-// The place where the range fits between the others, unless it overlaps one of them.
+// The position where the range fits between the others, unless it overlaps one of them.
 fn class_gap(ranges: &[ClassRange], range: ClassRange) -> Option<usize>
     requires rising { AreRisingClasses ranges.now }
     requires numbers { AllByRecursion (λ r. IsClass r.class) ranges.now }
@@ -235,7 +242,7 @@ fn class_gap(ranges: &[ClassRange], range: ClassRange) -> Option<usize>
     Some(at)
 }
 
-// The same of ranges without a class.
+// The same for ranges without a class.
 fn range_gap(ranges: &[CodePointRange], range: CodePointRange) -> Option<usize>
     requires rising { AreRising ranges.now }
     requires sound { range.first ≤ range.last }

@@ -1,4 +1,4 @@
-//! Why a table file or a data file is refused.
+//! Why a table file or a data file is rejected.
 
 ghost use Rattle.std.specs.Prelude.{◌≡◌, ◌≤◌, length, Some};
 ghost use Rattle.uca_values.specs.declared.faults.FaultKind.{FaultKind};
@@ -9,16 +9,16 @@ use std::error::Error;
 use std::fmt;
 use uca_weights::Message;
 
-/// Why a table file or a data file is refused.
+/// Why a table file or a data file is rejected.
 #[derive(Clone, Copy, Debug, PartialEq, Eq)]
 pub enum FaultKind {
-    /// The line has none of the forms of the file.
+    /// The line is none of those that the file may have.
     Line,
-    /// The line stands where it may not, or a line that has to be there is missing.
+    /// The line comes where it may not, or a line that has to be there is missing.
     Order,
-    /// Something else stands where a code point is due.
+    /// Something else comes where a code point must be.
     CodePoint,
-    /// Something else stands where a weight or a class is due.
+    /// Something else comes where a weight or a class must be.
     Weight,
     /// The key of the row is that of an earlier row.
     DuplicateKey,
@@ -33,7 +33,7 @@ pub enum FaultKind {
 }
 
 impl FaultKind {
-    /// The name of the kind, as it stands in a fault line.
+    /// The name of the kind, as it is written in an error line.
     pub fn name(self) -> &'static str
         ensures { result.now ≡ kind_text self }
     {
@@ -59,13 +59,13 @@ impl fmt::Display for FaultKind {
     }
 }
 
-/// A table file or a data file is refused: the line, and why. A file that ends too early has the number
+/// A table file or a data file is rejected: the line, and why. A file that ends too early has the number
 /// of its lines plus one.
 #[derive(Clone, Copy, Debug, PartialEq, Eq)]
 pub struct TableFault {
     /// The line, counted from 1.
     pub line: u32,
-    /// Why it is refused.
+    /// Why it is rejected.
     pub kind: FaultKind,
 }
 

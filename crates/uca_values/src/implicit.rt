@@ -15,7 +15,7 @@ const OTHERS: u16 = 0xFBC0;
 const OTHER_HAN: u16 = 0xFB80;
 /// The lead of core Han.
 const CORE_HAN: u16 = 0xFB40;
-/// The code points that share one first weight, and the high bit of each second weight.
+/// How many code points share one first weight. This is also the high bit of each second weight.
 const BLOCK: u32 = 0x8000;
 
 impl<A: Allocator> Header<A> {
@@ -34,7 +34,7 @@ impl<A: Allocator> Header<A> {
     }
 }
 
-// The lead of the range that holds the code point.
+// The lead of the range that contains the code point.
 fn lead(ranges: &[ImplicitRange], point: char) -> Option<u16>
     ensures { result ≡ lead_of ranges.now point }
 {
@@ -86,7 +86,7 @@ fn block(lead: u16, point: char) -> [Element; 2]
     pair(lead + (point / BLOCK) as u16, point % BLOCK)
 }
 
-// The elements of a code point that no range of the header holds.
+// The elements of a code point that no range of the header contains.
 fn unlisted<B: Allocator>(data: &Data<B>, point: char) -> [Element; 2]
     ensures { result ≡ unlisted_pair (properties_of «data».now) point }
 {
@@ -99,9 +99,9 @@ fn unlisted<B: Allocator>(data: &Data<B>, point: char) -> [Element; 2]
     }
 }
 
-/// The law that the definition of implicit weights gives the pairs of these code points, under the
-/// range 17000..18AFF with the lead FB00, core Han 4E00..9FFF and other ideographs 20000..20FFF:
-/// U+17000, U+4E00, U+20000 and U+10FFFF.
+/// The law that the definition of implicit weights gives the right pairs for U+17000, U+4E00, U+20000
+/// and U+10FFFF. The range 17000..18AFF has the lead FB00, core Han is 4E00..9FFF, and other ideographs are
+/// 20000..20FFF.
 pub fn worked_implicit_weights()
     ensures { WorkedImplicitWeights }
 {}

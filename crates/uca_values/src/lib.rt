@@ -1,5 +1,5 @@
 //! What table files and data files mean: tables of collation elements, their header, and the
-//! properties of code points. Reading them from bytes is the business of `uca_table`.
+//! properties of code points. `uca_table` reads them from bytes.
 #![tactic(auto)]
 
 pub mod characters;
@@ -33,7 +33,7 @@ pub struct ClassRange {
     pub class: u8,
 }
 
-/// A range whose code points get implicit weights under a lead of their own
+/// A range whose code points get implicit weights with their own lead
 /// (`@implicitweights`, UTS #10, section 9.1).
 #[derive(Clone, Copy, Debug, PartialEq, Eq)]
 pub struct ImplicitRange {

@@ -1,4 +1,4 @@
-//! Limits of tables that more than one crate keeps.
+//! Limits of tables that more than one crate uses.
 
 /// How many rows a table may have.
 pub const MOST_ROWS: usize = 200_000;

@@ -8,11 +8,11 @@ use uca_weights::{Element, Weighting};
 /// The lines of a table file before its rows.
 #[derive(Drop)]
 pub struct Header<A: Allocator = Global> {
-    /// The word behind `@version`: 1 to 32 ASCII letters, digits, `.` or `-`.
+    /// The word after `@version`: 1 to 32 ASCII letters, digits, `.` or `-`.
     pub version: String<A>,
     /// What `@variable` says, if the line is there.
     pub setting: Option<Weighting>,
-    /// The `@implicitweights` lines in order, at most 256, no two of which overlap. Of all ranges
+    /// The `@implicitweights` lines in order, at most 256; no two of them overlap. Of all ranges
     /// with one lead the greatest code point is less than 8000 (hexadecimal) above the least.
     pub ranges: Vec<ImplicitRange, A>,
 }

@@ -4,9 +4,9 @@ use Rattle.std.specs.List.{AllByRecursion}
 use Rattle.std.proofs.lemmas.List.{take_more, drop_more, take-append-drop}
 use Rattle.std.proofs.lemmas.List.Elements.{All-from_recursion, All-contains}
 
--- ---- What holds of each member
+-- ---- What is true of each member
 
--- what holds of each member of two lists holds of each of both together
+-- what is true of each member of two lists is true of each of both together
 pub each_append : {X : Type 0} (P : X → Type 0) (xs ys : List X) → AllByRecursion P xs → AllByRecursion P ys → AllByRecursion P (xs ++ ys)
 each_append P [] ys first second = second
 each_append P (x ∷ xs) ys first second = (first.0, each_append P xs ys first.1 second)
@@ -16,14 +16,14 @@ pub each_parts : {X : Type 0} (P : X → Type 0) (xs ys : List X) → AllByRecur
 each_parts P [] ys all = (tt, all)
 each_parts P (x ∷ xs) ys all = let rest = each_parts P xs ys all.1 in ((all.0, rest.0), rest.1)
 
--- what holds of each member of a list with one more
+-- what is true of each member of a list with one more
 pub each_push : {X : Type 0} (P : X → Type 0) (xs : List X) (x : X) → AllByRecursion P (xs ++ x ∷ []) ↔ (AllByRecursion P xs × P x)
 each_push P xs x = (
   λ all. let parts = each_parts P xs (x ∷ []) all in (parts.0, parts.1.0),
   λ parts. each_append P xs (x ∷ []) parts.0 (parts.1, tt),
 )
 
--- what holds of each member of a list with one more between others
+-- what is true of each member of a list with one more between others
 pub each_around : {X : Type 0} (P : X → Type 0) (front : List X) (x : X) (back : List X) → AllByRecursion P (front ++ x ∷ back)
     ↔ (P x × AllByRecursion P (front ++ back))
 each_around P front x back = (
@@ -31,11 +31,11 @@ each_around P front x back = (
   λ here. let parts = each_parts P front back here.1 in each_append P front (x ∷ back) parts.0 (here.0, parts.1),
 )
 
--- what holds of each member holds of one between others
+-- what is true of each member is true of one between others
 pub inside : {X : Type 0} (P : X → Type 0) (before : List X) (x : X) (after : List X) → AllByRecursion P (before ++ x ∷ after) → P x
 inside P before x after all = (each_parts P before (x ∷ after) all).1.0
 
--- what holds of each member holds of what the list contains
+-- what is true of each member is true of what the list contains
 pub each_contained : {X : Type 0} (P : X → Type 0) (xs : List X) (x : X) → AllByRecursion P xs → Contains xs x → P x
 each_contained P xs x all there = All-contains P xs x (All-from_recursion P xs all) there
 
@@ -44,7 +44,7 @@ pub each_weaker : {X : Type 0} (P Q : X → Type 0) → ((x : X) → P x → Q x
 each_weaker P Q weaker [] all = tt
 each_weaker P Q weaker (x ∷ xs) all = (weaker x all.0, each_weaker P Q weaker xs all.1)
 
--- what holds of everything holds of each member
+-- what is true of everything is true of each member
 pub each_any : {X : Type 0} (P : X → Type 0) → ((x : X) → P x) → (xs : List X) → AllByRecursion P xs
 each_any P any [] = tt
 each_any P any (x ∷ xs) = (any x, each_any P any xs)
@@ -60,9 +60,9 @@ pub by_last : {X : Type 0} (xs : List X) → (xs ≡ []) ⊎ ((front : List X) �
 by_last [] = inl refl
 by_last (x ∷ xs) = inr (⊎_elim (λ e. ([], x, ap (λ zs. x ∷ zs) e)) (λ h. (x ∷ h.0, h.1, ap (λ zs. x ∷ zs) h.2)) (by_last xs))
 
--- ---- The member at a place
+-- ---- The member at a position
 
--- a list is what stands before a place, there, and after it
+-- a list is what is before a position, there, and after it
 pub split_at : {X : Type 0} (xs : List X) (at : ℕ) (d : X) → at < length xs → xs ≡ take at xs ++ get_or xs at d ∷ drop (at + 1) xs
 split_at xs at d within = sym (take-append-drop at xs) ∙ ap (λ rest. take at xs ++ rest) (drop_more xs at d within)
 

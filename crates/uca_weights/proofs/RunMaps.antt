@@ -1,4 +1,4 @@
--- Proper runs make a rising map, runs with a fault are not proper, and runs that stay move no weight.
+-- Proper runs make a rising map, runs with an error are not proper, and runs with equal sides move no weight.
 use Rattle.std.proofs.Common.{◌≡◌, ◌⊎◌, inl, inr, ℕ, zero, suc, ◌+◌, ◌-◌, ◌<◌, ◌≤◌, Bool, true, false, ◌&&◌, List, [], ◌∷◌, Option, Some, None, nat_le, nat_lt, nat_eq, if◌then◌else◌, refl, ap, ◌∙◌, sym, arith}
 use Rattle.std.specs.Bool.{⊤}
 use Rattle.std.specs.List.{AllByRecursion}
@@ -44,7 +44,7 @@ AreRunsFrom end from to [] = ⊤
 AreRunsFrom end from to (r ∷ runs) =
     (from ≤ r.from) × (to ≤ r.to) × (r.from + r.count ≤ end) × (r.to + r.count ≤ end) × AreRunsFrom end (r.from + r.count) (r.to + r.count) runs
 
--- rising runs behind a run lie above it
+-- rising runs after a run lie above it
 pub runs_behind : (level : Level) (s : Run) (runs : List Run)
     → AreRising level (Some s) runs → AreRunsFrom (weights_end level) (s.from + s.count) (s.to + s.count) runs
 runs_behind level s [] h = tt
@@ -109,7 +109,7 @@ zero_cases w o = go (nat_eq w 0) refl
     go true e = inl (grind (arith, nat_tests), ap (λ t. if t then Some 0 else o) e)
     go false e = inr (grind (arith, nat_tests), ap (λ t. if t then Some 0 else o) e)
 
--- the runs alone, with 0 in its place
+-- the images by the runs alone, and 0 is its own image
 abbrev pub with_zero : List Run → ℕ → Option ℕ
 with_zero runs w = if nat_eq w 0 then Some 0 else run_image runs w
 
@@ -224,9 +224,9 @@ IsRisingMap-runs Three runs h =
     let from = runs_from Three runs h.rise in
     record { rising = λ v w x y e f l. zero_rising 0x1_0000 runs v w x y from e f l; zero = refl; fixed = h.fixed }
 
--- ---- Runs with a fault
+-- ---- Runs with an error
 
--- a refused run is not proper
+-- a rejected run is not proper
 refused_not_proper : (level : Level) (previous : Option Run) (r : Run) (kind : MapFaultKind)
     → RefusesRun level previous r kind → IsProperRun level previous r → ⊥
 refused_not_proper level previous r kinds.Empty h proper = omega (arith, h, proper.some)
@@ -234,14 +234,14 @@ refused_not_proper level previous r kinds.OutOfRange h proper = h.1 proper.range
 refused_not_proper level previous r kinds.NotRising h proper = h.2 proper.above
 refused_not_proper level previous r kinds.Fixed h proper = h
 
--- where a run is refused, the runs do not rise
+-- where a run is rejected, the runs do not rise
 pub first_refused : (level : Level) (previous : Option Run) (runs : List Run) (index : ℕ) (kind : MapFaultKind)
     → IsFirstRefused level previous runs index kind → AreRising level previous runs → ⊥
 first_refused level previous [] index kind h rise = h
 first_refused level previous (r ∷ runs) zero kind h rise = refused_not_proper level previous r kind h rise.0
 first_refused level previous (r ∷ runs) (suc index) kind h rise = first_refused level (Some r) runs index kind h.1 rise.1
 
--- runs with a fault are not proper
+-- runs with an error are not proper
 pub faulty_not_proper : FaultyRunsAreNotProper
 faulty_not_proper level runs fault (inl refused) proper = first_refused level None runs fault.run fault.kind refused proper.rise
 faulty_not_proper level runs fault (inr loses) proper = loses.lost proper.fixed

@@ -1,4 +1,4 @@
--- The place of a weight among rising runs, and the image that it has there.
+-- The position of a weight among rising runs, and the image that it has there.
 use Rattle.std.proofs.Common.{◌≡◌, inl, inr, ℕ, zero, suc, ◌+◌, ◌-◌, ◌<◌, ◌≤◌, Bool, true, false, leb, List, [], ◌∷◌, Some, None, length, get_or, cond, refl, ap, sym, ◌∙◌, subst, arith}
 use Rattle.std.proofs.lemmas.Bool.{leb-true, leb-false, cases_order}
 use Rattle.std.proofs.lemmas.Bool.Decides.{nat_tests}
@@ -10,7 +10,7 @@ use Rattle.uca_weights.specs.declared.Level.TheVariants.{One, Two, Three}
 use Rattle.uca_weights.specs.Runs.{run_image, weight_image, weights_end}
 use Rattle.uca_weights.proofs.RunMaps.{AreRunsFrom, holds}
 
--- ---- By place
+-- ---- By position
 
 -- each run begins at the lower bound or above
 pub from_at : (end from to : ℕ) (runs : List Run) → AreRunsFrom end from to runs → (k : ℕ) (d : Run) → k < length runs → from ≤ (get_or runs k d).from
@@ -46,18 +46,18 @@ never_falling end from to runs h i j d l m = elim (cases_order i j) [
   | inr (inr more) ↦ absurd (omega arith)
 ]
 
--- ---- The place of a weight
+-- ---- The position of a weight
 
--- the runs before the place end at the weight or below, and those from it on end above
+-- the runs before the position end at the weight or below, and those from it on end above
 abbrev pub IsPlace : ℕ → List Run → ℕ → Type 0
 IsPlace w runs at = IsPartitionPoint (λ r. r.from + r.count ≤ w) (λ r. w < r.from + r.count) runs at
 
--- the place as `partition_point` finds it
+-- the position as `partition_point` finds it
 pub place_from_tests : (runs : List Run) (w at : ℕ)
     → IsPartitionPoint (λ r. leb (r.from + r.count) w ≡ true) (λ r. leb (r.from + r.count) w ≡ false) runs at → IsPlace w runs at
 place_from_tests runs w at h = (λ k d a b. leb-true _ _ (h.0 k d a b), λ k d a b. leb-false _ _ (h.1 k d a b))
 
--- the run does not hold a weight below it
+-- the run does not contain a weight below it
 below_run : (r : Run) (w : ℕ) → w < r.from → holds r w ≡ false
 below_run r w h = grind (arith, nat_tests)
 
@@ -65,11 +65,11 @@ below_run r w h = grind (arith, nat_tests)
 above_run : (r : Run) (w : ℕ) → r.from + r.count ≤ w → holds r w ≡ false
 above_run r w h = grind (arith, nat_tests)
 
--- it holds a weight between its ends
+-- it contains a weight between its ends
 within_run : (r : Run) (w : ℕ) → r.from ≤ w → w < r.from + r.count → holds r w ≡ true
 within_run r w low high = grind (arith, nat_tests)
 
--- the run at the place has the weight
+-- the run at the position has the weight
 pub image_found : (runs : List Run) (w at : ℕ) → IsPlace w runs at → (d : Run) → at < length runs → (get_or runs at d).from ≤ w
     → run_image runs w ≡ Some ((get_or runs at d).to + (w - (get_or runs at d).from))
 image_found runs w at place d l low =
@@ -77,7 +77,7 @@ image_found runs w at place d l low =
     (λ k below. above_run (get_or runs k d) w (place.0 k d (omega arith) below))
     (within_run (get_or runs at d) w low (place.1 at d (omega arith) l))
 
--- the run at the place, if there is one, begins above the weight
+-- the run at the position, if there is one, begins above the weight
 pub image_missed : (end from to : ℕ) (runs : List Run) → AreRunsFrom end from to runs → (w at : ℕ) → IsPlace w runs at → (d : Run)
     → (at < length runs → w < (get_or runs at d).from) → run_image runs w ≡ None
 image_missed end from to runs h w at place d misses =

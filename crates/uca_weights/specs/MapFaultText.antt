@@ -1,4 +1,4 @@
--- The words for a fault of the runs of a map.
+-- The text of an error of the runs of a map.
 use Rattle.std.specs.Prelude.{ℕ, List, codes}
 use Rattle.uca_weights.specs.declared.maps.MapFaultKind.{MapFaultKind}
 use Rattle.uca_weights.specs.declared.maps.MapFaultKind.TheVariants as kinds

@@ -11,7 +11,7 @@ use Rattle.uca_weights.specs.Maps.{WeightImages, Sends, IsRisingMap, KeepsWeight
 
 -- ---- The map of some runs
 
--- a weight of a run becomes the weight at its place on the other side
+-- the image of a weight of a run is the weight at its position on the other side
 abbrev pub run_image : List Run → WeightImages
 run_image [] w = None
 run_image (r ∷ runs) w = if nat_le r.from w && nat_lt w (r.from + r.count) then Some (r.to + (w - r.from)) else run_image runs w
@@ -42,7 +42,7 @@ abbrev pub IsAbove : Option Run → Run → Type 0
 IsAbove None r = ⊤
 IsAbove (Some s) r = (s.from + s.count ≤ r.from) × (s.to + s.count ≤ r.to)
 
--- what a run keeps behind the run before it
+-- what a run keeps after the run before it
 pub record IsProperRun (level : Level) (previous : Option Run) (r : Run) : Type 0 where
   pub some : 0 < r.count
   pub range : IsInRange level r
@@ -64,27 +64,27 @@ pub record AreProperRuns (level : Level) (runs : List Run) : Type 0 where
 
 -- ---- Why runs make none
 
--- the first cause that a run has behind the run before it: it is empty, is out of range, or is not above that run
+-- the first cause that a run has after the run before it: it is empty, is out of range, or is not above that run
 abbrev pub RefusesRun : Level → Option Run → Run → MapFaultKind → Type 0
 RefusesRun level previous r kinds.Empty = r.count ≡ 0
 RefusesRun level previous r kinds.OutOfRange = (0 < r.count) × (IsInRange level r → ⊥)
 RefusesRun level previous r kinds.NotRising = (0 < r.count) × IsInRange level r × (IsAbove previous r → ⊥)
 RefusesRun level previous r kinds.Fixed = ⊥
 
--- the run with this index, from 0, is the first that is refused
+-- the run with this index, from 0, is the first that is rejected
 abbrev pub IsFirstRefused : Level → Option Run → List Run → ℕ → MapFaultKind → Type 0
 IsFirstRefused level previous [] index kind = ⊥
 IsFirstRefused level previous (r ∷ runs) zero kind = RefusesRun level previous r kind
 IsFirstRefused level previous (r ∷ runs) (suc index) kind = IsProperRun level previous r × IsFirstRefused level (Some r) runs index kind
 
--- no run is refused, and the weight of implicit weights does not stay
+-- no run is rejected, and the weight of implicit weights does not stay
 pub record LosesPairWeight (level : Level) (runs : List Run) (fault : MapFault) : Type 0 where
   pub kind : fault.kind ≡ kinds.Fixed
   pub run : fault.run ≡ length runs
   pub rise : AreRising level None runs
   pub lost : KeepsPairWeight level runs → ⊥
 
--- the first fault of some runs
+-- the first error of some runs
 abbrev pub IsMapFault : Level → List Run → MapFault → Type 0
 IsMapFault level runs fault = IsFirstRefused level None runs fault.run fault.kind ⊎ LosesPairWeight level runs fault
 
@@ -101,7 +101,7 @@ pub record MapContent : Type 0 where
 abbrev pub ProperRunsRise : Type 0
 ProperRunsRise = (level : Level) (runs : List Run) → AreProperRuns level runs → IsRisingMap level (weight_image level runs)
 
--- Runs with a fault are not proper.
+-- Runs with an error are not proper.
 abbrev pub FaultyRunsAreNotProper : Type 0
 FaultyRunsAreNotProper = (level : Level) (runs : List Run) (fault : MapFault) → IsMapFault level runs fault → ¬ (AreProperRuns level runs)
 

@@ -7,6 +7,6 @@ use Rattle.uca_weights.specs.declared.streams.sink.WriteFault.{WriteFault}
 abbrev pub WentOut : Option (List ℕ) → Option (List ℕ) → List ℕ → ℕ → Type 0
 WentOut old new text written = Appends old new (take written text) × (written ≤ length text)
 
--- at Ok the whole text went out, and after a fault its first `written` bytes
+-- at Ok the whole text went out, and after an error its first `written` bytes
 abbrev pub Writes : {A : Type 0} → Option (List ℕ) → Option (List ℕ) → List ℕ → Result A WriteFault → Type 0
 Writes old new text r = MatchResult r (λ _. Appends old new text) (λ e. WentOut old new text e.written)

@@ -1,6 +1,6 @@
-//! The words that every crate of `uca` shares: collation elements, the levels, strengths,
-//! weightings and depths of UTS #10, rising maps of weights, the streams that bytes come from and go to, and
-//! the texts of errors.
+//! What every crate of `uca` shares: collation elements, the levels, strengths,
+//! weightings and depths of UTS #10, and rising maps of weights. It also has the streams that bytes come from and go
+//! to, and the texts of errors.
 #![tactic(auto)]
 
 ghost use Rattle.std.specs.Prelude.{◌≡◌, IfSome, IfNone};
@@ -60,22 +60,22 @@ pub enum Strength {
 pub enum Weighting {
     /// Variable elements are weighted as all others are; there are three levels.
     NonIgnorable,
-    /// Variable elements count at a fourth level alone; there are four levels.
+    /// Variable elements count only at a fourth level; there are four levels.
     Shifted,
 }
 
 /// How far two texts are compared (UTS #10, section 1.1).
 #[derive(Clone, Copy, Debug, PartialEq, Eq)]
 pub enum Depth {
-    /// By their weights alone: texts that weigh the same are equal.
+    /// By their weights alone: texts with the same weights are equal.
     Weights,
-    /// By their weights, and where these are the same by one level more, the code points of their
-    /// Normalization Form D: only canonically equivalent texts are equal.
+    /// By their weights. If these are the same, by one more level: the code points of their
+    /// Normalization Form D. Only canonically equivalent texts are equal.
     Identical,
 }
 
 impl Weighting {
-    /// The word for it, as it stands after `@variable` in a table and after `--weighting`.
+    /// Its name, as it is written after `@variable` in a table and after `--weighting`.
     pub fn name(self) -> &'static str
         ensures { result.now ≡ weighting_text self }
     {
@@ -85,7 +85,7 @@ impl Weighting {
         }
     }
 
-    /// The weighting that a word names, or `None` where it is the word for neither of the two.
+    /// The weighting with this name, or `None` if neither of the two has it.
     pub fn from_name(word: &[u8]) -> Option<Weighting>
         ensures known { IfSome result (λ weighting. word.now ≡ weighting_text weighting) }
         ensures unknown { IfNone result (IsNoWeighting word.now) }

@@ -24,30 +24,30 @@ pub struct Run {
     pub count: u16,
 }
 
-/// Why runs make no map.
+/// Why runs do not make a map.
 #[derive(Clone, Copy, Debug, PartialEq, Eq)]
 pub enum MapFaultKind {
     /// A run has no weights.
     Empty,
     /// A side of a run is not above that of the run before it.
     NotRising,
-    /// A side of a run holds 0, or a weight above 7FFF at level 1 or above FFFF at the others.
+    /// A side of a run has 0, or a weight above 7FFF at level 1 or above FFFF at the others.
     OutOfRange,
     /// Level 2 does not send 0020 to itself, or level 3 does not send 0002 to itself.
     Fixed,
 }
 
-/// Runs are refused: the first run with a fault, and why.
+/// Runs are rejected: the first run with an error, and why.
 #[derive(Clone, Copy, Debug, PartialEq, Eq, Error)]
 pub struct MapFault {
-    /// The index of the run, from 0; of `Fixed` the number of runs.
+    /// The index of the run, from 0; for `Fixed` the number of runs.
     pub run: usize,
-    /// Why it is refused.
+    /// Why it is rejected.
     pub kind: MapFaultKind,
 }
 
 impl MapFaultKind {
-    /// The name of the kind, as it stands in a fault line.
+    /// The name of the kind, as it is written in an error line.
     pub fn name(self) -> &'static str
         ensures { result.now ≡ map_kind_text self }
     {
@@ -69,8 +69,8 @@ impl fmt::Display for MapFault {
 }
 
 /// A map of the weights of a level. Of two weights that it maps the greater has the greater image, and 0 stays 0. At
-/// level 1 each weight from 8000 up stays, and those below are sent below 8000; level 2 keeps 0020 and level 3 keeps
-/// 0002, the weights of implicit weights (UTS #10, section 10.1.3).
+/// level 1 each weight from 8000 up is its own image, and those below have images below 8000. Level 2 keeps 0020 and
+/// level 3 keeps 0002, which implicit weights have (UTS #10, section 10.1.3).
 #[derive(Drop)]
 pub struct WeightMap<A: Allocator = Global> {
     level: Level,
@@ -92,7 +92,7 @@ impl<A: Allocator> WeightMap<A> {
     ///
     /// # Errors
     ///
-    /// The first run that has a fault, in the order `Empty`, `OutOfRange`, `NotRising`; where no run has one, `Fixed`.
+    /// The first run that has an error, in the order `Empty`, `OutOfRange`, `NotRising`; if no run has one, `Fixed`.
     pub fn from_runs(level: Level, runs: Vec<Run, A>) -> Result<WeightMap<A>, MapFault>
         ensures map { IfOk result (λ map. map ≡ record { level = level; runs = runs.items }) }
         ensures proper { IfOk result (λ map. AreProperRuns level runs.items) }
@@ -104,8 +104,8 @@ impl<A: Allocator> WeightMap<A> {
         }
     }
 
-    /// The image of a weight, or `None` where it has none: 0 is its own, and so is at level 1 each weight from 8000 up;
-    /// a weight of a run has its image there.
+    /// The image of a weight, or `None` if it has none. 0 is its own image. At level 1 each weight from 8000 up is its
+    /// own image too. A weight of a run has its image there.
     pub fn get(&self, weight: u16) -> Option<u16>
         ensures { result ≡ weight_image self.now.level self.now.runs weight }
     {
@@ -127,7 +127,7 @@ pub fn proper_runs_rise()
     ensures { ProperRunsRise }
 {}
 
-/// The law that runs with a fault make none: so `from_runs` is `Ok` exactly where the runs are proper.
+/// The law that runs with an error make none: so `from_runs` is `Ok` exactly if the runs are proper.
 pub fn faulty_runs_are_not_proper()
     ensures { FaultyRunsAreNotProper }
 {}
@@ -137,7 +137,7 @@ pub fn runs_that_stay_keep_weights()
     ensures { RunsThatStayKeepWeights }
 {}
 
-// The first fault of some runs, or `None` if they make a map.
+// The first error of some runs, or `None` if they make a map.
 fn first_fault(level: Level, runs: &[Run]) -> Option<MapFault>
     ensures { MatchOption result (AreProperRuns level runs.now) (IsMapFault level runs.now) }
 {
@@ -188,7 +188,7 @@ fn is_side_in_range(first: u16, count: u16, end: u32) -> bool
     first > 0 && u32::from(first) + u32::from(count) <= end
 }
 
-// The least number above the weights of a level that a run may hold.
+// The least number above the weights of a level that a run may have.
 fn weights_end(level: Level) -> u32
     ensures { result ≡ map_runs.weights_end level }
 {
@@ -237,7 +237,7 @@ fn image(level: Level, runs: &[Run], weight: u16) -> Option<u16>
     Some(runs[at].to + (weight - runs[at].from))
 }
 
-// Whether the weight stays, whatever the runs are.
+// Whether the weight is its own image with any runs.
 fn is_kept(level: Level, weight: u16) -> bool
     ensures { (runs : List Run) → weight_image level runs weight ≡ cond result (Some weight) (run_image runs weight) }
 {
@@ -247,7 +247,7 @@ fn is_kept(level: Level, weight: u16) -> bool
     }
 }
 
-// The place of the first run that ends above the weight.
+// The position of the first run that ends above the weight.
 fn place(runs: &[Run], weight: u16) -> usize
     requires { IsNonDecreasingBy (λ r. r.from + r.count) runs.now }
     ensures bound { result ≤ length runs.now }

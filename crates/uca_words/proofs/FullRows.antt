@@ -1,4 +1,4 @@
--- Where a level of a parse has no fault, each row that it makes has a value.
+-- Where a level of a parse has no error, each row that it makes has a value.
 use Rattle.std.proofs.Common.{◌≡◌, ◌∙◌, ◌&&◌, ◌||◌, ◌⊎◌, ℕ, Bool, cond, true, false, not, zero, suc, refl, sym, ap, ap₂, List, [], ◌∷◌, ◌++◌, length, Option, Some, None, inl, inr, is_some, true≢false, nat_lt}
 use Rattle.std.specs.Prelude.{find, fold, slice_get}
 use Rattle.std.specs.List.{list_all, list_any}
@@ -133,7 +133,7 @@ found p q (y ∷ ys) x all is =
     go true here there e = let same : y ≡ x = cc in ap q (sym same) ∙ here
     go false here there e = there e
 
--- each argument that the option may hold wants a value
+-- each argument that the option may have needs a value
 abbrev Wants : Option Rule → Type 0
 Wants o = (a : Rule) → o ≡ Some a → wants_value a ≡ true
 
@@ -344,7 +344,7 @@ wants_none false true c e = absurd (fails_not _ _ e)
 wants_none false false true e = absurd (fails_not _ _ e)
 wants_none false false false e = refl
 
--- at the end of a level with no fault and no subcommand, what is required has a value
+-- at the end of a level with no error and no subcommand, what is required has a value
 pub required_there : (s : Shape) (words : List Text) → want_values s.rules ≡ true → level_fault s [] nothing_held words false [] ≡ []
     → list_all (has_required (finished s.rules (walk s.rules [] nothing_held words).held)) s.rules ≡ true
 required_there s words wants passes =

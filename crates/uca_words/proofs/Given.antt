@@ -11,7 +11,7 @@ use Rattle.clap.specs.declared.parser.matches.MatchedArg.{MatchedArg}
 use Rattle.clap.specs.declared.parser.matches.ValueSource.{ValueSource}
 use Rattle.clap.proofs.TakesLemmas.{present_row}
 
--- the source tells it, and where there is none that there are matches
+-- by its source or, if it has none, by whether there are matches
 abbrev is_from_words : Option ValueSource → Bool → Bool
 is_from_words source matched = option_map_or (λ s. explicit_source (Some s)) source matched
 

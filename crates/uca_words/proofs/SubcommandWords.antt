@@ -1,4 +1,4 @@
--- What the matches and the errors of the command say of the words.
+-- What the matches and the errors of the command say of the arguments.
 use Rattle.std.proofs.Common.{◌≡◌, ◌≢◌, ◌&&◌, ◌||◌, Bool, List, [], Option, Some, None, Result, Ok, Err, IfOk, IfErr, true, false, Bor, inl, inr, option_map, refl, ap, subst, sym, ◌∙◌}
 use Rattle.std.specs.Box.{box_value}
 use Rattle.std.specs.Option.{option_map_or}
@@ -29,11 +29,11 @@ uca_is_free : is_simple_and_free uca_app ≡ true
 unfolding clap_on_literals
 uca_is_free = refl
 
--- where it has no fault at the words, one of its subcommands was met, with its words
+-- if it has no error at the arguments, one of its subcommands was met, with its arguments
 uca_taken : (words : List Text) → fault_of uca_app words ≡ [] → option_map_or (λ (p : Text × List Row). is_met p.0 p.1) (subcommand_of uca_app words) false ≡ true
 uca_taken words passes = taken uca_app words refl refl refl passes
 
--- what a parse met, as `subcommand` answers it
+-- what a parse met, as `subcommand` returns it
 abbrev pub Met : Type 0
 Met = Bor Text × Bor ArgMatches
 
@@ -54,7 +54,7 @@ both_of (Some b) f g name rows named rest =
     let last : g b ≡ rows = cc in
     rw (first, last) refl
 
--- the command has no fault at the words, and this is the subcommand that they name
+-- the command has no error at the arguments, and this is the subcommand that they name
 pub record Meets (words : List Text) (met : Met) : Type 0 where
   pub passes : fault_of uca_app words ≡ []
   pub is : subcommand_of uca_app words ≡ Some (met.0.now, rows_met met)
@@ -69,7 +69,7 @@ meets command words m o met stands has passes is named rows = record {
       (sym named ∙ ap (option_map (λ (p : Met). p.0.now)) is) (sym rows ∙ ap (option_map rows_met) is);
 }
 
--- it is one of the command's, and has its words
+-- it is one of the command's, and has its arguments
 pub is_known : (words : List Text) (met : Met) → Meets words met → is_met met.0.now (rows_met met) ≡ true
 is_known words met meet = subst (λ o. option_map_or (λ (p : Text × List Row). is_met p.0 p.1) o false ≡ true) meet.is (uca_taken words meet.passes)
 

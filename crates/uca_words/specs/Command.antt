@@ -1,4 +1,4 @@
--- The command `uca`, as far as a parse reads it: its subcommands and their words.
+-- The command `uca`, as far as a parse reads it: its subcommands and their arguments.
 use Rattle.std.specs.Prelude.{◌≡◌, List, [], ◌∷◌, Some, true, false, codes, fold}
 use Rattle.clap.specs.declared.builder.action.ArgAction.TheVariants.{SetTrue}
 use Rattle.clap.specs.declared.builder.command.Command.{Command}
@@ -6,7 +6,7 @@ use Rattle.clap.specs.declared.builder.command.Command.TheViews.{out-Command}
 use Rattle.clap.specs.Words.{App, Rule, Text, app_of, new_app, new_rule, with_rule, with_subcommand}
 use Rattle.clap.specs.Simple.{on_top}
 
--- a word that has to be there
+-- an argument that has to be there
 abbrev pub word_rule : Text → Rule
 word_rule id = record (new_rule id) { required = true; value_names = 1 }
 

@@ -1,4 +1,4 @@
--- What is known of a subcommand that a parse without fault met, and what is asked of its rows. Only private
+-- What is known of a subcommand that a parse without error met, and what is asked of its rows. Only private
 -- contracts cite it.
 use Rattle.std.specs.Prelude.{◌≡◌, ◌&&◌, ◌||◌, Bool, not, is_some, List}
 use Rattle.std.specs.List.{list_all, list_any}
@@ -9,14 +9,14 @@ use Rattle.uca_words.specs.declared.WordFault.TheVariants.{Weighting}
 use Rattle.uca_words.specs.Command.{subcommands}
 use Rattle.uca_words.specs.Words.{HasOtherWeighting}
 
--- each word that the subcommand requires has a value
+-- each argument that the subcommand requires has a value
 abbrev pub has_words : App → List Row → Bool
 has_words app rows = list_all (λ rule. not rule.required || is_some (first_of rule.id rows)) app.top.rules
 
--- a subcommand has this name, and each word that it requires has a value
+-- a subcommand has this name, and each argument that it requires has a value
 abbrev pub is_met : Text → List Row → Bool
 is_met name rows = list_any (λ app. bytes_eq app.top.name name && has_words app rows) subcommands
 
--- the fault is that the weighting that is given is none of the two
+-- the error is that the weighting that is given is neither of the two
 abbrev pub IsWeightingFault : List Row → WordFault → Type 0
 IsWeightingFault rows fault = (fault ≡ Weighting) × HasOtherWeighting rows

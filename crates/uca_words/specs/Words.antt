@@ -1,4 +1,4 @@
--- What the words of a subcommand say.
+-- What the arguments of a subcommand say.
 use Rattle.std.specs.Prelude.{◌≡◌, ◌≢◌, ⊤, true, false, List, [], Option, Some, None, codes, option_map}
 use Rattle.std.specs.Borrow.{Bor}
 use Rattle.clap.specs.declared.error.Error.{Error}
@@ -25,14 +25,14 @@ abbrev pub HasDepth : List Row → Depth → Type 0
 HasDepth rows Identical = is_given (codes "identical") rows ≡ true
 HasDepth rows Weights = is_given (codes "identical") rows ≡ false
 
--- the word that is called so is this one
+-- the argument of this name is this one
 abbrev pub HasWord : List Row → Text → Bor Text → Type 0
 HasWord rows id word = first_of id rows ≡ Some word.now
 
 abbrev pub HasFiles : List Row → Bor Text → Bor Text → Type 0
 HasFiles rows table properties = HasWord rows (codes "table") table × HasWord rows (codes "data") properties
 
--- the subcommand of this name, with these rows of its arguments, says these words
+-- the subcommand of this name, with these rows of its arguments, says these `Words`
 abbrev pub Says : Text → List Row → Words → Type 0
 Says name rows (Check table properties) = (name ≡ codes "check") × HasFiles rows table properties
 Says name rows (Keys weighting depth lines table properties) =
@@ -50,12 +50,12 @@ Says name rows (Audit base properties rules tailored certificate) =
 Says name rows (Affected properties rules) =
     (name ≡ codes "affected") × HasWord rows (codes "data") properties × HasWord rows (codes "rules") rules
 
--- the subcommand that was met, with the rows of its arguments, says these words
+-- the subcommand that was met, with the rows of its arguments, says these `Words`
 abbrev pub SayWords : Option (Text × List Row) → Words → Type 0
 SayWords None words = ⊥
 SayWords (Some met) words = Says met.0 met.1 words
 
--- `--weighting` is given a value, and it is the word for no weighting
+-- `--weighting` is given a value, and it is the name of no weighting
 abbrev pub IsOtherWeighting : Option Text → Type 0
 IsOtherWeighting None = ⊥
 IsOtherWeighting (Some text) = IsNoWeighting text
@@ -68,18 +68,18 @@ abbrev pub AskForOtherWeighting : Option (Text × List Row) → Type 0
 AskForOtherWeighting None = ⊥
 AskForOtherWeighting (Some met) = HasOtherWeighting met.1
 
--- the command has no fault at the words, and they name a subcommand that says this
+-- the command has no error at the arguments, and they name a subcommand that says this
 abbrev pub AreRead : List Text → Words → Type 0
 AreRead words said = (fault_of uca_app words ≡ []) × SayWords (subcommand_of uca_app words) said
 
--- what an error says of the words: the command has this kind of fault at them, and does not take them;
--- or it has none, and they give a word for no weighting; or an allocation failed
+-- What an error says of the arguments. The command has this kind of error at them, and does not take
+-- them. Or it has none, and they give a weighting with no known name. Or an allocation failed.
 abbrev pub IsFaultOf : List Text → WordFault → Type 0
 IsFaultOf words (Refused error) = IsAmong (kind_of error) (fault_of uca_app words) × (takes uca_app words ≢ true)
 IsFaultOf words Weighting = (fault_of uca_app words ≡ []) × AskForOtherWeighting (subcommand_of uca_app words)
 IsFaultOf words Memory = ⊤
 
--- what becomes of an error of `clap`
+-- how an error of `clap` is returned
 abbrev pub refused_by_kind : ErrorKind → Error → WordFault
 refused_by_kind OutOfMemory error = Memory
 refused_by_kind _ error = Refused error

@@ -42,7 +42,7 @@ pub enum Words<'a> {
     Keys {
         /// The weighting, if one is given.
         weighting: Option<Weighting>,
-        /// How far texts are compared: `Identical` where `--identical` is given.
+        /// How far texts are compared: `Identical` if `--identical` is given.
         depth: Depth,
         /// Whether the line is printed after its key: `--lines` is given.
         lines: bool,
@@ -55,7 +55,7 @@ pub enum Words<'a> {
     Sort {
         /// The weighting, if one is given.
         weighting: Option<Weighting>,
-        /// How far texts are compared: `Identical` where `--identical` is given.
+        /// How far texts are compared: `Identical` if `--identical` is given.
         depth: Depth,
         /// The name of the table file.
         table: &'a str,
@@ -66,7 +66,7 @@ pub enum Words<'a> {
     Compare {
         /// The weighting, if one is given.
         weighting: Option<Weighting>,
-        /// How far texts are compared: `Identical` where `--identical` is given.
+        /// How far texts are compared: `Identical` if `--identical` is given.
         depth: Depth,
         /// The name of the table file.
         table: &'a str,

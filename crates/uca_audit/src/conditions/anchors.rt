@@ -18,7 +18,7 @@ use std::alloc::{AllocError, Allocator};
 use uca_match::{Collator, Lookup, Trie};
 use uca_weights::{Element, Level, Strength};
 
-/// The first primary of implicit weights (UTS #10, section 10.1.3); new primaries stand below it.
+/// The first primary of implicit weights (UTS #10, section 10.1.3); new primaries are below it.
 const FIRST_IMPLICIT: u16 = 0x8000;
 
 /// The first relation whose anchor has no element that a new weight can be put on, by its index. Relations of identical
@@ -45,7 +45,7 @@ pub(crate) fn first_without_anchor<A: Allocator + Copy, T: Allocator>(
     Ok(None)
 }
 
-/// The level at which texts of a strength differ, if at one.
+/// The level at which texts of a strength differ, if there is one.
 pub(crate) fn level_of(strength: Strength) -> Option<Level>
     ensures { result ≡ weights.level_of strength }
 {
@@ -68,7 +68,7 @@ pub(crate) fn weight(level: Level, element: Element) -> u16
     }
 }
 
-/// The place of the element that a new weight at the level is put on, if there is one.
+/// The position of the element that a new weight at the level is put on, if there is one.
 pub(crate) fn anchor_place(level: Level, elements: &[Element]) -> Option<usize>
     ensures { MatchOption result (HasNoAnchor level elements.now) (IsAnchorAt level elements.now) }
 {
@@ -80,7 +80,7 @@ pub(crate) fn anchor_place(level: Level, elements: &[Element]) -> Option<usize>
     }
 }
 
-/// The place of the last element that is not ignorable to the level: it has a weight at one of the levels from 1 to it.
+/// The position of the last element that is not ignorable to the level: it has a weight at one of the levels from 1 to it.
 fn last_not_ignorable(level: Level, elements: &[Element]) -> Option<usize>
     ensures { MatchOption result (AllByRecursion (IsIgnorableTo level) elements.now) (EndsAt level elements.now) }
 {
@@ -103,8 +103,8 @@ fn is_ignorable_to(level: Level, element: Element) -> bool
     }
 }
 
-/// Whether a new weight at the level can be put on an element that is not ignorable to it: it is no continuation, and
-/// its primary, where that is to change, is below those of implicit weights.
+/// Whether a new weight at the level can be put on an element that is not ignorable to it. The element is not a
+/// continuation. If its primary is to change, it is below those of implicit weights.
 fn takes_weight(level: Level, element: Element) -> bool
     ensures { IsTrue result ↔ (¬ (IsContinuation element) × IsLow level (weights.weight level element)) }
 {
@@ -117,7 +117,7 @@ fn takes_weight(level: Level, element: Element) -> bool
     }
 }
 
-/// Whether an element has a weight at level 1 alone.
+/// Whether an element has a weight only at level 1.
 fn is_continuation(element: Element) -> bool
     ensures { IsTrue result ↔ IsContinuation element }
 {

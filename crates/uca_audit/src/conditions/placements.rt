@@ -22,16 +22,16 @@ use uca_weights::{Element, Level};
 /// Where a target was placed.
 #[derive(Clone, Copy)]
 pub(crate) struct Placement {
-    /// The level of the relation's strength; none for `Identical`, and the weights say nothing then.
+    /// The level of the relation's strength. For `Identical` it is `None`, and the weights below mean nothing.
     pub level: Option<Level>,
     /// The anchor's weight at that level.
     pub old: u16,
-    /// The new weight, which the target has in its place.
+    /// The new weight, which the target has in place of the old one.
     pub new: u16,
 }
 
-/// The first relation whose target was not placed, by its index. The list is empty, and gets how the targets before it were
-/// placed. An error means that it ran out of memory.
+/// The first relation whose target was not placed, by its index. The list, empty at first, gets how the targets before
+/// it were placed. An error means that it ran out of memory.
 pub(crate) fn first_not_placed<A: Allocator + Copy, T: Allocator>(
     alloc: A,
     inputs: &Inputs<T>,
@@ -118,7 +118,7 @@ fn weighted(
     })
 }
 
-/// How a row was placed where it differs at no level, if it was.
+/// How a row was placed that differs at no level, if it was.
 fn identical(anchor: &[Element], expansion: &[Element], row: &[Element]) -> Option<Placement>
     ensures { MatchOption result (¬ (row.now ≡ anchor.now ++ expansion.now))
         (λ p. (p.level ≡ None) × (row.now ≡ anchor.now ++ expansion.now)) }
@@ -134,8 +134,8 @@ fn identical(anchor: &[Element], expansion: &[Element], row: &[Element]) -> Opti
     })
 }
 
-/// The weight with which a row has the elements before the anchor's last one, that one with the weight at the level, and
-/// then the expansion's, if there is one.
+/// The new weight of a row, if it has one. The row has the elements before the anchor's last one, then that one with
+/// the new weight at the level, and then the expansion's.
 fn placed_weight(
     level: Level,
     before: &[Element],
@@ -189,14 +189,14 @@ fn reset(weight: u16, default: u16) -> u16
     if weight == 0 { 0 } else { default }
 }
 
-/// Whether the new weight is greater than the old one, for a before-relation less.
+/// Whether the new weight is greater than the old one, or less for a before-relation.
 fn is_on_side(is_before: bool, old: u16, new: u16) -> bool
     ensures { IsTrue result ↔ IsOnSide is_before old new }
 {
     if is_before { new < old } else { old < new }
 }
 
-/// Whether two elements are the same, the mark included.
+/// Whether two elements are the same, also by whether they are variable.
 fn is_same(one: Element, other: Element) -> bool
     ensures { IsTrue result ↔ (one ≡ other) }
 {

@@ -74,7 +74,7 @@ fn is_covered<A: Allocator + Copy, T: Allocator>(images: &Images<A, T>, element:
         && images.tertiary.get(element.tertiary).is_some()
 }
 
-/// The first base row whose key is no target and whose tailored row is there, but is not its image, by its index.
+/// The first base row whose key is not a target and whose tailored row is there, but is not its image, by its index.
 pub(crate) fn first_changed<A: Allocator + Copy, T: Allocator>(
     inputs: &Inputs<T>,
     tailored: &Trie<A>,

@@ -17,7 +17,7 @@ use std::alloc::{AllocError, Allocator};
 use uca_tailorings::Condition;
 use uca_weights::Level;
 
-/// The index of the first relation whose new weight is a known one, or is that of another relation too, or is 8000 or more
+/// The index of the first relation whose new weight is known, or is also that of another relation, or is 8000 or more
 /// at level 1.
 pub(crate) fn first_not_fresh<A: Allocator + Copy, T: Allocator>(
     alloc: A,
@@ -39,8 +39,8 @@ pub(crate) fn first_not_fresh<A: Allocator + Copy, T: Allocator>(
     Ok(None)
 }
 
-/// The index of the first relation between whose old and new weight a known weight lies, or the new weight of an earlier
-/// relation. It takes no memory: the new weights are put in with the known ones as the relations go by.
+/// The index of the first relation with a known weight, or the new weight of an earlier relation, between its old and
+/// its new weight. It takes no memory: the new weights are put in with the known ones as the relations go by.
 pub(crate) fn first_not_nearest<A: Allocator + Copy, T: Allocator>(
     inputs: &Inputs<T>,
     placements: &[Placement],
@@ -120,7 +120,7 @@ fn is_nearest<A: Allocator + Copy>(placement: Placement, known: &WeightSet<A>) -
     !known.contains_between(level, placement.old, placement.new)
 }
 
-/// Whether a new weight stands below the primaries of implicit weights, if it is a primary.
+/// Whether a new weight is below the primaries of implicit weights, if it is a primary.
 fn is_below_implicit(level: Level, weight: u16) -> bool
     ensures { IsTrue result ↔ IsLow level weight }
 {

@@ -18,7 +18,7 @@ pub fn cut_at(text: &[u8], byte: u8) -> (&[u8], &[u8])
 }
 
 /// The word at the front of the text, up to the first blank, and what follows it. The word is empty
-/// where the text is, or where it begins with a blank.
+/// if the text is empty or begins with a blank.
 pub fn cut_word(text: &[u8]) -> (&[u8], &[u8])
     ensures word { result.0.now ≡ Fields.word_of text.now }
     ensures rest { result.1.now ≡ Fields.after_word text.now }

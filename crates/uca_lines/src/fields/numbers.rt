@@ -3,8 +3,8 @@
 ghost use Rattle.std.specs.Prelude.{◌≡◌, ◌≤◌, ◌<◌, ◌^◌, ◌%◌, length, IfSome, [], ◌∷◌};
 ghost use Rattle.uca_lines.specs.Numbers.{hex_of, code_point_of, weight_of, decimal_of, class_of, upper_digit, digits};
 
-/// The code point that a word of four to six digits stands for; None where the word is another text, and
-/// for a surrogate or a number above 10FFFF.
+/// The code point that a word of four to six digits stands for; `None` if the word is another text, a
+/// surrogate or a number above 10FFFF.
 pub fn code_point(word: &[u8]) -> Option<char>
     ensures { result ≡ code_point_of word.now }
 {
@@ -14,7 +14,7 @@ pub fn code_point(word: &[u8]) -> Option<char>
     char::from_u32(hexadecimal(word)?)
 }
 
-/// The weight that a word of four digits stands for; None where the word is another text.
+/// The weight that a word of four digits stands for; `None` if the word is another text.
 pub fn weight(word: &[u8]) -> Option<u16>
     ensures { result ≡ weight_of word.now }
 {
@@ -25,7 +25,7 @@ pub fn weight(word: &[u8]) -> Option<u16>
     Some(number as u16)
 }
 
-/// The combining class, 1 to 254, that a word of decimal digits stands for; None where the word is
+/// The combining class, 1 to 254, that a word of decimal digits stands for; `None` if the word is
 /// another text, begins with 0, or stands for another number.
 pub fn class_number(word: &[u8]) -> Option<u8>
     ensures { result ≡ class_of word.now }

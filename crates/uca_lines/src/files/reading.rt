@@ -19,10 +19,15 @@ use uca_weights::Source;
 ///
 /// # Errors
 ///
-/// The line, counted from 1, and of its errors the first in this order, each called as the form of the
-/// taker says: it is line 1,000,001 or has more bytes than the form allows; where the form has `lf_first`,
-/// no LF ends it; what `taker` returns; no LF ends it. A source that fails and an allocation that fails
-/// come with the line that was being read. After an error the source is not used further.
+/// The line, counted from 1, and the first of its errors in this order. The format of the taker names their kinds.
+///
+/// 1. The line is line 1,000,001, or has more bytes than the format allows.
+/// 2. No LF ends it, if the format has `lf_first`.
+/// 3. What `taker` returns.
+/// 4. No LF ends it.
+///
+/// A source that fails and an allocation that fails come with the line that was being read. After an error the source
+/// is not used further.
 pub fn read_lines<T: LineParser, R: Read, A: Allocator>(
     alloc: A,
     source: &mut Source<R>,
@@ -105,7 +110,7 @@ fn last_line_kind<T: LineParser>(line: &[u8], taker: &mut T) -> T::Kind
     }
 }
 
-// What the form calls an error of a line reader.
+// What the format calls an error of a line reader.
 fn kind_of<K: Copy + Drop>(form: FileForm<K>, fault: LineFault) -> K
     ensures { result ≡ kind_of_fault form fault }
 {

@@ -10,6 +10,10 @@ use uca_lines::fields::six_digits;
 use uca_weights::{Sink, WriteFault};
 
 /// Writes a code point: four digits, or as many as it needs.
+///
+/// # Errors
+///
+/// Those of [`OutputBuffer::write`].
 pub fn write_point<W: Write>(
     buffer: &mut OutputBuffer,
     out: &mut Sink<W>,

@@ -16,6 +16,10 @@ use uca_values::{Header, ImplicitRange};
 use uca_weights::{Sink, Weighting, WriteFault};
 
 /// Writes the lines of a header, as the first of a text.
+///
+/// # Errors
+///
+/// Those of [`OutputBuffer::write`].
 pub fn write_header<A: Allocator, W: Write>(
     buffer: &mut OutputBuffer,
     out: &mut Sink<W>,

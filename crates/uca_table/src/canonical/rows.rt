@@ -16,7 +16,11 @@ use uca_lines::OutputBuffer;
 use uca_values::Row;
 use uca_weights::{Element, Sink, WriteFault};
 
-/// Writes rows, each as a line.
+/// Writes rows, one line for each.
+///
+/// # Errors
+///
+/// Those of [`OutputBuffer::write`].
 pub fn write_rows<A: Allocator, W: Write>(
     buffer: &mut OutputBuffer,
     out: &mut Sink<W>,

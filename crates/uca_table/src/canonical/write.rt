@@ -14,7 +14,7 @@ use uca_weights::{Sink, WriteFault};
 
 /// Writes the canonical text of a table, which is a table file that means this table. It takes no memory.
 ///
-/// Each line ends in LF, and nothing else stands in the text:
+/// Each line ends in LF. The text has these lines and nothing else:
 ///
 /// - `@version V`;
 /// - `@variable non-ignorable` or `@variable shifted`, if the table has a setting;
@@ -26,7 +26,7 @@ use uca_weights::{Sink, WriteFault};
 ///
 /// # Errors
 ///
-/// The writer failed: `written` says how many bytes went out, which are the first of the text.
+/// The writer failed: `written` says how many bytes went out, counted from the beginning of the text.
 pub fn write_table<A: Allocator, W: Write>(
     table: &Table<A>,
     out: &mut Sink<W>,

@@ -26,9 +26,11 @@ pub enum RangeLine {
 ///
 /// # Errors
 ///
-/// Of the causes in the line the first in this order: `Line` where its first word is not `ccc`, `core` or
-/// `other`, where it has another number of words, or where the range has no `..`; `CodePoint`; `Weight`
-/// where the class is no decimal number from 1 to 254 without leading zeros.
+/// The first of these in the line:
+///
+/// - `Line`: its first word is not `ccc`, `core` or `other`, it has another number of words, or the range has no `..`.
+/// - `CodePoint`: an end of the range is not a code point.
+/// - `Weight`: the class is not a decimal number from 1 to 254 without leading zeros.
 pub fn range_line(text: &[u8]) -> Result<RangeLine, FaultKind>
     ensures value { (words : List (List ℕ)) → AreWords text.now words → result ≡ read_words words }
     ensures numbered { IfOk result IsNumbered }
@@ -48,7 +50,7 @@ pub fn range_line(text: &[u8]) -> Result<RangeLine, FaultKind>
     class_line(kind, range, number)
 }
 
-// The first word, and what follows it; None where there is none.
+// The first word, and what follows it; `None` if there is none.
 fn next_word(text: &[u8]) -> Option<(&[u8], &[u8])>
     ensures { (words : List (List ℕ)) → AreWords text.now words → MatchOption result (words ≡ [])
         (λ w. (tail : List (List ℕ)) × (words ≡ w.0.now ∷ tail) × AreWords w.1.now tail) }

@@ -21,21 +21,21 @@ use uca_weights::Source;
 ///
 /// # Errors
 ///
-/// The first line that is refused, and why: of several causes in a line the first in this order.
+/// The first line that is rejected, and why. If a line has several causes, the first in this order is returned.
 ///
 /// - `Limit`: line 1,000,001, or a line of more than 4,096 bytes without its LF.
-/// - `Order`: another line where `@data 1` is due, or `@data 1` a second time. A file that ends without
-///   it is refused with the number of its lines plus one.
+/// - `Order`: another line where `@data 1` must come, or `@data 1` a second time. A file that ends without
+///   it is rejected with the number of its lines plus one.
 /// - `Line`: another first word, another number of words, or no `..` in the range.
-/// - `CodePoint`: an end of the range is no code point.
-/// - `Weight`: the class is no decimal number from 1 to 254 without leading zeros.
-/// - `Range`: the first code point is greater than the last, two `ccc` ranges overlap, or two ranges of
-///   `core` and `other` lines.
+/// - `CodePoint`: an end of the range is not a code point.
+/// - `Weight`: the class is not a decimal number from 1 to 254 without leading zeros.
+/// - `Range`: the first code point is greater than the last, or the range overlaps an earlier one. A `ccc`
+///   range may overlap no `ccc` range, and a `core` or `other` range may overlap no range of these two.
 /// - `Limit`: line 4,097 of a kind.
 /// - `Line`: no LF ends the line.
 ///
-/// `Read` where the source failed, and `Memory` where an allocation failed, come with the line that was
-/// being read.
+/// `Read` (the source failed) and `Memory` (an allocation failed) come with the line that was being
+/// read.
 pub fn read_data<A: Allocator + Copy, R: Read>(
     alloc: A,
     source: &mut Source<R>,

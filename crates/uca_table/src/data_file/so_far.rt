@@ -1,4 +1,4 @@
-//! What the lines of a data file say, taken one after the other.
+//! What the lines of a data file say, taken in turn.
 
 ghost use Rattle.std.specs.Prelude.{◌≡◌, ◌⊎◌, ◌<◌, ◌≤◌, List, ℕ, length, true, false, refl, OnOk, IfErr, Ok};
 ghost use Rattle.uca_values.specs.declared.faults.FaultKind.{FaultKind};
@@ -16,7 +16,7 @@ use uca_values::{Data, FaultKind, RangeFault};
 /// The line before all ranges.
 const HEADER: &[u8] = b"@data 1";
 
-/// What the lines so far say: whether the header stands, and the properties that the ranges give.
+/// What the lines so far say: whether the header was there, and the properties that the ranges give.
 #[derive(Drop)]
 pub struct DataSoFar<A: Allocator> {
     pub started: bool,
@@ -65,7 +65,7 @@ impl<A: Allocator> LineParser for DataSoFar<A> {
     }
 }
 
-// The header stands from now on, if it does not stand already.
+// From now on the header was there. It is an `Order` error if it was there before.
 fn start(started: &mut bool) -> Result<(), FaultKind>
     ensures ok { OnOk result ((started.old ≡ false) × (started.new ≡ true)) }
     ensures err { IfErr result (λ kind. (kind ≡ FaultKind.Order) × (started.old ≡ true) × (started.new ≡ started.old)) }

@@ -11,7 +11,7 @@ use thiserror::Error;
 #[derive(Clone, Copy, Debug, PartialEq, Eq, Error)]
 #[error("the writer failed after {written} bytes")]
 pub struct WriteFault {
-    /// How many bytes of the text went out before, in bytes from its beginning.
+    /// How many bytes, from the beginning of the text, went out before.
     pub written: u64,
 }
 
@@ -47,9 +47,12 @@ impl<W: Write> Sink<W> {
         self.failed
     }
 
-    /// Writes the whole text, by as many calls of the writer as it takes. A fault comes at the first
-    /// error of any kind, also an interruption, and at the first call that takes none of the bytes
-    /// left; no call follows it. Then the first `written` bytes went out, and not all did.
+    /// Writes the whole text, by as many calls of the writer as it takes.
+    ///
+    /// # Errors
+    ///
+    /// A call of the writer failed by an error of any kind, also an interruption, or took none of the bytes left. No
+    /// call comes after it. The first `written` bytes went out, and not all did.
     pub fn write_all(&mut self, text: &[u8]) -> Result<(), WriteFault>
         ensures bytes { Writes self.old.contents self.new.contents text.now result }
         ensures not_all { IfErr result (λ e. e.written < length text.now) }

@@ -45,9 +45,12 @@ impl<R: Read> Source<R> {
         self.failed
     }
 
-    /// Reads into `buf` by one call of the reader, and answers how many bytes it gave: none at the
-    /// end, or where `buf` has no room. An error of any kind, also an interruption, is answered as
-    /// it comes.
+    /// Reads into `buf` by one call of the reader, and returns how many bytes it gave: 0 at the end, or if `buf` has no
+    /// room.
+    ///
+    /// # Errors
+    ///
+    /// The call failed by an error of any kind, also an interruption.
     pub fn read(&mut self, buf: &mut [u8]) -> Result<usize, ReadFault>
         ensures bound { ReadsAtMost result buf.new }
         ensures bytes { ReadConsumes self.old.remaining self.new.remaining result buf.new }

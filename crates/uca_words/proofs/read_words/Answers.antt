@@ -1,4 +1,4 @@
--- The words are those of the subcommand that the matches name, and an error is one that the command has.
+-- The arguments are those of the subcommand that the matches name, and an error is one that the command has.
 use Rattle.std.proofs.Common.{rules}
 use Rattle.clap.specs.Walk.{texts}
 use Rattle.uca_words.proofs.SubcommandWords.{is_known, meets, names_none, reads, refuses}

@@ -1,4 +1,4 @@
--- The subcommand that was met is one of those that are told apart.
+-- The subcommand that was met is one of those that the function knows.
 use Rattle.std.proofs.Common.{sym, true≢false}
 use Rattle.clap.specs.Words.{found_of, rows_of}
 use Rattle.uca_words.specs.Command.{check_app, keys_app, sort_app, compare_app, tailor_app, audit_app, affected_app}

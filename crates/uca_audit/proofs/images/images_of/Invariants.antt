@@ -1,4 +1,4 @@
--- Each weight so far has its image at its place.
+-- Each weight so far has its image at its position.
 use Rattle.std.proofs.Common.{◌≡◌, length}
 use Rattle.uca_audit.specs.ImageTables.{AreImagesBelow}
 use Rattle.uca_audit.proofs.images.images_of.Given as goal

@@ -1,4 +1,4 @@
--- Bytes that mean a certificate are refused by a stop alone.
+-- Bytes that mean a certificate are rejected only by a stop.
 use Rattle.uca_certificates.proofs.WholeLaws.{stops}
 use Rattle.uca_certificates.proofs.laws.bytes_with_a_fault_mean_no_certificate.Goals as goal
 

@@ -1,4 +1,4 @@
--- A fault stands within the runs.
+-- The index of an error is within the runs.
 use Rattle.std.proofs.Common.{arith}
 use Rattle.uca_certificates.proofs.MapLaws.{fault_within}
 use Rattle.uca_certificates.proofs.lines.map_of.Goals as goal

@@ -1,4 +1,4 @@
--- Bytes mean one certificate at most, and none where a fault stands.
+-- Bytes mean one certificate at most, and none if they have an error.
 use Rattle.uca_certificates.specs.Certificates.{CertificateContent}
 use Rattle.uca_certificates.proofs.WholeLaws.{only_known}
 use Rattle.uca_certificates.proofs.read.read_certificate.Goals as goal

@@ -1,4 +1,4 @@
--- The texts of the three levels are written one after the other.
+-- The texts of the three levels are written in turn.
 use Rattle.std.proofs.Common.{[], ap, subst, ◌∙◌, arith}
 use Rattle.uca_weights.specs.declared.Level.TheVariants.{One, Two, Three}
 use Rattle.uca_lines.proofs.BufferedLemmas.{part, written_none, part_fits, part_written, part_fails, all_parts_written, none_buffered, nothing_counted, fault_writes, fault_leaves_some, flush_leaves_some}

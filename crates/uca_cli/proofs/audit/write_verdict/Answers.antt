@@ -1,4 +1,4 @@
--- An accepted tailoring is not refused, and the line of a refusal is that of its condition.
+-- An accepted tailoring is not rejected, and the line of a rejection is that of its condition.
 use Rattle.std.proofs.Common.{◌∙◌, ◌++◌, ◌∷◌, [], ap}
 use Rattle.std.proofs.lemmas.Result.{err_from_is_err_and}
 use Rattle.uca_values.specs.Content.{properties_of}

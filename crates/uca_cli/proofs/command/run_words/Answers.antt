@@ -1,4 +1,4 @@
--- The words say what is done.
+-- The arguments say what is done.
 use Rattle.std.proofs.Common.{refl}
 use Rattle.uca_cli.proofs.command.run_words.Goals as goal
 

@@ -1,4 +1,4 @@
--- A file does not open; or all are opened and run over, and what is answered is kept.
+-- A file does not open; or all are opened and run over, and what is returned is kept.
 use Rattle.std.proofs.Common.{[], ◌∷◌, Ok, Err, inl, inr, refl}
 use Rattle.std.proofs.lemmas.Result.{err_from_is_err_and}
 use Rattle.uca_cli.proofs.command.tailor_files.Goals as goal

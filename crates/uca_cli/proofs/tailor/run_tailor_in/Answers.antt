@@ -1,4 +1,4 @@
--- The whole run, from what its three files mean and what the planner answers of them.
+-- The whole run, from what its three files mean and what the planner returns for them.
 use Rattle.std.specs.Prelude.{⊤}
 use Rattle.std.proofs.Common.{◌≡◌, [], ◌∷◌, Ok, Err, refl, subst, sym}
 use Rattle.std.proofs.lemmas.Result.{err_from_is_err_and}

@@ -1,4 +1,4 @@
--- Key after key, the nodes hold the keys so far.
+-- Key after key, the nodes have the keys so far.
 use Rattle.std.proofs.Common.{◌≡◌, ◌∷◌, ◌++◌, [], map, take, ap₂, subst, sym, ◌∙◌, arith}
 use Rattle.std.proofs.lemmas.List.{take_all, length-map, get_or-map}
 use Rattle.std.specs.List.Sorted.{IsPermutation}

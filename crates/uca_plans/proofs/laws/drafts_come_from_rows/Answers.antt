@@ -1,4 +1,4 @@
--- What holds of all rows and all implicit elements holds of what is read.
+-- What is true of all rows and all implicit elements is true of what is read.
 use Rattle.uca_plans.proofs.DraftOrigins.{come_from_rows}
 use Rattle.uca_plans.proofs.laws.drafts_come_from_rows.Goals as goal
 

@@ -1,4 +1,4 @@
--- Each target stands behind the keys so far, unless it is a base key.
+-- Each target comes after the keys so far, unless it is a base key.
 use Rattle.uca_plans.proofs.NewKeys.{plan_keys}
 use Rattle.uca_plans.proofs.laws.keys_of_plans.Goals as goal
 

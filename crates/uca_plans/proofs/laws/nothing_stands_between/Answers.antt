@@ -1,4 +1,4 @@
--- Nothing stands between.
+-- Nothing is between.
 use Rattle.uca_plans.proofs.InsertionLemmas.{stands_next}
 use Rattle.uca_plans.proofs.laws.nothing_stands_between.Goals as goal
 

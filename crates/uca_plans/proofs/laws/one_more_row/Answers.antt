@@ -1,4 +1,4 @@
--- The row replaces the one with its key, or stands behind the others.
+-- The row replaces the one with its key, or comes after the others.
 use Rattle.uca_plans.proofs.KeyPlaces.{one_more_row}
 use Rattle.uca_plans.proofs.laws.one_more_row.Goals as goal
 

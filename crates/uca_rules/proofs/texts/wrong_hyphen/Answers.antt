@@ -1,4 +1,4 @@
--- By the last of the symbols before, and by what stands before it.
+-- By the last of the symbols before, and by what is before it.
 use Rattle.std.proofs.Common.{refl}
 use Rattle.std.proofs.lemmas.Bool.{false≢true}
 use Rattle.uca_rules.proofs.Hyphens.{behind_hyphen, no_range_there, behind_range, hyphen_behind, letter_behind}

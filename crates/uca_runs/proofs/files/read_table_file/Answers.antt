@@ -1,4 +1,4 @@
--- A fault has the role of the table.
+-- An error has the role of the table.
 use Rattle.uca_lines.specs.FileStops.{is_read_kind}
 use Rattle.uca_runs.proofs.FilesLemmas.{read_of_role}
 use Rattle.uca_runs.proofs.files.read_table_file.Goals as goal

@@ -1,4 +1,4 @@
--- What is answered of a line has the cause that the definition gives it.
+-- What is returned for a line has the cause that the definition gives it.
 use Rattle.std.proofs.Common.{◌≡◌, ℕ, List, ◌∙◌, ap, subst, chars}
 use Rattle.uca_values.specs.Content.{Properties, properties_of}
 use Rattle.uca_text.specs.Texts.{NfdText, nfd_text}

@@ -1,4 +1,4 @@
--- Bytes mean one table at most, and none where a fault stands.
+-- Bytes mean one table at most, and none if they have an error.
 use Rattle.uca_lines.proofs.FileLemmas.{only_known}
 use Rattle.uca_lines.specs.declared.files.TheConstants.{TABLE_FORM}
 use Rattle.uca_values.specs.declared.faults.TableFault.{TableFault}

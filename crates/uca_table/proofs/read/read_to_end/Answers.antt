@@ -1,4 +1,4 @@
--- A line that is refused, and a file that ends without a version.
+-- A line that is rejected, and a file that ends without a version.
 use Rattle.std.proofs.lemmas.Result.{err_from_is_err_and}
 use Rattle.uca_table.proofs.ReadLaws.{refused_line, refused_end}
 use Rattle.uca_table.proofs.read.read_to_end.Goals as goal

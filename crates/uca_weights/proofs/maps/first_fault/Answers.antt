@@ -1,4 +1,4 @@
--- Each run is refused, or is proper behind the one before it.
+-- Each run is rejected, or is proper after the one before it.
 use Rattle.std.proofs.Common.{inl}
 use Rattle.uca_weights.specs.declared.maps.Run.{Run}
 use Rattle.uca_weights.proofs.RunSteps.{decides_next, decides_fault}

@@ -1,4 +1,4 @@
--- What is known behind some of the runs.
+-- What is known after some of the runs.
 use Rattle.uca_weights.proofs.RunSteps.{Decides}
 use Rattle.uca_weights.proofs.maps.first_fault.Given as goal
 

@@ -1,4 +1,4 @@
--- The run at the place of the weight, if there is one, holds it or begins above it.
+-- The run at the position of the weight, if there is one, contains it or begins above it.
 use Rattle.std.proofs.Common.{◌<◌, sym, ◌∙◌, length, arith}
 use Rattle.uca_weights.specs.declared.maps.Run.{Run}
 use Rattle.uca_weights.specs.Runs.{weights_end}

@@ -1,4 +1,4 @@
--- The ends of the runs never fall, so a binary search finds the place.
+-- The ends of the runs never fall, so a binary search finds the position.
 use Rattle.std.proofs.Common.{◌+◌, leb, rules}
 use Rattle.std.proofs.lemmas.List.Sorted.{IsPartitionPoint-from_clause, IsPartitionedBy-leb}
 use Rattle.uca_weights.specs.declared.maps.Run.{Run}

@@ -1,4 +1,5 @@
--- It answers `Err` where it refuses, and else what the inner allocator answers, whose block it counts. Assumes `Logic`.
+-- It returns `Err` where it rejects, and otherwise what the inner allocator returns, whose block it counts. Assumes
+-- `Logic`.
 use Rattle.std.proofs.Common.{◌≡◌, ℕ, ◌+◌, ◌^◌, ◌<◌, true, false, List, [], ◌∷◌, Ok, Err, refl, w64, Bor}
 use seplogic.Ra.Ura.{Ura}
 use mathlib.Core.Bool.{Bool}

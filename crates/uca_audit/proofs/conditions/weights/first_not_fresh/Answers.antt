@@ -1,4 +1,4 @@
--- The tests of placements tell which relations are fresh.
+-- The tests of placements find which relations are fresh.
 use Rattle.std.proofs.Common.{add-one, arith}
 use Rattle.uca_tailorings.specs.Tailorings.{IsFresh}
 use Rattle.uca_audit.specs.Views.{tailoring_in, IsPlacement}

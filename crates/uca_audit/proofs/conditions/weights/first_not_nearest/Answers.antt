@@ -1,4 +1,4 @@
--- The tests of placements tell which relations are nearest, and the set goes on with their new weights.
+-- The tests of placements find which relations are nearest, and their new weights are added to the set.
 use Rattle.std.proofs.Common.{add-one, arith, inl, ⊎_elim}
 use Rattle.uca_tailorings.specs.Tailorings.{IsNearest}
 use Rattle.uca_audit.specs.Views.{tailoring_in, IsPlacement}

@@ -1,4 +1,4 @@
--- A line is read, is due, and its run is added.
+-- A line is read, may come here, and its run is added.
 use Rattle.uca_certificates.proofs.TakeLaws.{line_fault, order_fault, denied, added_takes, add_fault}
 use Rattle.uca_certificates.proofs.lines.CertificateLines.take_line.Goals as goal
 

@@ -1,4 +1,4 @@
--- One more line is said; no line is to blame for a reader that failed; three levels have few lines.
+-- One more line is said; a reader that failed is not the error of a line; three levels have few lines.
 use Rattle.std.proofs.lemmas.Result.{on_ok_weaker}
 use Rattle.uca_certificates.proofs.TextsLemmas.{never_read, says_more, few_lines}
 use Rattle.uca_certificates.proofs.lines.CertificateLinesLineParser.take.Goals as goal

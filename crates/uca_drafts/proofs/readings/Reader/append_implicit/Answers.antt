@@ -1,4 +1,4 @@
--- The two elements are put one after the other.
+-- The two elements are put after the others.
 use Rattle.std.proofs.Common.{◌∷◌, ◌++◌, [], ap, ap₂, ◌∙◌, append_assoc}
 use Rattle.uca_values.specs.Content.{TableContent, properties_of}
 use Rattle.uca_values.specs.Implicit.{implicit}

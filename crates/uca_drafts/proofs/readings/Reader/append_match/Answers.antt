@@ -1,4 +1,4 @@
--- What a match gives is that of the row at its place, or of its code point.
+-- What a match gives is that of the row at its position, or of its code point.
 use Rattle.std.proofs.Common.{◌≡◌, ◌++◌, [], OnOk, ap, sym, subst, ◌∙◌, append-nil}
 use Rattle.uca_values.specs.Content.{properties_of}
 use Rattle.uca_match.specs.declared.matches.Match.TheVariants.{Unlisted}

@@ -1,4 +1,4 @@
--- Where the byte stands, the text is cut at it, and elsewhere it is all of the first part.
+-- If the text has the byte, it is cut there. Otherwise the first part is the whole text.
 use Rattle.std.proofs.Common.{◌==◌, ◌∙◌, arith, eq-eqb}
 use Rattle.uca_lines.proofs.FieldLemmas.{cut_found, cut_nowhere}
 use Rattle.uca_lines.proofs.fields.cuts.cut_at.Goals as goal

@@ -1,4 +1,4 @@
--- Where a blank stands, the text is cut at it, and elsewhere it is one word.
+-- If the text has a blank, it is cut there. Otherwise it is one word.
 use Rattle.std.proofs.Common.{sym, ◌∙◌, arith}
 use Rattle.uca_lines.specs.Fields.{is_blank}
 use Rattle.uca_lines.proofs.FieldLemmas.{cut_found, cut_nowhere}

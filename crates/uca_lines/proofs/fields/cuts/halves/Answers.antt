@@ -1,4 +1,4 @@
--- The two halves stand around the first `..`, and where the loop ends there is none.
+-- The two halves are around the first `..`, and where the loop ends there is none.
 use Rattle.uca_lines.proofs.FieldLemmas.{halves_at, halves_nowhere}
 use Rattle.std.proofs.Common.{arith}
 use Rattle.uca_lines.proofs.fields.cuts.halves.Goals as goal

@@ -1,4 +1,5 @@
--- What was read of the line, and what waits behind it. Each turn moves a byte at least, and a line has no more than `longest`.
+-- What was read of the line, and what waits after it. Each turn moves a byte at least, and a line has no more than
+-- `longest`.
 use Rattle.std.proofs.Common.{◌≡◌, ◌<◌, ◌≤◌, ◌-◌, length, vec_capacity}
 use Rattle.std.specs.Io.KnownBytes.{Consumes}
 use Rattle.uca_lines.specs.Lines.{is_lf, Lacks}

@@ -1,4 +1,4 @@
--- What is left behind an LF.
+-- What is left after an LF.
 use Rattle.std.proofs.Common.{ap, ◌∙◌}
 use Rattle.std.specs.List.{after_first}
 use Rattle.uca_lines.specs.Lines.{is_lf}

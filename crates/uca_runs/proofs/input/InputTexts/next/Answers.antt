@@ -1,4 +1,4 @@
--- What is returned where a text is due, from what is said of its line and of its text.
+-- What is returned where a text may come, from what is said of its line and of its text.
 use Rattle.std.proofs.Common.{◌≡◌, ◌+◌, ◌<◌, None, length, chars, ap, subst, sym, ◌∙◌}
 use Rattle.uca_values.specs.Content.{properties_of}
 use Rattle.uca_text.specs.Texts.{nfd_text}

@@ -1,4 +1,4 @@
--- What is returned where a line is due, from what the reader of lines says.
+-- What is returned where a line may come, from what the reader of lines says.
 use Rattle.std.proofs.Common.{◌≤◌, Err, ap, length, refl, subst, sym}
 use Rattle.uca_lines.specs.LineReader.{left_of}
 use Rattle.uca_lines.specs.NextLine.{SaysOfBytes}

@@ -1,4 +1,4 @@
--- A range that is due and may follow the others.
+-- A range that may come there and may follow the others.
 use Rattle.std.proofs.Common.{subst, List, arith}
 use Rattle.std.proofs.lemmas.Result.{err_from_is_err_and}
 use Rattle.uca_values.specs.declared.ImplicitRange.{ImplicitRange}

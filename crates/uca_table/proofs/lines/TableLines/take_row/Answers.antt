@@ -1,4 +1,4 @@
--- A row that is read may stand in a table.
+-- A row that is read may be in a table.
 use Rattle.std.proofs.lemmas.Result.{err_from_is_err_and}
 use Rattle.uca_table.proofs.TakeLaws.{row_is_entry, has_some, has_none, row_order_fault, row_text_fault, row_add_fault, row_taken}
 use Rattle.uca_table.proofs.lines.TableLines.take_row.Goals as goal

@@ -1,4 +1,4 @@
--- A setting that is due follows the version.
+-- A setting that may come there follows the version.
 use Rattle.uca_table.proofs.TakeLaws.{takes_setting}
 use Rattle.uca_table.proofs.lines.TableLines.take_setting.Goals as goal
 

@@ -1,4 +1,4 @@
--- A version is text, and nothing stands before it.
+-- A version is text, and nothing is before it.
 use Rattle.std.proofs.Common.{sym, ap, ◌∙◌, Some}
 use Rattle.std.proofs.lemmas.Result.{MatchResult-at_ok}
 use Rattle.uca_table.proofs.TakeLaws.{takes_version, keeps_version, name_is_text, is_ok_by, absent}

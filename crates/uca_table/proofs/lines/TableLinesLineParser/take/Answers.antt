@@ -1,4 +1,4 @@
--- One more line is said; no line is to blame for a reader that failed.
+-- One more line is said; a reader that failed is not the error of a line.
 use Rattle.std.proofs.lemmas.Result.{on_ok_weaker}
 use Rattle.uca_table.specs.TableLines.{Cause}
 use Rattle.uca_table.proofs.TableLinesLemmas.{no_read, says_more}
