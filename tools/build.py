@@ -3,11 +3,11 @@
 
     tools/build.py [CRATE..]          for other crates than `uca`: proves them and the libraries below them
 
-The libraries are proved side by side, the longest chain first, each over the statements of those below it and not over
-their proofs, as `rt ci` proves them. So this takes half of the time of `rt run`, which goes from crate to crate. What an
-earlier run proved, and what has not changed since, is kept in crates/*/out. `rt ci` alone is the gate.
+The libraries are proved side by side, the longest chain first. Each is proved over the statements of those below it and not
+over their proofs, as `rt ci` proves them. So this takes half of the time of `rt run`, which goes from crate to crate. What an
+earlier run proved is kept in crates/*/out, if it has not changed since. Only `rt ci` is the gate.
 
-The program is crates/uca/out/uca. The last line says how long it took; before it stands a line for each crate.
+The program is crates/uca/out/uca. A line for each crate comes first. The last line says how long all took.
 """
 import copy
 import hashlib

@@ -1,17 +1,17 @@
 #!/usr/bin/env python3
-"""Hands the program files that are nearly right, random files and random words, and judges how each run ends.
+"""Runs the program over files that are nearly right, random files and random arguments, and judges how each run ends.
 
     cd crates/uca && rt run              # proves and builds crates/uca/out/uca
     tools/changed_files.py --jobs 4      # from the top of the repository
     tools/changed_files.py --jobs 4 --random 100000 --words 100000      # a million runs and more
 
-The files of examples/ are changed one at a time: at each place one byte is dropped, doubled, or changed to each of some others;
-then come `--random` times random bytes, or random changes of several places. Each run has to end by itself, with nothing on standard
-error, or with status 1 and one line that names a place in the file that was changed, with a kind of fault that such a file may have, and
-nothing on standard output but the keys of the lines before. No other file may be named: the base, the tailored table, the certificate and the
-input are read by themselves, and of the data file rules and texts take only the classes, which can make a text of more than 64 code points faulty
-and no shorter one, so that neither the rules nor the lines of examples/ become faulty by it. What is said of a table, a tailoring or a plan names
-a row or a relation that is there, where such a refusal has one.
+The files of examples/ are changed one at a time. At each position one byte is dropped, doubled, or changed to each of some others.
+Then come random bytes, or random changes at several positions, `--random` times. Each run has to end by itself. Either nothing is
+on standard error; or the status is 1, and one line names a position in the file that was changed, with a kind of error that such a
+file may have. Then standard output has only the keys of the lines before. No other file may be named: the base, the tailored table,
+the certificate and the input are read by themselves. Rules and texts take only the classes from the data file. These can make a
+text of more than 64 code points wrong, and no shorter one, so neither the rules nor the lines of examples/ become wrong by it. A
+message about a table, a tailoring or a plan names a row or a relation that is there, if such a message names one.
 
 Then come `--words` command lines: words of a right line that are dropped, doubled, changed, moved or put in, also names of other files, of
 files that are not there, of a folder, and words that are no UTF-8. Each has to end with a status of docs/FORMATS.md and what goes with it.
@@ -35,10 +35,10 @@ BYTES = (0x00, 0x09, 0x0A, 0x0D, 0x20, 0x23, 0x26, 0x27, 0x2A, 0x2D, 0x2E, 0x2F,
 KINDS = "[A-Za-z0-9]+( [A-Za-z]+)*( at [0-9]+)?"
 SECONDS = 20
 
-# How many places of a file, and how many random changes or lines of words, are one part of the work.
+# How many positions of a file, and how many random changes or lines of arguments, are one part of the work.
 PLACES, NUMBER = 20, 250
 
-# How each file is read: the words of a command. `lines.txt` is standard input.
+# How each file is read: the arguments of a command. `lines.txt` is standard input.
 RUNS = {
     "table.txt": (("check", "table.txt", "data.txt"), ("keys", "table.txt", "data.txt"), ("tailor", "table.txt", "data.txt", "rules.txt", "made.txt")),
     "data.txt": (("check", "table.txt", "data.txt"), ("tailor", "table.txt", "data.txt", "rules.txt", "made.txt")),
@@ -48,7 +48,7 @@ RUNS = {
     "lines.txt": (("keys", "table.txt", "data.txt"), ("sort", "table.txt", "data.txt")),
 }
 
-# Lines of words that are right.
+# Lines of arguments that are right.
 LINES = (
     ("check", "table.txt", "data.txt"),
     ("keys", "--weighting", "shifted", "table.txt", "data.txt"),
@@ -58,7 +58,7 @@ LINES = (
     ("audit", "table.txt", "data.txt", "rules.txt", "tailored.txt", "certificate.txt"),
 )
 
-# Words that are put in. None names anything outside the folder.
+# Arguments that are put in. None names anything outside the folder.
 WORDS = (
     b"check", b"keys", b"sort", b"compare", b"tailor", b"audit", b"help", b"order", b"--weighting", b"--weighting=", b"--weighting=shifted", b"--weighting=x",
     b"--identical", b"--identical=", b"--identically", b"-i", b"-", b"--", b"---", b"-h", b"--help", b"--version", b"shifted", b"non-ignorable", b"Shifted", b"",
@@ -70,7 +70,7 @@ PLACED = "(%s|input) (line|byte) [0-9]+: %s\n" % (ROLES, KINDS)
 REFUSED = re.compile("%s|tailor( relation [0-9]+)?: %s\n|(left|right): %s\n" % (PLACED, KINDS, KINDS))
 NOT_OPENED = re.compile("(%s): (Open|Read|Write)\n|(%s|input) line [0-9]+: Read\n|output: Write\n" % (ROLES, ROLES))
 
-# What is wrong in a file: the kinds of faults, by the name of the file.
+# What is wrong in a file: the kinds of errors, by the name of the file.
 TABLE_FAULTS = "Line|Order|CodePoint|Weight|Range|DuplicateKey|Limit"
 FAULTS = {
     "table.txt": TABLE_FAULTS,
@@ -81,10 +81,10 @@ FAULTS = {
     "lines.txt": "TooLong|Utf8|LongRun at [0-9]+",
 }
 
-# Faults that are told at the line behind the last one.
+# Errors that name the line after the last one.
 LATE_FAULTS = {"table.txt": "Order", "tailored.txt": "Order", "data.txt": "Order", "certificate.txt": "Map Fixed"}
 
-# Refusals of a plan, and whether they name a relation; the conditions of an audit, and what they name.
+# Errors of a plan, and whether they name a relation; the conditions of an audit, and what they name.
 PLANS = {"BaseIllFormed": False, "Anchor": True, "NeedsPrefix": True, "Limit": True, "ImplicitVariable": True, "NoRoom 1": False, "NoRoom 2": False, "NoRoom 3": False}
 BASE_ROW, TAILORED_ROW, RELATION = "base row", "tailored row", "relation"
 CONDITIONS = (
@@ -95,7 +95,7 @@ CONDITIONS = (
 
 
 def changes(content, places):
-    """The content with one byte less, one doubled, or one changed, at each of some places; behind the last, one byte more."""
+    """The content with one byte less, one doubled, or one changed, at each of some positions; after the last, one byte more."""
     for place in places:
         yield content[:place] + content[place + 1:]
         yield content[:place] + content[place:place + 1] + content[place:]
@@ -107,7 +107,7 @@ def changes(content, places):
 
 
 def random_change(numbers, content):
-    """Random bytes, or the content with some changes at random places."""
+    """Random bytes, or the content with some changes at random positions."""
     if numbers.random() < 0.1:
         return bytes(numbers.randrange(256) for _ in range(numbers.randrange(64)))
     for _ in range(numbers.randrange(1, 6)):
@@ -121,7 +121,7 @@ def random_change(numbers, content):
 
 
 def random_words(numbers):
-    """Random words, or those of a right line with some changes."""
+    """Random arguments, or those of a right line with some changes."""
     if numbers.random() < 0.1:
         return [numbers.choice(WORDS) for _ in range(numbers.randrange(8))]
     words = [word.encode() for word in numbers.choice(LINES)]
@@ -156,7 +156,7 @@ def row_count(table):
 
 
 def relation_count(rules):
-    """How many relations accepted rules have, at most: a relation for each sign, where none is starred."""
+    """How many relations accepted rules have, at most: a relation for each sign, if none is starred."""
     return 5000 if b"*" in rules else len(re.findall(b"<+|=", rules))
 
 
@@ -226,7 +226,7 @@ def file_complaint(name, contents, words, done):
 
 
 def word_complaint(words, done):
-    """Why a line of words may not end so, or None."""
+    """Why a line of arguments may not end so, or None."""
     said = done.stderr.decode("utf-8", "replace")
     status = done.returncode
     if not all(is_utf8(word) for word in words):
@@ -234,7 +234,7 @@ def word_complaint(words, done):
     elif status == 0:
         goes = not said
     elif status == 1:
-        # A verdict, a fault, or keys of the lines before a fault.
+        # A verdict, an error, or keys of the lines before an error.
         goes = bool(done.stdout) if not said else REFUSED.fullmatch(said)
     elif status == 2:
         goes = not done.stdout and (said == "weighting: unknown\n" or said.startswith("error: ") or "Usage: uca" in said)
@@ -260,7 +260,7 @@ class Folder:
             file.write(content)
 
     def run(self, words):
-        """How the program ends over some words, or None where it does not."""
+        """How the program ends with some arguments, or None if it does not end."""
         with open(os.path.join(self.folder, "lines.txt"), "rb") as lines:
             try:
                 return subprocess.run([self.uca, *words], stdin=lines, stdout=subprocess.PIPE, stderr=subprocess.PIPE, cwd=self.folder, timeout=SECONDS, check=False)
@@ -293,7 +293,7 @@ class Folder:
         return count, found
 
     def restore(self):
-        """A certificate may have been written under any name: what was made goes, and the files stand as they did."""
+        """A certificate may have been written under any name: what was made is removed, and the files are as they were."""
         for name in os.listdir(self.folder):
             if name not in FILES:
                 os.remove(os.path.join(self.folder, name))
@@ -315,7 +315,7 @@ def begin(uca, above):
 
 
 def judge(part):
-    """Judges one part of the work: its kind, the file if there is one, its number, and how much there is, or its places."""
+    """Judges one part of the work: its kind, the file if there is one, its number, and how much there is, or its positions."""
     kind, name, number, seed, amount = part
     numbers = random.Random("%s %s %s %d" % (seed, kind, name, number))
     if kind == "words":

@@ -1,11 +1,11 @@
 #!/usr/bin/env python3
 """Proves one crate after an edit: the short way while you work in it.
 
-    tools/check.py CRATE [flags of `rattle check`, as --only PATH, --start FUNCTION, --allow-holes, --fix-imports]
+    tools/check.py CRATE [flags of `rattle check`, such as --only PATH, --start FUNCTION, --allow-holes, --fix-imports]
 
-The libraries below it are proved first, as `tools/build.py` does, where they have changed. The crate itself is checked
-over what earlier checks of it kept in its folder out/: after an edit mostly what changed is checked again. With --test as
-the first flag its tests are checked too. `rt ci` alone is the gate.
+The libraries below it are proved first if they have changed, as `tools/build.py` does. The crate itself is checked over what
+earlier checks kept in its folder out/: so after an edit mostly what changed is checked again. With --test as the first flag
+its tests are checked too. Only `rt ci` is the gate.
 """
 import os
 import subprocess

@@ -47,7 +47,7 @@ class Help:
 
     @staticmethod
     def add_to_list(items, line):
-        """Adds an item, or a line of the text of the last item. Texts that have lines of their own begin at column 10."""
+        """Adds an item, or a line of the text of the last item. Texts that begin on a new line begin at column 10."""
         if line.startswith(" " * 10):
             name, text = items.pop()
             items.append((name, f"{text} {line.strip()}".strip()))
@@ -64,6 +64,6 @@ class Help:
 
 
 def helps_of(program):
-    """The help of the program, and that of each command but `help`, which has none of its own."""
+    """The help of the program, and that of each command except `help`, which has none."""
     whole = Help(printed(program, "--help"))
     return whole, {name: Help(printed(program, name, "--help")) for name in whole.names("Commands") if name != "help"}

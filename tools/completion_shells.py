@@ -1,6 +1,6 @@
 """What the three shells offer at the end of a command line, by the files of completions/: each shell is run for real.
 
-A line is a text of words and blanks; what stands after its last blank is completed. The result is the set of what is offered.
+A line is a text of arguments and blanks; the text after its last blank is completed. The result is the set of what is offered.
 """
 import os
 import pty
@@ -43,7 +43,7 @@ def names(text):
 
 
 def printed_by(arguments, room):
-    """What a shell prints in a folder. It gets a home of its own, so that it reads no settings and leaves nothing behind."""
+    """What a shell prints in a folder. It gets its own home folder, so that it reads no settings and leaves no files."""
     with tempfile.TemporaryDirectory(prefix="uca-home-") as home:
         ran = subprocess.run(arguments, cwd=room, stdout=subprocess.PIPE, text=True, check=False, env={**os.environ, "HOME": home})
     return ran.stdout
@@ -62,7 +62,7 @@ def fish_offers(line, room):
 
 
 class Zsh:
-    """An interactive zsh at a terminal of its own."""
+    """An interactive zsh with its own terminal."""
 
     def __init__(self, room):
         self.folder = tempfile.TemporaryDirectory(prefix="uca-zsh-")
@@ -77,7 +77,7 @@ class Zsh:
         self.wait()
 
     def wait(self):
-        """What was offered since the last time. The terminal's own output is read and thrown away."""
+        """What was offered since the last time. The terminal's own output is read and not used."""
         for _ in range(200):
             if select.select([self.terminal], [], [], 0.05)[0]:
                 os.read(self.terminal, 65536)

@@ -1,11 +1,11 @@
 #!/usr/bin/env python3
-"""Runs `rt ci` and prints where its processor time goes: of each crate its library, its tests, its must-fail edits.
+"""Runs `rt ci` and prints where its processor time goes: for each crate its library, its tests and its must-fail edits.
 
-    tools/gate_times.py          at the top of the repository, in place of `rt ci`
+    tools/gate_times.py          at the top of the repository, instead of `rt ci`
 
-It loads the command `rt` of the kit, has each of its tasks count the user and system time of the processes that
-it starts, and changes nothing else: what `rt ci` prints comes first, and its status is the status. docs/GATE.md has
-the table that this prints last, and says what a yardstick is.
+It loads the command `rt` of the kit, and each task of `rt` then counts the user and system time of the processes that it
+starts. Nothing else is changed: what `rt ci` prints comes first, and the status is that of `rt ci`. docs/GATE.md has the
+table that this prints last, and says what a yardstick is.
 """
 import os
 import sys

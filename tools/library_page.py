@@ -3,9 +3,10 @@
 
     tools/library_page.py        at any place of the repository
 
-Each code block of the page stands, line for line, in a file of crates/uca_examples: `rust` in src/, `antt` in specs/ or
-proofs/, and `text` in the file stdout, which holds what the program must print. Blocks of `sh` are commands and are not
-looked at; a block with another word fails. Of each of the five programs something is shown. The last line is `N passed, M failed`; the status is 1 where one failed.
+Each code block of the page must occur, line for line, in a file of crates/uca_examples: `rust` in src/, `antt` in specs/ or
+proofs/, and `text` in the file stdout, which has what the program must print. Blocks of `sh` are commands and are not
+checked; a block with another name fails. The page must show something of each of the five programs. The last line is
+`N passed, M failed`; the status is 1 if one failed.
 """
 import os
 import re
@@ -31,13 +32,13 @@ def files_below(path):
 
 
 def blocks_of(page):
-    """Each code block: its word, its text, and its line."""
+    """Each code block: the name of its language, its text, and its line."""
     for found in re.finditer(r"^```(\w*)\n(.*?)^```$", page, re.MULTILINE | re.DOTALL):
         yield found[1], found[2], page.count("\n", 0, found.start()) + 1
 
 
 def holds_lines(text, block):
-    """Whether the lines of a block stand one after the other in a text."""
+    """Whether the lines of a block come directly one after another in a text."""
     return block.strip() != "" and f"\n{block}" in f"\n{text}"
 
 

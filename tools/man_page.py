@@ -25,7 +25,7 @@ def plain(text):
 
 
 def prose(text):
-    """A text as lines of at most 80 characters, in which what stands between backticks is bold."""
+    """A text as lines of at most 80 characters, in which the text between backticks is bold."""
     parts = text.split("`")
     text = "".join(rf"\fB{plain(part)}\fR" if at % 2 else plain(part) for at, part in enumerate(parts))
     lines = textwrap.wrap(text, 80, break_on_hyphens=False, break_long_words=False)
@@ -33,7 +33,7 @@ def prose(text):
 
 
 def paragraphs(lines):
-    """The paragraphs of a text, of which an empty line ends each."""
+    """The paragraphs of a text, each of which an empty line ends."""
     texts = "\n".join(lines).strip("\n").split("\n\n")
     return [it for text in texts if text for it in (".PP", prose(text))]
 
@@ -57,7 +57,7 @@ def items(pairs, name_of):
 
 
 def last_words(lines):
-    """What a help ends with: an example, or an indented line, on a line of its own; any other line as a paragraph."""
+    """What a help ends with: an example, or an indented line, on its own line; any other line as a paragraph."""
     made = []
     for line in lines:
         found = re.match(r"(Examples?:|)\s+(.*)", line)

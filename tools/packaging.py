@@ -7,7 +7,7 @@ The manual page and each completion name the commands and options that the progr
 tools/man_page.py prints, and renders without a warning. Each completion is run by its shell. tools/install.sh puts all files
 into a temporary folder, and the program there runs. `uca --version` names the kit of this machine, and docs/FORMATS.md shows its line.
 
-Debian packages: man-db, mandoc, zsh and fish (bash and coreutils are always there). What needs a missing one is not run, and
+Debian packages: man-db, mandoc, zsh and fish (bash and coreutils are always there). A check that needs a missing one is not run, and
 the script says so. The last line is `N passed, M failed`.
 """
 import os
@@ -190,7 +190,7 @@ def check_links(counts, folder):
 
 
 def check_install(counts, program):
-    """PREFIX alone, PREFIX below DESTDIR, and no program. The default PREFIX is only used once DESTDIR is known to be respected."""
+    """Only PREFIX, PREFIX below DESTDIR, and no program. The default PREFIX is only used once DESTDIR is known to be respected."""
     with tempfile.TemporaryDirectory(prefix="uca-install-") as room:
         ran = install(f"{room}/a", PROGRAM=program)
         counts.check("install.sh PREFIX ends well", ran.returncode == 0, ran.stdout)

@@ -4,11 +4,12 @@
     tools/slowest.py CRATE [COUNT]
 
 `tools/check.py CRATE` keeps each module that it has checked as a file in crates/CRATE/out/incremental, in the order in which
-they were checked: so the time between two files is that of the second. Remove that folder, check the crate, and ask then:
-after later checks, or in a copy of the folder, the times are no longer those of one check.
+they were checked. So the time between two files is that of the second. Remove that folder, check the crate, and then run this
+script: after later checks, or in a copy of the folder, the times are no longer those of one check.
 
-Of each function it names the parts: `Lts` is the borrow checker's account of its code, `Proof` the goals that are searched
-for, `Answers` those that are answered in a file, `Tie` the code against its contract. Lemmas and definitions stand by themselves.
+For each function it names the parts. `Lts` is the borrow checker's account of its code, `Proof` the goals that the prover
+searches for, `Answers` those with a proof in a file, and `Tie` the code against its contract. Lemmas and definitions have
+their own lines.
 """
 import collections
 import os

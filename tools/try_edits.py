@@ -1,10 +1,10 @@
 #!/usr/bin/env python3
-"""Tries by hand the wrong bodies that are no part of the gate: tools/edits/CRATE/*.edit.
+"""Tries by hand the wrong bodies that are not part of the gate: tools/edits/CRATE/*.edit.
 
     tools/try_edits.py [CRATE..]          all crates that have some, unless they are named
 
-They have the form of the must-fail edits of `rt ci`, which tries those under crates/*/must-fail/ alone. Of each it
-says that the prover refuses it, as it must, or that it no longer applies, or NOT REFUSED: then the status is 1.
+They have the format of the must-fail edits of `rt ci`, which tries only those under crates/*/must-fail/. For each it says
+that the prover rejects it, as it must, that it no longer applies, or NOT REFUSED: it was proved. Then the status is 1.
 """
 import os
 import sys
