@@ -277,21 +277,7 @@ fn affected_command<'a>(alloc: Global) -> Result<Command<'a>, AllocError>
     take_rules(alloc, take_data(alloc, Ok(affected)))
 }
 
-// The command with one more subcommand, which may have an error.
-fn with_below<'a>(
-    command: Command<'a>,
-    below: Result<Command<'a>, AllocError>,
-) -> Result<Command<'a>, AllocError>
-    ensures { (app sub : App) → StandsFor app command.entry → IfOk below.entry (StandsFor sub) →
-        IfOk result (StandsFor (with_subcommand app sub.top)) }
-{
-    match below {
-        Ok(below) => command.subcommand(below),
-        Err(error) => Err(error),
-    }
-}
-
-// One more subcommand.
+// One more subcommand. No value is dropped here but the errors: that makes the proof short.
 fn take_subcommand<'a>(
     command: Result<Command<'a>, AllocError>,
     below: Result<Command<'a>, AllocError>,
@@ -299,9 +285,9 @@ fn take_subcommand<'a>(
     ensures { (app sub : App) → IfOk command.entry (StandsFor app) → IfOk below.entry (StandsFor sub) →
         IfOk result (StandsFor (with_subcommand app sub.top)) }
 {
-    match command {
-        Ok(command) => with_below(command, below),
-        Err(error) => Err(error),
+    match command.ok().zip(below.ok()) {
+        Some((command, below)) => command.subcommand(below),
+        None => Err(AllocError),
     }
 }
 
