@@ -99,7 +99,7 @@ fn take_files<'a>(
 ) -> Result<Command<'a>, AllocError>
     ensures { (app : App) → IfOk command.entry (StandsFor app) → IfOk result (StandsFor (with_files app)) }
 {
-    let table = "A weight table in the form of allkeys.txt";
+    let table = "A weight table in the format of allkeys.txt";
     let command = take_word(alloc, command, "table", "TABLE", table);
     take_data(alloc, command)
 }
@@ -188,8 +188,8 @@ fn sort_command<'a>(alloc: Global) -> Result<Command<'a>, AllocError>
         "sort",
         "Sort the lines of standard input by their sort keys",
         "Sorts the lines of standard input by their sort keys. Lines of equal keys keep their order.\n\
-         With `--identical` lines that weigh the same stand in the order of their code points, and only lines\n\
-         that are canonically equivalent still stand as in the input: so a sorted file is the same each time.",
+         With `--identical` lines of equal weight are in the order of their code points, and only lines that\n\
+         are canonically equivalent keep the order of the input: so a sorted file is the same each time.",
         "Example: uca sort --weighting non-ignorable allkeys.txt data.txt < lines.txt",
     );
     take_options(alloc, Ok(sort))
