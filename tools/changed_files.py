@@ -230,7 +230,7 @@ def verdict_complaint(contents, words, done):
         goes = said == "accepted\n"
     elif words[:2] == ("keys", "--lines"):
         keyed = [line.split(b"\t", 1) for line in done.stdout.split(b"\n")[:-1]]
-        goes = all(re.fullmatch(b"[0-9A-F]*", it[0]) for it in keyed) and [it[1] for it in keyed] == lines_of(contents["lines.txt"])
+        goes = all(len(it) == 2 and re.fullmatch(b"[0-9A-F]*", it[0]) for it in keyed) and [it[1] for it in keyed] == lines_of(contents["lines.txt"])
     elif words[0] == "keys":
         goes = done.stdout.count(b"\n") == line_count(contents["lines.txt"])
     elif words[0] == "affected":
