@@ -17,7 +17,7 @@ use crate::output::{end_output, write_line};
 use crate::rule_file::read_rule_file;
 use std::alloc::{Allocator, Global};
 use std::io::{Read, Write};
-use uca_lines::OutputBuffer;
+use uca_lines::{LINE_LIMIT, OutputBuffer};
 use uca_rules::Rules;
 use uca_values::Data;
 use uca_weights::{Sink, Source};
@@ -37,6 +37,7 @@ impl<A: Allocator> AffectedRun<A> {
         out: &mut Sink<W>,
     ) -> Result<(), RunFault>
         requires few { 0 < self.old.texts.reader.number }
+        requires most { self.old.texts.reader.number ≤ LINE_LIMIT }
         requires small { self.old.output.written + length self.old.output.held
             ≤ (self.old.texts.reader.number - 1) * 2 ^ 42 }
         ensures prints { (begun : Option (List ℕ)) (before : List ℕ) →

@@ -1,6 +1,6 @@
 //! What runs write to their output: short texts, lines, and what waits at the end.
 
-ghost use Rattle.std.specs.Prelude.{◌≡◌, ◌×◌, ◌||◌, true, false, ℕ, Bool, List, Option, IfErr, IfSome, OnOk, length};
+ghost use Rattle.std.specs.Prelude.{◌≡◌, ◌||◌, true, false, ℕ, Bool, List, Option, IfErr, IfSome, OnOk, length};
 ghost use Rattle.std.specs.Io.KnownBytes.{Appends};
 ghost use Rattle.uca_weights.specs.Streams.{SourceState};
 ghost use Rattle.uca_values.specs.Content.{Properties};

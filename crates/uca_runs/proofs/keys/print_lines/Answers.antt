@@ -1,5 +1,6 @@
 -- What went out, from what was written.
 use Rattle.std.proofs.Common.{◌≡◌, ◌||◌, [], subst, sym}
+use Rattle.uca_weights.specs.declared.Weighting.{Weighting}
 use Rattle.uca_values.specs.Content.{properties_of}
 use Rattle.uca_runs.specs.Keys.{key_settings_of}
 use Rattle.uca_runs.specs.KeyForms.{line_as}
@@ -10,7 +11,7 @@ use Rattle.uca_runs.proofs.keys.print_lines.Goals as goal
 pub returns-clause-writes : goal.returns-clause-writes
 returns-clause-writes g c =
     let properties = properties_of c.args.collator.now.data.now in
-    let by = λ weighting. key_settings_of g.L.Lookup.content c.args.collator.now weighting c.args.depth in
+    let by = λ (weighting : Weighting). key_settings_of g.L.Lookup.content c.args.collator.now weighting c.args.depth in
     let input = c.args.input.now in
     let out = c.args.out.now in
     let begin = started properties (line_as c.args.form (by c.new-2.result.weighting)) c.new.result input c.new-3.result out

@@ -32,7 +32,8 @@ pub returns-in_err-write : goal.returns-in_err-write
 returns-in_err-write g c =
     let i = c.loop-part.invariant in
     let p = err_from_is_err_and c.from_residual.result c.from_residual.ensures.1 in
-    rw (p.1, p.2, digits_go_on _ _ _ _ _ _ _ _ i.up_to c.in-Some.ensures.steps.1.0) (fails_then _ i.up_to.written_through
+    let on = digits_go_on _ _ _ _ _ _ _ _ i.up_to c.in-Some.ensures.steps.1.0 in
+    rw (p.1, p.2, on) (fails_then _ i.up_to.written_through
     (subst (λ (text : List ℕ). FailsToWriteThrough text c.loop-part.buffer c.loop-part.out c.write.new.out c.in_err-write.field-0.0.written) c.digits_in.ensures c.in_err-write.ensures.writes))
 
 pub returns : goal.returns

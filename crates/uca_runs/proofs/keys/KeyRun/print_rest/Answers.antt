@@ -3,6 +3,8 @@ use Rattle.std.specs.Prelude.{⊤}
 use Rattle.std.proofs.Common.{◌≡◌, List, ℕ, Bool, Err, ap, ap₂, ◌∙◌}
 use Rattle.std.specs.List.{flat_map}
 use Rattle.std.proofs.lemmas.Result.{err_from_is_err_and}
+use Rattle.uca_weights.specs.declared.Depth.{Depth}
+use Rattle.uca_weights.specs.declared.Weighting.{Weighting}
 use Rattle.uca_values.specs.Content.{properties_of}
 use Rattle.uca_runs.specs.Keys.{key_settings_of}
 use Rattle.uca_runs.specs.KeyForms.{line_as, text_as}
@@ -20,7 +22,7 @@ returns-in_err-print_text-clause-prints g c = λ start begun before p.
     let q = err_from_is_err_and c.from_residual-in_err-print_text.result c.from_residual-in_err-print_text.ensures.1 in
     let properties = properties_of c.args.collator.now.data.now in
     let form = c.args.self.now.form in
-    let by = λ weighting depth. key_settings_of g.L.Lookup.content c.args.collator.now weighting depth in
+    let by = λ (weighting : Weighting) (depth : Depth). key_settings_of g.L.Lookup.content c.args.collator.now weighting depth in
     let settings = by c.args.self.now.key.weighting c.args.self.now.depth in
     let texts = c.next.new.self in
     let inv = c.loop-self.invariant in
