@@ -41,11 +41,14 @@ PLACES, NUMBER = 20, 250
 # How each file is read: the arguments of a command. `lines.txt` is standard input.
 RUNS = {
     "table.txt": (("check", "table.txt", "data.txt"), ("keys", "table.txt", "data.txt"), ("tailor", "table.txt", "data.txt", "rules.txt", "made.txt")),
-    "data.txt": (("check", "table.txt", "data.txt"), ("tailor", "table.txt", "data.txt", "rules.txt", "made.txt")),
-    "rules.txt": (("tailor", "table.txt", "data.txt", "rules.txt", "made.txt"),),
+    "data.txt": (("check", "table.txt", "data.txt"), ("tailor", "table.txt", "data.txt", "rules.txt", "made.txt"), ("affected", "data.txt", "rules.txt")),
+    "rules.txt": (("tailor", "table.txt", "data.txt", "rules.txt", "made.txt"), ("affected", "data.txt", "rules.txt")),
     "tailored.txt": (("audit", "table.txt", "data.txt", "rules.txt", "tailored.txt", "certificate.txt"),),
     "certificate.txt": (("audit", "table.txt", "data.txt", "rules.txt", "tailored.txt", "certificate.txt"),),
-    "lines.txt": (("keys", "table.txt", "data.txt"), ("sort", "table.txt", "data.txt")),
+    "lines.txt": (
+        *(("keys", "table.txt", "data.txt"), ("keys", "--lines", "table.txt", "data.txt"), ("sort", "table.txt", "data.txt")),
+        ("affected", "data.txt", "rules.txt"),
+    ),
 }
 
 # Lines of arguments that are right.
@@ -56,11 +59,13 @@ LINES = (
     ("compare", "table.txt", "data.txt", "--identical", "--", "a", "B"),
     ("tailor", "table.txt", "data.txt", "rules.txt", "made.txt"),
     ("audit", "table.txt", "data.txt", "rules.txt", "tailored.txt", "certificate.txt"),
+    ("keys", "--lines", "table.txt", "data.txt"),
+    ("affected", "data.txt", "rules.txt"),
 )
 
 # Arguments that are put in. None names anything outside the folder.
 WORDS = (
-    b"check", b"keys", b"sort", b"compare", b"tailor", b"audit", b"help", b"order", b"--weighting", b"--weighting=", b"--weighting=shifted", b"--weighting=x",
+    b"check", b"keys", b"sort", b"compare", b"tailor", b"audit", b"affected", b"help", b"order", b"--lines", b"-V", b"--weighting", b"--weighting=", b"--weighting=shifted", b"--weighting=x",
     b"--identical", b"--identical=", b"--identically", b"-i", b"-", b"--", b"---", b"-h", b"--help", b"--version", b"shifted", b"non-ignorable", b"Shifted", b"",
     b" ", b"=", b".", b"no-such-file", b"x" * 300, b"a" * 5000, b"\xc3\xa9", b"e\xcc\x81", b"\xff", b"a\xcc", b"table.txt\x01",
 ) + tuple(name.encode() for name in FILES)
@@ -165,6 +170,12 @@ def line_count(content):
     return content.count(b"\n") + (not content.endswith(b"\n") and content != b"")
 
 
+def lines_of(content):
+    """The lines, also one that no LF ends."""
+    lines = content.split(b"\n")
+    return lines[:-1] if lines[-1] == b"" else lines
+
+
 def fault_complaint(name, contents, words, done):
     """Why a run over a changed file may not end with this line on standard error, or None."""
     said = done.stderr.decode("utf-8", "replace")
@@ -188,9 +199,17 @@ def fault_complaint(name, contents, words, done):
         is_there = 1 <= place <= line_count(content) or is_late
     if not is_there:
         return "a place that is not there: %r" % said
-    if done.stdout.count(b"\n") != (place - 1 if words[0] == "keys" and name == "lines.txt" else 0):
-        return "%r on standard output, and %r" % (done.stdout, said)
-    return None
+    if words[0] == "affected" and name == "lines.txt":
+        is_written = is_part(done.stdout.split(b"\n")[:-1], content.split(b"\n")[:place - 1])
+    else:
+        is_written = done.stdout.count(b"\n") == (place - 1 if words[0] == "keys" and name == "lines.txt" else 0)
+    return None if is_written else "%r on standard output, and %r" % (done.stdout, said)
+
+
+def is_part(lines, of):
+    """Whether lines are some of others, in their order."""
+    others = iter(of)
+    return all(line in others for line in lines)
 
 
 def verdict_complaint(contents, words, done):
@@ -209,11 +228,15 @@ def verdict_complaint(contents, words, done):
             goes = found.group(2) == condition and place in places and (not place or 1 <= int(found.group(5)) <= most[place])
     elif words[0] == "audit":
         goes = said == "accepted\n"
+    elif words[:2] == ("keys", "--lines"):
+        keyed = [line.split(b"\t", 1) for line in done.stdout.split(b"\n")[:-1]]
+        goes = all(len(it) == 2 and re.fullmatch(b"[0-9A-F]*", it[0]) for it in keyed) and [it[1] for it in keyed] == lines_of(contents["lines.txt"])
     elif words[0] == "keys":
         goes = done.stdout.count(b"\n") == line_count(contents["lines.txt"])
+    elif words[0] == "affected":
+        goes = is_part(done.stdout.split(b"\n")[:-1], lines_of(contents["lines.txt"]))
     elif words[0] == "sort":
-        lines = contents["lines.txt"].split(b"\n")
-        goes = sorted(done.stdout.split(b"\n")[:-1]) == sorted(lines[:-1] if lines[-1] == b"" else lines)
+        goes = sorted(done.stdout.split(b"\n")[:-1]) == sorted(lines_of(contents["lines.txt"]))
     else:
         goes = row_count(done.stdout) >= row_count(contents["table.txt"])
     may_end = done.returncode == 0 or (done.returncode == 1 and words[0] in ("check", "audit"))

@@ -1,32 +1,59 @@
 #!/usr/bin/env python3
 """Tries by hand the wrong bodies that are not part of the gate: tools/edits/CRATE/*.edit.
 
-    tools/try_edits.py [CRATE..]          all crates that have some, unless they are named
+    tools/try_edits.py [CRATE | FILE.edit ..]          all crates that have some, unless crates or single edits are named
 
 They have the format of the must-fail edits of `rt ci`, which tries only those under crates/*/must-fail/. For each it says
 that the prover rejects it, as it must, that it no longer applies, or NOT REFUSED: it was proved. Then the status is 1.
+
+Each edit is tried over a copy of what `tools/check.py CRATE` keeps, which runs first: so only what the edit changes is proved.
 """
 import os
+import shutil
 import sys
+import tempfile
 
-import kit
+import build
+import check
+
+
+def edits_of(crate):
+    folder = f"{build.kit.TOP}/tools/edits/{crate}"
+    return sorted(f"{folder}/{it}" for it in os.listdir(folder) if it.endswith(".edit"))
+
+
+def named(names):
+    """The edits that the arguments name, by their crates."""
+    found = {}
+    for name in names or sorted(os.listdir(f"{build.kit.TOP}/tools/edits")):
+        if name.endswith(".edit"):
+            path = os.path.realpath(name)
+            folder = os.path.dirname(path)
+            crate = os.path.basename(os.path.dirname(folder) if os.path.basename(folder) == "must-fail" else folder)
+            found.setdefault(crate, []).append(path)
+        else:
+            found.setdefault(name, []).extend(edits_of(name))
+    return found
+
+
+def try_edit(rt, crate, edit):
+    """What the try of one edit comes to, and what to say of it."""
+    with tempfile.TemporaryDirectory(prefix="edit-") as room:
+        shutil.copytree(f"{crate.folder}/{rt.rtlib.KEPT[1]}", f"{room}/kept")
+        return rt.must_fail(crate, edit, ["--jobs", "1"], f"{room}/kept")
 
 
 def main(names):
-    rt = kit.load_rt()
-    os.chdir(kit.TOP)
-    rt.rtlib.guarded()
+    edits = named(names)
     status = 0
-    for crate in rt.rtlib.crates_below(kit.TOP):
-        folder = f"{kit.TOP}/tools/edits/{crate.name}"
-        if not os.path.isdir(folder) or names and crate.name not in names:
-            continue
-        edits = sorted(f"{folder}/{it}" for it in os.listdir(folder) if it.endswith(".edit"))
-        if any(dep.build_rlib(["--jobs", "1"], anew=False) for dep in crate.below()):
+    for name, files in edits.items():
+        if check.main(name, []):
             return 1
-        for well, text in rt.must_fail_all(crate, edits, ["--jobs", "1"]):
+        rt, every = build.open_repository()
+        for edit in files:
+            result, text = try_edit(rt, every[name], edit)
             print(text, flush=True)
-            status = status or int(not well)
+            status = status or int(result not in (rt.REFUSED, rt.AT_LIMIT))
     return status
 
 

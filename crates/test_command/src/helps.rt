@@ -42,7 +42,7 @@ pub const CHECK: &str =
     \n\
     Arguments:\n\
     \x20 <TABLE>\n\
-    \x20         A weight table in the form of allkeys.txt\n\
+    \x20         A weight table in the format of allkeys.txt\n\
     \n\
     \x20 <DATA>\n\
     \x20         A data file: combining classes and Han ranges\n\
@@ -63,7 +63,7 @@ const KEYS: &str =
     \n\
     Arguments:\n\
     \x20 <TABLE>\n\
-    \x20         A weight table in the form of allkeys.txt\n\
+    \x20         A weight table in the format of allkeys.txt\n\
     \n\
     \x20 <DATA>\n\
     \x20         A data file: combining classes and Han ranges\n\
@@ -87,14 +87,14 @@ const KEYS: &str =
 
 const SORT: &str =
     "Sorts the lines of standard input by their sort keys. Lines of equal keys keep their order.\n\
-    With `--identical` lines that weigh the same stand in the order of their code points, and only lines\n\
-    that are canonically equivalent still stand as in the input: so a sorted file is the same each time.\n\
+    With `--identical` lines of equal weight are in the order of their code points, and only lines that\n\
+    are canonically equivalent keep the order of the input: so a sorted file is the same each time.\n\
     \n\
     Usage: uca sort [OPTIONS] <TABLE> <DATA>\n\
     \n\
     Arguments:\n\
     \x20 <TABLE>\n\
-    \x20         A weight table in the form of allkeys.txt\n\
+    \x20         A weight table in the format of allkeys.txt\n\
     \n\
     \x20 <DATA>\n\
     \x20         A data file: combining classes and Han ranges\n\
@@ -120,7 +120,7 @@ const COMPARE: &str =
     \n\
     Arguments:\n\
     \x20 <TABLE>\n\
-    \x20         A weight table in the form of allkeys.txt\n\
+    \x20         A weight table in the format of allkeys.txt\n\
     \n\
     \x20 <DATA>\n\
     \x20         A data file: combining classes and Han ranges\n\
@@ -152,7 +152,7 @@ const TAILOR: &str =
     \n\
     Arguments:\n\
     \x20 <TABLE>\n\
-    \x20         A weight table in the form of allkeys.txt\n\
+    \x20         A weight table in the format of allkeys.txt\n\
     \n\
     \x20 <DATA>\n\
     \x20         A data file: combining classes and Han ranges\n\

@@ -1,13 +1,13 @@
 -- Where a level of a parse has no fault, it does not stop at the subcommand `help` that `clap` adds: that one is always a fault.
-use Rattle.std.proofs.Common.{◌≡◌, ◌&&◌, Bool, cond, true, false, not, refl, true≢false, sym, List, [], ◌∷◌, ◌++◌, ℕ, Option, Some, None, is_some, codes}
+use Rattle.std.proofs.Common.{◌≡◌, ◌&&◌, Bool, cond, true, false, not, refl, true≢false, List, [], ◌∷◌, ℕ, Option, Some, None, is_some, codes}
 use Rattle.std.specs.Prelude.{fold}
 use Rattle.std.specs.Option.{option_map_or}
 use Rattle.std.specs.Str.{bytes_eq}
 use Rattle.clap.specs.Lexer.{long_of, short_of}
-use Rattle.clap.specs.Walk.{Held, Names, Outcome, Rule, Step, Text, Waiting, Walk, after_flag, after_step, arg_by_id, arg_by_index, arg_by_long, bundle, done, idle, long_met, long_or_other, next, option, option_word, plain, plain_word, positional, refused, short_or_plain, subcommand, subcommand_met, subcommand_or_other, to_positional, trailing, value, waits, walked, walked_from, word_met}
+use Rattle.clap.specs.Walk.{Held, Names, Outcome, Rule, Step, Text, Waiting, Walk, after_flag, after_step, arg_by_index, arg_by_long, bundle, done, idle, long_met, long_or_other, next, option, plain, plain_word, positional, refused, short_or_plain, subcommand, subcommand_met, subcommand_or_other, to_positional, trailing, value, waits, walked, walked_from, word_met}
 use Rattle.clap.specs.Simple.{Shape}
 use Rattle.clap.specs.Kinds.{Kinds, or_else}
-use Rattle.clap.specs.Faults.{flag_word_fault, other_fault, step_fault, turn_fault, walk_fault, word_fault}
+use Rattle.clap.specs.Faults.{other_fault, step_fault, turn_fault, walk_fault, word_fault}
 use Rattle.uca_words.proofs.FullRows.{both_pass}
 
 abbrev pub is_help : Text → Bool

@@ -99,7 +99,7 @@ fn take_files<'a>(
 ) -> Result<Command<'a>, AllocError>
     ensures { (app : App) → IfOk command.entry (StandsFor app) → IfOk result (StandsFor (with_files app)) }
 {
-    let table = "A weight table in the form of allkeys.txt";
+    let table = "A weight table in the format of allkeys.txt";
     let command = take_word(alloc, command, "table", "TABLE", table);
     take_data(alloc, command)
 }
@@ -188,8 +188,8 @@ fn sort_command<'a>(alloc: Global) -> Result<Command<'a>, AllocError>
         "sort",
         "Sort the lines of standard input by their sort keys",
         "Sorts the lines of standard input by their sort keys. Lines of equal keys keep their order.\n\
-         With `--identical` lines that weigh the same stand in the order of their code points, and only lines\n\
-         that are canonically equivalent still stand as in the input: so a sorted file is the same each time.",
+         With `--identical` lines of equal weight are in the order of their code points, and only lines that\n\
+         are canonically equivalent keep the order of the input: so a sorted file is the same each time.",
         "Example: uca sort --weighting non-ignorable allkeys.txt data.txt < lines.txt",
     );
     take_options(alloc, Ok(sort))
@@ -277,21 +277,7 @@ fn affected_command<'a>(alloc: Global) -> Result<Command<'a>, AllocError>
     take_rules(alloc, take_data(alloc, Ok(affected)))
 }
 
-// The command with one more subcommand, which may have an error.
-fn with_below<'a>(
-    command: Command<'a>,
-    below: Result<Command<'a>, AllocError>,
-) -> Result<Command<'a>, AllocError>
-    ensures { (app sub : App) → StandsFor app command.entry → IfOk below.entry (StandsFor sub) →
-        IfOk result (StandsFor (with_subcommand app sub.top)) }
-{
-    match below {
-        Ok(below) => command.subcommand(below),
-        Err(error) => Err(error),
-    }
-}
-
-// One more subcommand.
+// One more subcommand. No value is dropped here but the errors: that makes the proof short.
 fn take_subcommand<'a>(
     command: Result<Command<'a>, AllocError>,
     below: Result<Command<'a>, AllocError>,
@@ -299,9 +285,9 @@ fn take_subcommand<'a>(
     ensures { (app sub : App) → IfOk command.entry (StandsFor app) → IfOk below.entry (StandsFor sub) →
         IfOk result (StandsFor (with_subcommand app sub.top)) }
 {
-    match command {
-        Ok(command) => with_below(command, below),
-        Err(error) => Err(error),
+    match command.ok().zip(below.ok()) {
+        Some((command, below)) => command.subcommand(below),
+        None => Err(AllocError),
     }
 }
 
