@@ -5,7 +5,8 @@ use Rattle.uca_weights.specs.declared.Element.{Element}
 use Rattle.uca_weights.specs.declared.Level.{Level}
 use Rattle.uca_plans.specs.declared.drafts.DraftWeight.{DraftWeight}
 use Rattle.uca_plans.specs.declared.drafts.DraftWeight.TheVariants.{Base}
-use Rattle.uca_plans.specs.Lists.{Insertion, fixed_weight, base_weights, same_weight, same_level, inserted, all_inserted, members_of, level_numbers}
+use Rattle.uca_plans.specs.declared.drafts.Insertion.{Insertion}
+use Rattle.uca_plans.specs.Lists.{fixed_weight, base_weights, same_weight, same_level, inserted, all_inserted, members_of, level_numbers}
 use Rattle.uca_plans.specs.Lists.{IsNamedBelow, InsertsBelow}
 use Rattle.uca_plans.specs.ListLaws.{IsAmong}
 use Rattle.uca_plans.proofs.ListMembers.{same_or_other}
