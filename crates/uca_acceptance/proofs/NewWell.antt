@@ -6,7 +6,8 @@ use Rattle.uca_plans.specs.declared.drafts.DraftWeight.{DraftWeight}
 use Rattle.uca_plans.specs.declared.drafts.DraftWeight.TheVariants.{Base, New}
 use Rattle.uca_plans.specs.declared.drafts.DraftElement.{DraftElement}
 use Rattle.uca_plans.specs.Drafts.{draft_weight, reset, reweighted}
-use Rattle.uca_plans.specs.Lists.{Insertion, inserted}
+use Rattle.uca_plans.specs.declared.drafts.Insertion.{Insertion}
+use Rattle.uca_plans.specs.Lists.{inserted}
 use Rattle.uca_plans.specs.ListLaws.{StandsBefore, IsInserted}
 use Rattle.uca_plans.proofs.DraftKinds.{IsZero, IsHigh, reset_cases, new_not_zero}
 use Rattle.uca_plans.proofs.PlanCarried.{WithElement}

@@ -15,7 +15,7 @@ use Rattle.uca_tailorings.proofs.Parts.{each_by_parts}
 use Rattle.uca_plans.specs.declared.drafts.DraftWeight.{DraftWeight}
 use Rattle.uca_plans.specs.declared.drafts.DraftWeight.TheVariants.{New}
 use Rattle.uca_plans.specs.Drafts.{AnchorPart, draft_weight, reweighted}
-use Rattle.uca_plans.specs.Lists.{Insertion}
+use Rattle.uca_plans.specs.declared.drafts.Insertion.{Insertion}
 use Rattle.uca_plans.specs.ListLaws.{IsAmong, StandsBefore, StandsBeside}
 use Rattle.uca_plans.specs.Plans.{Plan, Drafting, Drafted, drafted_at, draft_expansion, begun}
 use Rattle.uca_plans.specs.Tailors.{basis_of}

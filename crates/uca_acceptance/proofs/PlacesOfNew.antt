@@ -11,7 +11,8 @@ use Rattle.uca_tailorings.proofs.Relating.{one_new}
 use Rattle.uca_tailorings.proofs.Relating.{one_old}
 use Rattle.uca_plans.specs.declared.drafts.DraftWeight.{DraftWeight}
 use Rattle.uca_plans.specs.declared.drafts.DraftWeight.TheVariants.{Base, New}
-use Rattle.uca_plans.specs.Lists.{Insertion, inserted, all_inserted}
+use Rattle.uca_plans.specs.declared.drafts.Insertion.{Insertion}
+use Rattle.uca_plans.specs.Lists.{inserted, all_inserted}
 use Rattle.uca_plans.specs.ListLaws.{IsAmong, StandsBefore, StandsNext}
 use Rattle.uca_plans.specs.Plans.{Plan, begun}
 use Rattle.uca_plans.specs.Tailors.{basis_of}

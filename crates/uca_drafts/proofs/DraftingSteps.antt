@@ -15,7 +15,7 @@ use Rattle.uca_plans.specs.declared.faults.TailorKind.{TailorKind}
 use Rattle.uca_plans.specs.declared.faults.TailorKind.TheVariants as kinds
 use Rattle.uca_plans.specs.declared.faults.TailorFault.{TailorFault}
 use Rattle.uca_plans.specs.Tailors.{out_of_memory}
-use Rattle.uca_plans.specs.Lists.{Insertion}
+use Rattle.uca_plans.specs.declared.drafts.Insertion.{Insertion}
 use Rattle.uca_plans.specs.Drafts.{DraftRow, row_as_draft, with_row, has_key, draft_elements}
 use Rattle.uca_plans.specs.Plans.{Basis, Drafting, Drafted, begun, draft_expansion, drafted_at, drafted, needs_prefix, passes_limit}
 use Rattle.uca_plans.specs.Plans.{holds_implicit_variable, one_drafted}

@@ -6,7 +6,8 @@ use Rattle.uca_weights.specs.Levels.{level_of}
 use Rattle.uca_rules.specs.declared.relations.Relation.{Relation}
 use Rattle.uca_plans.specs.declared.drafts.DraftElement.{DraftElement}
 use Rattle.uca_plans.specs.declared.drafts.DraftWeight.TheVariants.{New}
-use Rattle.uca_plans.specs.Lists.{Insertion, IsNamedBelow, InsertsBelow}
+use Rattle.uca_plans.specs.declared.drafts.Insertion.{Insertion}
+use Rattle.uca_plans.specs.Lists.{IsNamedBelow, InsertsBelow}
 use Rattle.uca_plans.specs.Drafts.{AnchorPart, anchor_part, accepted_part, draft_elements}
 use Rattle.uca_plans.specs.Plans.{Basis, Drafting, Drafted, begun, drafted_at, draft_expansion, placed_behind, placed_if_accepted, with_relations}
 use Rattle.uca_plans.proofs.PlanSteps.{AreSteps, steps_of}

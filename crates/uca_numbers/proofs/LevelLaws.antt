@@ -1,11 +1,15 @@
 -- What a level's list has: the weight that stays, and new weights of relations that there are.
-use Rattle.std.proofs.Common.{◌≡◌, inl, inr, ℕ, Bool, true, false, List, [], ◌∷◌, length, map, if◌then◌else◌}
+use Rattle.std.proofs.Common.{◌≡◌, inl, inr, ℕ, Bool, true, false, List, [], ◌∷◌, length, map, if◌then◌else◌, refl, sym, ap, ◌∙◌}
 use Rattle.std.specs.List.{AllByRecursion}
+use denote.Enum.Bare.{sameb}
 use Rattle.uca_weights.specs.declared.Element.{Element}
 use Rattle.uca_weights.specs.declared.Level.{Level}
+use Rattle.uca_weights.specs.declared.Level.TheVariants.{One, Two, Three}
+use Rattle.uca_weights.specs.contracts.Level.{the_type}
 use Rattle.uca_plans.specs.declared.drafts.DraftWeight.{DraftWeight}
 use Rattle.uca_plans.specs.declared.drafts.DraftWeight.TheVariants.{Base}
-use Rattle.uca_plans.specs.Lists.{Insertion, fixed_weight, base_weights, same_weight, same_level, inserted, all_inserted, members_of, level_numbers}
+use Rattle.uca_plans.specs.declared.drafts.Insertion.{Insertion}
+use Rattle.uca_plans.specs.Lists.{fixed_weight, base_weights, same_weight, same_level, inserted, all_inserted, members_of, level_numbers}
 use Rattle.uca_plans.specs.Lists.{IsNamedBelow, InsertsBelow}
 use Rattle.uca_plans.specs.ListLaws.{IsAmong}
 use Rattle.uca_plans.proofs.ListMembers.{same_or_other}
@@ -55,6 +59,27 @@ fixed_there level es insertions =
 pub as_many_numbers : (level : Level) (es : List Element) (insertions : List Insertion)
     → length (level_numbers level (members_of level es insertions)) ≡ length (members_of level es insertions)
 as_many_numbers level es insertions = level_length level (members_of level es insertions) (fixed_there level es insertions)
+
+-- ---- One more insertion
+
+-- the code compares levels as the definition does
+pub levels_compared : (a b : Level) → same_level a b ≡ sameb the_type a b
+levels_compared One One = refl
+levels_compared One Two = refl
+levels_compared One Three = refl
+levels_compared Two One = refl
+levels_compared Two Two = refl
+levels_compared Two Three = refl
+levels_compared Three One = refl
+levels_compared Three Two = refl
+levels_compared Three Three = refl
+
+-- the first insertion is put in or passed over
+pub one_more : (level : Level) (i : Insertion) (rest : List Insertion) (ms next whole : List DraftWeight) (b : Bool)
+    → all_inserted level (i ∷ rest) ms ≡ whole → same_level i.level level ≡ b → next ≡ (if b then inserted i ms else ms)
+    → all_inserted level rest next ≡ whole
+one_more level i rest ms next whole b so_far tested is =
+    ap (all_inserted level rest) (is ∙ ap (λ t. if t then inserted i ms else ms) (sym tested)) ∙ so_far
 
 -- ---- New weights
 
