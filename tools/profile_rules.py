@@ -138,6 +138,7 @@ class Translation:
             self.put_upper_first()
         self.drop_repeated()
         self.mend_late()
+        self.swap_beginnings()
         self.add_beginnings()
 
     def leave_out(self, what):
@@ -269,6 +270,13 @@ class Translation:
                 yield Placed(it.target, it.strength, it.anchor, before=it.strength)
 
     # Beginnings of long targets (well-formedness, condition 5)
+
+    def swap_beginnings(self):
+        """Where the beginning of a long target is the next target of its chain, puts it first, and the long one before it."""
+        for at, (it, after) in enumerate(zip(self.relations, self.relations[1:])):
+            if after.anchor == it.target and after.target in self.beginnings(it.target, self.table.rows) and not it.expansion:
+                self.relations[at] = it._replace(target=after.target)
+                self.relations[at + 1] = Placed(after.target, after.strength, it.target, before=after.strength)
 
     def add_beginnings(self):
         """Adds the beginning of each long target that ends in a non-starter, and what keeps the order of other texts."""
