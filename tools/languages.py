@@ -263,6 +263,9 @@ def language_of(name, known):
     return ("the root" if language == "und" else known[language]) + (f" ({more})" if more else "")
 
 
+TABLE_HEAD = ["| Locale | Language | Relations | Left out | Words | Elsewhere | ICU's own |", "|---|---|--:|---|--:|--:|--:|"]
+
+
 class Bench(NamedTuple):
     """What each locale is compared with."""
 
@@ -291,7 +294,7 @@ def row_of(bench, name):
     return Row(*about, len(words), *(counted(bench.icu, it, translation, words, ours) for it in (same, own)))
 
 
-def head_of_tables(icu, files, cldr):
+def head_of_page(icu, files, cldr):
     """What was compared with what."""
     with open(files[0], encoding="utf-8") as file:
         edition = re.search(r"^@version (\S+)", file.read(), re.M)[1]
@@ -307,19 +310,25 @@ def run_all(options):
         table = write_by(unicode_files.print_table, os.path.join(folder, "table"), os.path.join(unicode_files.FOLDER, "allkeys.txt"))
         data = write_by(unicode_files.print_data, os.path.join(folder, "data"), unicode_files.FOLDER)
         bench = Bench(options, icu, folder, Table(table), (table, data), languages(options.cldr))
-        yield head_of_tables(icu, bench.files, options.cldr)
-        yield ""
-        yield "| Locale | Language | Relations | Left out | Words | Elsewhere | Beside ICU's own |"
-        yield "|---|---|--:|---|--:|--:|--:|"
-        large = []
+        rows, large = [], []
+        yield head_of_page(icu, bench.files, options.cldr)
+        yield from ("", *TABLE_HEAD)
         for name in options.names or names(options.cldr):
             row = row_of(bench, name)
             if row is None:
                 large.append(name)
             else:
+                rows.append(row)
                 yield row.line()
-        yield ""
-        yield "More than 5,000 relations: " + ", ".join(f"`{it}`" for it in large) + "."
+        if not options.names:
+            yield from ("", summary(rows, large))
+
+
+def summary(rows, large):
+    """What the table comes to, in a sentence or two."""
+    same, own = (sum(getattr(row, field) == 0 for row in rows) for field in ("elsewhere", "beside_own"))
+    text = f"{len(rows)} orders: {same} have no line elsewhere, and {own} none beside ICU's own order."
+    return text + (f" More than 5,000 relations, so not here: {', '.join(f'`{it}`' for it in large)}." if large else "")
 
 
 def parts_of_page():

@@ -252,10 +252,11 @@ class Translation:
             elif it.target not in moved and not holds(it.anchor + it.expansion, it.target):
                 moved.add(it.target)
                 self.relations.append(self.relations.pop(at))
-                self.leave_out("old weights of anchors that other rules change")
             else:
                 self.relations.pop(at)
                 self.leave_out(f"{written(it.anchor)} {SIGNS[it.strength]} {written(it.target)}")
+        if moved:
+            self.leave_out(f"the old weights of {len(moved)} anchors")
 
     def other_ways(self, it, at):
         """Other relations that say the same of the target of a relation."""
