@@ -32,8 +32,8 @@ from typing import NamedTuple
 
 sys.dont_write_bytecode = True
 import unicode_files
-from cldr_rules import Relation, chain, items_of, locale_and_kind, members, nfd
-from profile_rules import MOST_RELATIONS, Table, Translation, chains
+from cldr_rules import Relation, chain, escaped, items_of, locale_and_kind, members, nfd, rules_text
+from profile_rules import LEFT_OUT, MOST_RELATIONS, Table, Translation, chains
 
 TOP = os.path.dirname(os.path.dirname(os.path.realpath(__file__)))
 CLDR = "/usr/share/unicode/cldr/common"
@@ -104,6 +104,8 @@ def head(name, translation):
     yield f"# The order of {name}, made from CLDR's files by tools/languages.py."
     if translation.weighting != "non-ignorable":
         yield f"# CLDR takes the weighting {translation.weighting} with it."
+    if translation.is_upper_first:
+        yield "# Upper case first, for the letters a to z and those of the rules."
     if translation.left_out:
         yield "# Left out: " + "; ".join(translation.left_out) + "."
 
@@ -179,20 +181,30 @@ def load_icu():
     return icu
 
 
-def collator(icu, name, translation, is_whole):
-    """ICU's collator of a locale: as a whole, or without the settings that were left out. None if ICU has no rules for it."""
+def same_rules(icu, options, name, translation):
+    """ICU's collator from the same text of rules, without the settings that were left out."""
+    text = escaped(rules_text(options.cldr, name))
+    words = "|".join(word for what, word in LEFT_OUT.items() if what in translation.left_out)
+    text = re.sub(rf"\[({words}) [^]]*\]", "", text) if words else text
+    return icu.RuleBasedCollator(text) if text.strip() else icu.Collator.createInstance(icu.Locale.getRoot())
+
+
+def own_rules(icu, name, translation):
+    """ICU's own collator of a locale, with all its settings. None if ICU has no rules for it."""
     locale, _, kind = name.partition("-u-co-")
     tag = locale.replace("_", "-") + (f"-u-co-{kind}" if kind else "")
     made = icu.Collator.createInstance(icu.Locale.forLanguageTag(tag))
-    rules = made.getRules()
-    if translation.relations and not rules:
-        return None
-    if rules and not is_whole:
-        made = icu.RuleBasedCollator(re.sub(r"\[(reorder|caseFirst|backwards) [^]]*\]", "", rules))
-    made.setAttribute(icu.UCollAttribute.NORMALIZATION_MODE, icu.UCollAttributeValue.ON)
+    return made if made.getRules() or not translation.relations else None
+
+
+def counted(icu, collator, translation, words, ours):
+    """How many lines are elsewhere in the order of ICU, or that ICU has no such order."""
+    if collator is None:
+        return "not in ICU"
+    collator.setAttribute(icu.UCollAttribute.NORMALIZATION_MODE, icu.UCollAttributeValue.ON)
     if translation.weighting == "shifted":
-        made.setAttribute(icu.UCollAttribute.STRENGTH, icu.UCollAttributeValue.QUATERNARY)
-    return made
+        collator.setAttribute(icu.UCollAttribute.STRENGTH, icu.UCollAttributeValue.QUATERNARY)
+    return elsewhere(words, ours, {it: collator.getSortKey(it) for it in words})
 
 
 def elsewhere(words, ours, theirs):
@@ -222,7 +234,7 @@ class Row(NamedTuple):
     left_out: str
     words: int
     elsewhere: str
-    whole: str
+    beside_own: str
 
     def line(self):
         return "| " + " | ".join(str(it) for it in (f"`{self.name}`", *self[1:])) + " |"
@@ -251,6 +263,9 @@ def language_of(name, known):
     return ("the root" if language == "und" else known[language]) + (f" ({more})" if more else "")
 
 
+TABLE_HEAD = ["| Locale | Language | Relations | Left out | Words | Elsewhere | ICU's own |", "|---|---|--:|---|--:|--:|--:|"]
+
+
 class Bench(NamedTuple):
     """What each locale is compared with."""
 
@@ -275,14 +290,11 @@ def row_of(bench, name):
     letters = exemplars(bench.options.cldr, locale, None) * 2 + exemplars(bench.options.cldr, locale, "auxiliary")
     words = made_words(name, letters, special_texts(translation), WORDS)
     ours = keys_of(bench.options, made.table, bench.files[1], translation.weighting, words)
-    counts = []
-    for is_whole in (False, True):
-        theirs = collator(bench.icu, name, translation, is_whole)
-        counts.append(elsewhere(words, ours, {it: theirs.getSortKey(it) for it in words}) if theirs else "not in ICU")
-    return Row(*about, len(words), *counts)
+    same, own = same_rules(bench.icu, bench.options, name, translation), own_rules(bench.icu, name, translation)
+    return Row(*about, len(words), *(counted(bench.icu, it, translation, words, ours) for it in (same, own)))
 
 
-def head_of_tables(icu, files, cldr):
+def head_of_page(icu, files, cldr):
     """What was compared with what."""
     with open(files[0], encoding="utf-8") as file:
         edition = re.search(r"^@version (\S+)", file.read(), re.M)[1]
@@ -298,19 +310,25 @@ def run_all(options):
         table = write_by(unicode_files.print_table, os.path.join(folder, "table"), os.path.join(unicode_files.FOLDER, "allkeys.txt"))
         data = write_by(unicode_files.print_data, os.path.join(folder, "data"), unicode_files.FOLDER)
         bench = Bench(options, icu, folder, Table(table), (table, data), languages(options.cldr))
-        yield head_of_tables(icu, bench.files, options.cldr)
-        yield ""
-        yield "| Locale | Language | Relations | Left out | Words | Elsewhere | With what was left out |"
-        yield "|---|---|--:|---|--:|--:|--:|"
-        large = []
+        rows, large = [], []
+        yield head_of_page(icu, bench.files, options.cldr)
+        yield from ("", *TABLE_HEAD)
         for name in options.names or names(options.cldr):
             row = row_of(bench, name)
             if row is None:
                 large.append(name)
             else:
+                rows.append(row)
                 yield row.line()
-        yield ""
-        yield "More than 5,000 relations: " + ", ".join(f"`{it}`" for it in large) + "."
+        if not options.names:
+            yield from ("", summary(rows, large))
+
+
+def summary(rows, large):
+    """What the table comes to, in a sentence or two."""
+    same, own = (sum(getattr(row, field) == 0 for row in rows) for field in ("elsewhere", "beside_own"))
+    text = f"{len(rows)} orders: {same} have no line elsewhere, and {own} none beside ICU's own order."
+    return text + (f" More than 5,000 relations, so not here: {', '.join(f'`{it}`' for it in large)}." if large else "")
 
 
 def parts_of_page():

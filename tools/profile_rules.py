@@ -1,4 +1,5 @@
 """Writes the rules of CLDR as rules of the profile that `uca` reads (docs/FORMATS.md), over a given table. Part of tools/languages.py."""
+import string
 import unicodedata
 from dataclasses import dataclass
 from typing import NamedTuple
@@ -11,6 +12,9 @@ MOST_RELATIONS, MOST_CODE_POINTS = 5000, 16
 
 # Settings that ask for nothing which `uca` does not do anyway.
 DONE = ("normalization on", "strength 3", "caseFirst off", "reorder others")
+
+# What is said of settings that the profile cannot say, and their first words.
+LEFT_OUT = {"script order": "reorder", "accents from the end": "backwards"}
 
 
 class Element(NamedTuple):
@@ -127,10 +131,14 @@ class Translation:
     def __init__(self, items, table):
         self.table, self.left_out, self.relations, self.weighting = table, [], [], "non-ignorable"
         self.suppressed = []
+        self.is_upper_first = False
         self.read(items)
         self.suppress()
+        if self.is_upper_first:
+            self.put_upper_first()
         self.drop_repeated()
         self.mend_late()
+        self.swap_beginnings()
         self.add_beginnings()
 
     def leave_out(self, what):
@@ -168,10 +176,11 @@ class Translation:
         if word == "alternate":
             self.weighting = rest
         elif word == "suppressContractions":
-            self.suppressed += [it for it in members(rest.strip("[]"))]
+            self.suppressed += members(rest.strip("[]"))
+        elif name == "caseFirst upper":
+            self.is_upper_first = True
         else:
-            known = {"reorder": "script order", "caseFirst": "case first", "backwards": "accents from the end"}
-            self.leave_out(known.get(word, f"[{name}]"))
+            self.leave_out(next((what for what, it in LEFT_OUT.items() if it == word), f"[{name}]"))
 
     def relation(self, item, chain):
         if item.prefix:
@@ -193,6 +202,19 @@ class Translation:
         keys = [key for key in self.table.rows if len(key) > 1 and key[0] in self.suppressed and key not in targets]
         self.relations[:0] = [Placed(key[0], 0, key, key[1:]) for key in keys]
 
+    # Upper case first: each letter a to z after its upper-case letter, and so the letters of the rules.
+
+    def put_upper_first(self):
+        found, at = [], 0
+        while at < len(self.relations):
+            end = at + 1
+            while end < len(self.relations) and self.relations[end].strength == 3 and self.relations[end].anchor == self.relations[end - 1].target:
+                end += 1
+            group = self.relations[at:end]
+            found += sorted_by_case(group) if group[0].strength in (1, 2) else group
+            at = end
+        self.relations = [Placed(it.upper(), 3, it) for it in string.ascii_lowercase] + re_anchored(found, self.relations)
+
     # A target that comes again is where it comes last.
 
     def drop_repeated(self):
@@ -211,50 +233,51 @@ class Translation:
 
     # Late targets: `&a < b` after `&ab < c`.
 
-    def is_late(self, at, last):
-        """Whether the anchor or the expansion of a relation has a later target in it, or its own."""
-        it = self.relations[at]
-        texts = [text for text in (it.anchor, it.expansion) if text and last.get(text, at) >= at]
-        return any(holds(text, later.target) for text in texts for later in self.relations[at:])
+    def is_late(self, relation, at):
+        """Whether a target occurs in the anchor or the expansion of a relation at this position, its own or that of a later one."""
+        earlier = {it.target for it in self.relations[:at]}
+        later = [relation.target, *(it.target for it in self.relations[at + 1 :])]
+        texts = [text for text in (relation.anchor, relation.expansion) if text and text not in earlier]
+        return any(holds(text, target) for text in texts for target in later)
 
     def mend_late(self):
-        """Takes another anchor of the same weights, or else moves the relation to the end, or else leaves it out."""
+        """Says it another way, or else moves the relation to the end, or else leaves it out."""
         at, moved = 0, set()
         while at < len(self.relations):
-            it, last = self.relations[at], {it.target: at for at, it in enumerate(self.relations)}
-            if not self.is_late(at, last):
+            it = self.relations[at]
+            if not self.is_late(it, at):
                 at += 1
-            elif other := self.other_way(it, self.relations[:at]):
+            elif other := next((way for way in self.other_ways(it, at) if not self.is_late(way, at)), None):
                 self.relations[at] = other
             elif it.target not in moved and not holds(it.anchor + it.expansion, it.target):
                 moved.add(it.target)
                 self.relations.append(self.relations.pop(at))
-                self.leave_out("old weights of anchors that other rules change")
             else:
                 self.relations.pop(at)
-                self.leave_out(f"{it.anchor} {SIGNS[it.strength]} {it.target}")
+                self.leave_out(f"{written(it.anchor)} {SIGNS[it.strength]} {written(it.target)}")
+        if moved:
+            self.leave_out(f"the old weights of {len(moved)} anchors")
 
-    def other_way(self, it, earlier):
-        """Another relation that says the same of its target, if one is known in which no target occurs."""
+    def other_ways(self, it, at):
+        """Other relations that say the same of the target of a relation."""
         if it.strength == 0:
-            first, *rest = parts(it.anchor, {*self.table.rows, *(one.target for one in earlier)})
-            made = it._replace(anchor=first, expansion="".join(rest) + it.expansion)
-            return made if made != it and not self.touched(made, earlier) else None
-        ways = [it._replace(anchor=key) for key in self.table.same(it.anchor, it.strength)]
-        ways += [it._replace(anchor=key) for key in self.table.below(it.anchor, it.strength) if it.anchor in self.targets()]
-        ways += [Placed(it.target, it.strength, it.anchor, before=it.strength)] if self.table.are_next(it.anchor, it.target) else []
-        return next((way for way in ways if not it.expansion and not it.before and not self.touched(way, earlier)), None)
-
-    def targets(self):
-        return {it.target for it in self.relations}
-
-    def touched(self, it, earlier):
-        """Whether a target occurs in the anchor or the expansion of a relation, which no earlier target is itself."""
-        placed = {one.target for one in earlier}
-        texts = [text for text in (it.anchor, it.expansion) if text not in placed]
-        return it.anchor == it.target or any(holds(text, one) for text in texts for one in self.targets() - {it.anchor if it.before else None})
+            first, *rest = parts(it.anchor, {*self.table.rows, *(one.target for one in self.relations[:at])})
+            yield it._replace(anchor=first, expansion="".join(rest) + it.expansion)
+        elif not it.expansion and not it.before:
+            targets = {one.target for one in self.relations}
+            keys = [*self.table.same(it.anchor, it.strength), *(self.table.below(it.anchor, it.strength) if it.anchor in targets else [])]
+            yield from (it._replace(anchor=key) for key in keys if key not in targets)
+            if self.table.are_next(it.anchor, it.target):
+                yield Placed(it.target, it.strength, it.anchor, before=it.strength)
 
     # Beginnings of long targets (well-formedness, condition 5)
+
+    def swap_beginnings(self):
+        """Where the beginning of a long target is the next target of its chain, puts it first, and the long one before it."""
+        for at, (it, after) in enumerate(zip(self.relations, self.relations[1:])):
+            if after.anchor == it.target and after.target in self.beginnings(it.target, self.table.rows) and not it.expansion:
+                self.relations[at] = it._replace(target=after.target)
+                self.relations[at + 1] = Placed(after.target, after.strength, it.target, before=after.strength)
 
     def add_beginnings(self):
         """Adds the beginning of each long target that ends in a non-starter, and what keeps the order of other texts."""
@@ -286,6 +309,28 @@ class Translation:
         """The relation that gives a text the elements which it has without a row of its own."""
         first = parts(text, keys - {text})[0]
         return Placed(first, 0, text, text[len(first) :])
+
+
+def case_of(text):
+    """0 for an upper-case text, 1 for a mixed one, 2 for others."""
+    has_upper, has_lower = (any(test(character) for character in text) for test in (str.isupper, str.islower))
+    return 0 if has_upper and not has_lower else 1 if has_upper else 2
+
+
+def sorted_by_case(group):
+    """A relation and those of the third level that follow it, with the upper-case targets first."""
+    targets = sorted((it.target for it in group), key=case_of)
+    anchors = [group[0].anchor, *targets]
+    return [it._replace(anchor=anchor, target=target) for it, anchor, target in zip(group, anchors, targets)]
+
+
+def re_anchored(relations, before):
+    """Relations whose order in a chain has changed, each after the target that is now before it in the chain."""
+    made = []
+    for it, was in zip(relations, before):
+        follows = made and before[len(made) - 1].target == was.anchor
+        made.append(it._replace(anchor=made[-1].target) if follows else it)
+    return made
 
 
 def continuations(beginnings, keys):

@@ -61,7 +61,7 @@ const DANISH: &str =
 &[before 1] ǀ
     < Æ <<< æ << Ä <<< ä
     < Ø <<< ø << Ö <<< ö
-    < Å <<< å <<< AA <<< Aa <<< aa
+    < Å <<< AA <<< Aa <<< å <<< aa
 ";
 
 const DANISH_MEANS: &str =
@@ -70,8 +70,8 @@ const DANISH_MEANS: &str =
     S <<< s; T <<< t; U <<< u; V <<< v; W <<< w; X <<< x; Y <<< y; Z <<< z; \
     Y << U(308.230); U(308.230) <<< u(308.230); before (1C0) < (C6); (C6) <<< (E6); (E6) << A(308.230); \
     A(308.230) <<< a(308.230); a(308.230) < (D8); (D8) <<< (F8); (F8) << O(308.230); \
-    O(308.230) <<< o(308.230); o(308.230) < A(30A.230); A(30A.230) <<< a(30A.230); a(30A.230) <<< AA; \
-    AA <<< Aa; Aa <<< aa";
+    O(308.230) <<< o(308.230); o(308.230) < A(30A.230); A(30A.230) <<< AA; AA <<< Aa; Aa <<< a(30A.230); \
+    a(30A.230) <<< aa";
 
 #[test]
 fn rules_of_three_alphabets(rt: HostRuntime) -> Result<(), Fail> {
