@@ -545,7 +545,8 @@ fn run_words<O: Opens, I: Read, W: Write>(
 
 /// Runs a command line, whose first argument is the program's name, and returns the exit status. It reads the
 /// arguments, opens all files that they name, in the order of the arguments, and then runs over them. It reports an
-/// error. If it rejects the arguments, it opens and reads nothing.
+/// error. If it rejects the arguments, it opens and reads nothing. It does the same if `tailor` is to write the
+/// certificate over a file that it reads. No other command makes a file.
 pub fn run_command<'a, O: Opens, I: Read, W: Write, E: Write>(
     alloc: Global,
     opener: &mut O,
