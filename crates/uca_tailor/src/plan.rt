@@ -59,7 +59,7 @@ fn plan_of_drafts<A: Allocator + Copy, T: Allocator>(
         (plan_drafted (elements_of base.now.rows) (Ok drafting.now) ≡ Err fault) ⊎ (fault ≡ out_of_memory)) }
 {
     let numbers = number_levels(alloc, base, drafting, relations)?;
-    Ok(numbered_plan(alloc, base, drafting, &numbers)?)
+    numbered_plan(alloc, base, drafting, &numbers)
 }
 
 /// The table and the certificate of numbers.
@@ -68,11 +68,12 @@ fn numbered_plan<A: Allocator + Copy, T: Allocator>(
     base: &Table<T>,
     drafting: &Drafting<A>,
     numbers: &Numbers<A>,
-) -> Result<(Table<A>, Certificate<A>), AllocError>
+) -> Result<(Table<A>, Certificate<A>), TailorFault>
     requires table { IsTable base.now → IsTable (table_of base.now (plan_of drafting.now.rows numbers.now)) }
     requires certificate { IsCertificate (parts.certificate_by numbers.now) }
-    ensures { IfOk result (λ answer. (answer.0 ≡ table_of base.now (plan_of drafting.now.rows numbers.now))
+    ensures made { IfOk result (λ answer. (answer.0 ≡ table_of base.now (plan_of drafting.now.rows numbers.now))
         × (answer.1 ≡ parts.certificate_by numbers.now)) }
+    ensures not_made { IfErr result (λ fault. fault ≡ out_of_memory) }
 {
     let table = number_table(alloc, base, drafting, numbers)?;
     let certificate = certificate_by(alloc, numbers)?;
