@@ -71,6 +71,8 @@ def planned(options, folder, rules, table, data):
     names = {it: os.path.join(folder, it) for it in ("rules", "certificate", "tailored")}
     with open(names["rules"], "w", encoding="utf-8") as file:
         file.write(rules)
+    with contextlib.suppress(FileNotFoundError):
+        os.remove(names["certificate"])
     out, said = run([program(options), "tailor", table, data, names["rules"], names["certificate"]])
     if said:
         return Planned("", said)

@@ -9,6 +9,7 @@ from cldr_rules import WHITE, Relation, Reset, Setting, members, nfd
 SIGNS = {0: "=", 1: "<", 2: "<<", 3: "<<<"}
 IMPLICIT = 0x8000  # primaries from here on are those of implicit weights
 MOST_RELATIONS, MOST_CODE_POINTS = 5000, 16
+MOST_ROUNDS = 1  # rows that the beginnings of further rows ask for; there may be no end of these
 
 # Settings that ask for nothing which `uca` does not do anyway.
 DONE = ("normalization on", "strength 3", "caseFirst off", "reorder others")
@@ -290,10 +291,23 @@ class Translation:
             made.append(it)
             keys.add(it.target)
         before = keys - set(added)
-        for text in sorted(continuations(added, keys) - keys, key=lambda it: (len(it), it)):
-            if parts(text, keys) != parts(text, before):
-                made.append(self.as_now(text, before))
-        self.relations = made
+        self.relations = made + [self.as_now(text, before) for text in sorted(self.further(added, keys, before), key=len)]
+
+    def further(self, added, keys, before):
+        """The further rows that added ones ask for: without them a key that begins inside an added row would be parted."""
+        index = {}
+        for key in before:
+            index.setdefault(key[0], []).append(key)
+        waiting, found = [(it, 0) for it in added], []
+        while waiting:
+            beginning, depth = waiting.pop(0)
+            for text, key in continuations(beginning, index):
+                if text not in keys and len(text) <= MOST_CODE_POINTS and parts(text, before)[-1] == key:
+                    more = self.beginnings(text, keys)
+                    waiting += [(it, depth + 1) for it in more if depth < MOST_ROUNDS]
+                    found += [*more, text]
+                    keys.update([*more, text])
+        return found
 
     @staticmethod
     def beginnings(target, keys):
@@ -333,17 +347,11 @@ def re_anchored(relations, before):
     return made
 
 
-def continuations(beginnings, keys):
-    """The texts in which a new row for a beginning would part a key: the end of the beginning is a beginning of that key."""
-    by_first = {}
-    for key in keys:
-        by_first.setdefault(key[0], []).append(key)
-    found = set()
-    for beginning in beginnings:
-        for at in range(1, len(beginning)):
-            end = beginning[at:]
-            found.update(beginning[:at] + key for key in by_first.get(end[0], []) if key.startswith(end) and key != end)
-    return found
+def continuations(beginning, index):
+    """The texts in which a row for a beginning parts a key, each with that key: the end of the beginning begins it."""
+    for at in range(1, len(beginning)):
+        end = beginning[at:]
+        yield from ((beginning[:at] + key, key) for key in index.get(end[0], ()) if key.startswith(end) and key != end)
 
 
 # ---- Writing
