@@ -218,7 +218,7 @@ reads data rules input
 input x\nxaaaaaaaaaaaaaaaaaa\na\na
 printed x\nxaaaaaaaaaaaaaaaaaa\n
 end done
-asks 15
+asks 13
 memory data line @ 1 2; rules: Memory; rules byte @ 0 4 1 6; input line @ 1 2
 
 run affected
@@ -226,7 +226,7 @@ reads data rules input
 input x\n\xFF\n
 printed x\n
 end input line 2: Utf8, status 1
-asks 14
+asks 12
 memory data line @ 1 2; rules: Memory; rules byte @ 0 4 1 6; input line @ 1
 
 run sort

@@ -74,8 +74,13 @@ fn run_at(alloc: Global, texts: Texts, paces: [Pace; 4]) -> Result<Outcome, Fail
         input.failed.get(),
         out.failed.get(),
     ]);
-    let late = data.late.get() + rules.late.get() + input.late.get() + out.late.get();
-    holds(failed == failing && late == 0, &end)?;
+    let late = are_some([
+        data.late.get(),
+        rules.late.get(),
+        input.late.get(),
+        out.late.get(),
+    ]);
+    holds(failed == failing && late == [false; 4], &end)?;
     let called = are_some([
         data.all.get(),
         rules.all.get(),
