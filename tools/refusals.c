@@ -2,7 +2,7 @@
  *
  * REFUSE is a letter and the number of what passes before. a: one allocation is refused, A: that one and all behind it;
  * r, w, e: a read, a write, a write to standard error fails by its number, R, W, E: once so many bytes were moved; o: one
- * opening of a file; s: none, but each call moves one byte. What is told goes to the descriptor TELL, as three numbers:
+ * opening of a file; k: one fsync or rename; s: none, but each call moves one byte. What is told goes to the descriptor TELL, as three numbers:
  * 0 for a refusal and 1 for a call where one failed before; the files read to their end; the bytes moved since then. */
 #define _GNU_SOURCE
 #include <errno.h>
@@ -112,3 +112,15 @@ int open(const char *path, int flags, ...) {
     }
     return syscall(SYS_openat, AT_FDCWD, path, flags, mode);
 }
+
+/* Whether this call, which keeps a file, fails. */
+static int fails_to_keep(void) {
+    if (kind != 'k' || left-- != 0)
+        return 0;
+    tell(0);
+    errno = EIO;
+    return 1;
+}
+
+int fsync(int descriptor) { return fails_to_keep() ? -1 : syscall(SYS_fsync, descriptor); }
+int rename(const char *from, const char *to) { return fails_to_keep() ? -1 : syscall(SYS_rename, from, to); }

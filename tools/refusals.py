@@ -11,6 +11,7 @@ those that a library of the kit (`unicode_normalization`, `clap`) takes by itsel
 - the Nth read, write, or write to standard error failing;
 - reads, writes, or writes to standard error failing once N bytes were moved, the call before moving those up to N;
 - the Nth opening of a file failing;
+- the Nth call failing that brings a file to the disk or gives it its name;
 
 for each N from 0 until nothing is left to refuse (past 2,000 for each 97th), and one run whose reads and writes move one byte a call. Allowed are
 
@@ -19,10 +20,11 @@ for each N from 0 until nothing is left to refuse (past 2,000 for each 97th), an
 - of a failed read: status 3 and the line of the file, and of its line, to which the bytes that were read lead;
 - of a failed write: status 3, `output: Write` or `certificate: Write`, and just the bytes that were moved. Help that does not
   go out has status 0 and no line (docs/DECISIONS.md). Of a failed write to standard error: the ending without it but there;
-- of a file that does not open: status 3 and its role. The first opening, of the folder `/`, may end with status 3 and no line.
+- of a file that does not open: status 3 and its role, or `certificate: Write` where it is to be made;
+- of a file that cannot be kept: status 3 and `certificate: Write`.
 
 Standard output has the key lines before the faulty line where `keys` ends at an input line, and nothing where another run ends
-early. The file of a certificate is not made before there is a plan. No run ends by a signal, or reads or writes again where it
+early. A certificate is there just where the whole of it was written, and no temporary file is left. No run ends by a signal, or reads or writes again where it
 failed. Lines that CASES names must come: `memory` for sorting, behind the last line of the input, and for the text that `clap`
 makes. What ends otherwise is printed, and the status is then 1. This is no part of the gate: it takes some minutes.
 """
@@ -84,9 +86,11 @@ REFUSED = {
     "e": "writes to standard error",
     "E": "writes to standard error, by bytes",
     "o": "openings of files",
+    "k": "calls that keep a file",
 }
 
 Ending = collections.namedtuple("Ending", "status out err made")
+UNMADE = Ending(3, b"", "certificate: Write\n", None)
 
 
 def contents():
@@ -153,14 +157,13 @@ class Case:
             return self.plain._replace(out=self.plain.out[:moved])
         made = self.plain.made or b""
         if moved < len(made):
-            return Ending(3, b"", "certificate: Write\n", made[:moved])
+            return UNMADE
         return Ending(3, self.plain.out[: moved - len(made)], "output: Write\n", self.plain.made)
 
     def of_opening(self, number):
-        said = ""
-        if number > 0:
-            said = self.opened[number - 1][0] + ": Open\n" if number <= len(self.opened) else "certificate: Write\n"
-        return Ending(3, b"", said, None)
+        if number < len(self.opened):
+            return Ending(3, b"", self.opened[number][0] + ": Open\n", None)
+        return UNMADE
 
     def is_allowed(self, kind, number, told, ending):
         """Whether a run may end so. told: for each event whether one had failed before, files read to their end, bytes moved."""
@@ -177,7 +180,7 @@ class Case:
             return ending == self.of_write(moved)
         if kind in "eE":
             return ending == self.plain._replace(err=self.plain.err.encode()[:moved].decode())
-        return ending == self.of_opening(number)
+        return ending == (UNMADE if kind == "k" else self.of_opening(number))
 
 
 class Trials:
@@ -191,6 +194,7 @@ class Trials:
         for name, content in self.files.items():
             with open(os.path.join(folder, name), "wb") as file:
                 file.write(content)
+        self.known = {*os.listdir(folder)}
 
     def run(self, case, refuse):
         """How a run ends, and what the shim told of it."""
@@ -207,6 +211,9 @@ class Trials:
             with open(made, "rb") as file:
                 kept = file.read()
             os.remove(made)
+        for left in {*os.listdir(self.folder)} - self.known:
+            kept = f"left {left}"
+            os.remove(os.path.join(self.folder, left))
         self.runs += 1
         return Ending(done.returncode, done.stdout, done.stderr.decode("utf-8", "replace"), kept), told
 

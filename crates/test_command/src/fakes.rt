@@ -7,7 +7,7 @@ use std::io::{ErrorKind, Read, Write};
 use std::iter::once;
 use std::test::Fail;
 use test_kit::{Calls, Failure, FakeReader, FakeWriter, Pace};
-use uca_cli::{OpenFault, Opens, run_command};
+use uca_cli::{MakeFault, OpenFault, Opens, run_command};
 use uca_weights::{Sink, Source};
 
 /// The files of a command: their texts, or nothing where one does not open.
@@ -47,22 +47,32 @@ impl<'a> Files<'a> {
     }
 }
 
-/// The file that a command may make, and what it held before.
+/// Where making a file fails.
+#[derive(Clone, Copy)]
+pub enum Fails {
+    /// Nowhere.
+    Nowhere,
+    /// No file can be made.
+    Making(MakeFault),
+    /// A file that was made cannot be kept.
+    Keeping(MakeFault),
+}
+
+/// The file that a command may replace.
 #[derive(Drop)]
 pub struct Disk {
     alloc: Global,
     // Its name.
     name: RefCell<String>,
-    // What it holds.
+    // Its bytes.
     bytes: RefCell<Vec<u8>>,
-    // Whether no file can be made.
-    is_closed: bool,
-    // How many bytes a file that is made takes: the write behind them fails.
+    fails: Fails,
+    // How many bytes a file that is made takes: the write after them fails.
     room: usize,
 }
 
 impl Disk {
-    /// A file of this name, which holds this text and can be replaced.
+    /// A file of this name and this text, which can be replaced.
     pub fn holding(alloc: Global, name: &str, text: &str) -> Result<Disk, AllocError> {
         let mut bytes = Vec::new(alloc);
         bytes.extend_from_slice(text.as_bytes())?;
@@ -70,15 +80,20 @@ impl Disk {
             alloc,
             name: RefCell::new(String::from_str(alloc, name)?),
             bytes: RefCell::new(bytes),
-            is_closed: false,
+            fails: Fails::Nowhere,
             room: usize::MAX,
         })
     }
 
-    /// The same, and no file can be made.
-    pub fn closed(alloc: Global, name: &str, text: &str) -> Result<Disk, AllocError> {
+    /// The same, and making a file fails there.
+    pub fn failing(
+        alloc: Global,
+        name: &str,
+        text: &str,
+        fails: Fails,
+    ) -> Result<Disk, AllocError> {
         let mut disk = Disk::holding(alloc, name, text)?;
-        disk.is_closed = true;
+        disk.fails = fails;
         Ok(disk)
     }
 
@@ -94,7 +109,7 @@ impl Disk {
         Ok(disk)
     }
 
-    /// Whether the file has this name and holds this text.
+    /// Whether the file has this name and this text.
     pub fn holds(&self, name: &str, text: &str) -> bool {
         let (Ok(own), Ok(bytes)) = (self.name.try_borrow(), self.bytes.try_borrow()) else {
             return false;
@@ -102,28 +117,17 @@ impl Disk {
         own.as_str() == name && bytes.as_slice() == text.as_bytes()
     }
 
-    /// Whether the file has this name and holds the first so many bytes of this text.
-    pub fn holds_first(&self, name: &str, text: &str, count: usize) -> bool {
-        let (Ok(own), Ok(bytes)) = (self.name.try_borrow(), self.bytes.try_borrow()) else {
-            return false;
-        };
-        own.as_str() == name
-            && bytes.len() == count
-            && text.as_bytes().starts_with(bytes.as_slice())
-    }
-
-    // An empty file of this name in place of the one before.
-    fn replace(&self, name: &str) -> Result<(), OpenFault> {
-        if self.is_closed {
-            return Err(OpenFault);
+    // A file of this name and these bytes in place of the one before.
+    fn replace(&self, name: &str, bytes: Vec<u8>) -> Result<(), MakeFault> {
+        if let Fails::Keeping(fault) = self.fails {
+            return Err(fault);
         }
-        let name = String::from_str(self.alloc, name).map_err(|_| OpenFault)?;
+        let name = String::from_str(self.alloc, name).map_err(|_| MakeFault::Memory)?;
         let is_named = self.name.try_replace(name).is_ok();
-        let is_empty = self.bytes.try_replace(Vec::new(self.alloc)).is_ok();
-        if is_named && is_empty {
+        if is_named && self.bytes.try_replace(bytes).is_ok() {
             Ok(())
         } else {
-            Err(OpenFault)
+            Err(MakeFault::Write)
         }
     }
 }
@@ -145,6 +149,8 @@ struct Seen {
     ended: Cell<u32>,
     // How many files were to be made.
     asked: Cell<u32>,
+    // How many files were made, and neither kept nor removed.
+    left: Cell<u32>,
 }
 
 impl Seen {
@@ -157,6 +163,7 @@ impl Seen {
             last: Cell::new(0),
             ended: Cell::new(0),
             asked: Cell::new(0),
+            left: Cell::new(0),
         }
     }
 
@@ -168,6 +175,13 @@ impl Seen {
             self.back.set(self.back.get().saturating_add(1));
         }
         self.last.set(number);
+    }
+
+    // Names are compared before a file is opened, and any other comparison is early too.
+    fn see_names(&self) {
+        if self.opened.get() > 0 {
+            self.early.set(self.early.get().saturating_add(1));
+        }
     }
 
     fn see_end(&self) {
@@ -197,10 +211,11 @@ struct FakeFile<'a> {
     seen: &'a Seen,
 }
 
-// The file of a disk, of which a write takes five bytes at most.
+// A file that is not kept yet, of which a write takes five bytes at most.
 #[derive(Drop)]
 struct FakeMade<'a> {
     disk: &'a Disk,
+    bytes: Vec<u8>,
 }
 
 impl<'a> Opens for FakeOpener<'a> {
@@ -221,10 +236,32 @@ impl<'a> Opens for FakeOpener<'a> {
         })
     }
 
-    fn create(&mut self, name: &str) -> Result<FakeMade<'a>, OpenFault> {
+    // Names are of one file where they are equal but for `./` at their start.
+    fn is_same(&mut self, left: &str, right: &str) -> bool {
+        self.seen.see_names();
+        let left = left.strip_prefix("./").unwrap_or(left);
+        left == right.strip_prefix("./").unwrap_or(right)
+    }
+
+    fn create(&mut self, _name: &str) -> Result<FakeMade<'a>, MakeFault> {
         self.seen.see_making();
-        self.disk.replace(name)?;
-        Ok(FakeMade { disk: self.disk })
+        if let Fails::Making(fault) = self.disk.fails {
+            return Err(fault);
+        }
+        self.seen.left.set(self.seen.left.get().saturating_add(1));
+        Ok(FakeMade {
+            disk: self.disk,
+            bytes: Vec::new(self.disk.alloc),
+        })
+    }
+
+    fn keep(&mut self, file: FakeMade<'a>, name: &str) -> Result<(), MakeFault> {
+        self.seen.left.set(self.seen.left.get().saturating_sub(1));
+        self.disk.replace(name, file.bytes)
+    }
+
+    fn remove(&mut self, _file: FakeMade<'a>) {
+        self.seen.left.set(self.seen.left.get().saturating_sub(1));
     }
 }
 
@@ -244,15 +281,12 @@ impl Read for FakeFile<'_> {
 
 impl Write for FakeMade<'_> {
     fn write(&mut self, buf: &[u8]) -> io::Result<usize> {
-        let Ok(mut bytes) = self.disk.bytes.try_borrow_mut() else {
-            return Err(io::Error::from(ErrorKind::Other));
-        };
-        let room = self.disk.room.saturating_sub(bytes.len());
+        let room = self.disk.room.saturating_sub(self.bytes.len());
         let count = buf.len().min(5).min(room);
         if room == 0 {
             return Err(io::Error::from(ErrorKind::StorageFull));
         }
-        bytes.extend_from_slice(&buf[..count])?;
+        self.bytes.extend_from_slice(&buf[..count])?;
         Ok(count)
     }
 
@@ -374,7 +408,7 @@ pub fn check_words(
 }
 
 /// The same of words with commas between them, with a disk of its own: a file is to be made on it just where
-/// this is said, and once all files are read to their end.
+/// this is said, and once all files are read to their end. A file that is made is kept or removed.
 pub fn check_around(
     alloc: Global,
     files: &Files,
@@ -408,6 +442,7 @@ fn check_run(
         && seen.early.get() == 0
         && seen.back.get() == 0
         && seen.asked.get() == u32::from(around.makes)
+        && seen.left.get() == 0
         && (end.opened == seen.wanted || calls.all.get() == 0);
     if is_written && is_in_order {
         return Ok(());

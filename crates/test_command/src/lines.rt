@@ -213,6 +213,18 @@ fn files_that_do_not_open(rt: HostRuntime) -> Result<(), Fail> {
     check_open(rt.alloc(), Role::Tailored, "tailored: Open\n")
 }
 
+// The certificate would be written over a file that is read.
+fn check_same(alloc: Global, role: Role, text: &str) -> Result<(), Fail> {
+    check(alloc, &RunFault::SameAs(role), text, 2)
+}
+
+#[test]
+fn certificates_over_files(rt: HostRuntime) -> Result<(), Fail> {
+    check_same(rt.alloc(), Role::Table, "certificate: SameAs table\n")?;
+    check_same(rt.alloc(), Role::Data, "certificate: SameAs data\n")?;
+    check_same(rt.alloc(), Role::Rules, "certificate: SameAs rules\n")
+}
+
 // A fault of a line of the input.
 fn check_line(
     alloc: Global,

@@ -1,14 +1,15 @@
 //! `tailor` over three files, what it writes under the other commands, and files that are refused, do not open or cannot be made.
 
-use crate::fakes::{Around, Disk, End, Files, WHOLE, check, check_around};
+use crate::fakes::{Around, Disk, End, Fails, Files, WHOLE, check, check_around};
 use std::alloc::Global;
 use std::io::ErrorKind;
 use std::test::Fail;
 use test_kit::{DATA, Failure, Pace, TABLE, halves, holds, joined};
+use uca_cli::MakeFault;
 
 const WORDS: &str = "tailor,allkeys.txt,data.txt,rules.txt,certificate.txt";
 
-/// What stood in the file of the certificate before, which is longer than each certificate.
+/// The bytes of the certificate's file before, which are more than those of each certificate.
 const OLD: &str = "1 0001 0001 0001\n1 0002 0002 0001\n1 0003 0003 0001\n1 0004 0004 0001\n\
     1 0005 0005 0001\n1 0006 0006 0001\n1 0007 0007 0001\n1 0008 0008 0001\n1 0009 0009 0001\n";
 
@@ -117,7 +118,7 @@ struct Case<'a> {
     tailored_key: &'a str,
 }
 
-/// The table is printed, and the certificate replaces what stood in its file.
+/// The table is printed, and the certificate replaces the file that had its name.
 fn check_outputs(alloc: Global, case: &Case) -> Result<(), Fail> {
     let texts = [Some(case.base), Some(DATA), Some(case.rules)];
     let disk = Disk::holding(alloc, "certificate.txt", OLD)?;
@@ -196,20 +197,53 @@ fn tailorings(rt: HostRuntime) -> Result<(), Fail> {
     check_case(alloc, &without_rules)
 }
 
-/// The certificate may replace a file that was read.
-#[test]
-fn a_certificate_in_place_of_its_rules(rt: HostRuntime) -> Result<(), Fail> {
-    let alloc = rt.alloc();
-    let tailored = joined(alloc, &[TABLE, ROW])?;
+/// The arguments of a tailoring, and which file the certificate would be written over. The name `./n` is of the same file as
+/// the name `n`, and no file has the name `missing.txt`.
+const OVERWRITING: &str = "allkeys.txt,data.txt,rules.txt,allkeys.txt | table
+allkeys.txt,data.txt,rules.txt,data.txt | data
+allkeys.txt,data.txt,rules.txt,rules.txt | rules
+./allkeys.txt,data.txt,rules.txt,allkeys.txt | table
+allkeys.txt,data.txt,rules.txt,./data.txt | data
+allkeys.txt,data.txt,./rules.txt,rules.txt | rules
+allkeys.txt,allkeys.txt,allkeys.txt,allkeys.txt | table
+allkeys.txt,data.txt,data.txt,data.txt | data
+./allkeys.txt,data.txt,allkeys.txt,allkeys.txt | table
+allkeys.txt,./rules.txt,rules.txt,rules.txt | data
+missing.txt,data.txt,rules.txt,rules.txt | rules
+missing.txt,data.txt,missing.txt,missing.txt | table";
+
+/// Nothing is opened, and no file is made.
+fn check_overwriting(alloc: Global, arguments: &str, role: &str) -> Result<(), Fail> {
     let texts = [Some(TABLE), Some(DATA), Some("&a < x")];
-    let words = "tailor,allkeys.txt,data.txt,rules.txt,rules.txt";
     let disk = Disk::holding(alloc, "rules.txt", "&a < x")?;
-    let end = done(&tailored, 3);
-    check_tailor(alloc, texts, (words, Pace::steps(64)), (&disk, true), &end)?;
-    holds(disk.holds("rules.txt", UNMOVED), "another certificate")
+    let words = joined(alloc, &["tailor,", arguments])?;
+    let err = joined(alloc, &["certificate: SameAs ", role, "\n"])?;
+    let end = End {
+        status: 2,
+        out: "",
+        err: &err,
+        opened: 0,
+    };
+    check_tailor(
+        alloc,
+        texts,
+        (&words, Pace::steps(64)),
+        (&disk, false),
+        &end,
+    )?;
+    holds(disk.holds("rules.txt", "&a < x"), arguments)
 }
 
-/// A file that takes so many bytes of the certificate: it holds them, and nothing is printed.
+#[test]
+fn certificates_over_files_that_are_read(rt: HostRuntime) -> Result<(), Fail> {
+    for case in OVERWRITING.lines() {
+        let (arguments, role) = halves(case)?;
+        check_overwriting(rt.alloc(), arguments, role)?;
+    }
+    Ok(())
+}
+
+/// A file that takes so many bytes of the certificate is removed, and nothing is printed.
 fn check_full(alloc: Global, room: usize) -> Result<(), Fail> {
     let texts = [Some(TABLE), Some(DATA), Some("&a < x")];
     let disk = Disk::with_room(alloc, "certificate.txt", OLD, room)?;
@@ -220,10 +254,7 @@ fn check_full(alloc: Global, room: usize) -> Result<(), Fail> {
         opened: 3,
     };
     check_tailor(alloc, texts, (WORDS, Pace::steps(64)), (&disk, true), &end)?;
-    holds(
-        disk.holds_first("certificate.txt", UNMOVED, room),
-        "other bytes",
-    )
+    holds(disk.holds("certificate.txt", OLD), "another certificate")
 }
 
 #[test]
@@ -299,23 +330,32 @@ fn files_that_do_not_open(rt: HostRuntime) -> Result<(), Fail> {
     check_fault(alloc, texts, (3, "table: Open\n", 0))
 }
 
-/// The three files are read, and then nothing is printed.
-#[test]
-fn a_certificate_that_cannot_be_made(rt: HostRuntime) -> Result<(), Fail> {
-    let alloc = rt.alloc();
+/// The three files are read, and then nothing is printed. The old certificate stays as it was.
+fn check_unmade(alloc: Global, fails: Fails, (status, err): (u8, &str)) -> Result<(), Fail> {
     let texts = [Some(TABLE), Some(DATA), Some("&a < x")];
-    let disk = Disk::closed(alloc, "certificate.txt", OLD)?;
+    let disk = Disk::failing(alloc, "certificate.txt", OLD, fails)?;
     let end = End {
-        status: 3,
+        status,
         out: "",
-        err: "certificate: Write\n",
+        err,
         opened: 3,
     };
     check_tailor(alloc, texts, (WORDS, Pace::steps(64)), (&disk, true), &end)?;
-    holds(disk.holds("certificate.txt", OLD), "an old certificate")
+    holds(disk.holds("certificate.txt", OLD), "another certificate")
 }
 
-/// The certificate was written before.
+#[test]
+fn certificates_that_cannot_be_made_or_kept(rt: HostRuntime) -> Result<(), Fail> {
+    let alloc = rt.alloc();
+    let written = (3, "certificate: Write\n");
+    check_unmade(alloc, Fails::Making(MakeFault::Write), written)?;
+    check_unmade(alloc, Fails::Keeping(MakeFault::Write), written)?;
+    let memory = (4, "memory\n");
+    check_unmade(alloc, Fails::Making(MakeFault::Memory), memory)?;
+    check_unmade(alloc, Fails::Keeping(MakeFault::Memory), memory)
+}
+
+/// The certificate was kept before.
 fn check_cut(alloc: Global, pace: Pace, out: &str) -> Result<(), Fail> {
     let texts = [Some(TABLE), Some(DATA), Some("&a < x")];
     let disk = Disk::holding(alloc, "certificate.txt", OLD)?;

@@ -1,14 +1,17 @@
 //! The program `uca`: it passes its arguments, its files and its standard streams to `run_command`.
 #![tactic(auto)]
 
+mod made;
+
+use made::{Made, are_of_one_file};
 use std::alloc::{AllocError, Global};
 use std::fs::File;
-use std::io::Write;
-use std::os::fd::AsRawFd;
+use std::io::{ErrorKind, Write};
+use std::os::fd::{AsFd, AsRawFd};
 use std::process::ExitCode;
 use std::{env, fs, io};
 use uca_cli::reporting::STREAM_FAILED;
-use uca_cli::{OpenFault, Opens, RunFault, report, run_command};
+use uca_cli::{MakeFault, OpenFault, Opens, RunFault, report, run_command};
 use uca_weights::{Sink, Source};
 
 /// The files of the system.
@@ -20,14 +23,35 @@ struct Files<'a> {
 impl Opens for Files<'_> {
     type File = File;
 
-    type Made = File;
+    type Made = Made;
 
     fn open(&mut self, name: &str) -> Result<File, OpenFault> {
         fs::open(self.rt, name).map_err(|_| OpenFault)
     }
 
-    fn create(&mut self, name: &str) -> Result<File, OpenFault> {
-        fs::create(self.rt, name).map_err(|_| OpenFault)
+    fn is_same(&mut self, left: &str, right: &str) -> bool {
+        are_of_one_file(self.rt, left, right)
+    }
+
+    fn create(&mut self, name: &str) -> Result<Made, MakeFault> {
+        Made::new(self.rt, name).map_err(fault_of)
+    }
+
+    fn keep(&mut self, file: Made, _name: &str) -> Result<(), MakeFault> {
+        file.keep(self.rt).map_err(fault_of)
+    }
+
+    fn remove(&mut self, file: Made) {
+        file.remove(self.rt);
+    }
+}
+
+// The fault of a file that cannot be made or kept.
+fn fault_of(error: io::Error) -> MakeFault {
+    if error.kind() == ErrorKind::OutOfMemory {
+        MakeFault::Memory
+    } else {
+        MakeFault::Write
     }
 }
 
@@ -64,10 +88,23 @@ fn run_given<O: Write, E: Write>(
     }
 }
 
+// Whether a standard stream is open: only then the system gives another descriptor of it.
+fn is_open<S: AsFd>(stream: &S) -> bool {
+    stream.as_fd().try_clone_to_owned().is_ok()
+}
+
 // Opens a folder in place of each standard stream that is closed, and keeps it open: so no file that is
-// opened later becomes a standard stream, and each read and write of the closed one fails. A descriptor
-// that is opened has the lowest number that is free.
+// opened later becomes a standard stream, and each read and write of the closed one fails. Where all three are open, it
+// opens nothing.
 fn hold_standard_streams(rt: &HostRuntime) -> io::Result<[Option<File>; 3]> {
+    if is_open(&rt.stdin()) && is_open(&rt.stdout()) && is_open(&rt.stderr()) {
+        return Ok([None, None, None]);
+    }
+    open_folders(rt)
+}
+
+// A descriptor that is opened has the lowest number that is free.
+fn open_folders(rt: &HostRuntime) -> io::Result<[Option<File>; 3]> {
     let mut held = [None, None, None];
     for place in &mut held {
         let folder = fs::open(rt, "/")?;

@@ -1,11 +1,15 @@
 -- What the whole command does: it reads its words, opens the files that they name in their order, runs over them, and
 -- ends with a status.
-use Rattle.std.specs.Prelude.{◌≡◌, ◌⊎◌, ℕ, List, [], ◌∷◌, ◌||◌, Bool, true, false, Option, Result, Ok, Err}
+use Rattle.std.specs.Prelude.{◌≡◌, ◌≢◌, ◌⊎◌, ◌<◌, ℕ, List, [], ◌∷◌, ◌||◌, Bool, true, false, Option, Result, Ok, Err, IfErr, is_err, length}
 use Rattle.uca_weights.specs.declared.Depth.{Depth}
+use Rattle.uca_weights.specs.declared.streams.sink.WriteFault.{WriteFault}
 use Rattle.uca_weights.specs.declared.Weighting.{Weighting}
 use Rattle.uca_weights.specs.Streams.{SourceState, SinkState}
+use Rattle.uca_weights.specs.Writes.{Writes}
 use Rattle.uca_values.specs.Content.{TableContent}
+use Rattle.uca_table.specs.Canonical.{canonical}
 use Rattle.uca_certificates.specs.Certificates.{CertificateContent}
+use Rattle.uca_certificates.specs.Texts.{certificate_text}
 use Rattle.uca_words.specs.declared.Words.{Words as WordsType}
 use Rattle.uca_words.specs.declared.Words.TheVariants.{Check, Keys, Sort, Compare, Tailor, Audit, Affected}
 use Rattle.uca_words.specs.Words.{AreRead, IsFaultOf}
@@ -13,34 +17,48 @@ use Rattle.uca_words.specs.declared.WordFault.{WordFault}
 use Rattle.uca_runs.specs.declared.faults.Role.{Role}
 use Rattle.uca_runs.specs.declared.faults.Role.TheVariants as roles
 use Rattle.uca_runs.specs.declared.faults.RunFault.{RunFault}
-use Rattle.uca_runs.specs.declared.faults.RunFault.TheVariants.{CertificateWrite, Open, Words}
+use Rattle.uca_runs.specs.declared.faults.RunFault.TheVariants.{CertificateWrite, Memory, Open, SameAs, Words, Write}
 use Rattle.uca_runs.specs.CheckRun.{Checks}
 use Rattle.uca_runs.specs.CompareRun.{Compares, Comparing, comparing}
 use Rattle.uca_runs.specs.KeysRun.{PrintsKeys, PrintsKeyedLines}
 use Rattle.uca_runs.specs.AffectedRun.{PrintsAffected}
 use Rattle.uca_runs.specs.SortRun.{SortsLines}
-use Rattle.uca_runs.specs.Runs.{ended_by_output}
 use Rattle.uca_cli.specs.declared.command.OpenFault.{OpenFault}
+use Rattle.uca_cli.specs.declared.command.MakeFault.{MakeFault}
+use Rattle.uca_cli.specs.declared.command.MakeFault.TheVariants as make_fault
 use Rattle.uca_cli.specs.AuditRun.{Audits}
-use Rattle.uca_cli.specs.TailorRun.{TailorsFiles, WritesTailored, is_certificate_write}
+use Rattle.uca_cli.specs.TailorRun.{TailorsFiles}
 use Rattle.uca_cli.specs.Reports.{Reports}
 use Rattle.uca_cli.specs.Statuses.{IsStatus}
 
 -- ---- What a command works with
 
--- A file system, whose states are of O: what it gives where a file of a name is to be opened, and where one is to be
--- made; what the bytes of an opened file are, and those of a file that was made.
+-- A file system, whose states are of O: what it gives where a file of a name is to be opened, whether two names are of one
+-- file, and what it gives where a file is to be made for a name. Then what it does with a file that was made: it keeps it
+-- under the name, or removes it. Then what the bytes of an opened file are, and those of a file that was made.
 pub record FileSystem (O F M : Type 0) : Type 1 where
   pub gives : O → List ℕ → Result F OpenFault → O → Type 0
-  pub makes : O → List ℕ → Result M OpenFault → O → Type 0
+  pub compares : O → List ℕ → List ℕ → Bool → O → Type 0
+  pub makes : O → List ℕ → Result M MakeFault → O → Type 0
+  pub keeps : O → M → List ℕ → Result (Unit {0}) MakeFault → O → Type 0
+  pub removes : O → M → O → Type 0
   pub remaining : F → Option (List ℕ)
   pub contents : M → Option (List ℕ)
 
 -- the same from its parts
 abbrev pub file_system : {O F M : Type 0} → (O → List ℕ → Result F OpenFault → O → Type 0)
-    → (O → List ℕ → Result M OpenFault → O → Type 0) → (F → Option (List ℕ)) → (M → Option (List ℕ)) → FileSystem O F M
-file_system gives makes remaining contents =
-    record { gives = gives; makes = makes; remaining = remaining; contents = contents }
+    → (O → List ℕ → List ℕ → Bool → O → Type 0) → (O → List ℕ → Result M MakeFault → O → Type 0)
+    → (O → M → List ℕ → Result (Unit {0}) MakeFault → O → Type 0) → (O → M → O → Type 0)
+    → (F → Option (List ℕ)) → (M → Option (List ℕ)) → FileSystem O F M
+file_system gives compares makes keeps removes remaining contents = record {
+  gives = gives;
+  compares = compares;
+  makes = makes;
+  keeps = keeps;
+  removes = removes;
+  remaining = remaining;
+  contents = contents;
+}
 
 -- the input and the output
 pub record Streams : Type 0 where
@@ -177,37 +195,107 @@ DoesCompare files old new asked table properties out out_new result =
     OpensAndRuns files old new (table_and_data table properties) (out_new ≡ out)
     (λ olds news. Ran (done_result {A = Unit {0}}) (Compares asked olds news out out_new) result) result
 
+-- ---- The file of a certificate
+
+-- whether a name is that of the certificate: the names are equal, or the file system says that they are of one file
+abbrev pub IsCertificate : {O F M : Type 0} → FileSystem O F M → O → O → List ℕ → List ℕ → Bool → Type 0
+IsCertificate files old new name certificate same = ((name ≡ certificate) × (same ≡ true) × (new ≡ old))
+    ⊎ ((name ≢ certificate) × files.compares old name certificate same new)
+
+-- none of these files is the certificate's
+abbrev pub AreOthers : {O F M : Type 0} → FileSystem O F M → O → O → List NamedFile → List ℕ → Type 0
+AreOthers files old new [] certificate = new ≡ old
+AreOthers {O = O} files old new (file ∷ named) certificate = (between : O)
+    × IsCertificate files old between file.name certificate false × AreOthers files between new named certificate
+
+-- the first of these files that is the certificate's has this role
+abbrev pub IsFirstSame : {O F M : Type 0} → FileSystem O F M → O → O → List NamedFile → List ℕ → Role → Type 0
+IsFirstSame files old new [] certificate role = ⊥
+IsFirstSame {O = O} files old new (file ∷ named) certificate role =
+    ((role ≡ file.role) × IsCertificate files old new file.name certificate true)
+    ⊎ ((between : O) × IsCertificate files old between file.name certificate false
+    × IsFirstSame files between new named certificate role)
+
+-- the error of a file that cannot be made or kept
+abbrev pub make_fault_of : MakeFault → RunFault
+make_fault_of make_fault.Write = CertificateWrite 0
+make_fault_of make_fault.Memory = Memory
+
+-- the result of keeping a file
+abbrev pub kept_result : Result (Unit {0}) MakeFault → Result (Unit {0}) RunFault
+kept_result (Ok done) = Ok done
+kept_result (Err fault) = Err (make_fault_of fault)
+
+-- A file to which a text was to be written: it is kept under its name where the whole text went out, and else it is
+-- removed. What the names of the file system then hold is up to it.
+abbrev pub EndsFile : {O F M : Type 0} → FileSystem O F M → O → O → M → List ℕ → Result (Unit {0}) WriteFault
+    → Result (Unit {0}) RunFault → Type 0
+EndsFile files old new file name (Ok done) result = (kept : Result (Unit {0}) MakeFault)
+    × files.keeps old file name kept new × (result ≡ kept_result kept)
+EndsFile files old new file name (Err fault) result =
+    files.removes old file new × (result ≡ Err (CertificateWrite fault.written))
+
+-- A file was made for this name, and the certificate was written to it, or as much of it as a writer that fails leaves.
+-- Then the file is kept or removed. `file` is what was made, and `file_new` the same after the writing.
+pub record WritesFile {O F M : Type 0} (files : FileSystem O F M) (old new : O) (name : List ℕ)
+    (certificate : CertificateContent) (result : Result (Unit {0}) RunFault) : Type 0 where
+  pub file : M
+  pub between : O
+  pub made : files.makes old name (Ok file) between
+  pub sink : SinkState
+  pub written : Result (Unit {0}) WriteFault
+  pub writes : Writes (files.contents file) sink.contents (certificate_text certificate) written
+  pub not_all : IfErr written (λ fault. fault.written < length (certificate_text certificate))
+  pub failed : sink.failed ≡ is_err written
+  pub file_new : M
+  pub contents : files.contents file_new ≡ sink.contents
+  pub ends : EndsFile files between new file_new name written result
+
+-- no file can be made for this name
+abbrev pub DoesNotMake : {O F M : Type 0} → FileSystem O F M → O → O → List ℕ → Result (Unit {0}) RunFault → Type 0
+DoesNotMake files old new name result =
+    (fault : MakeFault) × files.makes old name (Err fault) new × (result ≡ Err (make_fault_of fault))
+
+-- the certificate is written to a file that is made for this name, and that is kept under it only as a whole
+abbrev pub KeepsCertificate : {O F M : Type 0} → FileSystem O F M → O → O → List ℕ → CertificateContent
+    → Result (Unit {0}) RunFault → Type 0
+KeepsCertificate files old new name certificate result =
+    DoesNotMake files old new name result ⊎ WritesFile files old new name certificate result
+
 -- ---- Tailor
 
--- The file of this name was made, and the certificate and the table were written, or as much of them as a writer that
--- fails leaves. What is said of the file is said of the writer that was made; what the file holds when it is closed is
--- up to the file system.
-pub record MakesFile {O F M : Type 0} (files : FileSystem O F M) (old new : O) (name : List ℕ) (table : TableContent)
+-- the status of a table that was written, or the error
+abbrev pub table_result : Result (Unit {0}) WriteFault → Result ℕ RunFault
+table_result (Ok done) = Ok 0
+table_result (Err fault) = Err (Write fault.written)
+
+-- the table was written, or as much of it as a writer that fails leaves
+pub record WritesTable (table : TableContent) (out out_new : SinkState) (result : Result ℕ RunFault) : Type 0 where
+  pub written : Result (Unit {0}) WriteFault
+  pub writes : Writes out.contents out_new.contents (canonical table) written
+  pub not_all : IfErr written (λ fault. fault.written < length (canonical table))
+  pub failed : out_new.failed ≡ (out.failed || is_err written)
+  pub status : result ≡ table_result written
+
+-- the table is written where the certificate was kept, and nothing where it was not
+abbrev pub WritesAfter : TableContent → Result (Unit {0}) RunFault → SinkState → SinkState → Result ℕ RunFault → Type 0
+WritesAfter table (Ok done) out out_new result = WritesTable table out out_new result
+WritesAfter table (Err fault) out out_new result = (result ≡ Err fault) × (out_new ≡ out)
+
+-- the certificate is kept, and then the table is written
+pub record KeepsAndWrites {O F M : Type 0} (files : FileSystem O F M) (old new : O) (name : List ℕ) (table : TableContent)
     (certificate : CertificateContent) (out out_new : SinkState) (result : Result ℕ RunFault) : Type 0 where
-  pub file : M
-  pub made : files.makes old name (Ok file) new
-  pub file_new : SinkState
-  pub written : Result (Unit {0}) RunFault
-  pub writes : WritesTailored table certificate (record { contents = files.contents file; failed = false }) file_new
-      out out_new written
-  pub file_failed : file_new.failed ≡ is_certificate_write written
-  pub out_failed : out_new.failed ≡ (out.failed || ended_by_output written)
-  pub answers : result ≡ done_result written
+  pub kept : Result (Unit {0}) RunFault
+  pub keeps : KeepsCertificate files old new name certificate kept
+  pub writes : WritesAfter table kept out out_new result
 
--- the file of this name cannot be made, and nothing was written
-abbrev pub DoesNotMake : {O F M : Type 0} → FileSystem O F M → O → O → List ℕ → SinkState → SinkState
-    → Result ℕ RunFault → Type 0
-DoesNotMake files old new name out out_new result =
-    (fault : OpenFault) × files.makes old name (Err fault) new × (result ≡ Err (CertificateWrite 0)) × (out_new ≡ out)
-
--- What becomes of the answer of a run of tailor: its fault is that of the command, and no file is made; or the file of
--- the certificate is made, where it can be, and certificate and table are written.
+-- What becomes of the result of a run of tailor: its error is that of the command, and no file is made; or the certificate
+-- is kept, where it can be, and the table is written.
 abbrev pub KeepsTailored : {O F M : Type 0} → FileSystem O F M → O → O → List ℕ → SinkState → SinkState
     → Result (TableContent × CertificateContent) RunFault → Result ℕ RunFault → Type 0
 KeepsTailored files old new name out out_new (Err fault) result = (result ≡ Err fault) × (new ≡ old) × (out_new ≡ out)
 KeepsTailored files old new name out out_new (Ok answer) result =
-    DoesNotMake files old new name out out_new result
-    ⊎ MakesFile files old new name answer.0 answer.1 out out_new result
+    KeepsAndWrites files old new name answer.0 answer.1 out out_new result
 
 -- a run of tailor, and what becomes of what it returns
 pub record Tailors {O F M : Type 0} (files : FileSystem O F M) (between end : O) (certificate : List ℕ)
@@ -216,12 +304,32 @@ pub record Tailors {O F M : Type 0} (files : FileSystem O F M) (between end : O)
   pub runs : TailorsFiles olds news run
   pub keeps : KeepsTailored files between end certificate out out_new run result
 
+-- the files of `tailor` are opened and run over, and the certificate is none of them
+abbrev pub TailorsOpened : {O F M : Type 0} → FileSystem O F M → O → O → List NamedFile → List ℕ
+    → SinkState → SinkState → Result ℕ RunFault → Type 0
+TailorsOpened {O = O} files old new named certificate out out_new result = (between : O)
+    × OpensAndRuns files old between named ((new ≡ between) × (out_new ≡ out))
+    (Tailors files between new certificate out out_new result) result
+
+-- the certificate would be written over the file of this role: nothing was opened, and nothing was written
+abbrev pub RejectsCertificate : {O F M : Type 0} → FileSystem O F M → O → O → List NamedFile → List ℕ
+    → SinkState → SinkState → Result ℕ RunFault → Type 0
+RejectsCertificate files old new named certificate out out_new result = (role : Role)
+    × IsFirstSame files old new named certificate role × (result ≡ Err (SameAs role)) × (out_new ≡ out)
+
+-- what `tailor` does with these files: the certificate is first looked for among them
+abbrev pub TailorsNamed : {O F M : Type 0} → FileSystem O F M → O → O → List NamedFile → List ℕ
+    → SinkState → SinkState → Result ℕ RunFault → Type 0
+TailorsNamed {O = O} files old new named certificate out out_new result =
+    RejectsCertificate files old new named certificate out out_new result
+    ⊎ ((looked : O) × AreOthers files old looked named certificate
+    × TailorsOpened files looked new named certificate out out_new result)
+
 -- what `tailor` does
 abbrev pub DoesTailor : {O F M : Type 0} → FileSystem O F M → O → O → List ℕ → List ℕ → List ℕ → List ℕ
     → SinkState → SinkState → Result ℕ RunFault → Type 0
-DoesTailor {O = O} files old new table properties rules certificate out out_new result = (between : O)
-    × OpensAndRuns files old between (tailor_files table properties rules) ((new ≡ between) × (out_new ≡ out))
-    (Tailors files between new certificate out out_new result) result
+DoesTailor files old new table properties rules certificate out out_new result =
+    TailorsNamed files old new (tailor_files table properties rules) certificate out out_new result
 
 -- ---- Audit
 

@@ -16,7 +16,7 @@ use Rattle.uca_runs.specs.declared.faults.InputKind.TheVariants as input_kind
 use Rattle.uca_runs.specs.declared.faults.FileFault.{FileFault}
 use Rattle.uca_runs.specs.declared.faults.FileFault.TheVariants.{Lines, Rules, RulesRead, RulesMemory, Certificate}
 use Rattle.uca_runs.specs.declared.faults.RunFault.{RunFault}
-use Rattle.uca_runs.specs.declared.faults.RunFault.TheVariants.{File, Input, Write, Memory, Text, Tailor, CertificateWrite, Open, Words}
+use Rattle.uca_runs.specs.declared.faults.RunFault.TheVariants.{File, Input, Write, Memory, Text, Tailor, CertificateWrite, Open, SameAs, Words}
 use Rattle.uca_plans.specs.declared.faults.TailorKind.{TailorKind}
 use Rattle.uca_plans.specs.declared.faults.TailorKind.TheVariants as planner
 use Rattle.uca_words.specs.declared.WordFault.{WordFault}
@@ -86,4 +86,5 @@ IsStatus (Text right fault) status = status ≡ text_status fault
 IsStatus (Tailor fault) status = status ≡ tailor_status fault.kind
 IsStatus (CertificateWrite written) status = status ≡ 3
 IsStatus (Open role) status = status ≡ 3
+IsStatus (SameAs role) status = status ≡ 2
 IsStatus (Words fault) status = IsWordStatus fault status

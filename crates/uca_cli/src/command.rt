@@ -1,14 +1,16 @@
 //! The command: it reads its words, opens the files that they name, and calls the run.
 
-ghost use Rattle.std.specs.Prelude.{◌∷◌, [], ⊤, ℕ, List, Result, MatchResult, ◌≡◌, ◌⊎◌};
+ghost use Rattle.std.specs.Prelude.{◌∷◌, [], ⊤, ℕ, Bool, List, Result, MatchResult, ◌≡◌};
 ghost use Rattle.clap.specs.Walk.{texts};
-ghost use Rattle.uca_cli.specs.Command.{AreOpened, DoesAffected, DoesAudit, DoesCheck, DoesCommand, DoesCompare, DoesKeys, DoesNotMake, DoesNotOpen, DoesSort, DoesTailor, DoesWords, MakesFile, Prints, audit_files, check_result, data_and_rules, done_result, file_system, streams, table_and_data, tailor_files};
+ghost use Rattle.uca_cli.specs.Command.{AreOpened, DoesAffected, DoesAudit, DoesCheck, DoesCommand, DoesCompare, DoesKeys, DoesNotOpen, DoesSort, DoesTailor, DoesWords, KeepsAndWrites, Prints, TailorsOpened, audit_files, check_result, data_and_rules, done_result, file_system, streams, table_and_data, tailor_files};
 ghost use Rattle.uca_runs.specs.CompareRun.{comparing};
 ghost use Rattle.uca_cli.specs.declared.command.OpenFault.{OpenFault};
+ghost use Rattle.uca_cli.specs.declared.command.MakeFault.{MakeFault};
 
 use crate::audit::run_audit;
+use crate::keeping::{find_certificate, keep_certificate, print_table};
 use crate::reporting::{DONE, REFUSED, report};
-use crate::tailor::{run_tailor, write_tailored};
+use crate::tailor::run_tailor;
 use std::alloc::Global;
 use std::io::{Read, Write};
 use thiserror::Error;
@@ -24,19 +26,42 @@ use uca_words::{Words, read_words};
 #[error("the file does not open")]
 pub struct OpenFault;
 
+/// A file cannot be made, or cannot be kept under its name.
+#[derive(Clone, Copy, Debug, PartialEq, Eq, Error)]
+pub enum MakeFault {
+    /// The file system does not do it.
+    #[error("the file cannot be made")]
+    Write,
+    /// An allocation failed.
+    #[error("out of memory")]
+    Memory,
+}
+
 /// Opens files by their names, and makes files.
+///
+/// A file is made in three steps: `create`, then writes, then `keep` or `remove`. Until it is kept, the file that had the
+/// name before is as it was.
 pub trait Opens {
     /// An opened file.
     type File: Read + Drop;
 
-    /// A file that was made.
+    /// A file that was made, and is not kept yet.
     type Made: Write + Drop;
 
     // Holds of the opener before a call, the name, the result and the opener after, where the impl says it.
     ghost open_gives: { Self → List ℕ → Result Self.File OpenFault → Self → Type 0 } = { λ _ _ _ _. ⊤ };
 
+    // The same of a call that compares two names.
+    ghost same_gives: { Self → List ℕ → List ℕ → Bool → Self → Type 0 } = { λ _ _ _ _ _. ⊤ };
+
     // The same of a call that makes a file.
-    ghost create_gives: { Self → List ℕ → Result Self.Made OpenFault → Self → Type 0 } = { λ _ _ _ _. ⊤ };
+    ghost create_gives: { Self → List ℕ → Result Self.Made MakeFault → Self → Type 0 } = { λ _ _ _ _. ⊤ };
+
+    // The same of a call that keeps a file under a name.
+    ghost keep_gives: { Self → Self.Made → List ℕ → Result (Unit {0}) MakeFault → Self → Type 0 } = { λ _ _ _ _ _. ⊤ };
+
+    // The same of a call that removes a file.
+    ghost remove_gives: { Self → Self.Made → Self → Type 0 } = { λ _ _ _. ⊤ };
 
     /// Opens the file of this name to be read.
     ///
@@ -46,13 +71,30 @@ pub trait Opens {
     fn open(&mut self, name: &str) -> Result<Self::File, OpenFault>
         ensures { open_gives self.old name.now result self.new };
 
-    /// Makes a file of this name to be written, in place of one that has the name.
+    /// Whether two names that differ are of one file, so that writing to the one changes the other. Where it cannot be
+    /// told, the result is `false`. It opens no file.
+    fn is_same(&mut self, left: &str, right: &str) -> bool
+        ensures { same_gives self.old left.now right.now result self.new };
+
+    /// Makes a file to be written, which is to have this name. It gets the name by `keep`.
     ///
     /// # Errors
     ///
-    /// `OpenFault` where the file cannot be made.
-    fn create(&mut self, name: &str) -> Result<Self::Made, OpenFault>
+    /// `Write` where the file cannot be made, and `Memory` where an allocation failed.
+    fn create(&mut self, name: &str) -> Result<Self::Made, MakeFault>
         ensures { create_gives self.old name.now result self.new };
+
+    /// Closes a file that was made for this name, and gives it the name, in place of a file that has it.
+    ///
+    /// # Errors
+    ///
+    /// `Write` where the file cannot have the name, and `Memory` where an allocation failed. Then the file is removed.
+    fn keep(&mut self, file: Self::Made, name: &str) -> Result<(), MakeFault>
+        ensures { keep_gives self.old file name.now result self.new };
+
+    /// Closes a file that was made, and removes it.
+    fn remove(&mut self, file: Self::Made)
+        ensures { remove_gives self.old file self.new };
 }
 
 // The sources of a table file and of a data file, which are opened in this order, or the first that does
@@ -63,9 +105,9 @@ fn open_files<O: Opens>(
     properties: &str,
 ) -> Result<(Source<O::File>, Source<O::File>), Role>
     ensures { MatchResult result
-        (λ files. AreOpened (file_system O.open_gives O.create_gives O.File.remaining O.Made.contents)
+        (λ files. AreOpened (file_system O.open_gives O.same_gives O.create_gives O.keep_gives O.remove_gives O.File.remaining O.Made.contents)
         opener.old opener.new (table_and_data table.now properties.now) (files.0 ∷ files.1 ∷ []))
-        (DoesNotOpen (file_system O.open_gives O.create_gives O.File.remaining O.Made.contents)
+        (DoesNotOpen (file_system O.open_gives O.same_gives O.create_gives O.keep_gives O.remove_gives O.File.remaining O.Made.contents)
         opener.old opener.new (table_and_data table.now properties.now)) }
 {
     let Ok(table) = opener.open(table) else {
@@ -86,9 +128,9 @@ fn open_tailor_files<O: Opens>(
     rules: &str,
 ) -> Result<(Source<O::File>, Source<O::File>, Source<O::File>), Role>
     ensures { MatchResult result
-        (λ files. AreOpened (file_system O.open_gives O.create_gives O.File.remaining O.Made.contents)
+        (λ files. AreOpened (file_system O.open_gives O.same_gives O.create_gives O.keep_gives O.remove_gives O.File.remaining O.Made.contents)
         opener.old opener.new (tailor_files table.now properties.now rules.now) (files.0 ∷ files.1 ∷ files.2 ∷ []))
-        (DoesNotOpen (file_system O.open_gives O.create_gives O.File.remaining O.Made.contents)
+        (DoesNotOpen (file_system O.open_gives O.same_gives O.create_gives O.keep_gives O.remove_gives O.File.remaining O.Made.contents)
         opener.old opener.new (tailor_files table.now properties.now rules.now)) }
 {
     let (table, properties) = open_files(opener, table, properties)?;
@@ -105,9 +147,9 @@ fn open_data_and_rules<O: Opens>(
     rules: &str,
 ) -> Result<(Source<O::File>, Source<O::File>), Role>
     ensures { MatchResult result
-        (λ files. AreOpened (file_system O.open_gives O.create_gives O.File.remaining O.Made.contents)
+        (λ files. AreOpened (file_system O.open_gives O.same_gives O.create_gives O.keep_gives O.remove_gives O.File.remaining O.Made.contents)
         opener.old opener.new (data_and_rules properties.now rules.now) (files.0 ∷ files.1 ∷ []))
-        (DoesNotOpen (file_system O.open_gives O.create_gives O.File.remaining O.Made.contents)
+        (DoesNotOpen (file_system O.open_gives O.same_gives O.create_gives O.keep_gives O.remove_gives O.File.remaining O.Made.contents)
         opener.old opener.new (data_and_rules properties.now rules.now)) }
 {
     let Ok(properties) = opener.open(properties) else {
@@ -139,9 +181,9 @@ fn open_audit_files<O: Opens>(
     certificate: &str,
 ) -> Result<OpenedFiles<O::File>, Role>
     ensures { MatchResult result
-        (λ files. AreOpened (file_system O.open_gives O.create_gives O.File.remaining O.Made.contents)
+        (λ files. AreOpened (file_system O.open_gives O.same_gives O.create_gives O.keep_gives O.remove_gives O.File.remaining O.Made.contents)
         opener.old opener.new (audit_files base.now data_file.now rules.now tailored.now certificate.now) (files.base ∷ files.properties ∷ files.rules ∷ files.tailored ∷ files.certificate ∷ []))
-        (DoesNotOpen (file_system O.open_gives O.create_gives O.File.remaining O.Made.contents)
+        (DoesNotOpen (file_system O.open_gives O.same_gives O.create_gives O.keep_gives O.remove_gives O.File.remaining O.Made.contents)
         opener.old opener.new (audit_files base.now data_file.now rules.now tailored.now certificate.now)) }
 {
     let Ok(base) = opener.open(base) else {
@@ -197,7 +239,7 @@ fn check<O: Opens, W: Write>(
     properties: &str,
     out: &mut Sink<W>,
 ) -> Result<u8, RunFault>
-    ensures { DoesCheck (file_system O.open_gives O.create_gives O.File.remaining O.Made.contents)
+    ensures { DoesCheck (file_system O.open_gives O.same_gives O.create_gives O.keep_gives O.remove_gives O.File.remaining O.Made.contents)
         opener.old opener.new table.now properties.now out.old out.new result }
 {
     let (mut table, mut properties) = match open_files(opener, table, properties) {
@@ -219,7 +261,7 @@ fn keys<O: Opens, I: Read, W: Write>(
     input: &mut Source<I>,
     out: &mut Sink<W>,
 ) -> Result<u8, RunFault>
-    ensures { DoesKeys (file_system O.open_gives O.create_gives O.File.remaining O.Made.contents)
+    ensures { DoesKeys (file_system O.open_gives O.same_gives O.create_gives O.keep_gives O.remove_gives O.File.remaining O.Made.contents)
         opener.old opener.new weighting depth lines table.now properties.now
         (streams input.old out.old) (streams input.new out.new) result }
 {
@@ -271,7 +313,7 @@ fn sort<O: Opens, I: Read, W: Write>(
     input: &mut Source<I>,
     out: &mut Sink<W>,
 ) -> Result<u8, RunFault>
-    ensures { DoesSort (file_system O.open_gives O.create_gives O.File.remaining O.Made.contents)
+    ensures { DoesSort (file_system O.open_gives O.same_gives O.create_gives O.keep_gives O.remove_gives O.File.remaining O.Made.contents)
         opener.old opener.new weighting depth table.now properties.now
         (streams input.old out.old) (streams input.new out.new) result }
 {
@@ -302,7 +344,7 @@ fn compare<O: Opens, W: Write>(
     right: &str,
     out: &mut Sink<W>,
 ) -> Result<u8, RunFault>
-    ensures { DoesCompare (file_system O.open_gives O.create_gives O.File.remaining O.Made.contents)
+    ensures { DoesCompare (file_system O.open_gives O.same_gives O.create_gives O.keep_gives O.remove_gives O.File.remaining O.Made.contents)
         opener.old opener.new (comparing weighting depth left.now right.now)
         table.now properties.now out.old out.new result }
 {
@@ -332,8 +374,28 @@ fn tailor<O: Opens, W: Write>(
     certificate: &str,
     out: &mut Sink<W>,
 ) -> Result<u8, RunFault>
-    ensures { DoesTailor (file_system O.open_gives O.create_gives O.File.remaining O.Made.contents)
+    ensures { DoesTailor (file_system O.open_gives O.same_gives O.create_gives O.keep_gives O.remove_gives O.File.remaining O.Made.contents)
         opener.old opener.new table.now properties.now rules.now certificate.now
+        out.old out.new result }
+{
+    if let Err(role) = find_certificate(opener, table, properties, rules, certificate) {
+        return Err(RunFault::SameAs(role));
+    }
+    tailor_files(alloc, opener, table, properties, rules, certificate, out)
+}
+
+// The same, where the certificate is none of the files that are read.
+fn tailor_files<O: Opens, W: Write>(
+    alloc: Global,
+    opener: &mut O,
+    table: &str,
+    properties: &str,
+    rules: &str,
+    certificate: &str,
+    out: &mut Sink<W>,
+) -> Result<u8, RunFault>
+    ensures { TailorsOpened (file_system O.open_gives O.same_gives O.create_gives O.keep_gives O.remove_gives O.File.remaining O.Made.contents)
+        opener.old opener.new (tailor_files table.now properties.now rules.now) certificate.now
         out.old out.new result }
 {
     let (mut table, mut properties, mut rules) = match open_tailor_files(
@@ -346,7 +408,7 @@ fn tailor<O: Opens, W: Write>(
     keep_tailored(opener, &tailored, &weights, certificate, out)
 }
 
-// Makes the file of the certificate, and writes the certificate and the table.
+// Keeps the certificate, and writes the table where the certificate is kept.
 fn keep_tailored<O: Opens, W: Write>(
     opener: &mut O,
     table: &Table,
@@ -354,15 +416,11 @@ fn keep_tailored<O: Opens, W: Write>(
     name: &str,
     out: &mut Sink<W>,
 ) -> Result<u8, RunFault>
-    ensures { DoesNotMake (file_system O.open_gives O.create_gives O.File.remaining O.Made.contents)
-        opener.old opener.new name.now out.old out.new result
-        ⊎ MakesFile (file_system O.open_gives O.create_gives O.File.remaining O.Made.contents)
+    ensures { KeepsAndWrites (file_system O.open_gives O.same_gives O.create_gives O.keep_gives O.remove_gives O.File.remaining O.Made.contents)
         opener.old opener.new name.now table.now certificate.now out.old out.new result }
 {
-    let Ok(file) = opener.create(name) else {
-        return Err(RunFault::CertificateWrite { written: 0 });
-    };
-    done(write_tailored(table, certificate, &mut Sink::new(file), out))
+    keep_certificate(opener, certificate, name)?;
+    print_table(table, out)
 }
 
 // `audit`.
@@ -376,7 +434,7 @@ fn audit<O: Opens, W: Write>(
     certificate: &str,
     out: &mut Sink<W>,
 ) -> Result<u8, RunFault>
-    ensures { DoesAudit (file_system O.open_gives O.create_gives O.File.remaining O.Made.contents)
+    ensures { DoesAudit (file_system O.open_gives O.same_gives O.create_gives O.keep_gives O.remove_gives O.File.remaining O.Made.contents)
         opener.old opener.new base.now properties.now rules.now tailored.now certificate.now
         out.old out.new result }
 {
@@ -404,7 +462,7 @@ fn affected<O: Opens, I: Read, W: Write>(
     input: &mut Source<I>,
     out: &mut Sink<W>,
 ) -> Result<u8, RunFault>
-    ensures { DoesAffected (file_system O.open_gives O.create_gives O.File.remaining O.Made.contents)
+    ensures { DoesAffected (file_system O.open_gives O.same_gives O.create_gives O.keep_gives O.remove_gives O.File.remaining O.Made.contents)
         opener.old opener.new properties.now rules.now
         (streams input.old out.old) (streams input.new out.new) result }
 {
@@ -423,7 +481,7 @@ fn run_words<O: Opens, I: Read, W: Write>(
     input: &mut Source<I>,
     out: &mut Sink<W>,
 ) -> Result<u8, RunFault>
-    ensures { DoesWords (file_system O.open_gives O.create_gives O.File.remaining O.Made.contents)
+    ensures { DoesWords (file_system O.open_gives O.same_gives O.create_gives O.keep_gives O.remove_gives O.File.remaining O.Made.contents)
         opener.old opener.new asked.now
         (streams input.old out.old) (streams input.new out.new) result }
 {
@@ -495,7 +553,7 @@ pub fn run_command<'a, O: Opens, I: Read, W: Write, E: Write>(
     out: &mut Sink<W>,
     err: &mut Sink<E>,
 ) -> u8
-    ensures { DoesCommand (file_system O.open_gives O.create_gives O.File.remaining O.Made.contents)
+    ensures { DoesCommand (file_system O.open_gives O.same_gives O.create_gives O.keep_gives O.remove_gives O.File.remaining O.Made.contents)
         opener.old opener.new (texts words.entry.now)
         (streams input.old out.old) (streams input.new out.new) err.old err.new result }
 {

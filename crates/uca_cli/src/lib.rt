@@ -3,11 +3,12 @@
 
 pub mod audit;
 pub mod command;
+mod keeping;
 pub mod reporting;
 pub mod tailor;
 
 pub use audit::{run_audit, run_audit_in};
-pub use command::{OpenFault, Opens, run_command};
+pub use command::{MakeFault, OpenFault, Opens, run_command};
 pub use reporting::report;
 pub use tailor::{run_tailor, run_tailor_in, write_tailored};
 pub use uca_runs::{

@@ -186,6 +186,7 @@ pub fn report<W: Write, E: Write>(
         RunFault::Tailor(plan) => write_line(fault, status_of_plan(plan.kind), err),
         RunFault::CertificateWrite { .. } => write_line(fault, STREAM_FAILED, err),
         RunFault::Open(_) => write_line(fault, STREAM_FAILED, err),
+        RunFault::SameAs(_) => write_line(fault, WRONG_WORDS, err),
         RunFault::Words(words) => report_words(alloc, words, out, err),
     }
 }

@@ -4,7 +4,7 @@ use Rattle.uca_weights.specs.Streams.{SinkState}
 use Rattle.uca_weights.specs.declared.Depth.{Depth}
 use Rattle.uca_weights.specs.declared.Weighting.{Weighting}
 use Rattle.uca_runs.specs.declared.faults.RunFault.{RunFault}
-use Rattle.uca_runs.specs.declared.faults.RunFault.TheVariants.{File, Input, Write, Memory, Text, Tailor, CertificateWrite, Open, Words}
+use Rattle.uca_runs.specs.declared.faults.RunFault.TheVariants.{File, Input, Write, Memory, Text, Tailor, CertificateWrite, Open, SameAs, Words}
 use Rattle.uca_runs.specs.Keys.{key_settings}
 use Rattle.uca_runs.specs.Files.{TableAndData}
 use Rattle.uca_runs.specs.Runs.{FailsToWrite}
@@ -38,4 +38,5 @@ run_compares asked depth left right out out_new files (Err fault) writes = by_fa
     by_fault (Tailor cause) writes = writes
     by_fault (CertificateWrite written) writes = writes
     by_fault (Open role) writes = writes
+    by_fault (SameAs role) writes = writes
     by_fault (Words cause) writes = writes

@@ -15,7 +15,7 @@ use Rattle.uca_runs.specs.declared.faults.InputKind.TheVariants as input_kind
 use Rattle.uca_runs.specs.declared.faults.FileFault.{FileFault}
 use Rattle.uca_runs.specs.declared.faults.FileFault.TheVariants.{Lines, Rules, RulesRead, RulesMemory, Certificate}
 use Rattle.uca_runs.specs.declared.faults.RunFault.{RunFault}
-use Rattle.uca_runs.specs.declared.faults.RunFault.TheVariants.{File, Input, Write, Memory, Text, Tailor, CertificateWrite, Open, Words}
+use Rattle.uca_runs.specs.declared.faults.RunFault.TheVariants.{File, Input, Write, Memory, Text, Tailor, CertificateWrite, Open, SameAs, Words}
 use Rattle.uca_runs.specs.RoleText.{role_text}
 
 abbrev pub input_kind_text : InputKind → List ℕ
@@ -61,4 +61,5 @@ fault_text (Text right fault) = side_text right ++ codes ": " ++ text_fault_text
 fault_text (Tailor fault) = tailor_text fault
 fault_text (CertificateWrite written) = codes "certificate: Write"
 fault_text (Open role) = role_text role ++ codes ": Open"
+fault_text (SameAs role) = codes "certificate: SameAs " ++ role_text role
 fault_text (Words fault) = word_fault_text fault

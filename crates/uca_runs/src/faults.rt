@@ -178,6 +178,8 @@ pub enum RunFault {
     },
     /// A file does not open.
     Open(Role),
+    /// The certificate is to be written over this file, which the run reads: `certificate: SameAs table`.
+    SameAs(Role),
     /// The command line is refused.
     Words(WordFault),
 }
@@ -202,6 +204,7 @@ impl RunFault {
             RunFault::Tailor(fault) => tailor_message(*fault),
             RunFault::CertificateWrite { .. } => Message::of("certificate: Write"),
             RunFault::Open(role) => Message::of(role.name()).text(": Open"),
+            RunFault::SameAs(role) => Message::of("certificate: SameAs ").text(role.name()),
             RunFault::Words(WordFault::Weighting) => Message::of("weighting: unknown"),
             RunFault::Words(WordFault::Memory) => Message::of("memory"),
             RunFault::Words(WordFault::Refused(_)) => Message::of(""),

@@ -1,7 +1,7 @@
 -- A file does not open; or all are opened and run over, and what is answered is kept.
 use Rattle.std.proofs.Common.{[], ◌∷◌, Ok, Err, inl, inr, refl}
 use Rattle.std.proofs.lemmas.Result.{err_from_is_err_and}
-use Rattle.uca_cli.proofs.command.tailor.Goals as goal
+use Rattle.uca_cli.proofs.command.tailor_files.Goals as goal
 
 pub returns-in-Err : goal.returns-in-Err
 returns-in-Err g c = (c.open_tailor_files.new.opener, inl (c.in-Err.role, refl, c.in-Err.ensures, (refl, refl)))
