@@ -111,7 +111,9 @@ impl Made {
 
     /// Closes the file, and removes it.
     pub fn remove(self, rt: &HostRuntime) {
-        if let Some(names) = self.names {
+        let Made { file, names } = self;
+        drop(file);
+        if let Some(names) = names {
             let _ = fs::remove_file(rt, names.temporary.as_path());
         }
     }
