@@ -210,7 +210,7 @@ reads table data input
 input a\n
 printed 1C4700000020000000020000000061\ta\n
 end done
-asks 28
+asks 27
 memory table line @ 1 2 3; data line @ 1 2; memory; input line @ 1
 
 run affected

@@ -12,7 +12,7 @@ use Rattle.uca_runs.specs.declared.faults.InputKind.TheVariants.{Memory}
 use Rattle.uca_runs.specs.declared.faults.RunFault.{RunFault}
 use Rattle.uca_runs.specs.declared.faults.RunFault.TheVariants.{Input, Write}
 use Rattle.uca_runs.specs.Input.{clean_from, clean_lines}
-use Rattle.uca_runs.specs.EachLineSoFar.{HasWritten, IsStopped, WritesText}
+use Rattle.uca_runs.specs.EachLineSoFar.{IsStopped, WritesText}
 use Rattle.uca_runs.specs.LinesSoFar.{IsAfter, OnKnown}
 use Rattle.uca_runs.specs.Runs.{ended_by_output}
 use Rattle.uca_runs.specs.Texts.{TextsState, HasText}
@@ -52,14 +52,6 @@ module _ (properties : Properties) (bytes_of : List ℕ → List ℕ) where
     -- the bytes of the lines so far
     written_line : flat_map bytes_of before ++ piece ≡ flat_map bytes_of (before ++ texts.line ∷ [])
     written_line = ap (λ p. flat_map bytes_of before ++ p) is ∙ sym (bytes-push before texts.line)
-
-    -- those of the line were written
-    pub one_more : (held : BufferState) (sink : SinkState) → IsBuffered begun sink.contents (flat_map bytes_of before ++ piece) held
-        → HasWritten properties bytes_of start begun (before ++ texts.line ∷ []) texts input held sink
-    one_more held sink written = record {
-      read = t.read;
-      written = subst (λ text. IsBuffered begun sink.contents text held) written_line written;
-    }
 
     -- those of the line were not written, or not all of them
     pub not_written : (buffer held : BufferState) (out sink : SinkState) (fault : RunFault) → IsBuffered begun out.contents (flat_map bytes_of before) buffer

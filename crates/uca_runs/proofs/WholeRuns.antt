@@ -1,5 +1,5 @@
 -- Whole runs that write some bytes for each line of their input.
-use Rattle.std.proofs.Common.{◌≡◌, ℕ, List, ◌||◌, Bool, true, false, Option, Result, Ok, Err, refl}
+use Rattle.std.proofs.Common.{◌≡◌, ℕ, List, ◌||◌, true, false, Option, Result, Ok, Err, refl}
 use Rattle.uca_weights.specs.declared.Depth.{Depth}
 use Rattle.uca_weights.specs.declared.Weighting.{Weighting}
 use Rattle.uca_weights.specs.Streams.{SourceState, SinkState}

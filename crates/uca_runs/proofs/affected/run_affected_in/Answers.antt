@@ -1,6 +1,6 @@
 -- The whole run, from what its two files mean and what is printed of its lines.
 use Rattle.std.specs.Prelude.{⊤}
-use Rattle.std.proofs.Common.{◌≡◌, [], ◌∷◌, true, Err, subst, sym, ◌∙◌}
+use Rattle.std.proofs.Common.{◌≡◌, [], ◌∷◌, Err, subst}
 use Rattle.std.proofs.lemmas.Result.{err_from_is_err_and}
 use Rattle.uca_values.specs.Content.{properties_of}
 use Rattle.uca_runs.specs.AffectedRun.{RunsAffected}

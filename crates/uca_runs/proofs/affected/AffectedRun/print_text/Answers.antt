@@ -1,5 +1,5 @@
 -- Which lines are written.
-use Rattle.std.proofs.Common.{◌≡◌, List, ℕ, ◌++◌, ◌-◌, ◌<◌, ◌≤◌, ◌^◌, length, true, arith, ap, append-nil, subst, sym, ◌∙◌}
+use Rattle.std.proofs.Common.{List, ℕ, ◌++◌, ◌-◌, ◌<◌, length, arith, ap, append-nil, subst, sym, ◌∙◌}
 use Rattle.std.proofs.lemmas.Result.{err_from_is_err_and}
 use Rattle.uca_weights.specs.Writes.{WentOut}
 use Rattle.uca_text.specs.Texts.{NfdText}
@@ -7,7 +7,6 @@ use Rattle.uca_lines.specs.Buffered.{count_of}
 use Rattle.uca_lines.specs.Lines.{ended}
 use Rattle.uca_lines.specs.OutputBuffer.{IsBuffered}
 use Rattle.uca_rules.specs.Relations.{IsUntouched}
-use Rattle.uca_runs.specs.AffectedRun.{if_affected}
 use Rattle.uca_runs.proofs.AffectedLines.{affected_is_short, line_affected, nothing_affected}
 use Rattle.uca_runs.proofs.Printing.{small_enough}
 use Rattle.uca_runs.proofs.Running.{not_both}

@@ -1,6 +1,6 @@
 -- Where no text was read, or what the output has of its line was not written.
 use Rattle.std.specs.Prelude.{⊤}
-use Rattle.std.proofs.Common.{◌≡◌, List, ℕ, Bool, Err, ap, ap₂, ◌∙◌}
+use Rattle.std.proofs.Common.{Bool, ap, ap₂, ◌∙◌}
 use Rattle.std.specs.List.{flat_map}
 use Rattle.std.proofs.lemmas.Result.{err_from_is_err_and}
 use Rattle.uca_weights.specs.declared.Depth.{Depth}
