@@ -152,13 +152,13 @@ fn open_data_and_rules<O: Opens>(
         (DoesNotOpen (file_system O.open_gives O.same_gives O.create_gives O.keep_gives O.remove_gives O.File.remaining O.Made.contents)
         opener.old opener.new (data_and_rules properties.now rules.now)) }
 {
-    let Ok(properties) = opener.open(properties) else {
+    let Ok(data_file) = opener.open(properties) else {
         return Err(Role::Data);
     };
     let Ok(rules) = opener.open(rules) else {
         return Err(Role::Rules);
     };
-    Ok((Source::new(properties), Source::new(rules)))
+    Ok((Source::new(data_file), Source::new(rules)))
 }
 
 // The sources of the files of an audit.
