@@ -544,7 +544,8 @@ fn run_words<O: Opens, I: Read, W: Write>(
 
 /// Runs a command line, whose first word is the program's name, and returns the exit status. It reads the words, opens
 /// all files that they name, in the order of the words, and then runs over them. It reports an error. Where it rejects
-/// the words, it opens and reads nothing.
+/// the words, it opens and reads nothing. So it is where `tailor` is to write the certificate over a file that it reads.
+/// No other command makes a file.
 pub fn run_command<'a, O: Opens, I: Read, W: Write, E: Write>(
     alloc: Global,
     opener: &mut O,

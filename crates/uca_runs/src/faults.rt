@@ -171,9 +171,9 @@ pub enum RunFault {
     },
     /// There is no plan, and so no tailored table: `tailor relation 3: Anchor`, `tailor: NoRoom 2`.
     Tailor(TailorFault),
-    /// The file of the certificate cannot be made, or its writer failed.
+    /// The file of the certificate cannot be made or kept, or its writer failed.
     CertificateWrite {
-        /// How many bytes of the certificate went out before.
+        /// How many bytes of the certificate went out before its writer failed; 0 where the file cannot be made or kept.
         written: u64,
     },
     /// A file does not open.
