@@ -18,6 +18,7 @@ Debian's packages: unicode-cldr-core has the files of CLDR, unicode-data the tab
 import argparse
 import bisect
 import contextlib
+import html
 import io
 import os
 import random
@@ -140,9 +141,11 @@ def exemplars(folder, locale, kind):
     for it in chain(locale):
         path = os.path.join(folder, "main", it + ".xml")
         if it != "root" and os.path.exists(path):
-            for element in xml.etree.ElementTree.parse(path).getroot().iter("exemplarCharacters"):
-                if element.get("type") == kind and "↑" not in (element.text or ""):
-                    return [text for text in members(element.text or "") if all(unicodedata.category(c)[0] in "LMN" for c in text)]
+            with open(path, encoding="utf-8") as file:
+                found = re.findall(r"<exemplarCharacters((?: [^>]*)?)>([^<]*)<", file.read())
+            for given, text in found:
+                if re.findall(r'type="(\w+)"', given) == ([kind] if kind else []) and "↑" not in text:
+                    return [text for text in members(html.unescape(text)) if all(unicodedata.category(c)[0] in "LMN" for c in text)]
     return []
 
 
