@@ -72,8 +72,6 @@ def planned(options, folder, rules, table, data):
     names = {it: os.path.join(folder, it) for it in ("rules", "certificate", "tailored")}
     with open(names["rules"], "w", encoding="utf-8") as file:
         file.write(rules)
-    with contextlib.suppress(FileNotFoundError):
-        os.remove(names["certificate"])
     out, said = run([program(options), "tailor", table, data, names["rules"], names["certificate"]])
     if said:
         return Planned("", said)
@@ -280,6 +278,7 @@ class Bench(NamedTuple):
     table: Table
     files: tuple
     known: dict
+    planned: dict  # by the relations: many locales have equal ones
 
 
 def row_of(bench, name):
@@ -287,7 +286,12 @@ def row_of(bench, name):
     translation = translated(bench.options, name, bench.table)
     if translation is None:
         return None
-    made = planned(bench.options, bench.folder, rules_of(name, translation), *bench.files)
+    relations = tuple(translation.relations)
+    if relations not in bench.planned:
+        folder = os.path.join(bench.folder, str(len(bench.planned)))
+        os.mkdir(folder)
+        bench.planned[relations] = planned(bench.options, folder, rules_of(name, translation), *bench.files)
+    made = bench.planned[relations]
     about = name, language_of(name, bench.known), len(translation.relations), "; ".join(translation.left_out)
     if made.error:
         return Row(*about, 0, made.error, "")
@@ -314,7 +318,7 @@ def run_all(options):
     with tempfile.TemporaryDirectory() as folder:
         table = write_by(unicode_files.print_table, os.path.join(folder, "table"), os.path.join(unicode_files.FOLDER, "allkeys.txt"))
         data = write_by(unicode_files.print_data, os.path.join(folder, "data"), unicode_files.FOLDER)
-        bench = Bench(options, icu, folder, Table(table), (table, data), languages(options.cldr))
+        bench = Bench(options, icu, folder, Table(table), (table, data), languages(options.cldr), {})
         rows, large = [], []
         yield head_of_page(icu, bench.files, options.cldr)
         yield from ("", *TABLE_HEAD)
