@@ -349,12 +349,12 @@ def parts_of_page():
 
 
 def make_table(options):
-    before, _, after = parts_of_page()
     lines = []
     for line in run_all(options):
         print(line, flush=True)
         lines.append(line + "\n")
     if not options.names:
+        before, _, after = parts_of_page()
         with open(PAGE, "w", encoding="utf-8") as file:
             file.write(before + BEGIN + "\n" + "".join(lines) + END + "\n" + after)
 
