@@ -79,8 +79,11 @@ def rules_text(folder, name):
     if not os.path.isdir(os.path.join(folder, "collation")):
         sys.exit(f"{folder}: no such folder of CLDR. Debian has it in the package unicode-cldr-core.")
     read = [collations(folder, it) for it in chain(locale)]
+    if locale != "root" and not any(os.path.exists(os.path.join(folder, "collation", f"{it}.xml")) for it in chain(locale) if it != "root"):
+        sys.exit(f"{name}: CLDR has no collation for this language")
     kind = kind or next(default for _, default in read if default)
-    return next((found[kind] for found, _ in read if kind in found), "")
+    text = next((found[kind] for found, _ in read if kind in found), None)
+    return sys.exit(f"{name}: CLDR has no such collation") if text is None else text
 
 
 # ---- The text of rules

@@ -18,6 +18,7 @@ Debian's packages: unicode-cldr-core has the files of CLDR, unicode-data the tab
 import argparse
 import bisect
 import contextlib
+import html
 import io
 import os
 import random
@@ -71,8 +72,6 @@ def planned(options, folder, rules, table, data):
     names = {it: os.path.join(folder, it) for it in ("rules", "certificate", "tailored")}
     with open(names["rules"], "w", encoding="utf-8") as file:
         file.write(rules)
-    with contextlib.suppress(FileNotFoundError):
-        os.remove(names["certificate"])
     out, said = run([program(options), "tailor", table, data, names["rules"], names["certificate"]])
     if said:
         return Planned("", said)
@@ -140,9 +139,11 @@ def exemplars(folder, locale, kind):
     for it in chain(locale):
         path = os.path.join(folder, "main", it + ".xml")
         if it != "root" and os.path.exists(path):
-            for element in xml.etree.ElementTree.parse(path).getroot().iter("exemplarCharacters"):
-                if element.get("type") == kind and "↑" not in (element.text or ""):
-                    return [text for text in members(element.text or "") if all(unicodedata.category(c)[0] in "LMN" for c in text)]
+            with open(path, encoding="utf-8") as file:
+                found = re.findall(r"<exemplarCharacters((?: [^>]*)?)>([^<]*)<", file.read())
+            for given, text in found:
+                if re.findall(r'type="(\w+)"', given) == ([kind] if kind else []) and "↑" not in text:
+                    return [text for text in members(html.unescape(text)) if all(unicodedata.category(c)[0] in "LMN" for c in text)]
     return []
 
 
@@ -277,6 +278,7 @@ class Bench(NamedTuple):
     table: Table
     files: tuple
     known: dict
+    planned: dict  # by the relations: many locales have equal ones
 
 
 def row_of(bench, name):
@@ -284,7 +286,12 @@ def row_of(bench, name):
     translation = translated(bench.options, name, bench.table)
     if translation is None:
         return None
-    made = planned(bench.options, bench.folder, rules_of(name, translation), *bench.files)
+    relations = tuple(translation.relations)
+    if relations not in bench.planned:
+        folder = os.path.join(bench.folder, str(len(bench.planned)))
+        os.mkdir(folder)
+        bench.planned[relations] = planned(bench.options, folder, rules_of(name, translation), *bench.files)
+    made = bench.planned[relations]
     about = name, language_of(name, bench.known), len(translation.relations), "; ".join(translation.left_out)
     if made.error:
         return Row(*about, 0, made.error, "")
@@ -311,7 +318,7 @@ def run_all(options):
     with tempfile.TemporaryDirectory() as folder:
         table = write_by(unicode_files.print_table, os.path.join(folder, "table"), os.path.join(unicode_files.FOLDER, "allkeys.txt"))
         data = write_by(unicode_files.print_data, os.path.join(folder, "data"), unicode_files.FOLDER)
-        bench = Bench(options, icu, folder, Table(table), (table, data), languages(options.cldr))
+        bench = Bench(options, icu, folder, Table(table), (table, data), languages(options.cldr), {})
         rows, large = [], []
         yield head_of_page(icu, bench.files, options.cldr)
         yield from ("", *TABLE_HEAD)
@@ -342,12 +349,12 @@ def parts_of_page():
 
 
 def make_table(options):
-    before, _, after = parts_of_page()
     lines = []
     for line in run_all(options):
         print(line, flush=True)
         lines.append(line + "\n")
     if not options.names:
+        before, _, after = parts_of_page()
         with open(PAGE, "w", encoding="utf-8") as file:
             file.write(before + BEGIN + "\n" + "".join(lines) + END + "\n" + after)
 

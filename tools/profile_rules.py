@@ -140,7 +140,8 @@ class Translation:
         self.drop_repeated()
         self.mend_late()
         self.swap_beginnings()
-        self.add_beginnings()
+        if self.add_beginnings():
+            self.move_late()
 
     def leave_out(self, what):
         if what not in self.left_out:
@@ -281,7 +282,7 @@ class Translation:
                 self.relations[at + 1] = Placed(after.target, after.strength, it.target, before=after.strength)
 
     def add_beginnings(self):
-        """Adds the beginning of each long target that ends in a non-starter, and what keeps the order of other texts."""
+        """Adds the beginning of each long target that ends in a non-starter, and what keeps the order of other texts, if any is missing."""
         keys, made, added = set(self.table.rows), [], []
         for it in self.relations:
             for beginning in self.beginnings(it.target, keys):
@@ -291,7 +292,20 @@ class Translation:
             made.append(it)
             keys.add(it.target)
         before = keys - set(added)
+        count = len(self.relations)
         self.relations = made + [self.as_now(text, before) for text in sorted(self.further(added, keys, before), key=len)]
+        return len(self.relations) > count
+
+    def move_late(self):
+        """Moves relations after the added rows that occur in their anchors, which read as before then too."""
+        at, moved = 0, set()
+        while at < len(self.relations):
+            it = self.relations[at]
+            if it.target in moved or not self.is_late(it, at):
+                at += 1
+            else:
+                moved.add(it.target)
+                self.relations.append(self.relations.pop(at))
 
     def further(self, added, keys, before):
         """The further rows that added ones ask for: without them a key that begins inside an added row would be parted."""

@@ -162,8 +162,8 @@ def tailor(options, folder, table, data, language):
         return
     out, said, seconds = run([options.uca, "audit", table, data, rules, tailored, certificate])
     see("audit " + language, out == "accepted\n", "%s in %.2f s" % (out.strip() or said, seconds))
-    moved = moves(certificate)
-    see("moved " + language, not any(run.startswith("level 1") for run in moved), "; ".join(moved))
+    moved, click = moves(certificate), rows_of(content(table))["01C0"].split(".")[1]
+    see("moved " + language, all(it.startswith("level 1: 1 from %s " % click) for it in moved if it.startswith("level 1")), "; ".join(moved))
     see("changed " + language, True, changes(options, table, tailored, data))
     words = content("examples/words_%s.txt" % language)
     turned = "".join(sorted(words.splitlines(True), reverse=True)).encode()
