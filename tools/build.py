@@ -5,7 +5,9 @@
 
 The libraries are proved side by side, the longest chain first. Each is proved over the statements of those below it and not
 over their proofs, as `rt ci` proves them. So this takes half of the time of `rt run`, which goes from crate to crate. What an
-earlier run proved is kept in crates/*/out, if it has not changed since. Only `rt ci` is the gate.
+earlier run proved is kept in crates/*/out, if it has not changed since.
+
+Only `rt ci` is the gate. This script does not search for contracts that no call can meet, and tries no tests and no edits.
 
 The program is crates/uca/out/uca. A line for each crate comes first. The last line says how long all took.
 """
@@ -105,6 +107,9 @@ def open_repository():
     os.chdir(kit.TOP)
     rt.rtlib.guarded()
     rt.Crate.cuts_libraries, rt.Crate.allowed, rt.rtlib.Crate = True, rt.handles_of(kit.TOP), rt.Crate
+    # `rt` passes a flag to `rattle` if its help names the flag. Without this one no contract is searched for that no call can meet.
+    help_of = rt.rtlib.help_of
+    rt.rtlib.help_of = lambda verb: help_of(verb).replace("--empty-contracts", "")
     return rt, {it.name: it for it in rt.rtlib.crates_below(kit.TOP)}
 
 
