@@ -79,15 +79,11 @@ class Builder:
         return True
 
     def program(self, crate):
-        """Proves a program and compiles it by LLVM."""
-        words = crate.words(JOBS, keeps=False)
-        with tempfile.TemporaryDirectory(prefix="build-") as room:
-            status = crate.prove(["check", *words, "-o", f"{room}/checked"])
-            for flag in ("--logic-built", "--jobs"):
-                at = words.index(flag)
-                words = [*words[:at], *words[at + 2 :]]
-            words += ["--crate-checked", f"{room}/checked", "--toolchain", f"{self.rtlib.KIT}/toolchain"]
-            return status or crate.compile_by("llvm", words, f"out/{crate.name}")
+        """Proves a program and compiles it by LLVM, in one process, and links it."""
+        made = f"out/{crate.name}"
+        words = [*crate.words(JOBS, keeps=False), "--toolchain", f"{self.rtlib.KIT}/toolchain"]
+        status = crate.prove(["build", *words, "--backend", "llvm", "-o", f"{made}.o"])
+        return status or crate.link(f"{made}.o", made)
 
     def work(self, crate, given):
         if not all(given[it.name, "proof"] for it in crate.below()):
