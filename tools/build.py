@@ -25,6 +25,9 @@ IDLE = ""
 # A check by two processes takes about as long as one by one process, and half as much processor time again.
 JOBS = ["--jobs", "1"]
 
+# The lanes of `rt` count a task of this name as one processor. A task of another name counts as all that are idle when it begins.
+TASK = "edits"
+
 
 def digest(folder):
     """A sum of all files of a folder."""
@@ -86,7 +89,7 @@ class Builder:
         return status or crate.link(f"{made}.o", made)
 
     def work(self, crate, given):
-        if not all(given[it.name, "proof"] for it in crate.below()):
+        if not all(given[it.name, TASK] for it in crate.below()):
             return False
         path, kept = self.made(crate)
         if os.path.exists(path) and self.rtlib.text_of(kept) == self.stamp(crate):
@@ -116,9 +119,9 @@ def build(rt, crates):
 
     def task(crate):
         work = lambda given, jobs: builder.work(crate, given)
-        return [(it.name, "proof") for it in crate.below()], crate.count(rb"\n"), rt.need(crate), builder.times.task(crate.name, IDLE, work)
+        return [(it.name, TASK) for it in crate.below()], crate.count(rb"\n"), rt.need(crate), builder.times.task(crate.name, IDLE, work)
 
-    proved = rt.in_lanes({(it.name, "proof"): task(it) for it in sorted(crates, key=lambda it: len(it.below()))})
+    proved = rt.in_lanes({(it.name, TASK): task(it) for it in sorted(crates, key=lambda it: len(it.below()))})
     seconds, processor = time.time() - builder.begun, sum(builder.times.processor.values())
     print(f"{sum(proved.values())} passed, {len(proved) - sum(proved.values())} failed, in {seconds:.0f} s, {processor:.0f} s of processor time")
     for it in held:
