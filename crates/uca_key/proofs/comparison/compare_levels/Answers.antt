@@ -1,5 +1,4 @@
-use Rattle.std.proofs.Common.{arith, ◌∙◌, refl, sym, subst, ℕ, ◌+◌}
-use Rattle.std.proofs.lemmas.Grind.{common_steps}
+use Rattle.std.proofs.Common.{◌∙◌, refl, sym, subst, ℕ, ◌+◌}
 use Rattle.uca_match.specs.Collations.{collation_of, elements_of}
 use Rattle.uca_key.specs.Walks.{Walks}
 use Rattle.uca_key.proofs.LevelSteps.{next_levels, all_levels, is_equal, not_equal}
@@ -21,10 +20,3 @@ returns-after-loop-weighting g c =
     let by = collation_of g.L.Lookup.content c.args.collator.now in
     all_levels c.args.weighting (elements_of by c.args.left.now) (elements_of by c.args.right.now) c.loop-weighting.walked c.loop-weighting.invariant.0
     (λ e. absurd (not_equal c.loop-weighting.walked.order (sym c.loop-weighting-test.false ∙ c.eq.ensures) e))
-
--- The prover finds these goals by this tactic alone. What it tries before takes long.
-pub loop-weighting-init : goal.loop-weighting-init
-loop-weighting-init g c = grind (arith, common_steps)
-
-pub loop-weighting-smaller : goal.loop-weighting-smaller
-loop-weighting-smaller g c = grind (arith, common_steps)

@@ -1,5 +1,4 @@
 use Rattle.std.proofs.Common.{◌≤◌, ap, refl, arith}
-use Rattle.std.proofs.lemmas.Grind.{common_steps}
 use Rattle.uca_key.specs.declared.walk.LevelsSoFar.{LevelsSoFar}
 use Rattle.uca_key.proofs.FrontLemmas.{weight_is}
 use Rattle.uca_key.proofs.WalkSteps.{differs_at, stands_decided}
@@ -19,16 +18,3 @@ returns-in-Differ-clause-stands g c = λ es fs stands.
     (weight_is c.args.weighting c.args.left.now c.loop-level.level c.from-at.result c.weights-first.result c.weights-first.ensures low high c.from-at.ensures)
     (weight_is c.args.weighting c.args.right.now c.loop-level.level c.from-at.result c.weights-second.result c.weights-second.ensures low high c.from-at.ensures)
     c.is_ended.ensures c.is_ended-in-loop-level.ensures c.in-Differ.ensures)
-
--- The prover finds these goals by this tactic alone. What it tries before takes long.
-pub returns-clause-stands : goal.returns-clause-stands
-returns-clause-stands g c = grind (arith, common_steps)
-
-pub returns-clause-step : goal.returns-clause-step
-returns-clause-step g c = grind (arith, common_steps)
-
-pub returns-in_default-clause-step : goal.returns-in_default-clause-step
-returns-in_default-clause-step g c = grind (arith, common_steps)
-
-pub returns-in-Differ-clause-step : goal.returns-in-Differ-clause-step
-returns-in-Differ-clause-step g c = grind (arith, common_steps)
