@@ -2,7 +2,7 @@
 use Rattle.std.proofs.Common.{◌≡◌, ℕ, suc, ◌+◌, ◌<◌, List, [], ◌∷◌, ◌++◌, length, map, take, get_or, Bool, true, false, cond, Option, Some, None, Contains, MatchOption}
 use Rattle.std.proofs.Common.{⊎_elim, is_some, option_map, append_assoc, length-take-le, sym, ap, ap₂, subst, refl, ◌∙◌, arith}
 use Rattle.std.proofs.lemmas.Bool.{cond_both, cond-true, cond-false, false_from_ne_true}
-use Rattle.std.proofs.lemmas.List.{get_or_append_left, get_or_push, length_push, length-map, map-append, take_more}
+use Rattle.std.proofs.lemmas.List.{get_or_append_left, get_or_push, length_push, length-map, map-append, map_push, map_more, take_more}
 use Rattle.std.specs.Borrow.{Bor}
 use Rattle.uca_weights.specs.declared.Element.{Element}
 use Rattle.uca_values.specs.Content.{Entry, keys_of, AreDistinct}
@@ -80,6 +80,15 @@ placed_within place (k ∷ keys) key p found = go (same_key k key) found (placed
     go false found later = let l = later found in (suc l.0, omega (arith, l.1), omega (arith, l.2))
 
 -- ---- Keys that are borrowed
+
+-- two lists that are the same under two maps stay so when each gets one more item
+pub mapped_more : {X Y Z : Type 0} (f : Y → Z) (g : X → Z) (before after : List Y) (xs : List X) (i : ℕ) (y : Y) (x : X) → i < length xs → x ≡ get_or xs i x →
+    f y ≡ g x → after ≡ before ++ y ∷ [] → map f before ≡ map g (take i xs) → map f after ≡ map g (take (i + 1) xs)
+mapped_more {X} {Y} {Z} f g before after xs i y x within is same grown so_far =
+    ap (map f) grown
+    ∙ map_push f before y
+    ∙ ap₂ (λ (front : List Z) (z : Z). front ++ z ∷ []) so_far (same ∙ ap g is)
+    ∙ sym (map_more g xs i x within)
 
 -- one more key with its position
 pub numbered_more : (list : List Numbered) (keys : List (Bor (List ℕ))) (p : ℕ) (new : Numbered) → p < length keys → new.key ≡ get_or keys p new.key →

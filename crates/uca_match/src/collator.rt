@@ -1,15 +1,15 @@
 //! `Collator`: a table and a data file, from which texts get their collation elements.
-ghost use Rattle.std.specs.Prelude.{◌≡◌};
+ghost use Rattle.std.specs.Prelude.{◌≡◌, ⊤};
 ghost use Rattle.uca_match.specs.Collations.{collation_of, elements_of};
 
 use crate::places::Place;
 use crate::{Elements, Lookup};
-use std::alloc::{Allocator, Global};
+use std::alloc::{AllocError, Allocator, Global};
 use uca_text::Normal;
 use uca_values::{Data, Header};
 
 /// What gives a text its collation elements: the rows of a table as a lookup, the table's header, and a data file.
-#[derive_where(Clone, Copy)]
+#[derive_where(Copy)]
 pub struct Collator<'a, L: Lookup, A: Allocator = Global> {
     /// The rows.
     pub lookup: &'a L,
@@ -44,5 +44,15 @@ impl<'a, L: Lookup, A: Allocator> Collator<'a, L, A> {
             second: None,
             row: &[],
         }
+    }
+}
+
+impl<'a, L: Lookup, A: Allocator> Clone for Collator<'a, L, A> {
+    ghost is_clone = { λ collator copy. copy ≡ collator };
+
+    ghost is_infallible = { λ _. ⊤ };
+
+    fn clone(&self) -> Result<Self, AllocError> {
+        Ok(*self)
     }
 }
