@@ -187,11 +187,19 @@ keeps_version points has inside old text name version h t v named = record {
     same : (n : List ℕ) → Some name ≡ Some n → name ≡ n
     same n q = cc
 
+pub keeps_setting : {K : Type 0} (points : K → List ℕ) (has : K → Bool) (inside old : TableSoFar) (text : List ℕ) (setting : Option Weighting)
+    → Keeps points has inside → TakesText old text (record inside { setting = setting }) → Keeps points has (record inside { setting = setting })
+keeps_setting points has inside old text setting h t = record { keys = h.keys; named = h.named; begun = t.begun }
+
 pub keeps_ranges : {K : Type 0} (points : K → List ℕ) (has : K → Bool) (inside old : TableSoFar) (text : List ℕ) (all : List ImplicitRange)
     → Keeps points has inside → TakesText old text (record inside { ranges = all }) → Keeps points has (record inside { ranges = all })
 keeps_ranges points has inside old text all h t = record { keys = h.keys; named = h.named; begun = t.begun }
 
--- ---- Why a range or a row is rejected
+-- ---- Why a setting, a range or a row is rejected
+
+pub setting_fault : (b : TableSoFar) (text word : List ℕ) → word_of text ≡ at_variable → word ≡ argument_of text
+    → ((setting : Weighting) → word ≡ setting_word setting → ⊥) → (kinds.Line ≡ kinds.Memory) ⊎ TextCause b text kinds.Line
+setting_fault b text word first argument none = cause_in b text ForSetting kinds.Line first (refl, (λ setting h. none setting (argument ∙ h.argument)))
 
 pub range_text_fault : (b : TableSoFar) (text rest : List ℕ) (kind : FaultKind) → word_of text ≡ at_ranges → rest ≡ after_word text
     → RangeTextCause rest kind → (kind ≡ kinds.Memory) ⊎ TextCause b text kind
