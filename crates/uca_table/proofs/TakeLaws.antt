@@ -3,7 +3,7 @@ use Rattle.std.proofs.Common.{◌≡◌, ℕ, zero, suc, ◌<◌, ◌≤◌, ◌
 use lib.Utf8.{scalar}
 use Rattle.std.specs.Prelude.{IsSome, IsOk, MatchResult, IfErr, OnOk, is_some, not, ◌≢◌}
 use Rattle.std.specs.Option.{option_map}
-use Rattle.std.specs.List.{AllByRecursion, list_all}
+use Rattle.std.specs.List.{AllByRecursion, list_all, slice_get}
 use Rattle.std.specs.Char.{IsScalar}
 use Rattle.std.specs.Str.{IsAscii, IsUtf8}
 use Rattle.std.specs.Str.Parse.{digits_value}
@@ -71,6 +71,10 @@ row_is_entry text row h = record {
 
 pub takes_nothing : (old inside : TableSoFar) (text : List ℕ) → inside ≡ old → IsTableSoFar inside → text ≡ [] → TakesText old text old
 takes_nothing old inside text same h e = record { item = Nothing; form = e; order = sym (append-nil (in_order old)); begun = subst IsTableSoFar same h }
+
+pub empty_without_first : (text : List ℕ) → None ≡ slice_get text 0 → text ≡ []
+empty_without_first [] h = refl
+empty_without_first (b ∷ bs) h = cc
 
 pub takes_version : (old inside : TableSoFar) (text name : List ℕ) (version : Option (List ℕ)) → inside ≡ old → IsTableSoFar inside → inside.version ≡ None
     → word_of text ≡ at_version → name ≡ argument_of text → is_version_name name ≡ true → version ≡ Some name
