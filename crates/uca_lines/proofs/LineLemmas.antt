@@ -1,5 +1,5 @@
 -- Where lines are cut.
-use Rattle.std.proofs.Common.{◌≡◌, ℕ, suc, Bool, not, ◌+◌, ◌-◌, ◌<◌, ◌≤◌, true, false, List, [], ◌∷◌, ◌++◌, Option, None, Some, Err, append-nil, length, take, drop, get_or, cond, sym, ap, subst, ◌∙◌, arith, le_refl, length-take, length-append, append_assoc, MatchOption}
+use Rattle.std.proofs.Common.{◌≡◌, ℕ, suc, Bool, not, ◌+◌, ◌-◌, ◌<◌, ◌≤◌, true, false, List, [], ◌∷◌, ◌++◌, Option, None, Some, Result, Err, append-nil, refl, length, take, drop, get_or, cond, sym, ap, subst, ◌∙◌, arith, le_refl, length-take, length-append, append_assoc, MatchOption}
 use Rattle.std.specs.List.{before_first, after_first, position_or_len, slice_range}
 use Rattle.std.proofs.lemmas.Bool.{false_from_ne_true, eqb-true, not-true, cond_both}
 use Rattle.std.proofs.lemmas.List.{drop-take, drop-drop, length-take-le, take_all, drop_all}
@@ -7,8 +7,9 @@ use Rattle.std.proofs.lemmas.List.Sums.{position_or_len_is, prefix_len-le-length
 use Rattle.std.specs.Io.KnownBytes.{Consumes, prepend_known}
 use Rattle.memchr.specs.Find.{IsFirstByte, is_byte}
 use Rattle.uca_lines.specs.Lines.{is_lf, Lacks, ended}
-use Rattle.uca_lines.specs.NextLine.{BeginsLonger, HasBytes, SaysOfBytes}
+use Rattle.uca_lines.specs.NextLine.{BeginsLonger, HasBytes, SaysOfBytes, is_read}
 use Rattle.uca_lines.specs.Taking.{IsTakeFault}
+use Rattle.uca_lines.specs.declared.lines.NextLine.{NextLine}
 use Rattle.uca_lines.specs.declared.lines.LineFault.{LineFault}
 use Rattle.uca_lines.specs.declared.lines.LineFault.TheVariants.{TooLong, Limit, Read, Memory}
 
@@ -151,3 +152,21 @@ SaysOfBytes-fault known rest line waiting new later capacity n longest Limit h s
 SaysOfBytes-fault known rest line waiting new later capacity n longest Read h some lacks is_new is_later is_longest cause = absurd cause
 SaysOfBytes-fault known rest line waiting new later capacity n longest Memory h some lacks is_new is_later is_longest cause =
     (rw (is_new, is_later) h, HasBytes-waiting known rest line waiting h some)
+
+pub take_fault-memory : (fault : LineFault) (capacity n len : ℕ) → IsTakeFault fault capacity n len → ◌≡◌ {A = Result NextLine LineFault} (Err fault) (Err Memory) → capacity < n
+take_fault-memory TooLong capacity n len h e = cc
+take_fault-memory Limit capacity n len h e = absurd h
+take_fault-memory Read capacity n len h e = absurd h
+take_fault-memory Memory capacity n len h e = omega (arith, h.0, h.1)
+
+pub take_fault-not_limit : (fault : LineFault) (capacity n len : ℕ) → IsTakeFault fault capacity n len → ◌≡◌ {A = Result NextLine LineFault} (Err fault) (Err Limit) → ⊥
+take_fault-not_limit TooLong capacity n len h e = cc
+take_fault-not_limit Limit capacity n len h e = h
+take_fault-not_limit Read capacity n len h e = h
+take_fault-not_limit Memory capacity n len h e = cc
+
+pub take_fault-not_read : (fault : LineFault) (capacity n len : ℕ) → IsTakeFault fault capacity n len → is_read (Err fault) ≡ false
+take_fault-not_read TooLong capacity n len h = refl
+take_fault-not_read Limit capacity n len h = absurd h
+take_fault-not_read Read capacity n len h = absurd h
+take_fault-not_read Memory capacity n len h = refl

@@ -1,5 +1,5 @@
 -- What is read as an element is spelled as that element, and what is spelled so is read.
-use Rattle.std.proofs.Common.{◌≡◌, ℕ, ◌<◌, ◌≤◌, Bool, true, false, ◌==◌, List, [], ◌∷◌, ◌++◌, length, take, drop, Option, Some, None, refl, ap, sym, subst, ◌∙◌, arith, append_assoc, length-append}
+use Rattle.std.proofs.Common.{◌≡◌, ℕ, ◌<◌, ◌≤◌, Bool, true, false, ◌==◌, List, [], ◌∷◌, ◌++◌, length, take, drop, Option, Some, None, refl, ap, sym, subst, ◌∙◌, inr, arith, append_assoc, length-append}
 use Rattle.std.proofs.lemmas.Option.{some_pair_parts}
 use Rattle.std.proofs.lemmas.List.{take-append-drop, take_at, drop_at}
 use borrow.Author.Tests.{eqb-true}
@@ -13,7 +13,7 @@ use Rattle.uca_lines.specs.Leads.{Leads}
 use Rattle.uca_lines.proofs.LeadLemmas.{IsExact, leads_push}
 use Rattle.uca_table.specs.Elements.{BeginsElement, opens, ElementsCause}
 use Rattle.uca_table.specs.CanonicalElements.{mark_byte, element_text}
-use Rattle.uca_table.specs.ElementSteps.{after_byte, mark_at, weight_at, element_at}
+use Rattle.uca_table.specs.ElementSteps.{after_byte, mark_at, weight_at, dotted_weight_at, element_at}
 
 -- ---- What is read is spelled so
 
@@ -51,6 +51,13 @@ weight_at_takes text w rest h =
     let taken = weight_takes (take 4 text) w (found.1 ∙ ap Some same) in
     (sym (take-append-drop 4 text) ∙ (ap (λ z. z ++ drop 4 text) taken.0 ∙ ap (λ z. digits 4 w ++ z) tail), taken.1)
 
+dotted_weight_takes : (text : List ℕ) (w : ℕ) (rest : List ℕ) → dotted_weight_at text ≡ Some (w, rest) → (text ≡ 46 ∷ (digits 4 w ++ rest)) × (w < 0x1_0000)
+unfolding dotted_weight_at
+dotted_weight_takes text w rest h =
+    let dot = then_some (after_byte 46 text) _ (w, rest) h in
+    let weight = weight_at_takes dot.0 w rest dot.2 in
+    (after_byte_takes 46 text dot.0 dot.1 ∙ ap (λ z. 46 ∷ z) weight.0, weight.1)
+
 -- ---- What is spelled so is read
 
 weight_at-digits : (w : ℕ) (rest : List ℕ) → w < 0x1_0000 → weight_at (digits 4 w ++ rest) ≡ Some (w, rest)
@@ -71,7 +78,7 @@ unfolding element_text
 spelled_parts e more = simp append_assoc
 
 pub element_again : (text : List ℕ) (e : Element) (more : List ℕ) → BeginsElement text e more → element_at text ≡ Some (e, more)
-unfolding element_at after_byte
+unfolding element_at dotted_weight_at after_byte
 element_again text e more h =
     let first = weight_at-digits e.primary (46 ∷ (digits 4 e.secondary ++ (46 ∷ (digits 4 e.tertiary ++ (93 ∷ more))))) h.fits.primary in
     let second = weight_at-digits e.secondary (46 ∷ (digits 4 e.tertiary ++ (93 ∷ more))) h.fits.secondary in
@@ -79,19 +86,19 @@ element_again text e more h =
     rw (h.parts, spelled_parts e more, mark_at-byte e.mark, first, second, third) refl
 
 -- an element from its parts, in the order in which they are read
-spelled_from : (t0 t1 t2 t3 t4 t5 t6 t7 t8 : List ℕ) (m : Bool) (p s t : ℕ) (e : Element) (more : List ℕ)
+spelled_from : (t0 t1 t2 t3 t4 t5 t6 : List ℕ) (m : Bool) (p s t : ℕ) (e : Element) (more : List ℕ)
     → t0 ≡ 91 ∷ t1 → t1 ≡ mark_byte m ∷ t2
-    → (t2 ≡ digits 4 p ++ t3) × (p < 0x1_0000) → t3 ≡ 46 ∷ t4
-    → (t4 ≡ digits 4 s ++ t5) × (s < 0x1_0000) → t5 ≡ 46 ∷ t6
-    → (t6 ≡ digits 4 t ++ t7) × (t < 0x1_0000) → t7 ≡ 93 ∷ t8
-    → ◌≡◌ {A = Option (Element × List ℕ)} (Some (record { primary = p; secondary = s; tertiary = t; mark = m }, t8)) (Some (e, more))
+    → (t2 ≡ digits 4 p ++ t3) × (p < 0x1_0000)
+    → (t3 ≡ 46 ∷ (digits 4 s ++ t4)) × (s < 0x1_0000)
+    → (t4 ≡ 46 ∷ (digits 4 t ++ t5)) × (t < 0x1_0000) → t5 ≡ 93 ∷ t6
+    → ◌≡◌ {A = Option (Element × List ℕ)} (Some (record { primary = p; secondary = s; tertiary = t; mark = m }, t6)) (Some (e, more))
     → BeginsElement t0 e more
-spelled_from t0 t1 t2 t3 t4 t5 t6 t7 t8 m p s t e more h0 h1 h2 h3 h4 h5 h6 h7 h =
+spelled_from t0 t1 t2 t3 t4 t5 t6 m p s t e more h0 h1 h2 h3 h4 h5 h =
     let read : Element = record { primary = p; secondary = s; tertiary = t; mark = m } in
-    let same = some_pair_parts read e t8 more h in
-    let text_is : t0 ≡ element_text read ++ t8 = rw (h0, h1, h2.0, h3, h4.0, h5, h6.0, h7) (sym (spelled_parts read t8)) in
+    let same = some_pair_parts read e t6 more h in
+    let text_is : t0 ≡ element_text read ++ t6 = rw (h0, h1, h2.0, h3.0, h4.0, h5) (sym (spelled_parts read t6)) in
     let B : Element → Type 0 = λ f. BeginsElement t0 f more in
-    subst B same.0 (record { parts = text_is ∙ ap (λ z. element_text read ++ z) same.1; fits = record { primary = h2.1; secondary = h4.1; tertiary = h6.1 } })
+    subst B same.0 (record { parts = text_is ∙ ap (λ z. element_text read ++ z) same.1; fits = record { primary = h2.1; secondary = h3.1; tertiary = h4.1 } })
 
 pub element_takes : (text : List ℕ) (e : Element) (more : List ℕ) → element_at text ≡ Some (e, more) → BeginsElement text e more
 unfolding element_at
@@ -99,16 +106,14 @@ element_takes text e more h =
     let a = then_some (after_byte 91 text) _ (e, more) h in
     let b = then_some (mark_at a.0) _ (e, more) a.2 in
     let c = then_some (weight_at b.0.1) _ (e, more) b.2 in
-    let d = then_some (after_byte 46 c.0.1) _ (e, more) c.2 in
-    let f = then_some (weight_at d.0) _ (e, more) d.2 in
-    let g = then_some (after_byte 46 f.0.1) _ (e, more) f.2 in
-    let i = then_some (weight_at g.0) _ (e, more) g.2 in
-    let j = then_some (after_byte 93 i.0.1) _ (e, more) i.2 in
-    spelled_from text a.0 b.0.1 c.0.1 d.0 f.0.1 g.0 i.0.1 j.0 b.0.0 c.0.0 f.0.0 i.0.0 e more
+    let d = then_some (dotted_weight_at c.0.1) _ (e, more) c.2 in
+    let f = then_some (dotted_weight_at d.0.1) _ (e, more) d.2 in
+    let g = then_some (after_byte 93 f.0.1) _ (e, more) f.2 in
+    spelled_from text a.0 b.0.1 c.0.1 d.0.1 f.0.1 g.0 b.0.0 c.0.0 d.0.0 f.0.0 e more
     (after_byte_takes 91 text a.0 a.1) (mark_takes a.0 b.0.0 b.0.1 b.1)
-    (weight_at_takes b.0.1 c.0.0 c.0.1 c.1) (after_byte_takes 46 c.0.1 d.0 d.1)
-    (weight_at_takes d.0 f.0.0 f.0.1 f.1) (after_byte_takes 46 f.0.1 g.0 g.1)
-    (weight_at_takes g.0 i.0.0 i.0.1 i.1) (after_byte_takes 93 i.0.1 j.0 j.1) j.2
+    (weight_at_takes b.0.1 c.0.0 c.0.1 c.1)
+    (dotted_weight_takes c.0.1 d.0.0 d.0.1 d.1)
+    (dotted_weight_takes d.0.1 f.0.0 f.0.1 f.1) (after_byte_takes 93 f.0.1 g.0 g.1) g.2
 
 -- ---- What follows
 
@@ -135,6 +140,11 @@ after_element text e more h =
     grown b xs ys k = omega (arith, k, length-append xs ys)
 
 -- ---- Why some elements are rejected
+
+pub line_cause : (text : List ℕ) (front : List Element) (rest : List ℕ) → Leads BeginsElement text front rest → false ≡ (length rest == 0)
+    → opens rest ≡ false → ElementsCause text kinds.Line
+line_cause text front [] h some o = cc
+line_cause text front (b ∷ bs) h some o = inr (front, b ∷ bs, h, (λ e. cc), o)
 
 pub weight_cause : (text : List ℕ) (front : List Element) (rest : List ℕ) → Leads BeginsElement text front rest → opens rest ≡ true
     → None ≡ element_at rest → ElementsCause text kinds.Weight

@@ -1,5 +1,5 @@
 -- Rows from their parts.
-use Rattle.std.proofs.Common.{◌≡◌, ℕ, List, ◌∷◌, ◌∙◌, ◌⊎◌, sym, ap, subst, inl, inr}
+use Rattle.std.proofs.Common.{◌≡◌, ℕ, List, [], ◌∷◌, length, ◌∙◌, ◌⊎◌, refl, sym, ap, subst, inl, inr, arith}
 use borrow.Author.Tests.{eqb-true}
 use Rattle.uca_values.specs.declared.faults.FaultKind.{FaultKind}
 use Rattle.uca_values.specs.declared.faults.FaultKind.TheVariants as kinds
@@ -7,7 +7,7 @@ use Rattle.uca_lines.specs.Fields.{is_semicolon, up_to, from_first}
 use Rattle.uca_lines.proofs.FieldLemmas.{from_first_passes}
 use Rattle.uca_values.specs.Content.{Entry}
 use Rattle.uca_table.specs.Elements.{AreElements, ElementsCause}
-use Rattle.uca_table.specs.Rows.{IsKey, IsRow, RowTextCause}
+use Rattle.uca_table.specs.Rows.{IsKey, KeyCause, IsRow, RowTextCause}
 
 -- if something is at the cut, it is the `;`
 pub after_semicolon : (text back : List ℕ) (b : ℕ) (rest : List ℕ) → back ≡ from_first is_semicolon text → back ≡ b ∷ rest
@@ -20,6 +20,15 @@ pub row_is : (text front back : List ℕ) (b : ℕ) (rest : List ℕ) (row : Ent
     → back ≡ b ∷ rest → IsKey front row.key → AreElements rest row.elements → IsRow text row
 row_is text front back b rest row f h k key elements =
     record { rest = rest; cut = after_semicolon text back b rest h k; key = subst (λ (t : List ℕ). IsKey t row.key) f key; elements = elements }
+
+pub key_fault : (text front : List ℕ) (kind : FaultKind) → front ≡ up_to is_semicolon text → (kind ≡ kinds.Memory) ⊎ KeyCause front kind
+    → (kind ≡ kinds.Memory) ⊎ RowTextCause text kind
+key_fault text front kind h (inl m) = inl m
+key_fault text front kind h (inr e) = inr (inl (subst (λ (t : List ℕ). KeyCause t kind) h e))
+
+pub no_semicolon : (text back : List ℕ) → back ≡ from_first is_semicolon text → length back ≡ 0 → (kinds.Line ≡ kinds.Memory) ⊎ RowTextCause text kinds.Line
+no_semicolon text [] h n = inr (inr (inl (sym h, refl)))
+no_semicolon text (b ∷ bs) h n = absurd (omega (arith, n))
 
 pub elements_fault : (text back : List ℕ) (b : ℕ) (rest : List ℕ) (kind : FaultKind) → back ≡ from_first is_semicolon text → back ≡ b ∷ rest
     → (kind ≡ kinds.Memory) ⊎ ElementsCause rest kind → (kind ≡ kinds.Memory) ⊎ RowTextCause text kind

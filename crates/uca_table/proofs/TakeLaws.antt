@@ -3,7 +3,7 @@ use Rattle.std.proofs.Common.{◌≡◌, ℕ, zero, suc, ◌<◌, ◌≤◌, ◌
 use lib.Utf8.{scalar}
 use Rattle.std.specs.Prelude.{IsSome, IsOk, MatchResult, IfErr, OnOk, is_some, not, ◌≢◌}
 use Rattle.std.specs.Option.{option_map}
-use Rattle.std.specs.List.{AllByRecursion, list_all}
+use Rattle.std.specs.List.{AllByRecursion, list_all, slice_get}
 use Rattle.std.specs.Char.{IsScalar}
 use Rattle.std.specs.Str.{IsAscii, IsUtf8}
 use Rattle.std.specs.Str.Parse.{digits_value}
@@ -71,6 +71,10 @@ row_is_entry text row h = record {
 
 pub takes_nothing : (old inside : TableSoFar) (text : List ℕ) → inside ≡ old → IsTableSoFar inside → text ≡ [] → TakesText old text old
 takes_nothing old inside text same h e = record { item = Nothing; form = e; order = sym (append-nil (in_order old)); begun = subst IsTableSoFar same h }
+
+pub empty_without_first : (text : List ℕ) → None ≡ slice_get text 0 → text ≡ []
+empty_without_first [] h = refl
+empty_without_first (b ∷ bs) h = cc
 
 pub takes_version : (old inside : TableSoFar) (text name : List ℕ) (version : Option (List ℕ)) → inside ≡ old → IsTableSoFar inside → inside.version ≡ None
     → word_of text ≡ at_version → name ≡ argument_of text → is_version_name name ≡ true → version ≡ Some name
@@ -187,11 +191,19 @@ keeps_version points has inside old text name version h t v named = record {
     same : (n : List ℕ) → Some name ≡ Some n → name ≡ n
     same n q = cc
 
+pub keeps_setting : {K : Type 0} (points : K → List ℕ) (has : K → Bool) (inside old : TableSoFar) (text : List ℕ) (setting : Option Weighting)
+    → Keeps points has inside → TakesText old text (record inside { setting = setting }) → Keeps points has (record inside { setting = setting })
+keeps_setting points has inside old text setting h t = record { keys = h.keys; named = h.named; begun = t.begun }
+
 pub keeps_ranges : {K : Type 0} (points : K → List ℕ) (has : K → Bool) (inside old : TableSoFar) (text : List ℕ) (all : List ImplicitRange)
     → Keeps points has inside → TakesText old text (record inside { ranges = all }) → Keeps points has (record inside { ranges = all })
 keeps_ranges points has inside old text all h t = record { keys = h.keys; named = h.named; begun = t.begun }
 
--- ---- Why a range or a row is rejected
+-- ---- Why a setting, a range or a row is rejected
+
+pub setting_fault : (b : TableSoFar) (text word : List ℕ) → word_of text ≡ at_variable → word ≡ argument_of text
+    → ((setting : Weighting) → word ≡ setting_word setting → ⊥) → (kinds.Line ≡ kinds.Memory) ⊎ TextCause b text kinds.Line
+setting_fault b text word first argument none = cause_in b text ForSetting kinds.Line first (refl, (λ setting h. none setting (argument ∙ h.argument)))
 
 pub range_text_fault : (b : TableSoFar) (text rest : List ℕ) (kind : FaultKind) → word_of text ≡ at_ranges → rest ≡ after_word text
     → RangeTextCause rest kind → (kind ≡ kinds.Memory) ⊎ TextCause b text kind

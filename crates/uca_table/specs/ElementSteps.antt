@@ -22,14 +22,18 @@ mark_at (b ∷ bs) = if b == 46 then Some (false, bs) else (if b == 42 then Some
 unfoldable pub weight_at : List ℕ → Option (ℕ × List ℕ)
 weight_at text = option_map (λ w. (w, drop 4 text)) (weight_of (take 4 text))
 
+-- the weight after a dot, and what follows it
+unfoldable pub dotted_weight_at : List ℕ → Option (ℕ × List ℕ)
+dotted_weight_at text = do
+  weight ← after_byte 46 text
+  weight_at weight
+
 unfoldable pub element_at : List ℕ → Option (Element × List ℕ)
 element_at text = do
   marked ← after_byte 91 text
   mark ← mark_at marked
   primary ← weight_at mark.1
-  second ← after_byte 46 primary.1
-  secondary ← weight_at second
-  third ← after_byte 46 secondary.1
-  tertiary ← weight_at third
+  secondary ← dotted_weight_at primary.1
+  tertiary ← dotted_weight_at secondary.1
   rest ← after_byte 93 tertiary.1
   Some (record { primary = primary.0; secondary = secondary.0; tertiary = tertiary.0; mark = mark.0 }, rest)

@@ -61,10 +61,8 @@ fn element(text: &[u8]) -> Option<(Element, &[u8])>
     let text = after_byte(text, b'[')?;
     let (mark, text) = mark(text)?;
     let (primary, text) = leading_weight(text)?;
-    let text = after_byte(text, b'.')?;
-    let (secondary, text) = leading_weight(text)?;
-    let text = after_byte(text, b'.')?;
-    let (tertiary, text) = leading_weight(text)?;
+    let (secondary, text) = dotted_weight(text)?;
+    let (tertiary, text) = dotted_weight(text)?;
     let text = after_byte(text, b']')?;
     let element = Element {
         primary,
@@ -94,6 +92,14 @@ fn mark(text: &[u8]) -> Option<(bool, &[u8])>
         [b'*', rest @ ..] => Some((true, rest)),
         _ => None,
     }
+}
+
+// The weight after a dot, and what follows it.
+#[tactic(auto, unfolding(crate::specs::ElementSteps::dotted_weight_at))]
+fn dotted_weight(text: &[u8]) -> Option<(u16, &[u8])>
+    ensures { option_map (λ found. (found.0, found.1.now)) result ≡ ElementSteps.dotted_weight_at text.now }
+{
+    leading_weight(after_byte(text, b'.')?)
 }
 
 #[tactic(auto, unfolding(crate::specs::ElementSteps::weight_at))]

@@ -3,7 +3,7 @@ use Rattle.std.proofs.Common.{[], ◌∷◌, length, length-append, arith, sym, 
 use Rattle.uca_lines.proofs.FieldLemmas.{length-skip_blanks}
 use Rattle.uca_lines.proofs.LeadLemmas.{leads_more}
 use Rattle.uca_table.specs.Elements.{BeginsElement}
-use Rattle.uca_table.proofs.ElementLaws.{element_takes, after_element, weight_cause, limit_cause}
+use Rattle.uca_table.proofs.ElementLaws.{element_takes, after_element, line_cause, weight_cause, limit_cause}
 use Rattle.uca_table.proofs.elements.read_elements.Goals as goal
 
 pub returns-in_default-clause-fault : goal.returns-in_default-clause-fault
@@ -30,3 +30,8 @@ loop-rest-preserved g c =
       leads = leads_more BeginsElement c.args.text.now _ _ _ _ _ _ c.loop-rest.invariant.leads begins items c.skip_blanks-rest-in-loop-rest.ensures;
       few = omega (arith, ap length items, length-append c.loop-rest.elements.items (c.in-Some.found.0 ∷ []));
     }
+
+pub returns-then-not-opens-clause-fault : goal.returns-then-not-opens-clause-fault
+returns-then-not-opens-clause-fault g c =
+    inr (line_cause c.args.text.now c.loop-rest.elements.items c.loop-rest.rest.now c.loop-rest.invariant.leads c.loop-rest-test.ensures
+    (sym c.opens.ensures ∙ c.if-not-opens.true))

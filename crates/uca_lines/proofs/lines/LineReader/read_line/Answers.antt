@@ -7,7 +7,7 @@ use Rattle.std.proofs.lemmas.Bool.{iff_false, MatchBool-at_true}
 use Rattle.std.proofs.lemmas.Result.{err_from_is_err_and}
 use Rattle.uca_lines.specs.Lines.{is_lf}
 use Rattle.uca_lines.specs.LineReader.{left_of}
-use Rattle.uca_lines.proofs.LineLemmas.{Lacks_more, Consumes-ended, Consumes-part, SaysOfBytes-fault}
+use Rattle.uca_lines.proofs.LineLemmas.{Lacks_more, Consumes-ended, Consumes-part, SaysOfBytes-fault, take_fault-memory, take_fault-not_limit, take_fault-not_read}
 use Rattle.uca_lines.proofs.lines.LineReader.read_line.Goals as goal
 
 pub returns-in_err-take_waiting-clause-bytes : goal.returns-in_err-take_waiting-clause-bytes
@@ -57,3 +57,19 @@ loop-self-preserved g c =
       longest = omega (arith, filled.longest, taken.longest, i.longest);
       failed = rw (filled.failed, or-false) i.failed;
     }
+
+pub returns-in_err-take_waiting-clause-memory : goal.returns-in_err-take_waiting-clause-memory
+returns-in_err-take_waiting-clause-memory g c =
+    let i = c.loop-self.invariant in
+    let p = err_from_is_err_and c.from_residual.result c.from_residual.ensures.1 in
+    rw (p.1, p.2) (λ e. omega (arith, i.capacity, i.longest, take_fault-memory _ _ _ _ c.in_err-take_waiting.ensures.fault e))
+
+pub returns-in_err-take_waiting-clause-not_limit : goal.returns-in_err-take_waiting-clause-not_limit
+returns-in_err-take_waiting-clause-not_limit g c =
+    let p = err_from_is_err_and c.from_residual.result c.from_residual.ensures.1 in
+    rw (p.1, p.2) (take_fault-not_limit _ _ _ _ c.in_err-take_waiting.ensures.fault)
+
+pub returns-in_err-take_waiting-clause-failed : goal.returns-in_err-take_waiting-clause-failed
+returns-in_err-take_waiting-clause-failed g c =
+    let p = err_from_is_err_and c.from_residual.result c.from_residual.ensures.1 in
+    rw (p.1, p.2, take_fault-not_read _ _ _ _ c.in_err-take_waiting.ensures.fault, or-false) c.loop-self.invariant.failed

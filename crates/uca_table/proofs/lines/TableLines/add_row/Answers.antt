@@ -1,5 +1,5 @@
 -- The set has the keys of the rows, and the row's is new.
-use Rattle.std.proofs.Common.{◌++◌, ◌∷◌, [], sym, ap, subst, ◌∙◌, inr, arith, refl}
+use Rattle.std.proofs.Common.{◌++◌, ◌∷◌, [], ◌<◌, ◌≤◌, length, sym, ap, subst, ◌∙◌, inr, arith, refl}
 use Rattle.std.specs.Prelude.{IsSome}
 use Rattle.uca_values.specs.Content.{Entry}
 use Rattle.uca_table.specs.TableSoFar.{TableSoFar}
@@ -32,3 +32,19 @@ returns-clause-new g c =
     let rows = ap (λ (b : TableSoFar). b.rows) c.self.view_is in
     let key = ap (λ (r : Entry). r.key) c.row.view_is in
     not_contained _ _ _ _ rows key _ (c.self.invariant.keys c.row.inside.key) (sym c.contains.ensures ∙ c.if-contains.false)
+
+pub returns-then-len-ge-MOST_ROWS-clause-fault : goal.returns-then-len-ge-MOST_ROWS-clause-fault
+returns-then-len-ge-MOST_ROWS-clause-fault g c =
+    let Full : TableSoFar → Type 0 = λ b. 200000 ≤ length b.rows in
+    inr (subst Full c.self.view_is (omega arith))
+
+pub returns-clause-few : goal.returns-clause-few
+returns-clause-few g c =
+    let Few : TableSoFar → Type 0 = λ b. length b.rows < 200000 in
+    subst Few c.self.view_is (omega arith)
+
+pub returns-clause-ok : goal.returns-clause-ok
+returns-clause-ok g c =
+    let added : TableSoFar → TableSoFar = λ b. record b { rows = b.rows ++ c.args.row ∷ [] } in
+    let items = c.in_ok-push.ensures.items ∙ ap (λ rs. rs ++ c.args.row ∷ []) c.in_ok-reserve.ensures.items in
+    ap (with_rows _ _ _) items ∙ ap added c.self.view_is
