@@ -8,7 +8,7 @@ use Rattle.uca_audit.specs.Refusals.{IsFirstRefusal}
 use Rattle.uca_audit.specs.FaultText.{audit_fault_text}
 use Rattle.uca_runs.specs.declared.faults.RunFault.{RunFault}
 use Rattle.uca_runs.specs.declared.faults.RunFault.TheVariants.{Memory}
-use Rattle.uca_runs.specs.Files.{HaveFailed, IsStop, Mean, Over, audit_files, audit_roles}
+use Rattle.uca_runs.specs.Files.{HaveFailed, IsStop, Mean, Over, audit_files, audit_roles, ended_by_file}
 use Rattle.uca_runs.specs.Runs.{ended_before_output, ended_by_output}
 use Rattle.uca_runs.specs.Verdicts.{WritesVerdict}
 
@@ -32,6 +32,14 @@ IsVerdict tailoring false line = (fault : AuditFault) × IsFirstRefusal tailorin
 abbrev pub RunsAudit : SinkState → SinkState → Result Bool RunFault → Tailoring → Type 0
 RunsAudit out out_new (Err Memory) tailoring = out_new ≡ out
 RunsAudit out out_new result tailoring = WritesVerdict (IsVerdict tailoring) out.contents out_new.contents result
+
+-- what is returned and written for a tailoring that was read: only private contracts cite this
+pub record AnswersAudit (tailoring : Tailoring) (out out_new : SinkState) (result : Result Bool RunFault) : Type 0 where
+  pub runs : RunsAudit out out_new result tailoring
+  pub only : IsAccepted tailoring → AcceptsOrStops result
+  pub no_file : ended_by_file result ≡ false
+  pub nothing_written : ended_before_output result ≡ true → out_new ≡ out
+  pub out_failed : out_new.failed ≡ (out.failed || ended_by_output result)
 
 -- A run of audit: what it returns if the bytes of its files are known, and that it accepts what is accepted. And for
 -- any files and output, when nothing is written, and what has failed.

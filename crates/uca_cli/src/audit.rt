@@ -1,12 +1,10 @@
 //! The run that audits a tailoring.
 
-ghost use Rattle.std.specs.Prelude.{◌≡◌, ◌∷◌, [], ◌||◌, true, false};
+ghost use Rattle.std.specs.Prelude.{◌≡◌, ◌∷◌, [], Err, MatchResult};
 ghost use Rattle.uca_values.specs.Content.{properties_of};
-ghost use Rattle.uca_tailorings.specs.Tailorings.{IsAccepted};
+ghost use Rattle.uca_tailorings.specs.Tailorings.{Tailoring};
 ghost use Rattle.uca_tailorings.specs.Inputs.{tailoring_of};
-ghost use Rattle.uca_cli.specs.AuditRun.{AcceptsOrStops, Audits, RunsAudit};
-ghost use Rattle.uca_runs.specs.Files.{ended_by_file};
-ghost use Rattle.uca_runs.specs.Runs.{ended_before_output, ended_by_output};
+ghost use Rattle.uca_cli.specs.AuditRun.{AnswersAudit, Audits, IsVerdict};
 
 use std::alloc::{Allocator, Global};
 use std::io::{Read, Write};
@@ -78,8 +76,29 @@ pub fn run_audit_in<A: Allocator + Copy, B: Read, D: Read, U: Read, T: Read, C: 
         rules,
         tailored,
         certificate,
-    )?;
-    write_verdict(alloc, &files, out)
+    );
+    audit_read(alloc, files, out)
+}
+
+// Audits what was read. An error of the reading is returned, and then nothing is written.
+fn audit_read<A: Allocator + Copy, W: Write>(
+    alloc: A,
+    read: Result<AuditFiles<A>, RunFault>,
+    out: &mut Sink<W>,
+) -> Result<bool, RunFault>
+    ensures { MatchResult read
+        (λ files. AnswersAudit (tailoring_of files.base (properties_of files.properties) files.rules files.tailored files.certificate) out.old out.new result)
+        (λ fault. (result ≡ Err fault) × (out.new ≡ out.old)) }
+{
+    match read {
+        Ok(files) => {
+            // All files are dropped in one step: that keeps the proof short.
+            let verdict = write_verdict(alloc, &files, out);
+            drop(files);
+            verdict
+        }
+        Err(fault) => Err(fault),
+    }
 }
 
 // Audits what the files mean, and writes the verdict as a line.
@@ -88,13 +107,8 @@ fn write_verdict<A: Allocator + Copy, W: Write>(
     files: &AuditFiles<A>,
     out: &mut Sink<W>,
 ) -> Result<bool, RunFault>
-    ensures verdict { RunsAudit out.old out.new result
-        (tailoring_of files.now.base (properties_of files.now.properties) files.now.rules files.now.tailored files.now.certificate) }
-    ensures only { IsAccepted (tailoring_of files.now.base (properties_of files.now.properties) files.now.rules files.now.tailored files.now.certificate) →
-        AcceptsOrStops result }
-    ensures no_file { ended_by_file result ≡ false }
-    ensures nothing_written { ended_before_output result ≡ true → out.new ≡ out.old }
-    ensures failed { out.new.failed ≡ (out.old.failed || ended_by_output result) }
+    ensures { AnswersAudit (tailoring_of files.now.base (properties_of files.now.properties) files.now.rules files.now.tailored files.now.certificate)
+        out.old out.new result }
 {
     let verdict = audit(
         alloc,
@@ -105,12 +119,18 @@ fn write_verdict<A: Allocator + Copy, W: Write>(
         &files.certificate,
     );
     let Err(fault) = verdict else {
-        write_text(b"accepted\n", out)?;
-        return Ok(true);
+        return end_verdict(true, b"accepted\n", out);
     };
     if fault.number == NO_MEMORY {
         return Err(RunFault::Memory);
     }
-    write_text(fault.message().text("\n").as_str().as_bytes(), out)?;
-    Ok(false)
+    end_verdict(false, fault.message().text("\n").as_str().as_bytes(), out)
+}
+
+// Writes the line of a verdict, and returns the verdict.
+fn end_verdict<W: Write>(verdict: bool, line: &[u8], out: &mut Sink<W>) -> Result<bool, RunFault>
+    ensures { (tailoring : Tailoring) → IsVerdict tailoring verdict line.now → AnswersAudit tailoring out.old out.new result }
+{
+    write_text(line, out)?;
+    Ok(verdict)
 }

@@ -2,7 +2,7 @@
 
 ghost use Rattle.std.specs.Prelude.{◌∷◌, [], ⊤, ℕ, Bool, List, Result, MatchResult, ◌≡◌};
 ghost use Rattle.clap.specs.Walk.{texts};
-ghost use Rattle.uca_cli.specs.Command.{AreOpened, DoesAffected, DoesAudit, DoesCheck, DoesCommand, DoesCompare, DoesKeys, DoesNotOpen, DoesSort, DoesTailor, DoesWords, KeepsAndWrites, Prints, TailorsOpened, audit_files, check_result, data_and_rules, done_result, file_system, streams, table_and_data, tailor_files};
+ghost use Rattle.uca_cli.specs.Command.{AreOpened, DoesAffected, DoesAudit, DoesCheck, DoesCommand, DoesCompare, DoesKeys, DoesNotOpen, DoesSort, DoesTailor, DoesWords, KeepsAndWrites, KeepsTailored, Prints, TailorsOpened, audit_files, check_result, data_and_rules, done_result, file_system, streams, table_and_data, tailor_files};
 ghost use Rattle.uca_runs.specs.CompareRun.{comparing};
 ghost use Rattle.uca_cli.specs.declared.command.OpenFault.{OpenFault};
 ghost use Rattle.uca_cli.specs.declared.command.MakeFault.{MakeFault};
@@ -405,8 +405,28 @@ fn tailor_files<O: Opens, W: Write>(
         Ok(files) => files,
         Err(role) => return Err(RunFault::Open(role)),
     };
-    let (tailored, weights) = run_tailor(alloc, &mut table, &mut properties, &mut rules)?;
-    keep_tailored(opener, &tailored, &weights, certificate, out)
+    let run = run_tailor(alloc, &mut table, &mut properties, &mut rules);
+    keep_run(opener, run, certificate, out)
+}
+
+// Keeps what a run of tailor returned. An error of the run is returned, and then nothing is made.
+fn keep_run<O: Opens, W: Write>(
+    opener: &mut O,
+    run: Result<(Table, Certificate), RunFault>,
+    name: &str,
+    out: &mut Sink<W>,
+) -> Result<u8, RunFault>
+    ensures { KeepsTailored (file_system O.open_gives O.same_gives O.create_gives O.keep_gives O.remove_gives O.File.remaining O.Made.contents)
+        opener.old opener.new name.now out.old out.new run result }
+{
+    match run {
+        Ok(answer) => {
+            let kept = keep_tailored(opener, &answer.0, &answer.1, name, out);
+            drop(answer);
+            kept
+        }
+        Err(fault) => Err(fault),
+    }
 }
 
 // Keeps the certificate, and writes the table where the certificate is kept.
