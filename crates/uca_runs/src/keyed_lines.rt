@@ -9,8 +9,7 @@ ghost use Rattle.uca_runs.specs.EachLine.{ended_before_input};
 ghost use Rattle.uca_runs.specs.KeysRun.{PrintsKeyedLines, WritesKeyedLines};
 
 use crate::faults::RunFault;
-use crate::files::read_collation;
-use crate::keys::{KeyForm, print_lines};
+use crate::keys::{KeyForm, print_lines, run_lines_in};
 use std::alloc::{Allocator, Global};
 use std::io::{Read, Write};
 use uca_match::{Collator, Lookup};
@@ -99,7 +98,8 @@ pub fn run_keyed_lines_in<A: Allocator + Copy, T: Read, D: Read, I: Read, W: Wri
     ensures { PrintsKeyedLines weighting depth (table.old ∷ properties.old ∷ []) (table.new ∷ properties.new ∷ [])
         input.old input.new out.old out.new result }
 {
-    let read = read_collation(alloc, table, properties, weighting)?;
-    let collator = read.collator();
-    print_keyed_lines(alloc, global, &collator, read.weighting, depth, input, out)
+    let form = KeyForm::BeforeLine;
+    run_lines_in(
+        alloc, global, form, table, properties, input, out, weighting, depth,
+    )
 }
