@@ -8,7 +8,7 @@ use Rattle.uca_runs.specs.declared.faults.RunFault.TheVariants.{File}
 use Rattle.uca_runs.specs.declared.faults.Role.{Role}
 use Rattle.uca_runs.specs.declared.faults.Role.TheVariants as roles
 use Rattle.uca_runs.specs.Files.{MeansOne, OverFile, Reading, Done, Then, Over, Mean, HaveFailed, IsStop, fault_of, is_role, ended_by_file, is_file_read, is_read_fault}
-use Rattle.uca_runs.specs.ReadFiles.{IsRead, IsRefused, ReadsFiles}
+use Rattle.uca_runs.specs.ReadFiles.{IsRefused, ReadsFiles}
 use Rattle.uca_runs.proofs.FilesLemmas.{ended_by_files, failed_alike, failed_by_files, known_weaker, over_rejected, over_value, over_weaker, reads, stops}
 
 -- ---- One file
@@ -77,9 +77,11 @@ not_true false h = refl
 none_of : (A : Type 0) (role : Role) (cause : FileFault) (others : List Role) → is_apart role others ≡ true → HasNone {A = A} others (Err (File role cause))
 none_of A role cause [] apart = tt
 none_of A role cause (other ∷ others) apart =
-    let no = not_true (is_role other role) (first_true (not (is_role other role)) (is_apart role others) apart) in
-    (ap (λ b. if b then Some cause else None) no, ap (λ b. b && is_read_fault cause) no,
-    none_of A role cause others (second_true (not (is_role other role)) (is_apart role others) apart))
+    let no = not_true (is_role other role) (first_true (not (is_role other role)) (is_apart role others) apart) in (
+      ap (λ b. if b then Some cause else None) no,
+      ap (λ b. b && is_read_fault cause) no,
+      none_of A role cause others (second_true (not (is_role other role)) (is_apart role others) apart),
+    )
 
 -- ---- An error of some files and other files
 

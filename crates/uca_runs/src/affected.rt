@@ -78,13 +78,13 @@ impl<A: Allocator> AffectedRun<A> {
 }
 
 /// Prints the lines of the input that the rules affect, as they stand and in their order, until the end of the input or its
-/// first faulty line: those in whose text in Normalization Form D a target of the rules occurs, all its code points in
-/// their order, whatever stands between.
+/// first line with an error: those in whose text in Normalization Form D a target of the rules occurs, all its code points
+/// in their order, whatever stands between.
 ///
 /// # Errors
 ///
-/// `Input` for the first faulty line, where the affected lines before it were written; `Write` where the writer failed, also
-/// where a later line is faulty.
+/// `Input` for the first line with an error, where the affected lines before it were written; `Write` where the writer
+/// failed, also where a later line has an error.
 pub fn print_affected<D: Allocator, R: Allocator, A: Allocator, I: Read, W: Write>(
     alloc: A,
     global: Global,
@@ -116,8 +116,8 @@ pub fn print_affected<D: Allocator, R: Allocator, A: Allocator, I: Read, W: Writ
 /// # Errors
 ///
 /// `File` where the data file, or else the rules, are rejected: nothing was written, and nothing of the input was read.
-/// `Input` for the first faulty line, where the affected lines before it were written. `Write` where the writer failed, also
-/// where a later line is faulty: the first `written` bytes of the whole output went out.
+/// `Input` for the first line with an error, where the affected lines before it were written. `Write` where the writer
+/// failed, also where a later line has an error: the first `written` bytes of the whole output went out.
 pub fn run_affected<D: Read, U: Read, I: Read, W: Write>(
     alloc: Global,
     properties: &mut Source<D>,

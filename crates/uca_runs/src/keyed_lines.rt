@@ -15,12 +15,12 @@ use std::io::{Read, Write};
 use uca_match::{Collator, Lookup};
 use uca_weights::{Depth, Sink, Source, Weighting};
 
-/// Prints each line of the input after its sort key and a tab, until the end of the input or its first faulty line.
+/// Prints each line of the input after its sort key and a tab, until the end of the input or its first line with an error.
 ///
 /// # Errors
 ///
-/// `Input` for the first faulty line, where the lines before it were written with their keys; `Write`
-/// where the writer failed, also where a later line is faulty.
+/// `Input` for the first line with an error, where the lines before it were written with their keys; `Write`
+/// where the writer failed, also where a later line has an error.
 pub fn print_keyed_lines<L: Lookup, T: Allocator, A: Allocator + Copy, I: Read, W: Write>(
     alloc: A,
     global: Global,
@@ -58,10 +58,10 @@ pub fn print_keyed_lines<L: Lookup, T: Allocator, A: Allocator + Copy, I: Read, 
 ///
 /// # Errors
 ///
-/// `File` where the table, or else the data file, is refused, and then `Memory` where an allocation failed
-/// for looking up rows: nothing was written, and nothing of the input was read. `Input` for the first
-/// faulty line, where the lines before it were written with their keys. `Write` where the writer failed, also
-/// where a later line is faulty: the first `written` bytes of the whole output went out.
+/// `File` where the table, or else the data file, is rejected, and then `Memory` where an allocation failed
+/// for looking up rows: nothing was written, and nothing of the input was read. `Input` for the first line with an
+/// error, where the lines before it were written with their keys. `Write` where the writer failed, also where a later
+/// line has an error: the first `written` bytes of the whole output went out.
 pub fn run_keyed_lines<T: Read, D: Read, I: Read, W: Write>(
     alloc: Global,
     table: &mut Source<T>,

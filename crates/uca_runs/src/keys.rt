@@ -144,7 +144,7 @@ impl<A: Allocator> KeyRun<A> {
     }
 }
 
-/// Writes what the output has of each line of the input, until its end or its first faulty line.
+/// Writes what the output has of each line of the input, until its end or its first line with an error.
 ///
 /// # Errors
 ///

@@ -1,7 +1,7 @@
 -- Which of the five files is rejected, or what all of them mean.
-use Rattle.std.proofs.Common.{List, [], ◌∷◌, Ok, refl}
+use Rattle.std.proofs.Common.{List, [], ◌∷◌, refl}
 use Rattle.std.proofs.lemmas.Result.{err_from_is_err_and}
-use Rattle.uca_values.specs.Content.{TableContent, properties_of}
+use Rattle.uca_values.specs.Content.{properties_of}
 use Rattle.uca_tailorings.specs.Tailorings.{Tailoring}
 use Rattle.uca_tailorings.specs.Inputs.{tailoring_of}
 use Rattle.uca_runs.specs.declared.faults.Role.{Role}

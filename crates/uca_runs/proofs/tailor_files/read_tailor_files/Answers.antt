@@ -1,7 +1,7 @@
 -- Which of the three files is rejected, or what all of them mean.
 use Rattle.std.proofs.Common.{[], ◌∷◌, refl}
 use Rattle.std.proofs.lemmas.Result.{err_from_is_err_and}
-use Rattle.uca_values.specs.Content.{TableContent, properties_of}
+use Rattle.uca_values.specs.Content.{properties_of}
 use Rattle.uca_runs.specs.declared.faults.Role.TheVariants as roles
 use Rattle.uca_runs.specs.Files.{data_and_rules, data_and_rules_roles, data_with}
 use Rattle.uca_runs.specs.ReadFiles.{table_file, tailor_by}
