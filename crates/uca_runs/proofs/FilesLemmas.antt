@@ -7,7 +7,7 @@ use Rattle.uca_runs.specs.declared.faults.RunFault.{RunFault}
 use Rattle.uca_runs.specs.declared.faults.RunFault.TheVariants.{File}
 use Rattle.uca_runs.specs.declared.faults.Role.{Role}
 use Rattle.uca_runs.specs.declared.faults.Role.TheVariants as roles
-use Rattle.uca_runs.specs.Files.{MeansOne, OverFile, Reading, Done, Then, Over, HaveFailed, IsStop, fault_of, is_role, ended_by_file, is_file_read, is_read_fault}
+use Rattle.uca_runs.specs.Files.{MeansOne, OverFile, Reading, Done, Then, Over, HaveFailed, IsStop, fault_of, is_role, ended_by_file, is_file_read}
 use Rattle.uca_runs.specs.ReadFiles.{IsRefused}
 
 -- ---- Roles of errors
@@ -67,12 +67,6 @@ over_rejected A role old new Means Refuses K fault is =
     subst (λ f. fault_of {A = A} role (Err f) ≡ Some is.0) (sym is.1) (ap (λ b. if b then Some is.0 else None) (same_role role)) in
     subst (λ o. MatchOption o (MeansOne Means old.remaining K) (λ f. IfSome old.remaining (λ bytes. Refuses bytes new.remaining f)))
     (sym own) is.2
-
--- then no file of another role is
-pub no_other_fault : (A : Type 0) (role other : Role) (old new : SourceState) (Refuses : List ℕ → Option (List ℕ) → FileFault → Type 0) (fault : RunFault)
-    → IsRefused role old new Refuses fault → is_role other role ≡ false → fault_of {A = A} other (Err fault) ≡ None
-no_other_fault A role other old new Refuses fault is apart =
-    subst (λ f. fault_of {A = A} other (Err f) ≡ None) (sym is.1) (ap (λ b. if b then Some is.0 else None) apart)
 
 -- of a value more may hold
 pub known_weaker : {V : Type 0} (known left : Option (List ℕ)) (cause : Option FileFault) (Means : List ℕ → V → Type 0)
@@ -137,33 +131,9 @@ failed_by_no_file of olds news files result failed no_file =
     failed_alike of olds news (Ok files) result (λ role. sym (no_file_read role result no_file)) failed
 
 -- nothing is added
-stays : (b : Bool) → b ≡ (b || false)
+pub stays : (b : Bool) → b ≡ (b || false)
 stays true = refl
 stays false = refl
-
--- where a file is rejected, no read of another one failed
-not_read : (A : Type 0) (role other : Role) (old new : SourceState) (Refuses : List ℕ → Option (List ℕ) → FileFault → Type 0) (fault : RunFault)
-    → IsRefused role old new Refuses fault → is_role other role ≡ false → is_file_read {A = A} other (Err fault) ≡ false
-not_read A role other old new Refuses fault is apart =
-    subst (λ f. is_file_read {A = A} other (Err f) ≡ false) (sym is.1) (ap (λ b. b && is_read_fault is.0) apart)
-
--- so of a file before it nothing has changed
-pub read_before : (A : Type 0) (role other : Role) (old new source now : SourceState) (Refuses : List ℕ → Option (List ℕ) → FileFault → Type 0) (fault : RunFault)
-    → IsRefused role old new Refuses fault → is_role other role ≡ false → now.failed ≡ (source.failed || false)
-    → now.failed ≡ (source.failed || is_file_read {A = A} other (Err fault))
-read_before A role other old new source now Refuses fault is apart same =
-    same ∙ ap (λ b. source.failed || b) (sym (not_read A role other old new Refuses fault is apart))
-
--- nor of one after it, which was not read
-pub not_yet_read : (A : Type 0) (role other : Role) (old new source : SourceState) (Refuses : List ℕ → Option (List ℕ) → FileFault → Type 0) (fault : RunFault)
-    → IsRefused role old new Refuses fault → is_role other role ≡ false → source.failed ≡ (source.failed || is_file_read {A = A} other (Err fault))
-not_yet_read A role other old new source Refuses fault is apart =
-    read_before A role other old new source source Refuses fault is apart (stays source.failed)
-
--- its own source has failed as the result says
-pub read_of_own : (A B : Type 0) (role : Role) (old new : SourceState) (fault : RunFault)
-    → new.failed ≡ (old.failed || is_file_read {A = B} role (Err fault)) → new.failed ≡ (old.failed || is_file_read {A = A} role (Err fault))
-read_of_own A B role old new fault same = same ∙ ap (λ b. old.failed || b) (same_read B A role fault)
 
 -- ---- What is read of files that mean something
 
@@ -178,8 +148,3 @@ pub reads : {V : Type 0} (known : Option (List ℕ)) (Means : List ℕ → V →
     → IfSome known (λ bytes. (v : V) → Means bytes v → read ≡ v) → IsSomeAnd known (λ bytes. Means bytes value) → read ≡ value
 reads None Means read value only have = absurd have
 reads (Some bytes) Means read value only have = only value have
-
--- what depends on a value that was read means the same
-pub under_value : {V W : Type 0} (known : Option (List ℕ)) (Means : V → List ℕ → W → Type 0) (read value : V) (other : W) → read ≡ value
-    → IsSomeAnd known (λ bytes. Means value bytes other) → IsSomeAnd known (λ bytes. Means read bytes other)
-under_value known Means read value other same have = subst (λ v. IsSomeAnd known (λ bytes. Means v bytes other)) (sym same) have

@@ -27,7 +27,7 @@ WentOut-more start now text more n (went, few) =
     (subst (λ (l : List ℕ). Appends start now l) (sym (take-append-le n text more few)) went, omega (arith, length-append text more))
 
 module _ (properties : Properties) (bytes_of : List ℕ → List ℕ) where
-  -- the whole output: the bytes of each line before the first faulty one
+  -- the whole output: the bytes of each line before the first one with an error
   abbrev output_of : List ℕ → List ℕ
   output_of bytes = flat_map bytes_of (clean_lines properties (lines_of bytes))
 

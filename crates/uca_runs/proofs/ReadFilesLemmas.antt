@@ -1,194 +1,273 @@
--- What is read of the files of a run, from what each of them means or why it is rejected.
-use Rattle.std.specs.Prelude.{⊤}
-use Rattle.std.proofs.Common.{◌≡◌, List, [], ◌∷◌, false, IfSome, Result, Ok, Err, None, refl, ap, ◌∙◌}
+-- What reading the files of a run gives, from what reading each of them gives.
+use Rattle.std.proofs.Common.{◌≡◌, ℕ, List, [], ◌∷◌, ◌++◌, Option, Bool, true, false, if◌then◌else◌, ◌&&◌, ◌||◌, IfSome, Result, Ok, Err, Some, None, refl, ap, subst, sym, ◌∙◌}
+use Rattle.std.specs.Prelude.{MatchOption, not, ⊤}
 use Rattle.uca_weights.specs.Streams.{SourceState}
-use Rattle.uca_values.specs.Content.{TableContent, Properties}
-use Rattle.uca_table.specs.TableLines as tables
-use Rattle.uca_table.specs.DataSoFar as data_files
-use Rattle.uca_rules.specs.declared.relations.Relation.{Relation}
-use Rattle.uca_rules.specs.Meaning as rule_files
-use Rattle.uca_certificates.specs.Certificates.{CertificateContent}
-use Rattle.uca_certificates.specs.Texts as certificates
-use Rattle.uca_tailorings.specs.Tailorings.{Tailoring}
-use Rattle.uca_tailorings.specs.Inputs.{tailoring_of}
+use Rattle.uca_runs.specs.declared.faults.FileFault.{FileFault}
 use Rattle.uca_runs.specs.declared.faults.RunFault.{RunFault}
+use Rattle.uca_runs.specs.declared.faults.RunFault.TheVariants.{File}
 use Rattle.uca_runs.specs.declared.faults.Role.{Role}
 use Rattle.uca_runs.specs.declared.faults.Role.TheVariants as roles
-use Rattle.uca_runs.specs.Files.{TailorContent, Reading, Done, Then, then_table, OfLines, Over, RefusesRules, RefusesCertificate, audit_files, data_and_rules, data_with, fault_of, is_role, rules_over, table_and_data, table_with, tailor_content}
-use Rattle.uca_runs.specs.ReadFiles.{IsRefused}
-use Rattle.uca_runs.proofs.FilesLemmas.{no_other_fault, over_rejected, over_value}
+use Rattle.uca_runs.specs.Files.{MeansOne, OverFile, Reading, Done, Then, Over, Mean, HaveFailed, IsStop, fault_of, is_role, ended_by_file, is_file_read, is_read_fault}
+use Rattle.uca_runs.specs.ReadFiles.{IsRefused, ReadsFiles}
+use Rattle.uca_runs.proofs.FilesLemmas.{ended_by_files, failed_alike, failed_by_files, known_weaker, over_rejected, over_value, over_weaker, reads, stops}
 
--- the bytes of a table that are known, mean this
-abbrev pub IsTable : SourceState → TableContent → Type 0
-IsTable source table = IfSome source.remaining (λ bytes. tables.Means bytes table)
+-- ---- One file
 
--- those of a data file
-abbrev pub IsData : SourceState → Properties → Type 0
-IsData source points = IfSome source.remaining (λ bytes. data_files.Means bytes points)
+module _ {A V : Type 0} (role : Role) (Means : List ℕ → V → Type 0) (Refuses : List ℕ → Option (List ℕ) → FileFault → Type 0)
+    (old new : SourceState) (content_of : A → V) where
+  -- it is read
+  pub file_read : (read : A) → IfSome old.remaining (λ bytes. Means bytes (content_of read))
+      → IfSome old.remaining (λ bytes. (value : V) → Means bytes value → content_of read ≡ value) → new.failed ≡ (old.failed || false)
+      → ReadsFiles (Then role Means Refuses Done) (role ∷ []) (old ∷ []) (new ∷ []) content_of (Ok read)
+  file_read read means only failed = record {
+    read = record { value = content_of read; means = means; holds = refl };
+    only = λ content mean. reads old.remaining Means (content_of read) mean.0 only mean.1 ∙ sym mean.2;
+    of_files = refl;
+    failed = (failed, tt);
+  }
 
--- those of rules
-abbrev pub AreRules : Properties → SourceState → List Relation → Type 0
-AreRules points source relations = IfSome source.remaining (λ bytes. rule_files.Means points bytes relations)
+  -- or it is rejected
+  pub file_rejected : (fault : RunFault) → IfSome old.remaining (λ bytes. (value : V) → Means bytes value → IsStop fault)
+      → IsRefused role old new Refuses fault → new.failed ≡ (old.failed || is_file_read {A = A} role (Err fault))
+      → ReadsFiles {A = A} (Then role Means Refuses Done) (role ∷ []) (old ∷ []) (new ∷ []) content_of (Err fault)
+  file_rejected fault only is failed = record {
+    read = over_rejected A role old new Means Refuses _ fault is;
+    only = λ content mean. stops old.remaining Means mean.0 fault only mean.1;
+    of_files = subst (λ f. ended_by_file {A = A} (Err f) ≡ true) (sym is.1) refl;
+    failed = (failed, tt);
+  }
 
--- those of a certificate
-abbrev pub IsCertificate : SourceState → CertificateContent → Type 0
-IsCertificate source certificate = IfSome source.remaining (λ bytes. certificates.Means bytes certificate)
+-- ---- Roles of files
 
--- ---- A table and a data file
+-- these sources are those of the files, which have these roles
+abbrev pub Fits : {C : Type 0} → Reading C → List Role → List SourceState → Type 0
+Fits (Done content) [] [] = ⊤
+Fits (Then {V} role Means Refuses next) (one ∷ of) (source ∷ sources) = (one ≡ role) × ((value : V) → Fits (next value) of sources)
+Fits _ _ _ = ⊥
 
-module _ (table table_new points_file points_new : SourceState) where
-  -- both mean something
-  pub both_read : (content : TableContent) (points : Properties) → IsTable table content → IsData points_file points
-      → Over {A = ⊤} table_and_data (table ∷ points_file ∷ []) (table_new ∷ points_new ∷ []) (λ files. table_with content points ≡ files) (Ok tt)
-  both_read content points is_table is_data =
-      over_value {A = ⊤} roles.Table table table_new tables.Means (OfLines tables.Refuses) _ (Ok tt) content refl is_table
-      (over_value {A = ⊤} roles.Data points_file points_new data_files.Means (OfLines data_files.Refuses) _ (Ok tt) points refl is_data refl)
+-- a result has no error of these roles
+abbrev HasNone : {A : Type 0} → List Role → Result A RunFault → Type 0
+HasNone [] result = ⊤
+HasNone (role ∷ of) result = (fault_of role result ≡ None) × (is_file_read role result ≡ false) × HasNone of result
 
-  -- the table is rejected
-  pub table_rejected : (fault : RunFault) → IsRefused roles.Table table table_new (OfLines tables.Refuses) fault
-      → Over {A = ⊤} table_and_data (table ∷ points_file ∷ []) (table_new ∷ points_new ∷ []) (λ files. ⊥) (Err fault)
-  table_rejected fault is = over_rejected ⊤ roles.Table table table_new tables.Means (OfLines tables.Refuses) _ fault is
+-- whether a role is none of these
+abbrev is_apart : Role → List Role → Bool
+is_apart role [] = true
+is_apart role (other ∷ others) = not (is_role other role) && is_apart role others
 
-  -- the data file is, after a table
-  pub data_rejected : (content : TableContent) (fault : RunFault) → IsTable table content
-      → IsRefused roles.Data points_file points_new (OfLines data_files.Refuses) fault
-      → Over {A = ⊤} table_and_data (table ∷ points_file ∷ []) (table_new ∷ points_new ∷ []) (λ files. ⊥) (Err fault)
-  data_rejected content fault is_table is =
-      over_value {A = ⊤} roles.Table table table_new tables.Means (OfLines tables.Refuses) _ (Err fault) content
-      (no_other_fault ⊤ roles.Data roles.Table points_file points_new (OfLines data_files.Refuses) fault is refl) is_table
-      (over_rejected ⊤ roles.Data points_file points_new data_files.Means (OfLines data_files.Refuses) _ fault is)
+-- whether none of the first roles is one of the others
+abbrev pub are_apart : List Role → List Role → Bool
+are_apart [] others = true
+are_apart (role ∷ of) others = is_apart role others && are_apart of others
 
--- ---- A data file and rules
+-- both are true
+first_true : (a b : Bool) → (a && b) ≡ true → a ≡ true
+first_true true b h = refl
+first_true false b h = h
 
-module _ (points_file points_new rules rules_new : SourceState) where
-  -- both mean something
-  pub rules_read : (points : Properties) (relations : List Relation) → IsData points_file points → AreRules points rules relations
-      → Over {A = ⊤} data_and_rules (points_file ∷ rules ∷ []) (points_new ∷ rules_new ∷ []) (λ files. data_with points relations ≡ files) (Ok tt)
-  rules_read points relations is_data are_rules =
-      over_value {A = ⊤} roles.Data points_file points_new data_files.Means (OfLines data_files.Refuses) _ (Ok tt) points refl is_data
-      (over_value {A = ⊤} roles.Rules rules rules_new (rule_files.Means points) (RefusesRules points) _ (Ok tt) relations refl are_rules refl)
+second_true : (a b : Bool) → (a && b) ≡ true → b ≡ true
+second_true true b h = h
+second_true false b h = let never : ⊥ = cc in absurd never
 
-  -- the data file is rejected
-  pub no_data : (fault : RunFault) → IsRefused roles.Data points_file points_new (OfLines data_files.Refuses) fault
-      → Over {A = ⊤} data_and_rules (points_file ∷ rules ∷ []) (points_new ∷ rules_new ∷ []) (λ files. ⊥) (Err fault)
-  no_data fault is = over_rejected ⊤ roles.Data points_file points_new data_files.Means (OfLines data_files.Refuses) _ fault is
+not_true : (a : Bool) → not a ≡ true → a ≡ false
+not_true true h = let never : ⊥ = cc in absurd never
+not_true false h = refl
 
-  -- the rules are, after a data file
-  pub no_rules : (points : Properties) (fault : RunFault) → IsData points_file points → IsRefused roles.Rules rules rules_new (RefusesRules points) fault
-      → Over {A = ⊤} data_and_rules (points_file ∷ rules ∷ []) (points_new ∷ rules_new ∷ []) (λ files. ⊥) (Err fault)
-  no_rules points fault is_data is =
-      over_value {A = ⊤} roles.Data points_file points_new data_files.Means (OfLines data_files.Refuses) _ (Err fault) points
-      (no_other_fault ⊤ roles.Rules roles.Data rules rules_new (RefusesRules points) fault is refl) is_data
-      (over_rejected ⊤ roles.Rules rules rules_new (rule_files.Means points) (RefusesRules points) _ fault is)
+-- an error of a role is none of roles apart from it
+none_of : (A : Type 0) (role : Role) (cause : FileFault) (others : List Role) → is_apart role others ≡ true → HasNone {A = A} others (Err (File role cause))
+none_of A role cause [] apart = tt
+none_of A role cause (other ∷ others) apart =
+    let no = not_true (is_role other role) (first_true (not (is_role other role)) (is_apart role others) apart) in (
+      ap (λ b. if b then Some cause else None) no,
+      ap (λ b. b && is_read_fault cause) no,
+      none_of A role cause others (second_true (not (is_role other role)) (is_apart role others) apart),
+    )
 
--- ---- A table, a data file and rules
+-- ---- An error of some files and other files
 
-module _ (role : Role) (base base_new points_file points_new rules rules_new : SourceState) (K : TailorContent → Type 0) where
-  -- all of them mean something
-  pub over_rules : {A : Type 0} (result : Result A RunFault) (content : TableContent) (points : Properties) (relations : List Relation)
-      → fault_of role result ≡ None → fault_of roles.Data result ≡ None → fault_of roles.Rules result ≡ None
-      → IsTable base content → IsData points_file points → AreRules points rules relations → K (tailor_content content points relations)
-      → Over (rules_over role) (base ∷ points_file ∷ rules ∷ []) (base_new ∷ points_new ∷ rules_new ∷ []) K result
-  over_rules result content points relations no_base no_data no_rules is_base is_data are_rules holds =
-      over_value role base base_new tables.Means (OfLines tables.Refuses) _ result content no_base is_base
-      (over_value roles.Data points_file points_new data_files.Means (OfLines data_files.Refuses) _ result points no_data is_data
-      (over_value roles.Rules rules rules_new (rule_files.Means points) (RefusesRules points) _ result relations no_rules are_rules holds))
+-- roles that count as one are one
+same_from_role : (one other : Role) → is_role one other ≡ true → one ≡ other
+same_from_role roles.Table roles.Table h = refl
+same_from_role roles.Data roles.Data h = refl
+same_from_role roles.Rules roles.Rules h = refl
+same_from_role roles.Certificate roles.Certificate h = refl
+same_from_role roles.Base roles.Base h = refl
+same_from_role roles.Tailored roles.Tailored h = refl
+same_from_role _ _ h = let never : ⊥ = cc in absurd never
 
-  -- the table is rejected
-  pub base_rejected : (fault : RunFault) → IsRefused role base base_new (OfLines tables.Refuses) fault
-      → Over {A = ⊤} (rules_over role) (base ∷ points_file ∷ rules ∷ []) (base_new ∷ points_new ∷ rules_new ∷ []) K (Err fault)
-  base_rejected fault is = over_rejected ⊤ role base base_new tables.Means (OfLines tables.Refuses) _ fault is
+-- an error that may be of this file is none of roles apart from it
+module _ (A : Type 0) {V : Type 0} (role : Role) (others : List Role) (old new : SourceState) (Means : List ℕ → V → Type 0)
+    (Refuses : List ℕ → Option (List ℕ) → FileFault → Type 0) (K : V → Type 0) (apart : is_apart role others ≡ true) where
+  of_role : (other : Role) (cause : FileFault) → ((value : V) → K value → HasNone {A = A} others (Err (File other cause)))
+      → (b : Bool) → is_role role other ≡ b
+      → MatchOption (if b then Some cause else None) (MeansOne Means old.remaining K) (λ fault. IfSome old.remaining (λ bytes. Refuses bytes new.remaining fault))
+      → HasNone {A = A} others (Err (File other cause))
+  of_role other cause later true same over =
+      subst (λ r. HasNone {A = A} others (Err (File r cause))) (same_from_role role other same) (none_of A role cause others apart)
+  of_role other cause later false same over = later over.value over.holds
 
-  -- the data file is
-  pub properties_rejected : (content : TableContent) (fault : RunFault) → is_role role roles.Data ≡ false → IsTable base content
-      → IsRefused roles.Data points_file points_new (OfLines data_files.Refuses) fault
-      → Over {A = ⊤} (rules_over role) (base ∷ points_file ∷ rules ∷ []) (base_new ∷ points_new ∷ rules_new ∷ []) K (Err fault)
-  properties_rejected content fault apart is_base is =
-      over_value {A = ⊤} role base base_new tables.Means (OfLines tables.Refuses) _ (Err fault) content
-      (no_other_fault ⊤ roles.Data role points_file points_new (OfLines data_files.Refuses) fault is apart) is_base
-      (over_rejected ⊤ roles.Data points_file points_new data_files.Means (OfLines data_files.Refuses) _ fault is)
+  rejected_here : (B : Type 0) (fault : RunFault) → ((value : V) → K value → HasNone {A = A} others (Err fault))
+      → OverFile {A = B} role old new Means Refuses K (Err fault) → HasNone {A = A} others (Err fault)
+  rejected_here B (File other cause) later over = of_role other cause later (is_role role other) refl over
+  rejected_here B _ later over = later over.value over.holds
 
-  -- the rules are
-  pub rules_rejected : (content : TableContent) (points : Properties) (fault : RunFault) → is_role role roles.Rules ≡ false
-      → IsTable base content → IsData points_file points → IsRefused roles.Rules rules rules_new (RefusesRules points) fault
-      → Over {A = ⊤} (rules_over role) (base ∷ points_file ∷ rules ∷ []) (base_new ∷ points_new ∷ rules_new ∷ []) K (Err fault)
-  rules_rejected content points fault apart is_base is_data is =
-      over_value {A = ⊤} role base base_new tables.Means (OfLines tables.Refuses) _ (Err fault) content
-      (no_other_fault ⊤ roles.Rules role rules rules_new (RefusesRules points) fault is apart) is_base
-      (over_value {A = ⊤} roles.Data points_file points_new data_files.Means (OfLines data_files.Refuses) _ (Err fault) points
-      (no_other_fault ⊤ roles.Rules roles.Data rules rules_new (RefusesRules points) fault is refl) is_data
-      (over_rejected ⊤ roles.Rules rules rules_new (rule_files.Means points) (RefusesRules points) _ fault is))
+-- an error of these files is none of roles apart from theirs
+rejected_apart : (A B : Type 0) {C : Type 0} (reading : Reading C) (of others : List Role) (olds news : List SourceState) (fault : RunFault)
+    → Fits reading of olds → are_apart of others ≡ true → Over {A = B} reading olds news (λ content. ⊥) (Err fault)
+    → HasNone {A = A} others (Err fault)
+rejected_apart A B (Done content) [] others [] [] fault fits apart over = absurd over
+rejected_apart A B (Done content) [] others [] (new ∷ news) fault fits apart over = absurd over
+rejected_apart A B (Done content) [] others (old ∷ olds) news fault fits apart over = absurd fits
+rejected_apart A B (Done content) (one ∷ of) others olds news fault fits apart over = absurd fits
+rejected_apart A B (Then role Means Refuses next) [] others olds news fault fits apart over = absurd fits
+rejected_apart A B (Then role Means Refuses next) (one ∷ of) others [] news fault fits apart over = absurd fits
+rejected_apart A B (Then role Means Refuses next) (one ∷ of) others (old ∷ olds) [] fault fits apart over = absurd over
+rejected_apart A B (Then role Means Refuses next) (one ∷ of) others (old ∷ olds) (new ∷ news) fault fits apart over =
+    rejected_here A role others old new Means Refuses _
+    (subst (λ r. is_apart r others ≡ true) fits.0 (first_true (is_apart one others) (are_apart of others) apart)) B fault
+    (λ value later. rejected_apart A B (next value) of others olds news fault (fits.1 value)
+    (second_true (is_apart one others) (are_apart of others) apart) later) over
 
--- each file gives what it means
-pub same_tailor_content : (base content : TableContent) (points properties : Properties) (relations others : List Relation)
-    → base ≡ content → points ≡ properties → relations ≡ others → tailor_content base points relations ≡ tailor_content content properties others
-same_tailor_content base content points properties relations others same_base same_points same_relations =
-    ap (λ b. tailor_content b points relations) same_base
-    ∙ ap (λ p. tailor_content content p relations) same_points
-    ∙ ap (λ r. tailor_content content properties r) same_relations
+-- files that were read stay read where another file is rejected
+still_read : {A B C : Type 0} (reading : Reading C) (of : List Role) (olds news : List SourceState) (K L : C → Type 0) (read : A)
+    (result : Result B RunFault) → Fits reading of olds → HasNone of result → ((content : C) → K content → L content)
+    → Over reading olds news K (Ok read) → Over reading olds news L result
+still_read (Done content) [] [] [] K L read result fits none weaker over = weaker content over
+still_read (Done content) [] [] (new ∷ news) K L read result fits none weaker over = absurd over
+still_read (Done content) [] (old ∷ olds) news K L read result fits none weaker over = absurd fits
+still_read (Done content) (one ∷ of) olds news K L read result fits none weaker over = absurd fits
+still_read (Then role Means Refuses next) [] olds news K L read result fits none weaker over = absurd fits
+still_read (Then role Means Refuses next) (one ∷ of) [] news K L read result fits none weaker over = absurd fits
+still_read (Then role Means Refuses next) (one ∷ of) (old ∷ olds) [] K L read result fits none weaker over = absurd over
+still_read (Then role Means Refuses next) (one ∷ of) (old ∷ olds) (new ∷ news) K L read result fits none weaker over =
+    over_value role old new Means Refuses _ result over.value (subst (λ r. fault_of r result ≡ None) fits.0 none.0) over.means
+    (still_read (next over.value) of olds news K L read result (fits.1 over.value) none.2 weaker over.holds)
 
--- ---- The files of an audit
+-- and their sources are as they were
+still_failed : {A B : Type 0} (of : List Role) (olds news : List SourceState) (read : A) (result : Result B RunFault) → HasNone of result
+    → HaveFailed of olds news (Ok read) → HaveFailed of olds news result
+still_failed [] [] [] read result none failed = tt
+still_failed [] [] (new ∷ news) read result none failed = absurd failed
+still_failed [] (old ∷ olds) news read result none failed = absurd failed
+still_failed (role ∷ of) [] news read result none failed = absurd failed
+still_failed (role ∷ of) (old ∷ olds) [] read result none failed = absurd failed
+still_failed (role ∷ of) (old ∷ olds) (new ∷ news) read result none failed =
+    (failed.0 ∙ ap (λ b. old.failed || b) (sym none.1), still_failed of olds news read result none.2 failed.1)
 
--- the files of an audit after the rules
-abbrev pub audit_rest : TailorContent → Reading Tailoring
-audit_rest first = then_table roles.Tailored (λ tailored. Then roles.Certificate certificates.Means RefusesCertificate (λ certificate.
-    Done (tailoring_of first.base first.properties first.relations tailored certificate)))
+-- a file's error is one with any other type of results
+file_error : (A B : Type 0) (fault : RunFault) → ended_by_file {A = A} (Err fault) ≡ true → ended_by_file {A = B} (Err fault) ≡ true
+file_error A B (File role cause) file = refl
+file_error A B _ file = let never : ⊥ = cc in absurd never
 
--- what is returned by them
-abbrev pub AuditRest : SourceState → SourceState → SourceState → SourceState → (Tailoring → Type 0) → Result ⊤ RunFault → TailorContent → Type 0
-AuditRest tailored tailored_new certificate certificate_new K result first =
-    Over {A = ⊤} (audit_rest first) (tailored ∷ certificate ∷ []) (tailored_new ∷ certificate_new ∷ []) K result
+-- ---- Files after files
 
-module _ (base base_new points_file points_new rules rules_new tailored tailored_new certificate certificate_new : SourceState) where
-  -- all of them mean something
-  pub all_read : (content : TableContent) (points : Properties) (relations : List Relation) (after : TableContent) (weights : CertificateContent)
-      → IsTable base content → IsData points_file points → AreRules points rules relations → IsTable tailored after → IsCertificate certificate weights
-      → Over {A = ⊤} audit_files (base ∷ points_file ∷ rules ∷ tailored ∷ certificate ∷ [])
-      (base_new ∷ points_new ∷ rules_new ∷ tailored_new ∷ certificate_new ∷ [])
-      (λ tailoring. tailoring_of content points relations after weights ≡ tailoring) (Ok tt)
-  all_read content points relations after weights is_base is_data are_rules is_tailored is_certificate =
-      over_rules roles.Base base base_new points_file points_new rules rules_new
-      (AuditRest tailored tailored_new certificate certificate_new (λ tailoring. tailoring_of content points relations after weights ≡ tailoring) (Ok tt)) {A = ⊤} (Ok tt) content points relations refl refl refl is_base is_data are_rules
-      (over_value {A = ⊤} roles.Tailored tailored tailored_new tables.Means (OfLines tables.Refuses) _ (Ok tt) after refl is_tailored
-      (over_value {A = ⊤} roles.Certificate certificate certificate_new certificates.Means RefusesCertificate _ (Ok tt) weights refl is_certificate refl))
+-- the files of a reading, and then those that what they mean asks for
+abbrev and_then : {C D : Type 0} → Reading C → (C → Reading D) → Reading D
+and_then (Done content) rest = rest content
+and_then (Then role Means Refuses next) rest = Then role Means Refuses (λ value. and_then (next value) rest)
 
-  -- the tailored table is rejected
-  pub tailored_rejected : (content : TableContent) (points : Properties) (relations : List Relation) (fault : RunFault)
-      → IsTable base content → IsData points_file points → AreRules points rules relations
-      → IsRefused roles.Tailored tailored tailored_new (OfLines tables.Refuses) fault
-      → Over {A = ⊤} audit_files (base ∷ points_file ∷ rules ∷ tailored ∷ certificate ∷ [])
-      (base_new ∷ points_new ∷ rules_new ∷ tailored_new ∷ certificate_new ∷ []) (λ tailoring. ⊥) (Err fault)
-  tailored_rejected content points relations fault is_base is_data are_rules is =
-      let other : (role : Role) → is_role role roles.Tailored ≡ false → fault_of {A = ⊤} role (Err fault) ≡ None = λ role apart.
-      no_other_fault ⊤ roles.Tailored role tailored tailored_new (OfLines tables.Refuses) fault is apart in
-      over_rules roles.Base base base_new points_file points_new rules rules_new
-      (AuditRest tailored tailored_new certificate certificate_new (λ tailoring. ⊥) (Err fault)) {A = ⊤} (Err fault) content points relations
-      (other roles.Base refl) (other roles.Data refl) (other roles.Rules refl) is_base is_data are_rules
-      (over_rejected ⊤ roles.Tailored tailored tailored_new tables.Means (OfLines tables.Refuses) _ fault is)
+-- the files of both readings, and what is made of what they mean
+abbrev pub both : {C D E : Type 0} → Reading C → (C → Reading D) → (C → D → E) → Reading E
+both first second join = and_then first (λ content. and_then (second content) (λ other. Done (join content other)))
 
-  -- the certificate is
-  pub certificate_rejected : (content : TableContent) (points : Properties) (relations : List Relation) (after : TableContent) (fault : RunFault)
-      → IsTable base content → IsData points_file points → AreRules points rules relations → IsTable tailored after
-      → IsRefused roles.Certificate certificate certificate_new RefusesCertificate fault
-      → Over {A = ⊤} audit_files (base ∷ points_file ∷ rules ∷ tailored ∷ certificate ∷ [])
-      (base_new ∷ points_new ∷ rules_new ∷ tailored_new ∷ certificate_new ∷ []) (λ tailoring. ⊥) (Err fault)
-  certificate_rejected content points relations after fault is_base is_data are_rules is_tailored is =
-      let other : (role : Role) → is_role role roles.Certificate ≡ false → fault_of {A = ⊤} role (Err fault) ≡ None = λ role apart.
-      no_other_fault ⊤ roles.Certificate role certificate certificate_new RefusesCertificate fault is apart in
-      over_rules roles.Base base base_new points_file points_new rules rules_new
-      (AuditRest tailored tailored_new certificate certificate_new (λ tailoring. ⊥) (Err fault)) {A = ⊤} (Err fault) content points relations
-      (other roles.Base refl) (other roles.Data refl) (other roles.Rules refl) is_base is_data are_rules
-      (over_value {A = ⊤} roles.Tailored tailored tailored_new tables.Means (OfLines tables.Refuses) _ (Err fault) after (other roles.Tailored refl) is_tailored
-      (over_rejected ⊤ roles.Certificate certificate certificate_new certificates.Means RefusesCertificate _ fault is))
+-- what is returned by both
+over_both : {A C D : Type 0} (reading : Reading C) (rest : C → Reading D) (olds news others others_new : List SourceState) (K : D → Type 0)
+    (result : Result A RunFault) → Over reading olds news (λ content. Over (rest content) others others_new K result) result
+    → Over (and_then reading rest) (olds ++ others) (news ++ others_new) K result
+over_both (Done content) rest [] [] others others_new K result over = over
+over_both (Done content) rest [] (new ∷ news) others others_new K result over = absurd over
+over_both (Done content) rest (old ∷ olds) news others others_new K result over = absurd over
+over_both (Then role Means Refuses next) rest [] news others others_new K result over = absurd over
+over_both (Then role Means Refuses next) rest (old ∷ olds) [] others others_new K result over = absurd over
+over_both (Then role Means Refuses next) rest (old ∷ olds) (new ∷ news) others others_new K result over =
+    known_weaker old.remaining new.remaining (fault_of role result) Means Refuses
+    (λ value. Over (next value) olds news (λ content. Over (rest content) others others_new K result) result)
+    (λ value. Over (and_then (next value) rest) (olds ++ others) (news ++ others_new) K result)
+    (λ value. over_both (next value) rest olds news others others_new K result) over
 
--- each file gives what it means
-pub same_tailoring : (base content : TableContent) (points properties : Properties) (relations others : List Relation)
-    (tailored after : TableContent) (certificate weights : CertificateContent)
-    → base ≡ content → points ≡ properties → relations ≡ others → tailored ≡ after → certificate ≡ weights
-    → tailoring_of base points relations tailored certificate ≡ tailoring_of content properties others after weights
-same_tailoring base content points properties relations others tailored after certificate weights same_base same_points same_relations same_tailored same_certificate =
-    ap (λ b. tailoring_of b points relations tailored certificate) same_base
-    ∙ ap (λ p. tailoring_of content p relations tailored certificate) same_points
-    ∙ ap (λ r. tailoring_of content properties r tailored certificate) same_relations
-    ∙ ap (λ t. tailoring_of content properties others t certificate) same_tailored
-    ∙ ap (λ c. tailoring_of content properties others after c) same_certificate
+-- what each means, where both mean something
+mean_both : {C D : Type 0} (reading : Reading C) (rest : C → Reading D) (of : List Role) (sources others : List SourceState) (content : D)
+    → Fits reading of sources → Mean (and_then reading rest) (sources ++ others) content
+    → (first : C) × Mean reading sources first × Mean (rest first) others content
+mean_both (Done first) rest [] [] others content fits mean = (first, refl, mean)
+mean_both (Done first) rest [] (source ∷ sources) others content fits mean = absurd fits
+mean_both (Done first) rest (one ∷ of) sources others content fits mean = absurd fits
+mean_both (Then role Means Refuses next) rest [] sources others content fits mean = absurd fits
+mean_both (Then role Means Refuses next) rest (one ∷ of) [] others content fits mean = absurd fits
+mean_both (Then role Means Refuses next) rest (one ∷ of) (source ∷ sources) others content fits mean =
+    let later = mean_both (next mean.0) rest of sources others content (fits.1 mean.0) mean.2 in
+    (later.0, (mean.0, mean.1, later.1), later.2)
+
+-- the sources of both
+failed_both : {A : Type 0} (of more : List Role) (olds news others others_new : List SourceState) (result : Result A RunFault)
+    → HaveFailed of olds news result → HaveFailed more others others_new result
+    → HaveFailed (of ++ more) (olds ++ others) (news ++ others_new) result
+failed_both [] more [] [] others others_new result failed rest = rest
+failed_both [] more [] (new ∷ news) others others_new result failed rest = absurd failed
+failed_both [] more (old ∷ olds) news others others_new result failed rest = absurd failed
+failed_both (role ∷ of) more [] news others others_new result failed rest = absurd failed
+failed_both (role ∷ of) more (old ∷ olds) [] others others_new result failed rest = absurd failed
+failed_both (role ∷ of) more (old ∷ olds) (new ∷ news) others others_new result failed rest =
+    (failed.0, failed_both of more olds news others others_new result failed.1 rest)
+
+module _ {A X C D E : Type 0} (first : Reading C) (second : C → Reading D) (join : C → D → E) (of more : List Role)
+    (olds news others others_new : List SourceState) (first_of : A → C) (whole_of : X → E) (fits : Fits first of olds) where
+  -- the first files have one that is rejected, and the others are not read
+  pub first_rejected : (fault : RunFault) → are_apart of more ≡ true → HaveFailed {A = ⊤} more others others_new (Ok tt)
+      → ReadsFiles first of olds news first_of (Err fault)
+      → ReadsFiles (both first second join) (of ++ (more ++ [])) (olds ++ (others ++ [])) (news ++ (others_new ++ [])) whole_of (Err fault)
+  first_rejected fault apart unread h =
+      let none = rejected_apart X A first of more olds news fault fits apart h.read in
+      record {
+        read = over_both first _ olds news (others ++ []) (others_new ++ []) (λ content. ⊥) (Err fault) (ended_by_files X A first olds news _ fault h.read);
+        only = λ content mean. let parts = mean_both first _ of olds (others ++ []) content fits mean in h.only parts.0 parts.1;
+        of_files = file_error A X fault h.of_files;
+        failed = failed_both of (more ++ []) olds news (others ++ []) (others_new ++ []) (Err fault) (failed_by_files X A of olds news fault h.failed)
+            (failed_both more [] others others_new [] [] (Err fault) (still_failed more others others_new tt (Err fault) none unread) tt);
+      }
+
+  module _ {B : Type 0} (second_of : B → D) (one : A) (fits_too : (content : C) → Fits (second content) more others)
+      (h : ReadsFiles first of olds news first_of (Ok one)) where
+    -- what both mean is what each means
+    parts : (content : E) → Mean (both first second join) (olds ++ (others ++ [])) content
+        → (other : D) × Mean (second (first_of one)) others other × (content ≡ join (first_of one) other)
+    parts content mean =
+        let begin = mean_both first _ of olds (others ++ []) content fits mean in
+        let rest = mean_both (second begin.0) _ more others [] content (fits_too begin.0) begin.2 in
+        let same = sym (h.only begin.0 begin.1) in
+        (rest.0, subst (λ c. Mean (second c) others rest.0) same rest.1, subst (λ c. content ≡ join c rest.0) same rest.2)
+
+    -- the first files are read, and the others have one that is rejected
+    pub second_rejected : (fault : RunFault) → are_apart more of ≡ true
+        → ReadsFiles (second (first_of one)) more others others_new second_of (Err fault)
+        → ReadsFiles (both first second join) (of ++ (more ++ [])) (olds ++ (others ++ [])) (news ++ (others_new ++ [])) whole_of (Err fault)
+    second_rejected fault apart g =
+        let none = rejected_apart X B (second (first_of one)) more of others others_new fault (fits_too (first_of one)) apart g.read in
+        record {
+          read = over_both first _ olds news (others ++ []) (others_new ++ []) (λ content. ⊥) (Err fault)
+              (still_read first of olds news (λ content. first_of one ≡ content) _ one (Err fault) fits none
+              (λ content same. over_both (second content) _ others others_new [] [] (λ content. ⊥) (Err fault)
+              (subst (λ c. Over {A = X} (second c) others others_new (λ other. ⊥) (Err fault)) same
+              (ended_by_files X B (second (first_of one)) others others_new (λ other. ⊥) fault g.read))) h.read);
+          only = λ content mean. let it = parts content mean in g.only it.0 it.1;
+          of_files = file_error B X fault g.of_files;
+          failed = failed_both of (more ++ []) olds news (others ++ []) (others_new ++ []) (Err fault) (still_failed of olds news one (Err fault) none h.failed)
+              (failed_both more [] others others_new [] [] (Err fault) (failed_by_files X B more others others_new fault g.failed) tt);
+        }
+
+    -- all are read
+    pub both_read : (other : B) (whole : X) → whole_of whole ≡ join (first_of one) (second_of other)
+        → ReadsFiles (second (first_of one)) more others others_new second_of (Ok other)
+        → ReadsFiles (both first second join) (of ++ (more ++ [])) (olds ++ (others ++ [])) (news ++ (others_new ++ [])) whole_of (Ok whole)
+    both_read other whole is g = record {
+      read = over_both first _ olds news (others ++ []) (others_new ++ []) (λ content. whole_of whole ≡ content) (Ok whole)
+          (over_weaker first olds news (λ content. first_of one ≡ content) _ (Ok one) (Ok whole) (λ role. refl)
+          (λ content same. over_both (second content) _ others others_new [] [] (λ content. whole_of whole ≡ content) (Ok whole)
+          (over_weaker (second content) others others_new (λ read. second_of other ≡ read) _ (Ok other) (Ok whole) (λ role. refl)
+          (λ read alike. is ∙ ap (λ c. join c (second_of other)) same ∙ ap (λ d. join content d) alike)
+          (subst (λ c. Over (second c) others others_new (λ read. second_of other ≡ read) (Ok other)) same g.read))) h.read);
+      only = λ content mean. let it = parts content mean in is ∙ ap (λ d. join (first_of one) d) (g.only it.0 it.1) ∙ sym it.2;
+      of_files = refl;
+      failed = failed_both of (more ++ []) olds news (others ++ []) (others_new ++ []) (Ok whole) (failed_alike of olds news (Ok one) (Ok whole) (λ role. refl) h.failed)
+          (failed_both more [] others others_new [] [] (Ok whole) (failed_alike more others others_new (Ok other) (Ok whole) (λ role. refl) g.failed) tt);
+    }

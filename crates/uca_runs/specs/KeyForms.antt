@@ -1,13 +1,19 @@
 -- The forms of a line of output that has a key. Only contracts of private functions cite this: no promise of the crate
 -- rests on it.
-use Rattle.std.specs.Prelude.{ℕ, List, chars}
+use Rattle.std.specs.Prelude.{ℕ, List, Option, Result, chars}
+use Rattle.uca_weights.specs.Streams.{SourceState, SinkState}
+use Rattle.uca_weights.specs.declared.Weighting.{Weighting}
 use Rattle.uca_weights.specs.declared.Depth.{Depth}
 use Rattle.uca_weights.specs.declared.Depth.TheVariants.{Weights}
 use Rattle.uca_text.specs.Texts.{NfdText, nfd_text}
 use Rattle.uca_key.specs.Depths.{read_text, key_at}
+use Rattle.uca_runs.specs.declared.faults.RunFault.{RunFault}
 use Rattle.uca_runs.specs.declared.keys.KeyForm.{KeyForm}
 use Rattle.uca_runs.specs.declared.keys.KeyForm.TheVariants.{Alone, BeforeLine}
+use Rattle.uca_runs.specs.EachLine.{PrintsEach}
+use Rattle.uca_runs.specs.Files.{table_and_data, table_and_data_roles}
 use Rattle.uca_runs.specs.Keys.{KeySettings}
+use Rattle.uca_runs.specs.KeysRun.{RunsUnder}
 use Rattle.uca_runs.specs.Print.{print_line_at, keyed_line_of}
 
 -- the depth of the key that is made for a form: a key alone shows its identical level otherwise than the weights
@@ -27,3 +33,9 @@ text_as form c text line = printed_as form c.depth (key_at (depth_as form c.dept
 -- that of a line of the input, which is UTF-8
 abbrev pub line_as : KeyForm → KeySettings → List ℕ → List ℕ
 line_as form c line = text_as form c (nfd_text c.collation.properties (chars line)) line
+
+-- a run that writes such a line for each line of its input
+abbrev pub PrintsAs : {A : Type 0} → KeyForm → Option Weighting → Depth → List SourceState → List SourceState → SourceState → SourceState
+    → SinkState → SinkState → Result A RunFault → Type 0
+PrintsAs form asked depth olds news input input_new out out_new result =
+    PrintsEach table_and_data table_and_data_roles (RunsUnder (line_as form) asked depth input input_new out out_new result) olds news input input_new out out_new result

@@ -10,7 +10,7 @@ use Rattle.uca_runs.specs.Files.{TableAndData, table_and_data, table_and_data_ro
 use Rattle.uca_runs.specs.Keys.{KeySettings, key_settings, printed_key, keyed_line}
 
 -- What is written of an input, whose source has something left, by a writer that held `begun` and holds `now`: the key of
--- each line before the first faulty one, or these keys with their lines.
+-- each line before the first one with an error, or these keys with their lines.
 abbrev pub WritesKeys : {A : Type 0} → KeySettings → List ℕ → Option (List ℕ) → Option (List ℕ) → Option (List ℕ) → Result A RunFault → Type 0
 WritesKeys c bytes left begun now result = WritesEach c.collation.properties (printed_key c) bytes left begun now result
 

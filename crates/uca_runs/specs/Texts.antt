@@ -84,6 +84,11 @@ pub record HasText (properties : Properties) (start : Option (List ℕ)) (before
   pub memory : HasNoText properties start before input texts.reader.number Memory
 
 -- what is returned where a text may come: the text of the next line, that no line is left, or why there is no text
+abbrev pub ReadsText : Properties → Option (List ℕ) → List (List ℕ) → TextsState → SourceState → Result Bool InputKind → Type 0
+ReadsText properties start before texts input (Ok more) = MatchBool more (HasText properties start before texts input) (HasReadAll properties start before)
+ReadsText properties start before texts input (Err kind) = HasNoText properties start before input (suc (length before)) kind
+
+-- the same with the number of the line in the error
 abbrev pub ReadsNext : Properties → Option (List ℕ) → List (List ℕ) → TextsState → SourceState → Result Bool RunFault → Type 0
 ReadsNext properties start before texts input (Ok more) = MatchBool more (HasText properties start before texts input) (HasReadAll properties start before)
 ReadsNext properties start before texts input (Err (Input number kind)) = HasNoText properties start before input number kind

@@ -1,20 +1,17 @@
 //! The run that prints the lines that rules affect.
 
-ghost use Rattle.std.specs.Prelude.{◌≡◌, ◌∷◌, [], ℕ, ◌+◌, ◌-◌, ◌*◌, ◌^◌, ◌<◌, ◌≤◌, ◌||◌, false, is_err, List, Option, IfSome, OnOk, length};
+ghost use Rattle.std.specs.Prelude.{◌≡◌, ◌∷◌, [], ℕ, ◌+◌, ◌-◌, ◌*◌, ◌^◌, ◌<◌, ◌≤◌, ◌||◌, false, List, Option, IfSome, OnOk, length};
 ghost use Rattle.uca_values.specs.Content.{properties_of};
 ghost use Rattle.uca_lines.specs.OutputBuffer.{IsBuffered};
-ghost use Rattle.uca_runs.specs.Files.{HaveFailed, Over, data_and_rules, data_and_rules_roles, data_with, ended_by_file};
-ghost use Rattle.uca_runs.specs.ReadFiles.{IsRead};
 ghost use Rattle.uca_runs.specs.Runs.{is_input_read, ended_by_output};
 ghost use Rattle.uca_runs.specs.EachLine.{WritesEach, ended_before_input};
 ghost use Rattle.uca_runs.specs.EachLineSoFar.{HasWritten, WritesText, WritesRest};
 ghost use Rattle.uca_runs.specs.AffectedRun.{PrintsAffected, affected_line, if_affected};
 
 use crate::faults::RunFault;
-use crate::files::read_data_file;
 use crate::input::InputTexts;
 use crate::output::{end_output, write_line};
-use crate::rule_file::read_rule_file;
+use crate::rule_file::read_data_and_rules;
 use std::alloc::{Allocator, Global};
 use std::io::{Read, Write};
 use uca_lines::{LINE_LIMIT, OutputBuffer};
@@ -81,13 +78,13 @@ impl<A: Allocator> AffectedRun<A> {
 }
 
 /// Prints the lines of the input that the rules affect, as they stand and in their order, until the end of the input or its
-/// first faulty line: those in whose text in Normalization Form D a target of the rules occurs, all its code points in
-/// their order, whatever stands between.
+/// first line with an error: those in whose text in Normalization Form D a target of the rules occurs, all its code points
+/// in their order, whatever stands between.
 ///
 /// # Errors
 ///
-/// `Input` for the first faulty line, where the affected lines before it were written; `Write` where the writer failed, also
-/// where a later line is faulty.
+/// `Input` for the first line with an error, where the affected lines before it were written; `Write` where the writer
+/// failed, also where a later line has an error.
 pub fn print_affected<D: Allocator, R: Allocator, A: Allocator, I: Read, W: Write>(
     alloc: A,
     global: Global,
@@ -119,8 +116,8 @@ pub fn print_affected<D: Allocator, R: Allocator, A: Allocator, I: Read, W: Writ
 /// # Errors
 ///
 /// `File` where the data file, or else the rules, are rejected: nothing was written, and nothing of the input was read.
-/// `Input` for the first faulty line, where the affected lines before it were written. `Write` where the writer failed, also
-/// where a later line is faulty: the first `written` bytes of the whole output went out.
+/// `Input` for the first line with an error, where the affected lines before it were written. `Write` where the writer
+/// failed, also where a later line has an error: the first `written` bytes of the whole output went out.
 pub fn run_affected<D: Read, U: Read, I: Read, W: Write>(
     alloc: Global,
     properties: &mut Source<D>,
@@ -149,29 +146,4 @@ pub fn run_affected_in<A: Allocator + Copy, D: Read, U: Read, I: Read, W: Write>
 {
     let files = read_data_and_rules(alloc, global, properties, rules)?;
     print_affected(alloc, global, &files.properties, &files.rules, input, out)
-}
-
-// What the two files mean.
-#[derive(Drop)]
-struct DataAndRules<A: Allocator> {
-    properties: Data<A>,
-    rules: Rules<A>,
-}
-
-// Reads the data file, and then the rules, each to its end or its first error.
-fn read_data_and_rules<A: Allocator + Copy, D: Read, U: Read>(
-    alloc: A,
-    global: Global,
-    properties: &mut Source<D>,
-    rules: &mut Source<U>,
-) -> Result<DataAndRules<A>, RunFault>
-    ensures read { Over data_and_rules (properties.old ∷ rules.old ∷ []) (properties.new ∷ rules.new ∷ [])
-        (IsRead (λ files. data_with (properties_of files.properties) files.rules) result) result }
-    ensures of_files { ended_by_file result ≡ is_err result }
-    ensures failed { HaveFailed data_and_rules_roles (properties.old ∷ rules.old ∷ [])
-        (properties.new ∷ rules.new ∷ []) result }
-{
-    let properties = read_data_file(alloc, properties)?;
-    let rules = read_rule_file(alloc, global, rules, &properties)?;
-    Ok(DataAndRules { properties, rules })
 }

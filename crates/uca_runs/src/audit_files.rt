@@ -1,15 +1,14 @@
 //! The five files that an audit uses.
 
-ghost use Rattle.std.specs.Prelude.{◌≡◌, ◌||◌, ◌∷◌, [], is_err, IfOk, IfErr, IfSome};
+ghost use Rattle.std.specs.Prelude.{◌∷◌, []};
 ghost use Rattle.uca_tailorings.specs.Inputs.{tailoring_of};
-ghost use Rattle.uca_runs.specs.Files.{HaveFailed, Over, RefusesCertificate, audit_files, audit_roles, ended_by_file, is_file_read};
-ghost use Rattle.uca_runs.specs.ReadFiles.{IsRead, IsRefused, ReadsOnly, ReadsThat};
+ghost use Rattle.uca_runs.specs.Files.{audit_files, audit_roles};
+ghost use Rattle.uca_runs.specs.ReadFiles.{ReadsFiles, certificate_file, outcome_files, outcome_of, outcome_roles};
 ghost use Rattle.uca_values.specs.Content.{properties_of};
-ghost use Rattle.uca_certificates.specs.Texts as certificates;
 
 use crate::faults::{FileFault, Role, RunFault};
-use crate::files::{read_data_file, read_table_file};
-use crate::rule_file::read_rule_file;
+use crate::files::read_table_file;
+use crate::rule_file::read_data_and_rules;
 use std::alloc::{Allocator, Global};
 use std::io::Read;
 use uca_certificates::{Certificate, read_certificate};
@@ -46,24 +45,41 @@ pub fn read_audit_files<A: Allocator + Copy, B: Read, D: Read, U: Read, T: Read,
     tailored: &mut Source<T>,
     certificate: &mut Source<C>,
 ) -> Result<AuditFiles<A>, RunFault>
-    ensures read { Over audit_files (base.old ∷ properties.old ∷ rules.old ∷ tailored.old ∷ certificate.old ∷ [])
+    ensures { ReadsFiles audit_files audit_roles (base.old ∷ properties.old ∷ rules.old ∷ tailored.old ∷ certificate.old ∷ [])
         (base.new ∷ properties.new ∷ rules.new ∷ tailored.new ∷ certificate.new ∷ [])
-        (IsRead (λ files. tailoring_of files.base (properties_of files.properties) files.rules files.tailored files.certificate) result) result }
-    ensures only { ReadsOnly audit_files (base.old ∷ properties.old ∷ rules.old ∷ tailored.old ∷ certificate.old ∷ [])
         (λ files. tailoring_of files.base (properties_of files.properties) files.rules files.tailored files.certificate) result }
-    ensures of_files { ended_by_file result ≡ is_err result }
-    ensures failed { HaveFailed audit_roles (base.old ∷ properties.old ∷ rules.old ∷ tailored.old ∷ certificate.old ∷ [])
-        (base.new ∷ properties.new ∷ rules.new ∷ tailored.new ∷ certificate.new ∷ []) result }
 {
     let base = read_table_file(alloc, Role::Base, base)?;
-    let properties = read_data_file(alloc, properties)?;
-    let rules = read_rule_file(alloc, global, rules, &properties)?;
-    let tailored = read_table_file(alloc, Role::Tailored, tailored)?;
-    let certificate = read_certificate_file(alloc, certificate)?;
+    let given = read_data_and_rules(alloc, global, properties, rules)?;
+    let outcome = read_outcome(alloc, tailored, certificate)?;
     Ok(AuditFiles {
         base,
-        properties,
-        rules,
+        properties: given.properties,
+        rules: given.rules,
+        tailored: outcome.tailored,
+        certificate: outcome.certificate,
+    })
+}
+
+// What a tailoring gave.
+#[derive(Drop)]
+struct Outcome<A: Allocator> {
+    tailored: Table<A>,
+    certificate: Certificate<A>,
+}
+
+// Reads the table after the tailoring, and then the certificate.
+fn read_outcome<A: Allocator + Copy, T: Read, C: Read>(
+    alloc: A,
+    tailored: &mut Source<T>,
+    certificate: &mut Source<C>,
+) -> Result<Outcome<A>, RunFault>
+    ensures { ReadsFiles outcome_files outcome_roles (tailored.old ∷ certificate.old ∷ [])
+        (tailored.new ∷ certificate.new ∷ []) (λ files. outcome_of files.tailored files.certificate) result }
+{
+    let tailored = read_table_file(alloc, Role::Tailored, tailored)?;
+    let certificate = read_certificate_file(alloc, certificate)?;
+    Ok(Outcome {
         tailored,
         certificate,
     })
@@ -74,10 +90,8 @@ fn read_certificate_file<A: Allocator + Copy, C: Read>(
     alloc: A,
     source: &mut Source<C>,
 ) -> Result<Certificate<A>, RunFault>
-    ensures means { IfOk result (λ read. IfSome source.old.remaining (λ bytes. certificates.Means bytes read)) }
-    ensures only { ReadsThat source.old.remaining certificates.Means result }
-    ensures refused { IfErr result (IsRefused Role.Certificate source.old source.new RefusesCertificate) }
-    ensures failed { source.new.failed ≡ (source.old.failed || is_file_read Role.Certificate result) }
+    ensures { ReadsFiles certificate_file (Role.Certificate ∷ []) (source.old ∷ []) (source.new ∷ [])
+        (λ certificate. certificate) result }
 {
     match read_certificate(alloc, source) {
         Ok(certificate) => Ok(certificate),

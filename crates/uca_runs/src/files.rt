@@ -1,13 +1,11 @@
 //! The table and the data file that a run uses.
 
-ghost use Rattle.std.specs.Prelude.{◌≡◌, ◌||◌, ◌∷◌, [], true, is_err, IfOk, IfErr, IfSome, MatchResult};
-ghost use Rattle.uca_values.specs.Content.{Properties, properties_of};
-ghost use Rattle.uca_table.specs.TableLines as tables;
-ghost use Rattle.uca_table.specs.DataSoFar as data_files;
+ghost use Rattle.std.specs.Prelude.{◌≡◌, ◌∷◌, [], true, IfOk, IfErr, MatchResult};
+ghost use Rattle.uca_values.specs.Content.{properties_of};
 ghost use Rattle.uca_match.specs.Rows.{rows_of};
 ghost use Rattle.uca_key.specs.Lengths.{HasShortRows};
-ghost use Rattle.uca_runs.specs.Files.{HaveFailed, IsStop, OfLines, Over, ended_by_file, is_file_read, table_and_data, table_and_data_roles, table_with};
-ghost use Rattle.uca_runs.specs.ReadFiles.{IsCollation, IsRead, IsRefused, ReadsThat, collation_in};
+ghost use Rattle.uca_runs.specs.Files.{HaveFailed, Over, table_and_data, table_and_data_roles, table_with};
+ghost use Rattle.uca_runs.specs.ReadFiles.{IsCollation, ReadsFiles, collation_in, data_file, table_file};
 ghost use Rattle.uca_runs.specs.EachLine.{ended_before_input};
 ghost use Rattle.uca_match.specs.Collations.{collation_of};
 ghost use Rattle.uca_runs.specs.Keys.{weighting_by};
@@ -40,11 +38,8 @@ pub fn read_files<A: Allocator + Copy, T: Read, D: Read>(
     table: &mut Source<T>,
     properties: &mut Source<D>,
 ) -> Result<Files<A>, RunFault>
-    ensures read { Over table_and_data (table.old ∷ properties.old ∷ []) (table.new ∷ properties.new ∷ [])
-        (IsRead (λ files. table_with files.table (properties_of files.properties)) result) result }
-    ensures of_files { ended_by_file result ≡ is_err result }
-    ensures failed { HaveFailed table_and_data_roles (table.old ∷ properties.old ∷ [])
-        (table.new ∷ properties.new ∷ []) result }
+    ensures { ReadsFiles table_and_data table_and_data_roles (table.old ∷ properties.old ∷ []) (table.new ∷ properties.new ∷ [])
+        (λ files. table_with files.table (properties_of files.properties)) result }
 {
     let table = read_table_file(alloc, Role::Table, table)?;
     let properties = read_data_file(alloc, properties)?;
@@ -61,10 +56,7 @@ pub fn read_table_file<A: Allocator + Copy, T: Read>(
     role: Role,
     source: &mut Source<T>,
 ) -> Result<Table<A>, RunFault>
-    ensures means { IfOk result (λ table. IfSome source.old.remaining (λ bytes. tables.Means bytes table)) }
-    ensures only { ReadsThat source.old.remaining tables.Means result }
-    ensures refused { IfErr result (IsRefused role source.old source.new (OfLines tables.Refuses)) }
-    ensures failed { source.new.failed ≡ (source.old.failed || is_file_read role result) }
+    ensures { ReadsFiles (table_file role) (role ∷ []) (source.old ∷ []) (source.new ∷ []) (λ table. table) result }
 {
     match read_table(alloc, source) {
         Ok(table) => Ok(table),
@@ -84,12 +76,7 @@ pub fn read_data_file<A: Allocator + Copy, D: Read>(
     alloc: A,
     source: &mut Source<D>,
 ) -> Result<Data<A>, RunFault>
-    ensures means { IfOk result (λ read. IfSome source.old.remaining (λ bytes.
-        data_files.Means bytes (properties_of read))) }
-    ensures only { IfSome source.old.remaining (λ bytes. (content : Properties) → data_files.Means bytes content →
-        MatchResult result (λ read. properties_of read ≡ content) IsStop) }
-    ensures refused { IfErr result (IsRefused Role.Data source.old source.new (OfLines data_files.Refuses)) }
-    ensures failed { source.new.failed ≡ (source.old.failed || is_file_read Role.Data result) }
+    ensures { ReadsFiles data_file (Role.Data ∷ []) (source.old ∷ []) (source.new ∷ []) properties_of result }
 {
     match read_data(alloc, source) {
         Ok(properties) => Ok(properties),

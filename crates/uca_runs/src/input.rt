@@ -7,7 +7,7 @@ ghost use Rattle.uca_values.specs.Content.{Properties, properties_of};
 ghost use Rattle.uca_text.specs.Texts.{nfd_text};
 ghost use Rattle.uca_runs.specs.Input.{cause_of};
 ghost use Rattle.uca_runs.specs.Runs.{is_input_read, ended_by_output};
-ghost use Rattle.uca_runs.specs.Texts.{line_kind, text_kind, HasRead, HasTextCause, ReadsLine, ReadsNext, is_read};
+ghost use Rattle.uca_runs.specs.Texts.{line_kind, text_kind, HasRead, HasTextCause, ReadsLine, ReadsNext, ReadsText, is_read};
 
 use crate::faults::{InputKind, RunFault};
 use std::alloc::{Allocator, Global};
@@ -101,13 +101,32 @@ impl<A: Allocator> InputTexts<A> {
         ensures failed { input.new.failed ≡ (input.old.failed || is_input_read result) }
     {
         let line = self.number() + 1;
+        match self.next_text(input, properties) {
+            Ok(more) => Ok(more),
+            Err(kind) => Err(RunFault::Input { line, kind }),
+        }
+    }
+
+    // Reads the next line and its text, and returns whether there was a line.
+    fn next_text<I: Read, D: Allocator>(
+        &mut self,
+        input: &mut Source<I>,
+        properties: &Data<D>,
+    ) -> Result<bool, InputKind>
+        ensures reads { (start : Option (List ℕ)) (before : List (List ℕ)) →
+            HasRead (properties_of properties.now) start before self.old input.old →
+            ReadsText (properties_of properties.now) start before self.new input.new result }
+        ensures count { IfOk result (λ more. OnTrue more ((self.new.reader.number ≡ self.old.reader.number + 1)
+            × (self.new.reader.number ≤ LINE_LIMIT))) }
+        ensures failed { input.new.failed ≡ (input.old.failed || is_read result) }
+    {
         match self.next_line(input) {
             Ok(true) => match take_text(&mut self.text, &self.line, properties) {
                 Ok(()) => Ok(true),
-                Err(kind) => Err(RunFault::Input { line, kind }),
+                Err(kind) => Err(kind),
             },
             Ok(false) => Ok(false),
-            Err(kind) => Err(RunFault::Input { line, kind }),
+            Err(kind) => Err(kind),
         }
     }
 

@@ -9,19 +9,18 @@ ghost use Rattle.uca_runs.specs.EachLine.{ended_before_input};
 ghost use Rattle.uca_runs.specs.KeysRun.{PrintsKeyedLines, WritesKeyedLines};
 
 use crate::faults::RunFault;
-use crate::files::read_collation;
-use crate::keys::{KeyForm, print_lines};
+use crate::keys::{KeyForm, print_lines, run_lines_in};
 use std::alloc::{Allocator, Global};
 use std::io::{Read, Write};
 use uca_match::{Collator, Lookup};
 use uca_weights::{Depth, Sink, Source, Weighting};
 
-/// Prints each line of the input after its sort key and a tab, until the end of the input or its first faulty line.
+/// Prints each line of the input after its sort key and a tab, until the end of the input or its first line with an error.
 ///
 /// # Errors
 ///
-/// `Input` for the first faulty line, where the lines before it were written with their keys; `Write`
-/// where the writer failed, also where a later line is faulty.
+/// `Input` for the first line with an error, where the lines before it were written with their keys; `Write`
+/// where the writer failed, also where a later line has an error.
 pub fn print_keyed_lines<L: Lookup, T: Allocator, A: Allocator + Copy, I: Read, W: Write>(
     alloc: A,
     global: Global,
@@ -59,10 +58,10 @@ pub fn print_keyed_lines<L: Lookup, T: Allocator, A: Allocator + Copy, I: Read, 
 ///
 /// # Errors
 ///
-/// `File` where the table, or else the data file, is refused, and then `Memory` where an allocation failed
-/// for looking up rows: nothing was written, and nothing of the input was read. `Input` for the first
-/// faulty line, where the lines before it were written with their keys. `Write` where the writer failed, also
-/// where a later line is faulty: the first `written` bytes of the whole output went out.
+/// `File` where the table, or else the data file, is rejected, and then `Memory` where an allocation failed
+/// for looking up rows: nothing was written, and nothing of the input was read. `Input` for the first line with an
+/// error, where the lines before it were written with their keys. `Write` where the writer failed, also where a later
+/// line has an error: the first `written` bytes of the whole output went out.
 pub fn run_keyed_lines<T: Read, D: Read, I: Read, W: Write>(
     alloc: Global,
     table: &mut Source<T>,
@@ -99,7 +98,8 @@ pub fn run_keyed_lines_in<A: Allocator + Copy, T: Read, D: Read, I: Read, W: Wri
     ensures { PrintsKeyedLines weighting depth (table.old ∷ properties.old ∷ []) (table.new ∷ properties.new ∷ [])
         input.old input.new out.old out.new result }
 {
-    let read = read_collation(alloc, table, properties, weighting)?;
-    let collator = read.collator();
-    print_keyed_lines(alloc, global, &collator, read.weighting, depth, input, out)
+    let form = KeyForm::BeforeLine;
+    run_lines_in(
+        alloc, global, form, table, properties, input, out, weighting, depth,
+    )
 }

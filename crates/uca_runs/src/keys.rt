@@ -11,7 +11,7 @@ ghost use Rattle.uca_runs.specs.Runs.{is_input_read, ended_by_output};
 ghost use Rattle.uca_runs.specs.EachLine.{WritesEach, ended_before_input};
 ghost use Rattle.uca_runs.specs.EachLineSoFar.{HasWritten, WritesText, WritesRest};
 ghost use Rattle.uca_runs.specs.KeysRun.{PrintsKeys, WritesKeys};
-ghost use Rattle.uca_runs.specs.KeyForms.{depth_as, line_as, printed_as, text_as};
+ghost use Rattle.uca_runs.specs.KeyForms.{PrintsAs, depth_as, line_as, printed_as, text_as};
 
 use crate::faults::{InputKind, RunFault};
 use crate::files::read_collation;
@@ -144,7 +144,7 @@ impl<A: Allocator> KeyRun<A> {
     }
 }
 
-/// Writes what the output has of each line of the input, until its end or its first faulty line.
+/// Writes what the output has of each line of the input, until its end or its first line with an error.
 ///
 /// # Errors
 ///
@@ -263,7 +263,41 @@ pub fn run_keys_in<A: Allocator + Copy, T: Read, D: Read, I: Read, W: Write>(
     ensures { PrintsKeys weighting depth (table.old ∷ properties.old ∷ []) (table.new ∷ properties.new ∷ [])
         input.old input.new out.old out.new result }
 {
+    let form = KeyForm::Alone;
+    run_lines_in(
+        alloc, global, form, table, properties, input, out, weighting, depth,
+    )
+}
+
+/// Writes what the output has of each line of `input`, under the table and the data file that are read first.
+///
+/// # Errors
+///
+/// Those of [`run_keys`].
+pub(crate) fn run_lines_in<A: Allocator + Copy, T: Read, D: Read, I: Read, W: Write>(
+    alloc: A,
+    global: Global,
+    form: KeyForm,
+    table: &mut Source<T>,
+    properties: &mut Source<D>,
+    input: &mut Source<I>,
+    out: &mut Sink<W>,
+    weighting: Option<Weighting>,
+    depth: Depth,
+) -> Result<(), RunFault>
+    ensures { PrintsAs form weighting depth (table.old ∷ properties.old ∷ []) (table.new ∷ properties.new ∷ [])
+        input.old input.new out.old out.new result }
+{
     let read = read_collation(alloc, table, properties, weighting)?;
     let collator = read.collator();
-    print_keys(alloc, global, &collator, read.weighting, depth, input, out)
+    print_lines(
+        alloc,
+        global,
+        &collator,
+        read.weighting,
+        depth,
+        form,
+        input,
+        out,
+    )
 }

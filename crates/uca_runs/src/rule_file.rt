@@ -1,13 +1,14 @@
-//! The file of rules that a run uses.
+//! The file of rules that a run uses, alone or after the data file.
 
-ghost use Rattle.std.specs.Prelude.{◌≡◌, ◌<◌, ◌≤◌, ◌||◌, ℕ, List, Option, IfOk, IfErr, IfSome, OnOk, MatchBool, length};
+ghost use Rattle.std.specs.Prelude.{◌≡◌, ◌<◌, ◌≤◌, ◌||◌, ◌∷◌, [], ℕ, List, Option, IfOk, IfErr, IfSome, OnOk, MatchBool, length};
 ghost use Rattle.std.specs.Io.KnownBytes.{Consumes, IsAtEnd};
 ghost use Rattle.uca_values.specs.Content.{properties_of};
 ghost use Rattle.uca_rules.specs.Meaning as rule_files;
-ghost use Rattle.uca_runs.specs.Files.{RefusesRules, is_file_read};
-ghost use Rattle.uca_runs.specs.ReadFiles.{AreRead, IsNotRead, ReadsThat, is_rules_read, IsRefused};
+ghost use Rattle.uca_runs.specs.Files.{RefusesRules, data_and_rules, data_and_rules_roles, data_with, is_file_read};
+ghost use Rattle.uca_runs.specs.ReadFiles.{AreRead, IsNotRead, IsRefused, ReadsFiles, ReadsThat, is_rules_read};
 
 use crate::faults::{FileFault, Role, RunFault};
+use crate::files::read_data_file;
 use std::alloc::{Allocator, Global};
 use std::io::Read;
 use uca_rules::{Rules, read_rules_in};
@@ -19,6 +20,34 @@ const MOST_BYTES: usize = 1_048_577;
 
 /// How many bytes a read asks for.
 const CHUNK: usize = 4096;
+
+/// What the two files mean.
+#[derive(Drop)]
+pub struct DataAndRules<A: Allocator> {
+    /// The properties of code points.
+    pub properties: Data<A>,
+    /// The rules.
+    pub rules: Rules<A>,
+}
+
+/// Reads the data file, and then the rules, each to its end or its first error.
+///
+/// # Errors
+///
+/// `File` if the data file, or else the rules, are rejected.
+pub fn read_data_and_rules<A: Allocator + Copy, D: Read, U: Read>(
+    alloc: A,
+    global: Global,
+    properties: &mut Source<D>,
+    rules: &mut Source<U>,
+) -> Result<DataAndRules<A>, RunFault>
+    ensures { ReadsFiles data_and_rules data_and_rules_roles (properties.old ∷ rules.old ∷ []) (properties.new ∷ rules.new ∷ [])
+        (λ files. data_with (properties_of files.properties) files.rules) result }
+{
+    let properties = read_data_file(alloc, properties)?;
+    let rules = read_rule_file(alloc, global, rules, &properties)?;
+    Ok(DataAndRules { properties, rules })
+}
 
 /// Reads the rules, whose texts have the classes of `properties`, to their end or their first error. It reads at most
 /// one byte more than rules may have. Texts in Normalization Form D are taken from `global`, all else from `alloc`.

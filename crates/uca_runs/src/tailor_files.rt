@@ -1,13 +1,13 @@
 //! The three files that a tailoring is made by.
 
-ghost use Rattle.std.specs.Prelude.{◌≡◌, ◌∷◌, [], is_err};
-ghost use Rattle.uca_runs.specs.Files.{HaveFailed, Over, ended_by_file, tailor_content, tailor_files, tailor_roles};
-ghost use Rattle.uca_runs.specs.ReadFiles.{IsRead, ReadsOnly};
+ghost use Rattle.std.specs.Prelude.{◌∷◌, []};
+ghost use Rattle.uca_runs.specs.Files.{tailor_content, tailor_files, tailor_roles};
+ghost use Rattle.uca_runs.specs.ReadFiles.{ReadsFiles};
 ghost use Rattle.uca_values.specs.Content.{properties_of};
 
 use crate::faults::{Role, RunFault};
-use crate::files::{read_data_file, read_table_file};
-use crate::rule_file::read_rule_file;
+use crate::files::read_table_file;
+use crate::rule_file::read_data_and_rules;
 use std::alloc::{Allocator, Global};
 use std::io::Read;
 use uca_rules::Rules;
@@ -37,21 +37,15 @@ pub fn read_tailor_files<A: Allocator + Copy, B: Read, D: Read, U: Read>(
     properties: &mut Source<D>,
     rules: &mut Source<U>,
 ) -> Result<TailorFiles<A>, RunFault>
-    ensures read { Over tailor_files (base.old ∷ properties.old ∷ rules.old ∷ [])
+    ensures { ReadsFiles tailor_files tailor_roles (base.old ∷ properties.old ∷ rules.old ∷ [])
         (base.new ∷ properties.new ∷ rules.new ∷ [])
-        (IsRead (λ files. tailor_content files.base (properties_of files.properties) files.rules) result) result }
-    ensures only { ReadsOnly tailor_files (base.old ∷ properties.old ∷ rules.old ∷ [])
         (λ files. tailor_content files.base (properties_of files.properties) files.rules) result }
-    ensures of_files { ended_by_file result ≡ is_err result }
-    ensures failed { HaveFailed tailor_roles (base.old ∷ properties.old ∷ rules.old ∷ [])
-        (base.new ∷ properties.new ∷ rules.new ∷ []) result }
 {
     let base = read_table_file(alloc, Role::Table, base)?;
-    let properties = read_data_file(alloc, properties)?;
-    let rules = read_rule_file(alloc, global, rules, &properties)?;
+    let given = read_data_and_rules(alloc, global, properties, rules)?;
     Ok(TailorFiles {
         base,
-        properties,
-        rules,
+        properties: given.properties,
+        rules: given.rules,
     })
 }

@@ -1,208 +1,82 @@
--- Which of the five files is rejected, and what is read of files that mean something.
-use Rattle.std.specs.Prelude.{⊤}
-use Rattle.std.proofs.Common.{Err, refl, sym, ◌∙◌}
+-- Which of the five files is rejected, or what all of them mean.
+use Rattle.std.proofs.Common.{List, [], ◌∷◌, refl}
 use Rattle.std.proofs.lemmas.Result.{err_from_is_err_and}
 use Rattle.uca_values.specs.Content.{properties_of}
-use Rattle.uca_table.specs.TableLines as tables
-use Rattle.uca_table.specs.DataSoFar as data_files
-use Rattle.uca_rules.specs.Meaning as rule_files
-use Rattle.uca_certificates.specs.Texts as certificates
+use Rattle.uca_tailorings.specs.Tailorings.{Tailoring}
+use Rattle.uca_tailorings.specs.Inputs.{tailoring_of}
+use Rattle.uca_runs.specs.declared.faults.Role.{Role}
 use Rattle.uca_runs.specs.declared.faults.Role.TheVariants as roles
-use Rattle.uca_runs.specs.Files.{OfLines, RefusesCertificate, RefusesRules}
-use Rattle.uca_runs.proofs.FilesLemmas.{not_yet_read, read_before, read_of_own, reads, stops, under_value}
-use Rattle.uca_runs.proofs.ReadFilesLemmas.{AuditRest, all_read, base_rejected, certificate_rejected, properties_rejected, rules_rejected, same_tailoring, tailored_rejected}
+use Rattle.uca_runs.specs.Files.{TailorContent, data_and_rules, data_and_rules_roles, data_with, rules_over, tailor_content}
+use Rattle.uca_runs.specs.ReadFiles.{OutcomeContent, outcome_files, outcome_of, outcome_roles, table_file, tailor_by}
+use Rattle.uca_runs.proofs.FilesLemmas.{stays}
+use Rattle.uca_runs.proofs.ReadFilesLemmas.{both_read, first_rejected, second_rejected}
 use Rattle.uca_runs.proofs.audit_files.read_audit_files.Goals as goal
 
-pub returns-in_err-base-clause-read : goal.returns-in_err-base-clause-read
-returns-in_err-base-clause-read g c =
-    let p = err_from_is_err_and c.from_residual.result c.from_residual.ensures.1 in
-    rw (p.1, p.2) (base_rejected roles.Base c.args.base.now c.read_table_file.new.source c.args.properties.now c.args.properties.now c.args.rules.now c.args.rules.now
-    (AuditRest c.args.tailored.now c.args.tailored.now c.args.certificate.now c.args.certificate.now (λ tailoring. ⊥) (Err c.in_err-base.field-0.0))
-    c.in_err-base.field-0.0 c.in_err-base.ensures.refused)
+-- the roles of the first three files
+abbrev given_roles : List Role
+given_roles = roles.Base ∷ data_and_rules_roles
 
-pub returns-in_err-properties-clause-read : goal.returns-in_err-properties-clause-read
-returns-in_err-properties-clause-read g c =
-    let p = err_from_is_err_and c.from_residual-in_err-properties.result c.from_residual-in_err-properties.ensures.1 in
-    rw (p.1, p.2) (properties_rejected roles.Base c.args.base.now c.read_table_file.new.source c.args.properties.now c.read_data_file.new.source c.args.rules.now c.args.rules.now
-    (AuditRest c.args.tailored.now c.args.tailored.now c.args.certificate.now c.args.certificate.now (λ tailoring. ⊥) (Err c.in_err-properties.field-0.0))
-    c.in_ok-base.base c.in_err-properties.field-0.0 refl c.in_ok-base.ensures.means c.in_err-properties.ensures.refused)
+-- the tailoring that all files mean
+abbrev tailoring_by : TailorContent → OutcomeContent → Tailoring
+tailoring_by given outcome = tailoring_of given.base given.properties given.relations outcome.tailored outcome.certificate
 
-pub returns-in_err-rules-clause-read : goal.returns-in_err-rules-clause-read
-returns-in_err-rules-clause-read g c =
-    let p = err_from_is_err_and c.from_residual-in_err-rules.result c.from_residual-in_err-rules.ensures.1 in
-    rw (p.1, p.2) (rules_rejected roles.Base c.args.base.now c.read_table_file.new.source c.args.properties.now c.read_data_file.new.source c.args.rules.now c.read_rule_file.new.source
-    (AuditRest c.args.tailored.now c.args.tailored.now c.args.certificate.now c.args.certificate.now (λ tailoring. ⊥) (Err c.in_err-rules.field-0.0))
-    c.in_ok-base.base (properties_of c.in_ok-properties.properties) c.in_err-rules.field-0.0 refl c.in_ok-base.ensures.means c.in_ok-properties.ensures.means c.in_err-rules.ensures.refused)
-
-pub returns-in_err-tailored-clause-read : goal.returns-in_err-tailored-clause-read
-returns-in_err-tailored-clause-read g c =
-    let p = err_from_is_err_and c.from_residual-in_err-tailored.result c.from_residual-in_err-tailored.ensures.1 in
-    rw (p.1, p.2) (tailored_rejected c.args.base.now c.read_table_file.new.source c.args.properties.now c.read_data_file.new.source c.args.rules.now c.read_rule_file.new.source c.args.tailored.now c.read_table_file-2.new.source c.args.certificate.now c.args.certificate.now
-    c.in_ok-base.base (properties_of c.in_ok-properties.properties) c.in_ok-rules.rules c.in_err-tailored.field-0.0
-    c.in_ok-base.ensures.means c.in_ok-properties.ensures.means c.in_ok-rules.ensures.means c.in_err-tailored.ensures.refused)
-
-pub returns-in_err-certificate-clause-read : goal.returns-in_err-certificate-clause-read
-returns-in_err-certificate-clause-read g c =
-    let p = err_from_is_err_and c.from_residual-in_err-certificate.result c.from_residual-in_err-certificate.ensures.1 in
-    rw (p.1, p.2) (certificate_rejected c.args.base.now c.read_table_file.new.source c.args.properties.now c.read_data_file.new.source c.args.rules.now c.read_rule_file.new.source c.args.tailored.now c.read_table_file-2.new.source c.args.certificate.now c.read_certificate_file.new.source
-    c.in_ok-base.base (properties_of c.in_ok-properties.properties) c.in_ok-rules.rules c.in_ok-tailored.tailored c.in_err-certificate.field-0.0
-    c.in_ok-base.ensures.means c.in_ok-properties.ensures.means c.in_ok-rules.ensures.means c.in_ok-tailored.ensures.means c.in_err-certificate.ensures.refused)
-
-pub returns-clause-read : goal.returns-clause-read
-returns-clause-read g c =
-    all_read c.args.base.now c.read_table_file.new.source c.args.properties.now c.read_data_file.new.source c.args.rules.now c.read_rule_file.new.source c.args.tailored.now c.read_table_file-2.new.source c.args.certificate.now c.read_certificate_file.new.source
-    c.in_ok-base.base (properties_of c.in_ok-properties.properties) c.in_ok-rules.rules c.in_ok-tailored.tailored c.in_ok-certificate.certificate
-    c.in_ok-base.ensures.means c.in_ok-properties.ensures.means c.in_ok-rules.ensures.means c.in_ok-tailored.ensures.means c.in_ok-certificate.ensures.means
-
-pub returns-in_err-base-clause-only : goal.returns-in_err-base-clause-only
-returns-in_err-base-clause-only g c =
-    let p = err_from_is_err_and c.from_residual.result c.from_residual.ensures.1 in
-    rw (p.1, p.2) (λ content mean. stops c.args.base.now.remaining tables.Means mean.0 c.in_err-base.field-0.0 c.in_err-base.ensures.only mean.1)
-
-pub returns-in_err-properties-clause-only : goal.returns-in_err-properties-clause-only
-returns-in_err-properties-clause-only g c =
-    let p = err_from_is_err_and c.from_residual-in_err-properties.result c.from_residual-in_err-properties.ensures.1 in
-    rw (p.1, p.2) (λ content mean. stops c.args.properties.now.remaining data_files.Means mean.2.0 c.in_err-properties.field-0.0 c.in_err-properties.ensures.only mean.2.1)
-
-pub returns-in_err-rules-clause-only : goal.returns-in_err-rules-clause-only
-returns-in_err-rules-clause-only g c =
-    let p = err_from_is_err_and c.from_residual-in_err-rules.result c.from_residual-in_err-rules.ensures.1 in
-    let points = properties_of c.in_ok-properties.properties in
-    rw (p.1, p.2) (λ content mean.
-    let same = reads c.args.properties.now.remaining data_files.Means points mean.2.0 c.in_ok-properties.ensures.only mean.2.1 in
-    stops c.args.rules.now.remaining (rule_files.Means points) mean.2.2.0 c.in_err-rules.field-0.0 c.in_err-rules.ensures.only
-    (under_value c.args.rules.now.remaining rule_files.Means points mean.2.0 mean.2.2.0 same mean.2.2.1))
-
-pub returns-in_err-tailored-clause-only : goal.returns-in_err-tailored-clause-only
-returns-in_err-tailored-clause-only g c =
-    let p = err_from_is_err_and c.from_residual-in_err-tailored.result c.from_residual-in_err-tailored.ensures.1 in
-    rw (p.1, p.2) (λ content mean. stops c.args.tailored.now.remaining tables.Means mean.2.2.2.0 c.in_err-tailored.field-0.0 c.in_err-tailored.ensures.only mean.2.2.2.1)
-
-pub returns-in_err-certificate-clause-only : goal.returns-in_err-certificate-clause-only
-returns-in_err-certificate-clause-only g c =
-    let p = err_from_is_err_and c.from_residual-in_err-certificate.result c.from_residual-in_err-certificate.ensures.1 in
-    rw (p.1, p.2) (λ content mean. stops c.args.certificate.now.remaining certificates.Means mean.2.2.2.2.0 c.in_err-certificate.field-0.0 c.in_err-certificate.ensures.only mean.2.2.2.2.1)
-
-pub returns-clause-only : goal.returns-clause-only
-returns-clause-only g c = λ content mean.
-    let points = properties_of c.in_ok-properties.properties in
-    let same = reads c.args.properties.now.remaining data_files.Means points mean.2.0 c.in_ok-properties.ensures.only mean.2.1 in
-    same_tailoring c.in_ok-base.base mean.0 points mean.2.0 c.in_ok-rules.rules mean.2.2.0 c.in_ok-tailored.tailored mean.2.2.2.0
-    c.in_ok-certificate.certificate mean.2.2.2.2.0
-    (reads c.args.base.now.remaining tables.Means c.in_ok-base.base mean.0 c.in_ok-base.ensures.only mean.1)
-    same
-    (reads c.args.rules.now.remaining (rule_files.Means points) c.in_ok-rules.rules mean.2.2.0 c.in_ok-rules.ensures.only
-    (under_value c.args.rules.now.remaining rule_files.Means points mean.2.0 mean.2.2.0 same mean.2.2.1))
-    (reads c.args.tailored.now.remaining tables.Means c.in_ok-tailored.tailored mean.2.2.2.0 c.in_ok-tailored.ensures.only mean.2.2.2.1)
-    (reads c.args.certificate.now.remaining certificates.Means c.in_ok-certificate.certificate mean.2.2.2.2.0 c.in_ok-certificate.ensures.only mean.2.2.2.2.1)
-    ∙ sym mean.2.2.2.2.2
-
-pub returns-in_err-base-clause-failed : goal.returns-in_err-base-clause-failed
-returns-in_err-base-clause-failed g c =
+pub returns-in_err-base : goal.returns-in_err-base
+returns-in_err-base g c =
     let p = err_from_is_err_and c.from_residual.result c.from_residual.ensures.1 in
     let fault = c.in_err-base.field-0.0 in
-    let is = c.in_err-base.ensures.refused in
-    rw (p.1, p.2) (
-      read_of_own ⊤ ⊤ roles.Base c.args.base.now c.read_table_file.new.source fault c.in_err-base.ensures.failed,
-      (
-        not_yet_read ⊤ roles.Base roles.Data c.args.base.now c.read_table_file.new.source c.args.properties.now (OfLines tables.Refuses) fault is refl,
-        (
-          not_yet_read ⊤ roles.Base roles.Rules c.args.base.now c.read_table_file.new.source c.args.rules.now (OfLines tables.Refuses) fault is refl,
-          (
-            not_yet_read ⊤ roles.Base roles.Tailored c.args.base.now c.read_table_file.new.source c.args.tailored.now (OfLines tables.Refuses) fault is refl,
-            (
-              not_yet_read ⊤ roles.Base roles.Certificate c.args.base.now c.read_table_file.new.source c.args.certificate.now (OfLines tables.Refuses) fault is refl,
-              tt,
-            ),
-          ),
-        ),
-      ),
-    )
+    let given = c.args.properties.now ∷ c.args.rules.now ∷ [] in
+    let outcome = c.args.tailored.now ∷ c.args.certificate.now ∷ [] in
+    rw (p.1, p.2) (first_rejected (rules_over roles.Base) (λ given. outcome_files) tailoring_by given_roles outcome_roles
+    (c.args.base.now ∷ given) (c.read_table_file.new.source ∷ given) outcome outcome (λ (content : TailorContent). content) _ (refl, λ table. (refl, λ points. (refl, λ rules. tt)))
+    fault refl (stays c.args.tailored.now.failed, (stays c.args.certificate.now.failed, tt))
+    (first_rejected (table_file roles.Base) (λ table. data_and_rules) tailor_by (roles.Base ∷ []) data_and_rules_roles
+    (c.args.base.now ∷ []) (c.read_table_file.new.source ∷ []) given given (λ table. table) (λ (content : TailorContent). content) (refl, λ table. tt)
+    fault refl (stays c.args.properties.now.failed, (stays c.args.rules.now.failed, tt)) c.in_err-base.ensures))
 
-pub returns-in_err-properties-clause-failed : goal.returns-in_err-properties-clause-failed
-returns-in_err-properties-clause-failed g c =
-    let p = err_from_is_err_and c.from_residual-in_err-properties.result c.from_residual-in_err-properties.ensures.1 in
-    let fault = c.in_err-properties.field-0.0 in
-    let is = c.in_err-properties.ensures.refused in
-    rw (p.1, p.2) (
-      read_before ⊤ roles.Data roles.Base c.args.properties.now c.read_data_file.new.source c.args.base.now c.read_table_file.new.source (OfLines data_files.Refuses) fault is refl c.in_ok-base.ensures.failed,
-      (
-        read_of_own ⊤ ⊤ roles.Data c.args.properties.now c.read_data_file.new.source fault c.in_err-properties.ensures.failed,
-        (
-          not_yet_read ⊤ roles.Data roles.Rules c.args.properties.now c.read_data_file.new.source c.args.rules.now (OfLines data_files.Refuses) fault is refl,
-          (
-            not_yet_read ⊤ roles.Data roles.Tailored c.args.properties.now c.read_data_file.new.source c.args.tailored.now (OfLines data_files.Refuses) fault is refl,
-            (
-              not_yet_read ⊤ roles.Data roles.Certificate c.args.properties.now c.read_data_file.new.source c.args.certificate.now (OfLines data_files.Refuses) fault is refl,
-              tt,
-            ),
-          ),
-        ),
-      ),
-    )
+pub returns-in_err-given : goal.returns-in_err-given
+returns-in_err-given g c =
+    let p = err_from_is_err_and c.from_residual-in_err-given.result c.from_residual-in_err-given.ensures.1 in
+    let fault = c.in_err-given.field-0.0 in
+    let given = c.args.properties.now ∷ c.args.rules.now ∷ [] in
+    let given_new = c.read_data_and_rules.new.properties ∷ c.read_data_and_rules.new.rules ∷ [] in
+    let outcome = c.args.tailored.now ∷ c.args.certificate.now ∷ [] in
+    rw (p.1, p.2) (first_rejected (rules_over roles.Base) (λ given. outcome_files) tailoring_by given_roles outcome_roles
+    (c.args.base.now ∷ given) (c.read_table_file.new.source ∷ given_new) outcome outcome (λ (content : TailorContent). content) _ (refl, λ table. (refl, λ points. (refl, λ rules. tt)))
+    fault refl (stays c.args.tailored.now.failed, (stays c.args.certificate.now.failed, tt))
+    (second_rejected (table_file roles.Base) (λ table. data_and_rules) tailor_by (roles.Base ∷ []) data_and_rules_roles
+    (c.args.base.now ∷ []) (c.read_table_file.new.source ∷ []) given given_new (λ table. table) (λ (content : TailorContent). content) (refl, λ table. tt)
+    (λ files. data_with (properties_of files.properties) files.rules) c.in_ok-base.base
+    (λ table. (refl, λ points. (refl, λ rules. tt))) c.in_ok-base.ensures fault refl c.in_err-given.ensures))
 
-pub returns-in_err-rules-clause-failed : goal.returns-in_err-rules-clause-failed
-returns-in_err-rules-clause-failed g c =
-    let p = err_from_is_err_and c.from_residual-in_err-rules.result c.from_residual-in_err-rules.ensures.1 in
-    let fault = c.in_err-rules.field-0.0 in
-    let is = c.in_err-rules.ensures.refused in
-    rw (p.1, p.2) (
-      read_before ⊤ roles.Rules roles.Base c.args.rules.now c.read_rule_file.new.source c.args.base.now c.read_table_file.new.source (RefusesRules (properties_of c.in_ok-properties.properties)) fault is refl c.in_ok-base.ensures.failed,
-      (
-        read_before ⊤ roles.Rules roles.Data c.args.rules.now c.read_rule_file.new.source c.args.properties.now c.read_data_file.new.source (RefusesRules (properties_of c.in_ok-properties.properties)) fault is refl c.in_ok-properties.ensures.failed,
-        (
-          read_of_own ⊤ ⊤ roles.Rules c.args.rules.now c.read_rule_file.new.source fault c.in_err-rules.ensures.failed,
-          (
-            not_yet_read ⊤ roles.Rules roles.Tailored c.args.rules.now c.read_rule_file.new.source c.args.tailored.now (RefusesRules (properties_of c.in_ok-properties.properties)) fault is refl,
-            (
-              not_yet_read ⊤ roles.Rules roles.Certificate c.args.rules.now c.read_rule_file.new.source c.args.certificate.now (RefusesRules (properties_of c.in_ok-properties.properties)) fault is refl,
-              tt,
-            ),
-          ),
-        ),
-      ),
-    )
+pub returns-in_err-outcome : goal.returns-in_err-outcome
+returns-in_err-outcome g c =
+    let p = err_from_is_err_and c.from_residual-in_err-outcome.result c.from_residual-in_err-outcome.ensures.1 in
+    let given = c.args.properties.now ∷ c.args.rules.now ∷ [] in
+    let given_new = c.read_data_and_rules.new.properties ∷ c.read_data_and_rules.new.rules ∷ [] in
+    let read = c.in_ok-given.given in
+    let content = tailor_content c.in_ok-base.base (properties_of read.properties) read.rules in
+    rw (p.1, p.2) (second_rejected (rules_over roles.Base) (λ given. outcome_files) tailoring_by given_roles outcome_roles
+    (c.args.base.now ∷ given) (c.read_table_file.new.source ∷ given_new) (c.args.tailored.now ∷ c.args.certificate.now ∷ [])
+    (c.read_outcome.new.tailored ∷ c.read_outcome.new.certificate ∷ []) (λ (content : TailorContent). content) _ (refl, λ table. (refl, λ points. (refl, λ rules. tt)))
+    (λ files. outcome_of files.tailored files.certificate) content (λ given. (refl, λ table. (refl, λ certificate. tt)))
+    (both_read (table_file roles.Base) (λ table. data_and_rules) tailor_by (roles.Base ∷ []) data_and_rules_roles
+    (c.args.base.now ∷ []) (c.read_table_file.new.source ∷ []) given given_new (λ table. table) (λ (content : TailorContent). content) (refl, λ table. tt)
+    (λ files. data_with (properties_of files.properties) files.rules) c.in_ok-base.base
+    (λ table. (refl, λ points. (refl, λ rules. tt))) c.in_ok-base.ensures read content refl c.in_ok-given.ensures)
+    c.in_err-outcome.field-0.0 refl c.in_err-outcome.ensures)
 
-pub returns-in_err-tailored-clause-failed : goal.returns-in_err-tailored-clause-failed
-returns-in_err-tailored-clause-failed g c =
-    let p = err_from_is_err_and c.from_residual-in_err-tailored.result c.from_residual-in_err-tailored.ensures.1 in
-    let fault = c.in_err-tailored.field-0.0 in
-    let is = c.in_err-tailored.ensures.refused in
-    rw (p.1, p.2) (
-      read_before ⊤ roles.Tailored roles.Base c.args.tailored.now c.read_table_file-2.new.source c.args.base.now c.read_table_file.new.source (OfLines tables.Refuses) fault is refl c.in_ok-base.ensures.failed,
-      (
-        read_before ⊤ roles.Tailored roles.Data c.args.tailored.now c.read_table_file-2.new.source c.args.properties.now c.read_data_file.new.source (OfLines tables.Refuses) fault is refl c.in_ok-properties.ensures.failed,
-        (
-          read_before ⊤ roles.Tailored roles.Rules c.args.tailored.now c.read_table_file-2.new.source c.args.rules.now c.read_rule_file.new.source (OfLines tables.Refuses) fault is refl c.in_ok-rules.ensures.failed,
-          (
-            read_of_own ⊤ ⊤ roles.Tailored c.args.tailored.now c.read_table_file-2.new.source fault c.in_err-tailored.ensures.failed,
-            (
-              not_yet_read ⊤ roles.Tailored roles.Certificate c.args.tailored.now c.read_table_file-2.new.source c.args.certificate.now (OfLines tables.Refuses) fault is refl,
-              tt,
-            ),
-          ),
-        ),
-      ),
-    )
-
-pub returns-in_err-certificate-clause-failed : goal.returns-in_err-certificate-clause-failed
-returns-in_err-certificate-clause-failed g c =
-    let p = err_from_is_err_and c.from_residual-in_err-certificate.result c.from_residual-in_err-certificate.ensures.1 in
-    let fault = c.in_err-certificate.field-0.0 in
-    let is = c.in_err-certificate.ensures.refused in
-    rw (p.1, p.2) (
-      read_before ⊤ roles.Certificate roles.Base c.args.certificate.now c.read_certificate_file.new.source c.args.base.now c.read_table_file.new.source RefusesCertificate fault is refl c.in_ok-base.ensures.failed,
-      (
-        read_before ⊤ roles.Certificate roles.Data c.args.certificate.now c.read_certificate_file.new.source c.args.properties.now c.read_data_file.new.source RefusesCertificate fault is refl c.in_ok-properties.ensures.failed,
-        (
-          read_before ⊤ roles.Certificate roles.Rules c.args.certificate.now c.read_certificate_file.new.source c.args.rules.now c.read_rule_file.new.source RefusesCertificate fault is refl c.in_ok-rules.ensures.failed,
-          (
-            read_before ⊤ roles.Certificate roles.Tailored c.args.certificate.now c.read_certificate_file.new.source c.args.tailored.now c.read_table_file-2.new.source RefusesCertificate fault is refl c.in_ok-tailored.ensures.failed,
-            (
-              read_of_own ⊤ ⊤ roles.Certificate c.args.certificate.now c.read_certificate_file.new.source fault c.in_err-certificate.ensures.failed,
-              tt,
-            ),
-          ),
-        ),
-      ),
-    )
+pub returns : goal.returns
+returns g c =
+    let given = c.args.properties.now ∷ c.args.rules.now ∷ [] in
+    let given_new = c.read_data_and_rules.new.properties ∷ c.read_data_and_rules.new.rules ∷ [] in
+    let read = c.in_ok-given.given in
+    let content = tailor_content c.in_ok-base.base (properties_of read.properties) read.rules in
+    both_read (rules_over roles.Base) (λ given. outcome_files) tailoring_by given_roles outcome_roles
+    (c.args.base.now ∷ given) (c.read_table_file.new.source ∷ given_new) (c.args.tailored.now ∷ c.args.certificate.now ∷ [])
+    (c.read_outcome.new.tailored ∷ c.read_outcome.new.certificate ∷ []) (λ (content : TailorContent). content) _ (refl, λ table. (refl, λ points. (refl, λ rules. tt)))
+    (λ files. outcome_of files.tailored files.certificate) content (λ given. (refl, λ table. (refl, λ certificate. tt)))
+    (both_read (table_file roles.Base) (λ table. data_and_rules) tailor_by (roles.Base ∷ []) data_and_rules_roles
+    (c.args.base.now ∷ []) (c.read_table_file.new.source ∷ []) given given_new (λ table. table) (λ (content : TailorContent). content) (refl, λ table. tt)
+    (λ files. data_with (properties_of files.properties) files.rules) c.in_ok-base.base
+    (λ table. (refl, λ points. (refl, λ rules. tt))) c.in_ok-base.ensures read content refl c.in_ok-given.ensures)
+    c.in_ok-outcome.outcome _ refl c.in_ok-outcome.ensures

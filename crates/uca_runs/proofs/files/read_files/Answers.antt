@@ -1,22 +1,33 @@
 -- Which of the two files is rejected, or what both mean.
+use Rattle.std.proofs.Common.{[], ◌∷◌, refl}
 use Rattle.std.proofs.lemmas.Result.{err_from_is_err_and}
 use Rattle.uca_values.specs.Content.{properties_of}
-use Rattle.uca_runs.proofs.ReadFilesLemmas.{both_read, data_rejected, table_rejected}
+use Rattle.uca_runs.specs.declared.faults.Role.TheVariants as roles
+use Rattle.uca_runs.specs.Files.{table_with}
+use Rattle.uca_runs.specs.ReadFiles.{data_file, table_file}
+use Rattle.uca_runs.proofs.FilesLemmas.{stays}
+use Rattle.uca_runs.proofs.ReadFilesLemmas.{both_read, first_rejected, second_rejected}
 use Rattle.uca_runs.proofs.files.read_files.Goals as goal
 
-pub returns-in_err-table-clause-read : goal.returns-in_err-table-clause-read
-returns-in_err-table-clause-read g c =
+pub returns-in_err-table : goal.returns-in_err-table
+returns-in_err-table g c =
     let p = err_from_is_err_and c.from_residual.result c.from_residual.ensures.1 in
-    rw (p.1, p.2) (table_rejected c.args.table.now c.read_table_file.new.source c.args.properties.now c.args.properties.now
-    c.in_err-table.field-0.0 c.in_err-table.ensures.refused)
+    let unread = c.args.properties.now in
+    rw (p.1, p.2) (first_rejected (table_file roles.Table) (λ table. data_file) table_with (roles.Table ∷ []) (roles.Data ∷ [])
+    (c.args.table.now ∷ []) (c.read_table_file.new.source ∷ []) (unread ∷ []) (unread ∷ []) (λ table. table) _ (refl, λ table. tt)
+    c.in_err-table.field-0.0 refl (stays unread.failed, tt) c.in_err-table.ensures)
 
-pub returns-in_err-properties-clause-read : goal.returns-in_err-properties-clause-read
-returns-in_err-properties-clause-read g c =
+pub returns-in_err-properties : goal.returns-in_err-properties
+returns-in_err-properties g c =
     let p = err_from_is_err_and c.from_residual-in_err-properties.result c.from_residual-in_err-properties.ensures.1 in
-    rw (p.1, p.2) (data_rejected c.args.table.now c.read_table_file.new.source c.args.properties.now c.read_data_file.new.source
-    c.in_ok-table.table c.in_err-properties.field-0.0 c.in_ok-table.ensures.means c.in_err-properties.ensures.refused)
+    rw (p.1, p.2) (second_rejected (table_file roles.Table) (λ table. data_file) table_with (roles.Table ∷ []) (roles.Data ∷ [])
+    (c.args.table.now ∷ []) (c.read_table_file.new.source ∷ []) (c.args.properties.now ∷ []) (c.read_data_file.new.source ∷ [])
+    (λ table. table) _ (refl, λ table. tt) properties_of c.in_ok-table.table (λ table. (refl, λ points. tt)) c.in_ok-table.ensures
+    c.in_err-properties.field-0.0 refl c.in_err-properties.ensures)
 
-pub returns-clause-read : goal.returns-clause-read
-returns-clause-read g c =
-    both_read c.args.table.now c.read_table_file.new.source c.args.properties.now c.read_data_file.new.source
-    c.in_ok-table.table (properties_of c.in_ok-properties.properties) c.in_ok-table.ensures.means c.in_ok-properties.ensures.means
+pub returns : goal.returns
+returns g c =
+    both_read (table_file roles.Table) (λ table. data_file) table_with (roles.Table ∷ []) (roles.Data ∷ [])
+    (c.args.table.now ∷ []) (c.read_table_file.new.source ∷ []) (c.args.properties.now ∷ []) (c.read_data_file.new.source ∷ [])
+    (λ table. table) _ (refl, λ table. tt) properties_of c.in_ok-table.table (λ table. (refl, λ points. tt)) c.in_ok-table.ensures
+    c.in_ok-properties.properties _ refl c.in_ok-properties.ensures

@@ -1,4 +1,4 @@
--- The whole run, from what its two files mean and what is printed of its lines with their keys.
+-- The whole run, from what its two files mean and what is printed of its lines.
 use Rattle.std.specs.Prelude.{⊤}
 use Rattle.std.proofs.Common.{◌≡◌, [], ◌∷◌, Err, subst, sym}
 use Rattle.std.proofs.lemmas.Result.{err_from_is_err_and}
@@ -9,26 +9,27 @@ use Rattle.uca_key.specs.Lengths.{HasShortRows}
 use Rattle.uca_runs.specs.declared.faults.RunFault.TheVariants.{Memory}
 use Rattle.uca_runs.specs.EachLine.{RunsEach}
 use Rattle.uca_runs.specs.Files.{table_and_data, table_and_data_roles, table_with}
-use Rattle.uca_runs.specs.Keys.{KeySettings, keyed_line}
+use Rattle.uca_runs.specs.KeyForms.{line_as}
+use Rattle.uca_runs.specs.Keys.{KeySettings}
 use Rattle.uca_runs.specs.KeysRun.{RunsUnder}
 use Rattle.uca_runs.specs.ReadFiles.{IsCollation, collation_in}
 use Rattle.uca_runs.proofs.Running.{same_keying}
 use Rattle.uca_runs.proofs.WholeRuns.{ended_before, ended_by_lines, runs_under}
-use Rattle.uca_runs.proofs.keyed_lines.run_keyed_lines_in.Goals as goal
+use Rattle.uca_runs.proofs.keys.run_lines_in.Goals as goal
 
 pub returns-in_err-read : goal.returns-in_err-read
 returns-in_err-read g c =
     let p = err_from_is_err_and c.from_residual.result c.from_residual.ensures.1 in
     let fault = c.in_err-read.field-0.0 in
     rw (p.1, p.2) (ended_before table_and_data table_and_data_roles (λ content. fault ≡ Memory)
-    (RunsUnder {A = ⊤} keyed_line c.args.weighting c.args.depth c.args.input.now c.args.input.now c.args.out.now c.args.out.now (Err fault))
+    (RunsUnder {A = ⊤} (line_as c.args.form) c.args.weighting c.args.depth c.args.input.now c.args.input.now c.args.out.now c.args.out.now (Err fault))
     (c.args.table.now ∷ c.args.properties.now ∷ []) (c.read_collation.new.table ∷ c.read_collation.new.properties ∷ [])
     ⊤ ⊤ c.args.input.now c.args.out.now fault
-    (λ content is. subst (λ f. RunsUnder {A = ⊤} keyed_line c.args.weighting c.args.depth c.args.input.now c.args.input.now c.args.out.now c.args.out.now (Err f) content) (sym is) tt)
+    (λ content is. subst (λ f. RunsUnder {A = ⊤} (line_as c.args.form) c.args.weighting c.args.depth c.args.input.now c.args.input.now c.args.out.now c.args.out.now (Err f) content) (sym is) tt)
     c.in_err-read.ensures.read c.in_err-read.ensures.before_input c.in_err-read.ensures.failed)
 
-pub print_keyed_lines-requires : goal.print_keyed_lines-requires
-print_keyed_lines-requires g c = subst (λ made. HasShortRows made.rows) (sym c.collator-collator.ensures) c.in_ok-read.ensures.short
+pub print_lines-requires : goal.print_lines-requires
+print_lines-requires g c = subst (λ made. HasShortRows made.rows) (sym c.collator-collator.ensures) c.in_ok-read.ensures.short
 
 pub returns : goal.returns
 returns g c =
@@ -36,11 +37,11 @@ returns g c =
     let files = table_with read.files.table (properties_of read.files.properties) in
     let made = collation_in (rows_at read.rows) files in
     ended_by_lines table_and_data table_and_data_roles (λ content. IsCollation c.args.weighting made read.weighting content)
-    (RunsUnder keyed_line c.args.weighting c.args.depth c.args.input.now c.print_keyed_lines.new.input c.args.out.now c.print_keyed_lines.new.out c.print_keyed_lines.result)
+    (RunsUnder (line_as c.args.form) c.args.weighting c.args.depth c.args.input.now c.print_lines.new.input c.args.out.now c.print_lines.new.out c.print_lines.result)
     (c.args.table.now ∷ c.args.properties.now ∷ []) (c.read_collation.new.table ∷ c.read_collation.new.properties ∷ []) {B = ⊤}
-    c.args.input.now c.print_keyed_lines.new.input c.args.out.now c.print_keyed_lines.new.out tt c.print_keyed_lines.result c.print_keyed_lines.ensures.of_lines
-    (λ content is. runs_under keyed_line c.args.weighting c.args.depth c.args.input.now c.print_keyed_lines.new.input c.args.out.now c.print_keyed_lines.new.out c.print_keyed_lines.result content c.print_keyed_lines.ensures.of_lines
-    (subst (λ (d : KeySettings). RunsEach d.collation.properties (keyed_line d) c.args.input.now c.print_keyed_lines.new.input c.args.out.now c.print_keyed_lines.new.out c.print_keyed_lines.result)
+    c.args.input.now c.print_lines.new.input c.args.out.now c.print_lines.new.out tt c.print_lines.result c.print_lines.ensures.of_lines
+    (λ content is. runs_under (line_as c.args.form) c.args.weighting c.args.depth c.args.input.now c.print_lines.new.input c.args.out.now c.print_lines.new.out c.print_lines.result content c.print_lines.ensures.of_lines
+    (subst (λ (d : KeySettings). RunsEach d.collation.properties (line_as c.args.form d) c.args.input.now c.print_lines.new.input c.args.out.now c.print_lines.new.out c.print_lines.result)
     (same_keying c.args.weighting c.args.depth (collation_of rows_at c.collator-collator.result) made read.weighting content c.collator-collator.ensures is)
-    c.print_keyed_lines.ensures.writes))
-    c.in_ok-read.ensures.read c.in_ok-read.ensures.failed c.print_keyed_lines.ensures.input_failed c.print_keyed_lines.ensures.out_failed
+    c.print_lines.ensures.writes))
+    c.in_ok-read.ensures.read c.in_ok-read.ensures.failed c.print_lines.ensures.input_failed c.print_lines.ensures.out_failed
