@@ -1,7 +1,7 @@
 #!/usr/bin/env python3
 """Measures each command over files of the greatest size that it takes, in the worst shapes that we know.
 
-    cd crates/uca && rt run        # proves and builds crates/uca/out/uca
+    tools/build.py                 # proves and builds crates/uca/out/uca
     bench/worst.py                 # from the top of the repository; --only NAME for one group of shapes
 
 The script makes its files in a temporary directory, deletes them after each group, and prints a table in Markdown: wall and
@@ -143,7 +143,7 @@ def texts(folder):
 
 
 def ranges(folder):
-    """Keys of one line whose code points have no rows, over the greatest data files; and lines that are refused."""
+    """Keys of one line whose code points have no rows, over the greatest data files; and lines that are rejected."""
     lines = one_in_each("ccc", FAR, " 230") + one_in_each("core", FAR) + one_in_each("other", FAR + 0x4000)
     folder.write("data", [DATA] + lines)
     leads = ("@implicitweights %04X..%04X; FB%02X\n" % (FAR + 2 * n, FAR + 2 * n, n % 64) for n in range(0xC000, 0xC100))

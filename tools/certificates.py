@@ -89,7 +89,7 @@ class Room:
 
 
 class Cases:
-    """Runs cases one after the other, and counts them."""
+    """Runs cases in turn, and counts them."""
 
     def __init__(self, program):
         self.program, self.passed, self.failed = program, 0, 0

@@ -363,7 +363,7 @@ def try_page(bench):
     with PostgreSQL(bench.room) as server:
         given = pages.outputs_of(commands, folder, {**bench.environment, **server.environment})
     for (command, wanted), got in zip(commands, given + [None] * len(commands)):
-        bench.check(f"page: $ {command[:100]}", got == wanted, "" if got == wanted else f"printed:\n{got}\nstands there:\n{wanted}")
+        bench.check(f"page: $ {command[:100]}", got == wanted, "" if got == wanted else f"printed:\n{got}\nthe page shows:\n{wanted}")
 
 
 # ---- All
