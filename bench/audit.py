@@ -4,8 +4,8 @@
     tools/build.py                 # proves and builds crates/uca/out/uca
     bench/audit.py                 # from the top of the repository
 
-The script makes its own files. A base of so many rows has primaries with room between any two: the first 16,000 rows have an
-even primary of their own, the others are pairs of such elements. Each relation puts a target after a letter of its own, in that room.
+The script makes its own files. A base of so many rows has primaries with room between any two. The first 16,000 rows have an
+even primary of their own; the others are pairs of such elements. Each relation puts a target after a letter of its own, in that room.
 So the certificate changes no weight and has one run for each primary. The tailored table has the targets after the base rows.
 
 Kinds of relations:

@@ -15,8 +15,9 @@ The pairs are of lines of the kinds of `figures.py`, or of the files NAME.txt of
 - easy: lines that are beside one another once they are shuffled, by a fixed seed;
 - first: those of them whose first primary weights differ;
 - near: neighbours in the order of their keys;
-- accent, case, hyphen: a line and the same line with an accent more after a letter, with one letter in the other
-  case, or with a hyphen or a space more;
+- accent: a line and the same line with an accent more after a letter;
+- case: a line and the same line with one letter in the other case;
+- hyphen: a line and the same line with a hyphen or a space more;
 - equal: a line and itself.
 
 All texts are in memory, in Normalization Form D, before any is counted. Ways: `walks` is `uca_key::compare`,

@@ -12,14 +12,15 @@ The script makes its own inputs and needs nothing but Python:
   directly after its key of two, as in Unicode's table;
 - a data file with the combining classes and the Han ranges of Python's edition of Unicode;
 - lines of four kinds: latin (words with precomposed accents), ascii, mixed (six scripts and emoji)
-  and marks (letters with up to eight combining marks, in any order); and lines of ten letters.
+  and marks (letters with up to eight combining marks, in any order);
+- lines of ten letters.
 
 It prints three tables:
 
 - check: `uca check` of each table, beside `uca keys` of no lines over it, which reads the same files and
-  builds the trie; and that again of the same rows in a random order. With `--worst N` also a table of N
-  rows: each but the last has a long key whose shorter one is in the last row, so the check goes over
-  all rows once for each 4,096 of them;
+  builds the trie. It is done again for the same rows in a random order. With `--worst N` there is also a
+  table of N rows. Each but the last has a long key whose shorter one is in the last row, so the check
+  goes over all rows once for each 4,096 of them;
 - sort: `uca sort` of lines of ten letters over a table of 27 rows, beside `uca keys` of the same;
 - keys: `uca keys` of each kind of lines.
 
@@ -91,7 +92,7 @@ def elements_of_points(points):
 
 
 def contractions(points, count, numbers, taken):
-    """Distinct pairs of letters, none of which is taken, each a key of a row."""
+    """Distinct pairs of letters that are not taken, each a key of a row."""
     letters = [p for p in points if unicodedata.category(chr(p)).startswith("L")]
     pairs = set()
     while len(pairs) < count:

@@ -16,7 +16,7 @@ Rules, each as large as may be in one way:
   same 15 code points, so that each is compared with each to its end;
 - expansions: the same, each with an expansion of 16 code points of its own;
 - starred: 5,000 relations of one starred text;
-- range: a starred text that names a million code points, of which 5,000 are read;
+- range: a starred text that names a million code points (5,000 are read);
 - letters: one text of 1,048,572 letters, which is rejected;
 - decomposed: one text of 349,524 code points of three bytes, each of them four in Normalization Form D;
 - comment: a comment of 1,048,576 bytes.

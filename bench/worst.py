@@ -4,7 +4,7 @@
     tools/build.py                 # proves and builds crates/uca/out/uca
     bench/worst.py                 # from the top of the repository; --only NAME for one group of shapes
 
-The script makes its files in a temporary directory, deletes them after each group, and prints a table in Markdown: wall and
+The script makes its files in a temporary folder, and deletes them after each group. It prints a table in Markdown: wall and
 processor seconds, and the greatest resident set seen by looking every millisecond. A run counts only if it ends as it has to,
 in at most 30 seconds of processor time. A group holds at most 4.1 GB of files at a time. The bounds are those of docs/FORMATS.md.
 """
@@ -175,7 +175,7 @@ def sorting(folder):
 
 
 def comparing(folder):
-    """Words of the command line, by code points of one byte. No table has to be well-formed here."""
+    """Compared texts as arguments, by code points of one byte. No table has to be well-formed here."""
     folder.write("data", DATA)
     kinds = [element(1, 0, 0), element(0, 1, 0), element(0, 0, 1)]
     folder.table([([0x61], of_row(0, FULL))] + [([0x62 + n], kind * 32) for n, kind in enumerate(kinds)])

@@ -7,7 +7,7 @@
 
 The files of examples/ are changed one at a time. At each position one byte is dropped, doubled, or changed to each of some others.
 Then come random bytes, or random changes at several positions, `--random` times. Each run has to end by itself. Either nothing is
-on standard error; or the status is 1, and one line names a position in the file that was changed, with a kind of error that such a
+on standard error. Or the status is 1, and one line names a position in the file that was changed, with a kind of error that such a
 file may have. Then standard output has only the keys of the lines before. No other file may be named: the base, the tailored table,
 the certificate and the input are read by themselves. Rules and texts take only the classes from the data file. These can make a
 text of more than 64 code points wrong, and no shorter one, so neither the rules nor the lines of examples/ become wrong by it. A
@@ -16,8 +16,8 @@ message about a table, a tailoring or a plan names a row or a relation that is t
 Then come `--words` command lines: arguments of a right line that are dropped, doubled, changed, moved or put in. Some name other files, files
 that are not there, or a folder, and some are no UTF-8. Each has to end with a status of docs/FORMATS.md and what goes with it.
 
-`--jobs` says how many processes run side by side, each in a temporary folder of its own. The work is cut into parts, and each part has a
-seed of its own, made of `--seed`, its kind and its number: so what is tried is the same whatever the number of processes.
+`--jobs` says how many processes run side by side, each in a temporary folder of its own. The work is cut into parts. Each part has a seed
+of its own, made of `--seed`, its kind and its number. So what is tried is the same whatever the number of processes.
 What ends otherwise than it should is printed, with what did it, and the status is then 1. No test of the gate tries as many.
 """
 
@@ -244,7 +244,7 @@ def verdict_complaint(contents, words, done):
 
 
 def file_complaint(name, contents, words, done):
-    """Why a run over these files, of which one was changed, may not end so, or None."""
+    """Why a run over these files may not end so, where one of them was changed, or None."""
     return fault_complaint(name, contents, words, done) if done.stderr else verdict_complaint(contents, words, done)
 
 

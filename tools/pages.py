@@ -4,8 +4,8 @@
     tools/pages.py [PAGE..]       at the top of the repository; all pages that show commands, unless some are named
 
 A command is a line of a block ```console that begins with `$ `; what follows it up to the next one is its output. The blocks
-of a page run in turn in one shell, in a fresh folder that has a copy of examples/ (a page of examples/ runs in that copy), and
-links to tools/ and crates/. The program is crates/uca/out/uca, which tools/build.py builds.
+of a page run in turn in one shell. They run in a fresh folder that has a copy of examples/, and links to tools/ and crates/; a page
+of examples/ runs in that copy. The program is crates/uca/out/uca, which tools/build.py builds.
 
 A block ```console unicode needs files of Debian's packages unicode-data and, in docs/LANGUAGES.md, unicode-cldr-core. Without them
 it is not run, and a line says so. docs/STORED_KEYS.md needs the package sqlite3; its blocks ```console postgresql need a server, so
