@@ -29,7 +29,7 @@ import figures
 
 KINDS = ("letters", "texts", "secondary", "tertiary", "chain")
 
-# Code points without decompositions, as far as they stand in rules.
+# Code points without decompositions, for the texts of the rules.
 LETTERS = 0x20000
 TARGETS = 0x80000
 PRIMARIES = 16000

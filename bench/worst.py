@@ -27,7 +27,7 @@ import figures
 ROWS, LINES, RELATIONS, LINE_BYTES = 200000, 1000000, 5000, 4096
 POINTS = 1048576  # code points of one text, and bytes of rules
 WORD_BYTES = 131071  # of one word of the command line, without its end
-FAR = 0x40000  # code points from here on stand for themselves in Normalization Form D, and are in no Han range
+FAR = 0x40000  # code points from here on stay as they are in Normalization Form D, and are in no Han range
 TARGETS = 0x80000  # after all code points of keys but marks
 MARKS = 0x90000  # those from here on get classes by data files below
 HEAD, DATA = "@version 1\n", "@data 1\n"
