@@ -1,21 +1,21 @@
 #!/usr/bin/env python3
 """Measures audits of tailorings: time and peak memory, beside reading the same five files.
 
-    cd crates/uca && rt run        # proves and builds crates/uca/out/uca
+    tools/build.py                 # proves and builds crates/uca/out/uca
     bench/audit.py                 # from the top of the repository
 
-The script makes its own files. A base of so many rows has primaries with room between any two: the first 16,000 rows have an
-even primary of their own, the others are pairs of such elements. Each relation puts a target behind a letter of its own, in that room,
-so the certificate changes no weight and has one run for each primary. The tailored table has the targets behind the base rows.
+The script makes its own files. A base of so many rows has primaries with room between any two. The first 16,000 rows have an
+even primary of their own; the others are pairs of such elements. Each relation puts a target after a letter of its own, in that room.
+So the certificate changes no weight and has one run for each primary. The tailored table has the targets after the base rows.
 
 Kinds of relations:
 
-- letters: targets of one code point behind anchors of one;
+- letters: targets of one code point after anchors of one;
 - texts: targets and anchors of 16 code points, and expansions of 16;
 - secondary, tertiary: targets that differ at these levels from one letter, each nearer than those before it;
 - chain: all in one chain, each target the next one's anchor, above all primaries of the base.
 
-Reading alone is the same run with a certificate whose last line lacks its LF: it is refused when all files are read. A run
+Reading alone is the same run with a certificate whose last line lacks its LF: it is rejected when all files are read. A run
 counts only if it says `accepted`, or names that line. Compare rows of one output alone.
 """
 
@@ -29,7 +29,7 @@ import figures
 
 KINDS = ("letters", "texts", "secondary", "tertiary", "chain")
 
-# Code points without decompositions, as far as they stand in rules.
+# Code points without decompositions, for the texts of the rules.
 LETTERS = 0x20000
 TARGETS = 0x80000
 PRIMARIES = 16000
@@ -83,12 +83,12 @@ def relation(kind, number):
 
 
 def files(folder, rows, kind, relations):
-    """The five files, and a certificate that is refused when it is read."""
+    """The five files, and a certificate that is rejected when it is read."""
     listed = [base_row(index) for index in range(rows)]
     head = "@version 1\n"
     primaries = [primary(index) for index in range(min(rows, PRIMARIES))]
     if kind == "chain":
-        # The chain stands above all primaries of the base.
+        # The chain is above all primaries of the base.
         listed = [row for row, weight in zip(listed, primaries) if weight < 0x6000]
         primaries = [weight for weight in primaries if weight < 0x6000]
     rules, targets = [], []
@@ -136,8 +136,8 @@ def measure(options, folder):
     for rows, relations in options.sizes:
         for kind in options.kinds:
             words, broken, lines = files(folder, rows, kind, relations)
-            refused = "status 1: certificate line %d: Line" % lines
-            read, read_peak, first = measured(options, broken, refused, empty, out)
+            rejected = "status 1: certificate line %d: Line" % lines
+            read, read_peak, first = measured(options, broken, rejected, empty, out)
             audit, peak, second = measured(options, words, "accepted", empty, out)
             row = (rows, relations, kind, "%.3f" % read, "%.3f" % audit, "%.2f" % (audit / read))
             report.row(row + ("%.1f" % (read_peak / 1024), "%.1f" % (peak / 1024), "%.2f" % (peak / max(read_peak, 1))), first, second)

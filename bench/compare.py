@@ -1,27 +1,28 @@
 #!/usr/bin/env python3
 """Counts the instructions of comparing two texts without keys, beside making both keys.
 
-    cd crates/uca && rt run        # proves and builds crates/uca/out/uca, whose keys give the pairs
+    tools/build.py                 # proves and builds crates/uca/out/uca, whose keys give the pairs
     bench/compare.py               # from the top of the repository; needs valgrind
 
-The script makes a copy of the repository in a temporary folder, lays the program of `compare_main.txt` there as
-a crate of its own, has `rt run` prove and build it, and runs it under `valgrind --tool=callgrind`, which counts the
+The script makes a copy of the repository in a temporary folder, and puts the program of `compare_main.txt` there as
+a crate of its own. It has `rt run` prove and build it, and runs it under `valgrind --tool=callgrind`, which counts the
 same instructions each time. The copy takes over the libraries that are proved and built in the repository, and proves
 the others; the program itself takes a minute or two. With `--program FILE` a program that was built before is run,
 and nothing is built; `--keep FILE` keeps the one that is built.
 
 The pairs are of lines of the kinds of `figures.py`, or of the files NAME.txt of a folder (`--lines`):
 
-- easy: lines that stand beside one another once they are shuffled, by a fixed seed;
+- easy: lines that are beside one another once they are shuffled, by a fixed seed;
 - first: those of them whose first primary weights differ;
 - near: neighbours in the order of their keys;
-- accent, case, hyphen: a line and the same line with an accent more behind a letter, with one letter in the other
-  case, or with a hyphen or a space more;
+- accent: a line and the same line with an accent more after a letter;
+- case: a line and the same line with one letter in the other case;
+- hyphen: a line and the same line with a hyphen or a space more;
 - equal: a line and itself.
 
 All texts are in memory, in Normalization Form D, before any is counted. Ways: `walks` is `uca_key::compare`,
 `buffers` makes both keys in two buffers that are used again and compares them, and `keys` makes each key in memory of
-its own. The program writes a sum of the answers of each way, and the script ends with an error where they differ.
+its own. The program writes a sum of the results of each way, and the script ends with an error where they differ.
 """
 
 import argparse
@@ -71,7 +72,7 @@ def built(folder):
     shutil.copy(os.path.join(TOP, "bench", "compare_main.txt"), os.path.join(source, "main.rt"))
     with open(os.path.join(folder, "crates.txt"), "a", encoding="utf-8") as crates:
         crates.write("%s: %s\n" % (CRATE, USES))
-    # It is run with no words, which it refuses.
+    # It is run without arguments, which it rejects.
     ran = subprocess.run(["rt", "run"], cwd=os.path.dirname(source), stdout=subprocess.PIPE, stderr=subprocess.STDOUT, errors="replace")
     program = os.path.join(os.path.dirname(source), "out", CRATE)
     if not os.path.exists(program):
@@ -176,7 +177,7 @@ def lines_of(options):
 
 
 def totals_of(out):
-    """The instructions of each call that is counted, in order: those of each part that ends behind one.
+    """The instructions of each call that is counted, in order: those of each part that ends after one.
 
     callgrind does not always begin a part before a call of the second and third function. Such a part counts
     one line of output more, which is nothing beside hundreds of pairs.
@@ -210,11 +211,11 @@ def counted(options, program, weighting, sets, folder):
         sys.exit("%d counts for %d lines" % (len(totals), len(lines)))
     found, sums = {}, {}
     for line, total in zip(lines, totals):
-        path, depth, way, count, answer = line.split(" ")
+        path, depth, way, count, result = line.split(" ")
         name = tuple(os.path.basename(path).split("-"))
         if int(count) != len(sets[name]):
             sys.exit("%s: %s pairs were read" % (path, count))
-        if sums.setdefault((name, depth), answer) != answer:
+        if sums.setdefault((name, depth), result) != result:
             sys.exit("%s: the ways differ" % line)
         found[name + (depth, way)] = total / max(1, int(count))
     return found

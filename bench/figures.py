@@ -1,24 +1,25 @@
 #!/usr/bin/env python3
 """Measures the commands of `uca`: time and peak memory, by rows of the table and by lines.
 
-    cd crates/uca && rt run        # proves and builds crates/uca/out/uca
+    tools/build.py                 # proves and builds crates/uca/out/uca
     bench/figures.py               # from the top of the repository
 
 The script makes its own inputs and needs nothing but Python:
 
-- tables in the form of Unicode's allkeys.txt, with `@implicitweights` lines, comments and empty
-  lines: by default 33,000 rows (2 MB) and 200,000 rows, of which those past the 33,000th or so are
+- tables in the format of Unicode's allkeys.txt, with `@implicitweights` lines, comments and empty
+  lines: by default 33,000 rows (2 MB) and 200,000 rows. Those past the 33,000th or so are
   contractions of two letters. Eighty keys have three code points and end in a non-starter, each
-  directly behind its key of two, as in Unicode's table;
+  directly after its key of two, as in Unicode's table;
 - a data file with the combining classes and the Han ranges of Python's edition of Unicode;
 - lines of four kinds: latin (words with precomposed accents), ascii, mixed (six scripts and emoji)
-  and marks (letters with up to eight combining marks, in any order); and lines of ten letters.
+  and marks (letters with up to eight combining marks, in any order);
+- lines of ten letters.
 
 It prints three tables:
 
 - check: `uca check` of each table, beside `uca keys` of no lines over it, which reads the same files and
-  builds the trie; and that again of the same rows in a random order. With `--worst N` also a table of N
-  rows, each of which but the last has a long key whose shorter one stands in the last row: the check
+  builds the trie. It is done again for the same rows in a random order. With `--worst N` there is also a
+  table of N rows. Each but the last has a long key whose shorter one is in the last row, so the check
   goes over all rows once for each 4,096 of them;
 - sort: `uca sort` of lines of ten letters over a table of 27 rows, beside `uca keys` of the same;
 - keys: `uca keys` of each kind of lines.
@@ -91,7 +92,7 @@ def elements_of_points(points):
 
 
 def contractions(points, count, numbers, taken):
-    """Distinct pairs of letters, none of which is taken, each a key of a row."""
+    """Distinct pairs of letters that are not taken, each a key of a row."""
     letters = [p for p in points if unicodedata.category(chr(p)).startswith("L")]
     pairs = set()
     while len(pairs) < count:
@@ -118,7 +119,7 @@ def table_text(rows, seed=1):
     numbers = random.Random(seed)
     points = list(listed_points())[: rows - 2 * LONG_KEYS]
     text = [
-        "# A table in the form of allkeys.txt, made by bench/figures.py",
+        "# A table in the format of allkeys.txt, made by bench/figures.py",
         "#",
         "@version %s" % unicodedata.unidata_version,
         "",
@@ -292,7 +293,7 @@ def run(binary, words, lines, out, limit):
 
 
 def run_lines(binary, words, lines, out, limit):
-    """The same of a command that writes one line for each line that it reads."""
+    """The same for a command that writes one line for each line that it reads."""
     seconds, peak, complaint = run(binary, words, lines, out, limit)
     if complaint is None:
         with open(lines, "rb") as read, open(out, "rb") as written:

@@ -3,8 +3,8 @@
 
     bench/rules.py                 # from the top of the repository
 
-The script makes a copy of the repository in a temporary folder, lays the program of `rules_main.txt` there as a crate of
-its own, has `rt run` prove and build it, and runs it on rules that it makes. The copy takes over the libraries that are
+The script makes a copy of the repository in a temporary folder, and puts the program of `rules_main.txt` there as a crate of
+its own. It has `rt run` prove and build it, and runs it on rules that it makes. The copy takes over the libraries that are
 proved and built in the repository, and proves the others. With `--program FILE` a program that was built before is run,
 and nothing is built; `--keep FILE` keeps the one that is built; `--rules FOLDER` keeps the rules.
 
@@ -12,13 +12,13 @@ Rules, each as large as may be in one way:
 
 - nothing: no rules, the start of the program;
 - chain: 5,000 relations of one code point in one chain;
-- anchors: 5,000 relations of 16 code points, each behind an anchor of 16 code points of its own. All texts begin with the
+- anchors: 5,000 relations of 16 code points, each after an anchor of 16 code points of its own. All texts begin with the
   same 15 code points, so that each is compared with each to its end;
 - expansions: the same, each with an expansion of 16 code points of its own;
 - starred: 5,000 relations of one starred text;
-- range: a starred text that names a million code points, of which 5,000 are read;
-- letters: one text of 1,048,572 letters, which is refused;
-- decomposed: one text of 349,524 code points of three bytes, of which each is four in Normalization Form D;
+- range: a starred text that names a million code points (5,000 are read);
+- letters: one text of 1,048,572 letters, which is rejected;
+- decomposed: one text of 349,524 code points of three bytes, each of them four in Normalization Form D;
 - comment: a comment of 1,048,576 bytes.
 """
 
@@ -50,7 +50,7 @@ def built(folder):
     shutil.copy(os.path.join(compare.TOP, "bench", "rules_main.txt"), os.path.join(source, "main.rt"))
     with open(os.path.join(folder, "crates.txt"), "a", encoding="utf-8") as crates:
         crates.write("%s: %s\n" % (CRATE, USES))
-    # It is run with no words, which it refuses.
+    # It is run without arguments, which it rejects.
     ran = subprocess.run(["rt", "run"], cwd=os.path.dirname(source), stdout=subprocess.PIPE, stderr=subprocess.STDOUT, errors="replace")
     program = os.path.join(os.path.dirname(source), "out", CRATE)
     if not os.path.exists(program):
@@ -98,9 +98,9 @@ def measure(options, folder):
         runs = [figures.run(program, [data, path], empty, out, options.limit) for _ in range(options.runs)]
         complaint = next((found for _, _, found in runs if found is not None), None)
         with open(out, encoding="utf-8") as said:
-            answer = said.read().strip()
-        if complaint is None and answer != wanted:
-            complaint = "%s, and not %s" % (answer, wanted)
+            given = said.read().strip()
+        if complaint is None and given != wanted:
+            complaint = "%s, and not %s" % (given, wanted)
         seconds, peak = min(run[0] for run in runs), max(run[1] for run in runs)
         report.row((name, os.path.getsize(path), "%.3f" % seconds, "%.1f" % (peak / 1024)), complaint)
     return report.failed

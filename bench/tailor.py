@@ -1,14 +1,14 @@
 #!/usr/bin/env python3
 """Measures planning of tailorings: time and peak memory of `uca tailor`, beside reading the same three files.
 
-    cd crates/uca && rt run        # proves and builds crates/uca/out/uca
+    tools/build.py                 # proves and builds crates/uca/out/uca
     bench/tailor.py                # from the top of the repository
 
 Bases and relations are those of `audit.py`, and one kind more:
 
-- pressed: as letters, but the base's primaries stand side by side, so each new weight moves all behind it.
+- pressed: as letters, but the base's primaries are side by side, so each new weight moves all after it.
 
-Reading alone is the same run with rules that end in a sign too many: they are refused when all three files are read. A run
+Reading alone is the same run with rules that end in a sign too many: they are rejected when all three files are read. A run
 counts only if it ends well, and where `--audit` is given only if `uca audit` then accepts what it wrote. Compare rows of one
 output alone.
 """
@@ -39,7 +39,7 @@ def pressed(rows, relations):
 
 
 def files(folder, rows, kind, relations):
-    """The base, the data file, the rules, and rules that are refused when they are read."""
+    """The base, the data file, the rules, and rules that are rejected when they are read."""
     if kind == "pressed":
         base, rules = pressed(rows, relations)
         names = [figures.write(folder, "base", base), figures.write(folder, "data", "@data 1\n"), figures.write(folder, "rules", rules)]

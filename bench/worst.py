@@ -1,10 +1,10 @@
 #!/usr/bin/env python3
 """Measures each command over files of the greatest size that it takes, in the worst shapes that we know.
 
-    cd crates/uca && rt run        # proves and builds crates/uca/out/uca
+    tools/build.py                 # proves and builds crates/uca/out/uca
     bench/worst.py                 # from the top of the repository; --only NAME for one group of shapes
 
-The script makes its files in a temporary directory, deletes them after each group, and prints a table in Markdown: wall and
+The script makes its files in a temporary folder, and deletes them after each group. It prints a table in Markdown: wall and
 processor seconds, and the greatest resident set seen by looking every millisecond. A run counts only if it ends as it has to,
 in at most 30 seconds of processor time. A group holds at most 4.1 GB of files at a time. The bounds are those of docs/FORMATS.md.
 """
@@ -27,7 +27,7 @@ import figures
 ROWS, LINES, RELATIONS, LINE_BYTES = 200000, 1000000, 5000, 4096
 POINTS = 1048576  # code points of one text, and bytes of rules
 WORD_BYTES = 131071  # of one word of the command line, without its end
-FAR = 0x40000  # code points from here on stand for themselves in Normalization Form D, and are in no Han range
+FAR = 0x40000  # code points from here on stay as they are in Normalization Form D, and are in no Han range
 TARGETS = 0x80000  # after all code points of keys but marks
 MARKS = 0x90000  # those from here on get classes by data files below
 HEAD, DATA = "@version 1\n", "@data 1\n"
@@ -143,7 +143,7 @@ def texts(folder):
 
 
 def ranges(folder):
-    """Keys of one line whose code points have no rows, over the greatest data files; and lines that are refused."""
+    """Keys of one line whose code points have no rows, over the greatest data files; and lines that are rejected."""
     lines = one_in_each("ccc", FAR, " 230") + one_in_each("core", FAR) + one_in_each("other", FAR + 0x4000)
     folder.write("data", [DATA] + lines)
     leads = ("@implicitweights %04X..%04X; FB%02X\n" % (FAR + 2 * n, FAR + 2 * n, n % 64) for n in range(0xC000, 0xC100))
@@ -175,7 +175,7 @@ def sorting(folder):
 
 
 def comparing(folder):
-    """Words of the command line, by code points of one byte. No table has to be well-formed here."""
+    """Compared texts as arguments, by code points of one byte. No table has to be well-formed here."""
     folder.write("data", DATA)
     kinds = [element(1, 0, 0), element(0, 1, 0), element(0, 0, 1)]
     folder.table([([0x61], of_row(0, FULL))] + [([0x62 + n], kind * 32) for n, kind in enumerate(kinds)])

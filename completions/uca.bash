@@ -37,7 +37,7 @@ _uca_file_count() {
     esac
 }
 
-# Reads the words before the current one: sets the command, how many arguments it has, and whether `--` stands there.
+# Reads the words before the current one: sets the command, how many arguments it has, and whether `--` is there.
 _uca_read() {
     local at
     command='' count=0 ended=''

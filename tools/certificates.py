@@ -4,8 +4,8 @@
     tools/certificates.py [--program PATH]        crates/uca/out/uca, unless another program is named
 
 Each case has a folder of its own, with the files of examples/. After a run the script compares the exit status, both outputs,
-and each file of the folder: its kind, its permission bits, its bytes, and whether it is the same file as before. So it sees
-what was replaced, what stayed, and that no temporary file is left. The cases are
+and each file of the folder. Of a file it looks at the kind, the permission bits, the bytes, and whether it is the same file as
+before. So it sees what was replaced, what stayed, and that no temporary file is left. The cases are
 
 - certificates that name a file that is read: by the same name, another path, a hard link or a symbolic link;
 - new files, old files that are replaced, links to them, devices, and pipes;
@@ -89,7 +89,7 @@ class Room:
 
 
 class Cases:
-    """Runs cases one after the other, and counts them."""
+    """Runs cases in turn, and counts them."""
 
     def __init__(self, program):
         self.program, self.passed, self.failed = program, 0, 0

@@ -1,23 +1,23 @@
 #!/usr/bin/env python3
 """Runs the program over files that are nearly right, random files and random arguments, and judges how each run ends.
 
-    cd crates/uca && rt run              # proves and builds crates/uca/out/uca
+    tools/build.py                       # proves and builds crates/uca/out/uca
     tools/changed_files.py --jobs 4      # from the top of the repository
     tools/changed_files.py --jobs 4 --random 100000 --words 100000      # a million runs and more
 
 The files of examples/ are changed one at a time. At each position one byte is dropped, doubled, or changed to each of some others.
 Then come random bytes, or random changes at several positions, `--random` times. Each run has to end by itself. Either nothing is
-on standard error; or the status is 1, and one line names a position in the file that was changed, with a kind of error that such a
+on standard error. Or the status is 1, and one line names a position in the file that was changed, with a kind of error that such a
 file may have. Then standard output has only the keys of the lines before. No other file may be named: the base, the tailored table,
 the certificate and the input are read by themselves. Rules and texts take only the classes from the data file. These can make a
 text of more than 64 code points wrong, and no shorter one, so neither the rules nor the lines of examples/ become wrong by it. A
 message about a table, a tailoring or a plan names a row or a relation that is there, if such a message names one.
 
-Then come `--words` command lines: words of a right line that are dropped, doubled, changed, moved or put in, also names of other files, of
-files that are not there, of a folder, and words that are no UTF-8. Each has to end with a status of docs/FORMATS.md and what goes with it.
+Then come `--words` command lines: arguments of a right line that are dropped, doubled, changed, moved or put in. Some name other files, files
+that are not there, or a folder, and some are no UTF-8. Each has to end with a status of docs/FORMATS.md and what goes with it.
 
-`--jobs` says how many processes run side by side, each in a temporary folder of its own. The work is cut into parts, and each part has a
-seed of its own, made of `--seed`, its kind and its number: so what is tried is the same whatever the number of processes.
+`--jobs` says how many processes run side by side, each in a temporary folder of its own. The work is cut into parts. Each part has a seed
+of its own, made of `--seed`, its kind and its number. So what is tried is the same whatever the number of processes.
 What ends otherwise than it should is printed, with what did it, and the status is then 1. No test of the gate tries as many.
 """
 
@@ -190,7 +190,7 @@ def fault_complaint(name, contents, words, done):
     role = "base" if words[0] == "audit" and name == "table.txt" else {"lines.txt": "input"}.get(name, name[:-4])
     found = re.fullmatch("%s %s ([0-9]+): (%s)\n" % (role, "byte" if name == "rules.txt" else "line", FAULTS[name]), said)
     if not found:
-        return "another file, or another kind of fault: %r" % said
+        return "another file, or another kind of error: %r" % said
     place, kind = int(found.group(1)), found.group(2)
     if name == "rules.txt":
         is_there = place <= len(content)
@@ -198,7 +198,7 @@ def fault_complaint(name, contents, words, done):
         is_late = place == content.count(b"\n") + 1 and kind == LATE_FAULTS.get(name)
         is_there = 1 <= place <= line_count(content) or is_late
     if not is_there:
-        return "a place that is not there: %r" % said
+        return "a position that is not there: %r" % said
     if words[0] == "affected" and name == "lines.txt":
         is_written = is_part(done.stdout.split(b"\n")[:-1], content.split(b"\n")[:place - 1])
     else:
@@ -244,7 +244,7 @@ def verdict_complaint(contents, words, done):
 
 
 def file_complaint(name, contents, words, done):
-    """Why a run over these files, of which one was changed, may not end so, or None."""
+    """Why a run over these files may not end so, where one of them was changed, or None."""
     return fault_complaint(name, contents, words, done) if done.stderr else verdict_complaint(contents, words, done)
 
 
@@ -364,8 +364,8 @@ def main():
     parser = argparse.ArgumentParser(description=__doc__.split("\n", maxsplit=1)[0])
     parser.add_argument("--uca", default="crates/uca/out/uca", help="the program")
     parser.add_argument("--random", type=int, default=1000, help="random changes of each file")
-    parser.add_argument("--words", type=int, default=1000, help="random lines of words")
-    parser.add_argument("--seed", type=int, default=1, help="of the random changes and words")
+    parser.add_argument("--words", type=int, default=1000, help="random command lines")
+    parser.add_argument("--seed", type=int, default=1, help="of the random changes and command lines")
     parser.add_argument("--jobs", type=int, default=1, help="processes side by side")
     parser.add_argument("--files", nargs="*", default=list(FILES), choices=FILES)
     options = parser.parse_args()

@@ -15,7 +15,7 @@ TOP = os.path.dirname(os.path.dirname(os.path.realpath(__file__)))
 def load_rt():
     """The command `rt`, as a module."""
     sys.dont_write_bytecode = True
-    path = os.path.realpath(shutil.which("rt") or sys.exit("there is no command rt: docs/GATE.md says where it comes from"))
+    path = os.path.realpath(shutil.which("rt") or sys.exit("there is no command rt: README.md says what you need, under Install"))
     sys.path.insert(0, os.path.dirname(path))
     loader = importlib.machinery.SourceFileLoader("rt", path)
     module = importlib.util.module_from_spec(importlib.util.spec_from_loader("rt", loader))

@@ -1,10 +1,10 @@
 #!/usr/bin/env python3
 """Checks that docs/LIBRARY.md shows the code that is proved.
 
-    tools/library_page.py        at any place of the repository
+    tools/library_page.py        in any folder of the repository
 
-Each code block of the page must occur, line for line, in a file of crates/uca_examples: `rust` in src/, `antt` in specs/ or
-proofs/, and `text` in the file stdout, which has what the program must print. Blocks of `sh` are commands and are not
+Each code block of the page must occur, line for line, in a file of crates/uca_examples. Blocks of `rust` are in src/, those of
+`antt` in specs/ or proofs/, and those of `text` in the file stdout, which has what the program must print. Blocks of `sh` are commands and are not
 checked; a block with another name fails. The page must show something of each of the five programs. The last line is
 `N passed, M failed`; the status is 1 if one failed.
 """

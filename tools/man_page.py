@@ -33,7 +33,7 @@ def prose(text):
 
 
 def paragraphs(lines):
-    """The paragraphs of a text, each of which an empty line ends."""
+    """The paragraphs of a text: an empty line ends each."""
     texts = "\n".join(lines).strip("\n").split("\n\n")
     return [it for text in texts if text for it in (".PP", prose(text))]
 

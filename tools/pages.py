@@ -1,12 +1,15 @@
 #!/usr/bin/env python3
-"""Runs the commands that the pages show, and compares what they print with what stands there.
+"""Runs the commands that the pages show, and compares what they print with what the page shows.
 
     tools/pages.py [PAGE..]       at the top of the repository; all pages that show commands, unless some are named
 
 A command is a line of a block ```console that begins with `$ `; what follows it up to the next one is its output. The blocks
-of a page run one after the other in one shell, in a fresh folder that has a copy of examples/ (a page of examples/ runs in that
-copy). The program is crates/uca/out/uca, which tools/build.py builds. docs/STORED_KEYS.md needs the Debian package sqlite3; its
-blocks ```console postgresql need a server, so examples/databases/run_all.py runs them. The last line is `N passed, M failed`.
+of a page run in turn in one shell. They run in a fresh folder that has a copy of examples/, and links to tools/ and crates/; a page
+of examples/ runs in that copy. The program is crates/uca/out/uca, which tools/build.py builds.
+
+A block ```console unicode needs files of Debian's packages unicode-data and, in docs/LANGUAGES.md, unicode-cldr-core. Without them
+it is not run, and a line says so. docs/STORED_KEYS.md needs the package sqlite3; its blocks ```console postgresql need a server, so
+examples/databases/run_all.py runs them. The last line is `N passed, M failed`.
 """
 import os
 import re
@@ -18,10 +21,11 @@ import tempfile
 TOP = os.path.dirname(os.path.dirname(os.path.realpath(__file__)))
 PAGES = ["README.md", "examples/README.md", *(f"docs/{it}" for it in sorted(os.listdir(f"{TOP}/docs")) if it.endswith(".md"))]
 END = "== end of output"
+ALLKEYS, CLDR = "/usr/share/unicode/allkeys.txt", "/usr/share/unicode/cldr/common/collation"
 
 
 def commands_of(page, head="console"):
-    """The commands of a page, each with the output that stands after it. The head is a pattern of what a block begins with."""
+    """The commands of a page, each with the output that the page shows. The head is a pattern of what a block begins with."""
     with open(f"{TOP}/{page}", encoding="utf-8") as it:
         text = it.read()
     found = []
@@ -39,22 +43,34 @@ def outputs_of(commands, folder, environment):
     return [it.strip("\n") for it in ran.stdout.split(f"{END}\n")[:-1]]
 
 
+def runnable(page):
+    """The commands of a page that can be run here. It prints which file the others need."""
+    needed = [ALLKEYS, CLDR] if page == "docs/LANGUAGES.md" else [ALLKEYS]
+    missing = [it for it in needed if not os.path.exists(it)]
+    others = commands_of(page, "console unicode")
+    if missing and others:
+        print(f"{page}: {len(others)} commands were not run, since there is no {missing[0]}")
+    return commands_of(page, "console" if missing else "console(?: unicode)?")
+
+
 def main(pages):
     if not os.path.exists(f"{TOP}/crates/uca/out/uca"):
         sys.exit("there is no crates/uca/out/uca: run tools/build.py first")
     passed = failed = 0
     environment = {**os.environ, "PATH": f"{TOP}/crates/uca/out:{os.environ['PATH']}"}
     for page in pages or PAGES:
-        commands = commands_of(page)
+        commands = runnable(page)
         with tempfile.TemporaryDirectory(prefix="uca-page-") as room:
             shutil.copytree(f"{TOP}/examples", f"{room}/examples")
+            for name in ("tools", "crates"):
+                os.symlink(f"{TOP}/{name}", f"{room}/{name}")
             given = outputs_of(commands, f"{room}/examples" if page.startswith("examples/") else room, environment)
         for (command, wanted), got in zip(commands, given + [None] * len(commands)):
             if got == wanted:
                 passed += 1
             else:
                 failed += 1
-                print(f"{page}: $ {command}\n-- printed:\n{got}\n-- stands there:\n{wanted}")
+                print(f"{page}: $ {command}\n-- printed:\n{got}\n-- the page shows:\n{wanted}")
     print(f"{passed} passed, {failed} failed")
     return 1 if failed else 0
 

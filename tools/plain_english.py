@@ -1,11 +1,14 @@
 #!/usr/bin/env python3
-"""Finds long sentences and words that this project does not use, in its Markdown pages outside of code.
+"""Finds long sentences and words that this project does not use, in its pages and in the comments of its code.
 
-    tools/plain_english.py [PAGE..]       at any place of the repository; all pages, unless some are named
+    tools/plain_english.py [FILE..]       in any folder of the repository; all files, unless some are named
 
-A sentence has at most 30 words, where code counts as one word. A cell of a table, an item of a list and a heading each end a
-sentence. Each finding is one line, `PAGE:LINE: ..`. A page passes if it has none. The last line is `N passed, M failed`.
+It reads Markdown pages outside of code, doc comments (`///` and `//!` of .rt files, `--` of .antt files), and docstrings of Python
+without their indented lines. A sentence has at most 30 words, where code counts as one word. A cell of a table, an item of a list and
+a heading each end a sentence. Each finding is one line, `FILE:LINE: ..`. A file passes if it has none. The last line is
+`N passed, M failed`.
 """
+import ast
 import glob
 import os
 import re
@@ -86,18 +89,47 @@ def findings_of(text):
                 yield number, f"`{found[0]}` ({better}): {sentence[max(0, found.start() - 30):found.end() + 30]}"
 
 
-def all_pages():
-    patterns = ["*.md", "docs/*.md", "bench/*.md", "examples/**/*.md"]
+COMMENTS = {".rt": r"\s*//[/!] ?(.*)", ".txt": r"\s*//[/!] ?(.*)", ".antt": r"\s*-- ?(.*)"}
+
+
+def docstrings_of(text):
+    """The docstrings of a Python file, on their lines, without what is indented in them."""
+    lines = [""] * (text.count("\n") + 1)
+    for node in ast.walk(ast.parse(text)):
+        has_one = isinstance(node, (ast.Module, ast.ClassDef, ast.FunctionDef)) and ast.get_docstring(node)
+        if has_one:
+            margin = " " * node.body[0].col_offset
+            for at, line in enumerate(node.body[0].value.value.split("\n"), node.body[0].lineno - 1):
+                line = line.removeprefix(margin)
+                lines[at] = "" if line.startswith("    ") else line
+    return "\n".join(lines)
+
+
+def prose_of(name):
+    """What a file says to a reader, with as many lines."""
+    with open(f"{TOP}/{name}", encoding="utf-8") as file:
+        text = file.read()
+    kind = os.path.splitext(name)[1]
+    if kind == ".py":
+        return docstrings_of(text)
+    if kind not in COMMENTS:
+        return text
+    found = [re.fullmatch(COMMENTS[kind], line) for line in text.split("\n")]
+    return "\n".join(it[1] if it else "" for it in found)
+
+
+def all_files():
+    patterns = ["*.md", "docs/*.md", "bench/*.md", "examples/**/*.md", "tools/*.py", "bench/*.py", "bench/*_main.txt", "examples/**/*.py"]
+    patterns += [f"crates/*/{it}" for it in ("src/**/*.rt", "specs/**/*.antt", "proofs/**/*.antt")]
     return sorted(os.path.relpath(it, TOP) for pattern in patterns for it in glob.glob(f"{TOP}/{pattern}", recursive=True))
 
 
-def main(pages):
+def main(names):
     passed = failed = 0
-    for page in [os.path.relpath(it, TOP) for it in pages] or all_pages():
-        with open(f"{TOP}/{page}", encoding="utf-8") as file:
-            found = list(findings_of(file.read()))
+    for name in [os.path.relpath(it, TOP) for it in names] or all_files():
+        found = list(findings_of(prose_of(name)))
         for number, what in found:
-            print(f"{page}:{number}: {what}")
+            print(f"{name}:{number}: {what}")
         passed, failed = (passed, failed + 1) if found else (passed + 1, failed)
     print(f"{passed} passed, {failed} failed")
     return 1 if failed else 0

@@ -261,7 +261,7 @@ class Translation:
             self.leave_out(f"the old weights of {len(moved)} anchors")
 
     def other_ways(self, it, at):
-        """Other relations that say the same of the target of a relation."""
+        """Other relations that give the target of a relation the same weights."""
         if it.strength == 0:
             first, *rest = parts(it.anchor, {*self.table.rows, *(one.target for one in self.relations[:at])})
             yield it._replace(anchor=first, expansion="".join(rest) + it.expansion)

@@ -1,9 +1,10 @@
-/* What refusals.py loads before the C library: it refuses the call that the variable REFUSE names, and tells so.
+/* What refusals.py loads before the C library: it lets the call fail that the variable REFUSE names, and tells so.
  *
- * REFUSE is a letter and the number of what passes before. a: one allocation is refused, A: that one and all behind it;
- * r, w, e: a read, a write, a write to standard error fails by its number, R, W, E: once so many bytes were moved; o: one
- * opening of a file; k: one fsync or rename; s: none, but each call moves one byte. What is told goes to the descriptor TELL, as three numbers:
- * 0 for a refusal and 1 for a call where one failed before; the files read to their end; the bytes moved since then. */
+ * REFUSE is a letter and the number of what passes before. a: one allocation fails, A: that one and all after it.
+ * r, w, e: a read, a write, a write to standard error fails by its number, R, W, E: once so many bytes were moved.
+ * o: one opening of a file; k: one fsync or rename; s: none, but each call moves one byte. What is told goes to the
+ * descriptor TELL, as three numbers: 0 for a failure and 1 for a call where one failed before; the files read to their
+ * end; the bytes moved since then. */
 #define _GNU_SOURCE
 #include <errno.h>
 #include <fcntl.h>
@@ -19,14 +20,14 @@ void *__libc_memalign(size_t, size_t);
 
 static char kind;
 static long left = -1, ends, moved;
-static int teller, refused, failed = -1;
+static int teller, is_told, failed = -1;
 
 __attribute__((constructor)) static void start(void) {
-    const char *refuse = getenv("REFUSE"), *tell = getenv("TELL");
-    if (refuse && tell) {
+    const char *named = getenv("REFUSE"), *tell = getenv("TELL");
+    if (named && tell) {
         teller = atoi(tell);
-        left = atol(refuse + 1);
-        kind = refuse[0];
+        left = atol(named + 1);
+        kind = named[0];
     }
 }
 
@@ -35,27 +36,27 @@ static void tell(long what) {
     syscall(SYS_write, teller, told, sizeof told);
 }
 
-/* Whether this allocation is refused. */
-static int refuses(void) {
+/* Whether this allocation fails. */
+static int fails(void) {
     if ((kind != 'a' && kind != 'A') || left < 0)
         return 0;
     if (left > 0) {
         left--;
         return 0;
     }
-    if (!refused)
+    if (!is_told)
         tell(0);
-    refused = 1;
+    is_told = 1;
     if (kind == 'a')
         left = -1;
     errno = ENOMEM;
     return 1;
 }
 
-void *malloc(size_t size) { return refuses() ? NULL : __libc_malloc(size); }
-void *calloc(size_t count, size_t size) { return refuses() ? NULL : __libc_calloc(count, size); }
-void *realloc(void *old, size_t size) { return refuses() ? NULL : __libc_realloc(old, size); }
-void *memalign(size_t align, size_t size) { return refuses() ? NULL : __libc_memalign(align, size); }
+void *malloc(size_t size) { return fails() ? NULL : __libc_malloc(size); }
+void *calloc(size_t count, size_t size) { return fails() ? NULL : __libc_calloc(count, size); }
+void *realloc(void *old, size_t size) { return fails() ? NULL : __libc_realloc(old, size); }
+void *memalign(size_t align, size_t size) { return fails() ? NULL : __libc_memalign(align, size); }
 void *aligned_alloc(size_t align, size_t size) { return memalign(align, size); }
 
 int posix_memalign(void **made, size_t align, size_t size) {

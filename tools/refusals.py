@@ -1,32 +1,34 @@
 #!/usr/bin/env python3
-"""Refuses each allocation of the built program, and fails each of its reads and writes, in turn, and judges how each run ends.
+"""Lets each allocation, read and write of the built program fail in turn, and judges how each run ends.
 
-    cd crates/uca && rt run              # proves and builds crates/uca/out/uca
+    tools/build.py                       # proves and builds crates/uca/out/uca
     tools/refusals.py                    # from the top of the repository
 
-`refusals.c`, beside this script, is loaded before the C library and refuses what it is told to. It meets every allocation, also
-those that a library of the kit (`unicode_normalization`, `clap`) takes by itself. For each command line below one run goes with
+`refusals.c`, beside this script, is loaded before the C library, and lets the call fail that it is told. It meets every allocation, also
+those that a library of the kit (`unicode_normalization`, `clap`) takes by itself. For each command line below there are these runs:
 
-- the Nth allocation refused, alone, and with all behind it (malloc, calloc, realloc and their kin, from the start of `main` on);
-- the Nth read, write, or write to standard error failing;
-- reads, writes, or writes to standard error failing once N bytes were moved, the call before moving those up to N;
-- the Nth opening of a file failing;
-- the Nth call failing that brings a file to the disk or gives it its name;
+- the Nth allocation fails, alone, and with all after it (malloc, calloc, realloc and their kin, from the start of `main` on);
+- the Nth read, write, or write to standard error fails;
+- reads, writes, or writes to standard error fail once N bytes were moved, and the call before moves those up to N;
+- the Nth opening of a file fails;
+- the Nth call fails that brings a file to the disk or gives it its name.
 
-for each N from 0 until nothing is left to refuse (past 2,000 for each 97th), and one run whose reads and writes move one byte a call. Allowed are
+N goes from 0 on until nothing is left that can fail, past 2,000 in steps of 97. One more run moves one byte in each read and write.
+These endings are allowed:
 
-- of a refused allocation: status 4 and one line that names memory, and perhaps a place that is there; as N rises, a place in
-  no earlier file or line; or the ending without a refusal, since a list may ask again for less, or stay larger than it had to;
-- of a failed read: status 3 and the line of the file, and of its line, to which the bytes that were read lead;
-- of a failed write: status 3, `output: Write` or `certificate: Write`, and just the bytes that were moved. Help that does not
-  go out has status 0 and no line (docs/DECISIONS.md). Of a failed write to standard error: the ending without it but there;
-- of a file that does not open: status 3 and its role, or `certificate: Write` where it is to be made;
-- of a file that cannot be kept: status 3 and `certificate: Write`.
+- After a failed allocation: status 4 and one line that names memory, and perhaps a position that is there. As N rises, no position is
+  in an earlier file or line. Or the ending is that without a failure: a list may ask again for less, or stay larger than it had to.
+- After a failed read: status 3 and the line of the file, and of its line, to which the bytes that were read lead.
+- After a failed write: status 3, `output: Write` or `certificate: Write`, and just the bytes that were moved. Help that does not
+  go out has status 0 and no line (docs/DECISIONS.md). After a failed write to standard error: the same ending, with less there.
+- After a file that does not open: status 3 and its role, or `certificate: Write` where it is to be made.
+- After a file that cannot be kept: status 3 and `certificate: Write`.
 
-Standard output has the key lines before the faulty line where `keys` ends at an input line, and nothing where another run ends
-early. A certificate is there just where the whole of it was written, and no temporary file is left. No run ends by a signal, or reads or writes again where it
-failed. Lines that CASES names must come: `memory` for sorting, behind the last line of the input, and for the text that `clap`
-makes. What ends otherwise is printed, and the status is then 1. This is no part of the gate: it takes some minutes.
+Where `keys` or `affected` ends at an input line, standard output has what it prints for the lines before. Where another run ends
+early, it has nothing. A certificate is there just where the whole of it was written, and no temporary file is left. No run ends by a
+signal, or reads or writes again where it failed. Lines that CASES names must come: `memory` for sorting, after the last line of the
+input, and for the text that `clap` makes. What ends otherwise is printed, and the status is then 1. This is no part of the gate: it
+takes some minutes.
 """
 
 import argparse
@@ -45,18 +47,22 @@ ROLES = {
     "compare": ("table", "data"),
     "tailor": ("table", "data", "rules"),
     "audit": ("base", "data", "rules", "tailored", "certificate"),
+    "affected": ("data", "rules", "input"),
 }
 
-# Each command line, the file of its standard input if it reads one, and what must be among what is said of its refused
-# allocations: the lines in their order, and each once where it comes several times in a row.
+# Each command line, the file of its standard input if it reads one, and what must be among the lines of its failed
+# allocations: these in their order, and each once where it comes several times in a row.
 SORTED = "input line 30: Memory\nmemory\n"
 CASES = (
     ("check table.txt data.txt", None, ""),
     ("check ill-formed.txt data.txt", None, ""),
     ("check table.txt rules.txt", None, ""),
     ("keys table.txt data.txt", "lines.txt", ""),
-    ("keys --identical --weighting non-ignorable table.txt data.txt", "faulty.txt", ""),
+    ("keys --identical --weighting non-ignorable table.txt data.txt", "wrong.txt", ""),
     ("keys table.txt data.txt", "many.txt", ""),
+    ("keys --lines table.txt data.txt", "lines.txt", ""),
+    ("keys --lines table.txt data.txt", "wrong.txt", ""),
+    ("affected data.txt rules.txt", "affected.txt", ""),
     ("sort table.txt data.txt", "lines.txt", ""),
     ("sort --identical --weighting non-ignorable table.txt data.txt", "lines.txt", ""),
     ("sort table.txt data.txt", "unsorted.txt", SORTED),
@@ -75,10 +81,10 @@ CASES = (
 )
 MADE = "made.txt"
 
-# What is refused, by the letter that refusals.c knows.
-REFUSED = {
+# What fails, by the letter that refusals.c knows.
+FAILING = {
     "a": "allocations, one alone",
-    "A": "allocations, one and all behind it",
+    "A": "allocations, one and all after it",
     "r": "reads",
     "R": "reads, by bytes",
     "w": "writes",
@@ -100,18 +106,19 @@ def contents():
         with open(os.path.join("examples", name), "rb") as file:
             files[name] = file.read()
     files["ill-formed.txt"] = files["table.txt"].replace(b"[.0000.0024.0002]", b"[.0000.0020.0002]")
-    files["spellings.txt"] = "# forms\n&[before 1]b < \u1ea1 / ch <<* x-z'q' &\u00e1h <<< \\u00C1h = \uac01".encode()
+    files["spellings.txt"] = "# spellings\n&[before 1]b < \u1ea1 / ch <<* x-z'q' &\u00e1h <<< \\u00C1h = \uac01".encode()
     files["anchor.txt"] = "&b < bh &\u4e00 < x".encode()
     files["late.txt"] = b"&ab < c &a < b"
     files["lines.txt"] += "\u1e69\u0323a\u0301\n\uac01\n\U00020000 \ufdfa".encode()
     files["unsorted.txt"] = b"".join(b"%d\n" % (number * 11 % 30) for number in range(30))
     files["many.txt"] = b"".join(b"%d ch-a d\n" % number for number in range(1500))
-    files["faulty.txt"] = files["lines.txt"] + b"\nx" + b"\xcc\x81" * 65 + b"\n"
+    files["wrong.txt"] = files["lines.txt"] + b"\nx" + b"\xcc\x81" * 65 + b"\n"
+    files["affected.txt"] = b"bh\nx\nbach\nhb\nBh"
     return files
 
 
 class Case:
-    """A command line, the files that it reads under their roles, and how it ends where nothing is refused."""
+    """A command line, the files that it reads under their roles, and how it ends where nothing fails."""
 
     def __init__(self, words, given, must, files):
         self.words, self.given, self.must = words.split(" "), given, must
@@ -123,9 +130,13 @@ class Case:
 
     def out_before(self, role, line):
         """What has gone out where the run ends at this line."""
-        if self.words[0] != "keys" or role != "input":
+        printed = self.plain.out.splitlines(keepends=True)
+        if role != "input":
             return b""
-        return b"".join(self.plain.out.splitlines(keepends=True)[: line - 1])
+        if self.words[0] == "affected":
+            before = self.read[-1][1].split(b"\n")[: line - 1]
+            return b"".join(it + b"\n" for it in before if it + b"\n" in printed)
+        return b"".join(printed[: line - 1]) if self.words[0] == "keys" else b""
 
     def of_memory(self, ending):
         if ending == self.plain:
@@ -135,22 +146,21 @@ class Case:
             return False
         if found.group(2) is None:
             return ending.out == b""
-        role, place = found.group(2), int(found.group(4))
+        role, position = found.group(2), int(found.group(4))
         names = [name for name, _ in self.read]
         if role not in names or (role == "rules") != (found.group(3) == " byte"):
             return False
         index = names.index(role)
-        content, before, self.reached = self.read[index][1], self.reached, (index, place if role != "rules" else 0)
+        content, before, self.reached = self.read[index][1], self.reached, (index, position if role != "rules" else 0)
         most = len(content) if role == "rules" else content.count(b"\n") + 1
-        return place <= most and before <= self.reached and ending.out == self.out_before(role, place)
+        return position <= most and before <= self.reached and ending.out == self.out_before(role, position)
 
     def of_read(self, ends, moved):
         role, content = self.read[ends]
         if role == "rules":
             return Ending(3, b"", "rules: Read\n", None)
         line = content[:moved].count(b"\n") + 1
-        place = "input line" if role == "input" else role + " line"
-        return Ending(3, self.out_before(role, line), "%s %d: Read\n" % (place, line), None)
+        return Ending(3, self.out_before(role, line), "%s line %d: Read\n" % (role, line), None)
 
     def of_write(self, moved):
         if "--help" in self.words:
@@ -187,7 +197,7 @@ class Trials:
     def __init__(self, options, folder):
         self.uca, self.verbose, self.folder = os.path.abspath(options.uca), options.verbose, folder
         self.shim, self.runs, self.wrong = os.path.join(folder, "refusals.so"), 0, 0
-        self.refused, self.done_without = collections.Counter(), 0
+        self.failed, self.done_without = collections.Counter(), 0
         source = os.path.join(os.path.dirname(os.path.abspath(__file__)), "refusals.c")
         subprocess.run(["cc", "-O2", "-shared", "-fPIC", "-o", self.shim, source], check=True)
         self.files = contents()
@@ -196,10 +206,10 @@ class Trials:
                 file.write(content)
         self.known = {*os.listdir(folder)}
 
-    def run(self, case, refuse):
+    def run(self, case, fails):
         """How a run ends, and what the shim told of it."""
         made, (reader, teller) = os.path.join(self.folder, MADE), os.pipe()
-        environment = {"LD_PRELOAD": self.shim, "REFUSE": refuse, "TELL": str(teller)}
+        environment = {"LD_PRELOAD": self.shim, "REFUSE": fails, "TELL": str(teller)}
         streams = {"stdout": subprocess.PIPE, "stderr": subprocess.PIPE, "pass_fds": (teller,)}
         with open(os.path.join(self.folder, case.given) if case.given else os.devnull, "rb") as given:
             done = subprocess.run([self.uca, *case.words], stdin=given, env=environment, cwd=self.folder, timeout=20, check=False, **streams)
@@ -218,12 +228,12 @@ class Trials:
         return Ending(done.returncode, done.stdout, done.stderr.decode("utf-8", "replace"), kept), told
 
     def judge(self, case, kind, number):
-        """One run; returns whether something was refused."""
+        """One run; returns whether something failed."""
         ending, told = self.run(case, kind + str(number))
         if not case.is_allowed(kind, number, told, ending):
             self.wrong += 1
             print("%s, %s%d: %r, told %r" % (" ".join(case.words), kind, number, ending, told), flush=True)
-        self.refused[kind] += bool(told)
+        self.failed[kind] += bool(told)
         if told and kind in "aA":
             self.done_without += ending == case.plain
             self.endings[ending.status, ending.err] += 1
@@ -235,8 +245,8 @@ class Trials:
         case.plain, _ = self.run(case, "-0")
         self.endings = collections.Counter()
         self.judge(case, "s", 0)
-        for kind in REFUSED:
-            # Of bytes the number may be beyond what a call before the end of a run can reach, so all are tried.
+        for kind in FAILING:
+            # A number of bytes may be more than a call before the end of a run can reach, so all are tried.
             last = sum(len(content) for _, content in case.read) if kind == "R" else -1
             number, case.reached = 0, (0, 0)
             while self.judge(case, kind, number) or number < last:
@@ -252,7 +262,7 @@ class Trials:
 def main():
     parser = argparse.ArgumentParser(description=__doc__.split("\n")[0])
     parser.add_argument("--uca", default="crates/uca/out/uca", help="the program")
-    parser.add_argument("--verbose", action="store_true", help="print how often each ending of a refused allocation came")
+    parser.add_argument("--verbose", action="store_true", help="print how often each ending after a failed allocation came")
     parser.add_argument("--only", default="", help="only the command lines that begin so")
     options = parser.parse_args()
     cases = [case for case in CASES if case[0].startswith(options.only)]
@@ -261,9 +271,9 @@ def main():
         for words, given, must in cases:
             trials.judge_all(Case(words, given, must, trials.files))
     print("%d command lines, %d runs, %d not as they should" % (len(cases), trials.runs, trials.wrong))
-    for kind, name in REFUSED.items():
-        print("    %6d %s" % (trials.refused[kind], name))
-    print("    %6d runs ended well without a refused allocation" % trials.done_without)
+    for kind, name in FAILING.items():
+        print("    %6d %s" % (trials.failed[kind], name))
+    print("    %6d runs ended well though an allocation failed" % trials.done_without)
     sys.exit(1 if trials.wrong else 0)
 
 

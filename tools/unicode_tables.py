@@ -5,10 +5,9 @@
     tools/unicode_tables.py              # from the top of the repository
 
 It needs the files of Debian's package unicode-data. Without an `allkeys.txt` it says so and ends with status 2. It runs the commands of
-docs/UNICODE.md as they stand there, and then, step by step: it checks the table as it is published, with the rows that tools/unicode_files.py adds, and
-with two of these alone. It counts the Tibetan texts whose keys these rows change. It tailors the table by each alphabet of examples/, audits what came of
-that, says which weights moved and how many keys changed, and sorts words of that language, which stand in their order in examples/. `--keep FOLDER` keeps
-the files. The last line is `N passed, M failed`.
+docs/UNICODE.md as the page shows them. Then it checks the table as it is published, with the rows that tools/unicode_files.py adds, and with two of these
+alone. It counts the Tibetan texts whose keys these rows change. It tailors the table by each alphabet of examples/, and audits the result. It says which
+weights moved and how many keys changed, and sorts words of that language, which examples/ has in their order. `--keep FOLDER` keeps the files. The last line is `N passed, M failed`.
 """
 
 import argparse
@@ -58,7 +57,7 @@ def rows_of(text):
     return {" ".join(key.split()): elements.strip() for key, sign, elements in split if sign}
 
 
-# ---- The commands as they stand
+# ---- The commands as the page shows them
 
 
 def page(options, folder):

@@ -56,7 +56,7 @@ class PostgreSQL:
 
 
 class Network:
-    """Network namespaces, which stand for machines: each has an address of its own, and reaches the others by a bridge. Needs root."""
+    """Network namespaces in place of machines: each has an address of its own, and reaches the others by a bridge. Needs root."""
 
     BRIDGE, ADDRESS = "uca-bridge", "10.78.61.{}"
 

@@ -5,14 +5,13 @@
         [--table FILE --data FILE] [--namespaces]
 
 The examples are sqlite, postgresql, parts, workers, tailoring and page; all of them, unless some are named. `--uca` is the program
-(crates/uca/out/uca), `--lines` how many lines are made (20,000). Without `--table` it is Unicode's table as Debian's Perl has it.
-It starts a PostgreSQL server and a Dask scheduler of its own and stops them at the end. It installs nothing. It wants these
-packages of Debian, and an example without its package has failed: sqlite3, postgresql, python3-distributed, perl-modules-5.36.
-The last line is `N passed, M failed`.
+(crates/uca/out/uca), `--lines` how many lines are made (20,000). Without `--table` and `--data` it makes both of Unicode's files in
+/usr/share/unicode, as docs/UNICODE.md says. It starts a PostgreSQL server and a Dask scheduler of its own and stops them at the end.
+It installs nothing. It needs these packages of Debian, and an example without its package has failed: unicode-data, sqlite3,
+postgresql, postgresql-client, python3-distributed. The last line is `N passed, M failed`.
 """
 import argparse
 import contextlib
-import glob
 import os
 import shutil
 import subprocess
@@ -29,7 +28,7 @@ sys.path.insert(0, HERE)
 from local_servers import Network, PostgreSQL, Workers  # noqa: E402
 
 MOST_LINES = 1_000_000
-ALLKEYS = "/usr/share/perl/*/Unicode/Collate/allkeys.txt"
+ALLKEYS = "/usr/share/unicode/allkeys.txt"
 BY_KEY = "select word from words order by key, number"
 BEGIN = "substring(key from 1 for 2000)"
 
@@ -83,11 +82,10 @@ class Bench:
 
     def unicode_files(self):
         """Unicode's table with the rows that it lacks, and a data file (docs/UNICODE.md)."""
-        found = sorted(glob.glob(ALLKEYS))
-        if not found:
-            raise Failed(f"there is no {ALLKEYS}: Debian has it in the package perl-modules-5.36; or give --table and --data")
+        if not os.path.exists(ALLKEYS):
+            raise Failed(f"there is no {ALLKEYS}: Debian has it in the package unicode-data; or give --table and --data")
         table, data, maker = self.path("table.txt"), self.path("data.txt"), f"{TOP}/tools/unicode_files.py"
-        self.run([sys.executable, maker, "table", found[0]], out=table)
+        self.run([sys.executable, maker, "table"], out=table)
         self.run([sys.executable, maker, "data"], out=data)
         return table, data
 
@@ -363,7 +361,7 @@ def try_page(bench):
     with PostgreSQL(bench.room) as server:
         given = pages.outputs_of(commands, folder, {**bench.environment, **server.environment})
     for (command, wanted), got in zip(commands, given + [None] * len(commands)):
-        bench.check(f"page: $ {command[:100]}", got == wanted, "" if got == wanted else f"printed:\n{got}\nstands there:\n{wanted}")
+        bench.check(f"page: $ {command[:100]}", got == wanted, "" if got == wanted else f"printed:\n{got}\nthe page shows:\n{wanted}")
 
 
 # ---- All

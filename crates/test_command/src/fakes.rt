@@ -407,7 +407,7 @@ pub fn check_words(
     }
 }
 
-/// The same of words with commas between them, with a disk of its own: a file is to be made on it just where
+/// The same for arguments with commas between them, with a disk of its own. A file is to be made on it just where
 /// this is said, and once all files are read to their end. A file that is made is kept or removed.
 pub fn check_around(
     alloc: Global,

@@ -92,7 +92,7 @@ pub fn table_meaning(alloc: Global, file: &[u8]) -> Result<String, Fail> {
     Ok(text)
 }
 
-/// Adds a line of a data file: words, the second of which may be a range.
+/// Adds a line of a data file: words. The second may be a range.
 fn push_data_line(text: &mut String, line: &str) -> Result<(), Fail> {
     let mut is_first = true;
     for word in line.split(BLANKS) {

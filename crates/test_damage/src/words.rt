@@ -362,7 +362,7 @@ fn is_read(alloc: Global, words: Words, model: &Model) -> Result<bool, Fail> {
     Ok(is_kept(alloc, &line)? && line.as_slice() == wanted.as_slice())
 }
 
-/// Whether a text may be what is printed where words are refused: an error, a help or the version.
+/// Whether a text may be what is printed where arguments are rejected: an error, a help or the version.
 fn is_refusal(text: &str) -> bool {
     let is_version = text.starts_with("uca 0.1.0 (") && text.ends_with(")\n");
     text.ends_with("\n")

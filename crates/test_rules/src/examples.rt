@@ -7,7 +7,7 @@ const SPANISH: &str =
     "# Spanish, traditional order: the dictionaries of the Real Academia Española before the decision of 1994 of the
 # Association of Academies. ch and ll are letters of their own, after c and l; ñ is one after n, then as now.
 #
-# For a table of all letters, as allkeys.txt. It leaves out the spellings cH and lL (a lower-case letter before an
+# For a table of all letters, such as allkeys.txt. It leaves out the spellings cH and lL (a lower-case letter before an
 # upper-case one), which are read as two letters here.
 
 & N < ñ <<< Ñ
@@ -23,9 +23,9 @@ const SWEDISH: &str =
     "# Swedish: Svenska Akademiens ordlista, from its 13th edition (2006) on. å, ä and ö are letters of their own after z, in
 # this order. æ is sorted as ä, ø as ö and ü as y: such letters differ at the second level alone.
 #
-# For a table of all letters, as allkeys.txt, which has further letters after z, of which the click ǀ (U+01C0) begins
-# another group: the three letters stand directly before it. v and w are two letters there, and stay so; in older editions
-# w was sorted as v.
+# For a table of all letters, such as allkeys.txt. It has further letters after z: the click ǀ (U+01C0) begins another group
+# of them. The three letters come directly before it. v and w are two letters there, and stay so; in older editions w was
+# sorted as v.
 #
 # It leaves out letters of other languages that CLDR's data for Swedish names too: đ and ð as d, þ as th, ű as ü, ę as ä, ő,
 # œ and ô as ö.
@@ -47,11 +47,11 @@ const DANISH: &str =
 # as æ, ö as ø and ü as y. Where two words differ in case alone, the upper-case letter comes first: the first rules say so of
 # each letter. Without them, and with each lower-case letter before its upper-case one below, it is Norwegian (Bokmålsordboka).
 #
-# For a table of all letters, as allkeys.txt; the letters stand directly before the click ǀ (U+01C0), after all others that
+# For a table of all letters, such as allkeys.txt. The letters come directly before the click ǀ (U+01C0), after all others that
 # such a table has after z.
 #
-# It leaves out that an aa which is two letters, as at the seam of a compound word, is sorted as such, which no rule can tell;
-# aA; letters of other languages that CLDR's data for Danish names too, as đ, ð, þ, ű, ę, ő and œ, and their case.
+# It leaves out three things. An aa that is two letters, as in a compound word, should be sorted as such, but no rule can see
+# that. aA has no rule. Nor have the letters of other languages that CLDR names too, such as đ, ð, þ, ű, ę, ő and œ.
 
 & A <<< a & B <<< b & C <<< c & D <<< d & E <<< e & F <<< f & G <<< g & H <<< h & I <<< i
 & J <<< j & K <<< k & L <<< l & M <<< m & N <<< n & O <<< o & P <<< p & Q <<< q & R <<< r

@@ -69,8 +69,8 @@ fn keyed_line(alloc: Global, count: usize) -> Result<String, AllocError> {
     Ok(text)
 }
 
-/// Numbers of letters. With n of them the key has 6n + 4 bytes, of which 256 are printed at a time; and the line of output
-/// has 13n + 10, of which 16,384 wait before they go out.
+/// Numbers of letters. With n of them the key has 6n + 4 bytes; 256 are printed at a time. The line of output has
+/// 13n + 10 bytes; 16,384 wait before they go out.
 const COUNTS: [usize; 9] = [41, 42, 43, 84, 85, 1259, 1260, 1365, 2600];
 
 fn check_count(alloc: Global, count: usize) -> Result<(), Fail> {

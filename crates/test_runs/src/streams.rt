@@ -120,7 +120,7 @@ fn readers_of_keys_that_fail(rt: HostRuntime) -> Result<(), Fail> {
     Ok(())
 }
 
-/// The same of the run of lines with their keys.
+/// The same for the run of lines with their keys.
 const KEYED_READ_FAULTS: &str = r"10 |  | table line 1: Read
 8 |  | data line 2: Read
 1 |  | input line 1: Read

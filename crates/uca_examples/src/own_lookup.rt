@@ -8,7 +8,7 @@ use crate::key_of_text::SETTINGS;
 use std::alloc::Global;
 use uca_collation::{Collate, Collator, Data, Element, Header, Lookup, normal};
 
-/// The rows of letters from a on, one after the other: no table is read for them, and no memory is taken.
+/// The rows of letters from a on, in order: no table is read for them, and no memory is taken.
 #[derive(Clone, Copy)]
 pub struct Letters<'a> {
     rows: &'a [[Element; 1]],

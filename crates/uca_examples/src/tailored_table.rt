@@ -6,7 +6,7 @@ use std::alloc::Global;
 use std::cmp::Ordering;
 use uca_collation::{Collate, Collator, Data, Table, Trie, audit, normal, read_rules, tailor};
 
-/// The letter á stands after b, as a letter of its own.
+/// The letter á comes after b, as a letter of its own.
 const RULES: &str = "&b < \u{E1}";
 
 /// The table that the rules make of a base, once an audit has accepted it.
