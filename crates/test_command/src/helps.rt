@@ -13,7 +13,7 @@ const NONE: Files<'static> = Files {
 };
 
 const WHOLE: &str =
-    "Unicode collation (UTS #10): checks tables of weights, prints sort keys, sorts, compares, tailors, audits\n\
+    "Unicode collation (UTS #10): prints sort keys, sorts and compares by a table of weights; tailors and audits tables\n\
     \n\
     Usage: uca <COMMAND>\n\
     \n\
@@ -35,8 +35,8 @@ const WHOLE: &str =
 
 /// The help of `check`.
 pub const CHECK: &str =
-    "Says whether a weight table is well-formed (UTS #10, section 9.2): prints `well-formed`, or the\n\
-    condition that is broken and the row that breaks it, as `WF5 row 8`, with status 1.\n\
+    "Says whether a weight table is well-formed (UTS #10, section 9.2). Prints `well-formed`, or the\n\
+    first condition that fails and the first row that fails it, such as `WF5 row 8`, with status 1.\n\
     \n\
     Usage: uca check <TABLE> <DATA>\n\
     \n\
@@ -87,8 +87,8 @@ const KEYS: &str =
 
 const SORT: &str =
     "Sorts the lines of standard input by their sort keys. Lines of equal keys keep their order.\n\
-    With `--identical` lines of equal weight are in the order of their code points, and only lines that\n\
-    are canonically equivalent keep the order of the input: so a sorted file is the same each time.\n\
+    With `--identical` lines of equal weight are in the order of their code points. Then only lines that\n\
+    are canonically equivalent keep the order of the input.\n\
     \n\
     Usage: uca sort [OPTIONS] <TABLE> <DATA>\n\
     \n\
@@ -112,9 +112,9 @@ const SORT: &str =
     Example: uca sort --weighting non-ignorable allkeys.txt data.txt < lines.txt\n";
 
 const COMPARE: &str =
-    "Prints `<`, `=` or `>`, as LEFT comes before RIGHT, is equal to it or comes after it, and the level\n\
-    at which the two first differ, 0 if none: `< 2`. With `--identical` texts that weigh the same\n\
-    are compared at one more level, by the code points of Normalization Form D.\n\
+    "Prints `<`, `=` or `>`: LEFT comes before RIGHT, is equal to it, or comes after it. Then comes the\n\
+    level at which the two first differ, or 0: `< 2`. With `--identical` texts that weigh the same are\n\
+    compared at one more level, by the code points of Normalization Form D.\n\
     \n\
     Usage: uca compare [OPTIONS] <TABLE> <DATA> <LEFT> <RIGHT>\n\
     \n\
@@ -141,12 +141,12 @@ const COMPARE: &str =
     \x20 -h, --help\n\
     \x20         Print help (see a summary with '-h')\n\
     \n\
-    Example: uca compare --weighting shifted allkeys.txt data.txt cote côté\n";
+    Example: uca compare allkeys.txt data.txt cote côté\n";
 
 const TAILOR: &str =
-    "Tailors TABLE by RULES (UTS #35 Part 5, Collation) and prints the tailored table. Before the table is\n\
-    printed, what became of each weight of TABLE is written to the file CERTIFICATE; `uca audit` checks\n\
-    both. The certificate's file is made once there is a plan; a file of that name is replaced.\n\
+    "Tailors TABLE by RULES (UTS #35 Part 5, Collation) and prints the tailored table. Before that it\n\
+    writes the old and the new weights of TABLE to the file CERTIFICATE, once there is a plan. `uca audit`\n\
+    checks both. A file of that name is replaced, unless it is one that `tailor` reads.\n\
     \n\
     Usage: uca tailor <TABLE> <DATA> <RULES> <CERTIFICATE>\n\
     \n\
@@ -170,9 +170,9 @@ const TAILOR: &str =
     Example: uca tailor table.txt data.txt rules.txt certificate.txt > tailored.txt\n";
 
 const AUDIT: &str =
-    "Says whether TAILORED is BASE as RULES tailor it, with the weights moved as CERTIFICATE says: prints\n\
-    `accepted`, or the first condition that fails and where, as `refused 9 NotPlaced relation 3`, with\n\
-    status 1. Where it accepts, each relation of the rules holds, and all texts in which no target of\n\
+    "Says whether TAILORED is what RULES make of BASE, with the weights moved as CERTIFICATE says. Prints\n\
+    `accepted`, or the first condition that fails and where, such as `refused 9 NotPlaced relation 3`,\n\
+    with status 1. If it accepts, each relation of the rules holds, and all texts in which no target of\n\
     the rules occurs compare as under BASE.\n\
     \n\
     Usage: uca audit <BASE> <DATA> <RULES> <TAILORED> <CERTIFICATE>\n\
@@ -221,7 +221,7 @@ const AFFECTED: &str =
 
 /// What `--version` prints.
 pub const VERSION: &str =
-    "uca 0.1.0 (normalization of Unicode 18.0.0, proved with rattle-kit-13f)\n";
+    "uca 0.1.0 (normalization of Unicode 18.0.0, proved with rattle-kit-13b)\n";
 
 // No file is opened.
 fn end_of(status: u8, out: &'static str, err: &'static str) -> End<'static> {

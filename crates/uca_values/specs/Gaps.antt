@@ -1,4 +1,4 @@
--- Where a range fits between others.
+-- Where a range fits between others. Only private contracts cite it.
 use Rattle.std.specs.Prelude.{ℕ, ◌<◌, List}
 use Rattle.std.specs.List.Sorted.{IsPartitionPoint}
 

@@ -9,7 +9,7 @@ use std::alloc::{AllocError, Global};
 
 // What `--version` prints after the name: the version, the Unicode edition of the normalization, and the kit that proves it.
 // `tools/packaging.py` compares the kit with that of the machine.
-const VERSION: &str = "0.1.0 (normalization of Unicode 18.0.0, proved with rattle-kit-13f)";
+const VERSION: &str = "0.1.0 (normalization of Unicode 18.0.0, proved with rattle-kit-13b)";
 
 fn word<'a>(alloc: Global, id: &'a str, name: &'a str, help: &'a str) -> Arg<'a>
     ensures rule { rule_of result ≡ word_rule id.entry.now }
@@ -149,8 +149,8 @@ fn check_command<'a>(alloc: Global) -> Result<Command<'a>, AllocError>
         alloc,
         "check",
         "Say whether a weight table is well-formed",
-        "Says whether a weight table is well-formed (UTS #10, section 9.2): prints `well-formed`, or the\n\
-         condition that is broken and the row that breaks it, as `WF5 row 8`, with status 1.",
+        "Says whether a weight table is well-formed (UTS #10, section 9.2). Prints `well-formed`, or the\n\
+         first condition that fails and the first row that fails it, such as `WF5 row 8`, with status 1.",
         "Example: uca check allkeys.txt data.txt",
     );
     take_files(alloc, Ok(check))
@@ -188,8 +188,8 @@ fn sort_command<'a>(alloc: Global) -> Result<Command<'a>, AllocError>
         "sort",
         "Sort the lines of standard input by their sort keys",
         "Sorts the lines of standard input by their sort keys. Lines of equal keys keep their order.\n\
-         With `--identical` lines of equal weight are in the order of their code points, and only lines that\n\
-         are canonically equivalent keep the order of the input: so a sorted file is the same each time.",
+         With `--identical` lines of equal weight are in the order of their code points. Then only lines that\n\
+         are canonically equivalent keep the order of the input.",
         "Example: uca sort --weighting non-ignorable allkeys.txt data.txt < lines.txt",
     );
     take_options(alloc, Ok(sort))
@@ -202,10 +202,10 @@ fn compare_command<'a>(alloc: Global) -> Result<Command<'a>, AllocError>
         alloc,
         "compare",
         "Say how two texts compare, and at which level they differ",
-        "Prints `<`, `=` or `>`, as LEFT comes before RIGHT, is equal to it or comes after it, and the level\n\
-         at which the two first differ, 0 if none: `< 2`. With `--identical` texts that weigh the same\n\
-         are compared at one more level, by the code points of Normalization Form D.",
-        "Example: uca compare --weighting shifted allkeys.txt data.txt cote côté",
+        "Prints `<`, `=` or `>`: LEFT comes before RIGHT, is equal to it, or comes after it. Then comes the\n\
+         level at which the two first differ, or 0: `< 2`. With `--identical` texts that weigh the same are\n\
+         compared at one more level, by the code points of Normalization Form D.",
+        "Example: uca compare allkeys.txt data.txt cote côté",
     );
     let compare = take_options(alloc, Ok(compare));
     let compare = take_word(alloc, compare, "left", "LEFT", "The text on the left");
@@ -219,9 +219,9 @@ fn tailor_command<'a>(alloc: Global) -> Result<Command<'a>, AllocError>
         alloc,
         "tailor",
         "Tailor a weight table by rules",
-        "Tailors TABLE by RULES (UTS #35 Part 5, Collation) and prints the tailored table. Before the table is\n\
-         printed, what became of each weight of TABLE is written to the file CERTIFICATE; `uca audit` checks\n\
-         both. The certificate's file is made once there is a plan; a file of that name is replaced.",
+        "Tailors TABLE by RULES (UTS #35 Part 5, Collation) and prints the tailored table. Before that it\n\
+         writes the old and the new weights of TABLE to the file CERTIFICATE, once there is a plan. `uca audit`\n\
+         checks both. A file of that name is replaced, unless it is one that `tailor` reads.",
         "Example: uca tailor table.txt data.txt rules.txt certificate.txt > tailored.txt",
     );
     let tailor = take_files(alloc, Ok(tailor));
@@ -253,9 +253,9 @@ fn audit_command<'a>(alloc: Global) -> Result<Command<'a>, AllocError>
         alloc,
         "audit",
         "Say whether a tailored table is what its rules say",
-        "Says whether TAILORED is BASE as RULES tailor it, with the weights moved as CERTIFICATE says: prints\n\
-         `accepted`, or the first condition that fails and where, as `refused 9 NotPlaced relation 3`, with\n\
-         status 1. Where it accepts, each relation of the rules holds, and all texts in which no target of\n\
+        "Says whether TAILORED is what RULES make of BASE, with the weights moved as CERTIFICATE says. Prints\n\
+         `accepted`, or the first condition that fails and where, such as `refused 9 NotPlaced relation 3`,\n\
+         with status 1. If it accepts, each relation of the rules holds, and all texts in which no target of\n\
          the rules occurs compare as under BASE.",
         "Example: uca audit table.txt data.txt rules.txt tailored.txt certificate.txt",
     );
@@ -297,7 +297,7 @@ fn bare_command<'a>(alloc: Global) -> Command<'a>
 {
     Command::new(alloc, "uca")
         .about(
-            "Unicode collation (UTS #10): checks tables of weights, prints sort keys, sorts, compares, tailors, audits",
+            "Unicode collation (UTS #10): prints sort keys, sorts and compares by a table of weights; tailors and audits tables",
         )
         .after_help("`uca COMMAND --help` says more of each, with an example.")
         .version(VERSION)
