@@ -46,7 +46,7 @@ impl Opens for Files<'_> {
     }
 }
 
-// The fault of a file that cannot be made or kept.
+// The error of a file that cannot be made or kept.
 fn fault_of(error: io::Error) -> MakeFault {
     if error.kind() == ErrorKind::OutOfMemory {
         MakeFault::Memory
@@ -93,9 +93,9 @@ fn is_open<S: AsFd>(stream: &S) -> bool {
     stream.as_fd().try_clone_to_owned().is_ok()
 }
 
-// Opens a folder in place of each standard stream that is closed, and keeps it open: so no file that is
-// opened later becomes a standard stream, and each read and write of the closed one fails. Where all three are open, it
-// opens nothing.
+// Opens a folder in place of each standard stream that is closed, and keeps it open. So no file that is opened later
+// becomes a standard stream, and each read and write of the closed one fails. Where all three are open, it opens
+// nothing.
 fn hold_standard_streams(rt: &HostRuntime) -> io::Result<[Option<File>; 3]> {
     if is_open(&rt.stdin()) && is_open(&rt.stdout()) && is_open(&rt.stderr()) {
         return Ok([None, None, None]);

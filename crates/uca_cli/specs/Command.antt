@@ -33,9 +33,9 @@ use Rattle.uca_cli.specs.Statuses.{IsStatus}
 
 -- ---- What a command works with
 
--- A file system, whose states are of O: what it gives where a file of a name is to be opened, whether two names are of one
--- file, and what it gives where a file is to be made for a name. Then what it does with a file that was made: it keeps it
--- under the name, or removes it. Then what the bytes of an opened file are, and those of a file that was made.
+-- A file system, whose states are of O. It opens a file of a name, says whether two names are of one file, and makes a file
+-- for a name. A file that was made is kept under the name, or removed. Then what the bytes of an opened file are, and those
+-- of a file that was made.
 pub record FileSystem (O F M : Type 0) : Type 1 where
   pub gives : O → List ℕ → Result F OpenFault → O → Type 0
   pub compares : O → List ℕ → List ℕ → Bool → O → Type 0
@@ -289,7 +289,7 @@ pub record KeepsAndWrites {O F M : Type 0} (files : FileSystem O F M) (old new :
   pub keeps : KeepsCertificate files old new name certificate kept
   pub writes : WritesAfter table kept out out_new result
 
--- What becomes of the result of a run of tailor: its error is that of the command, and no file is made; or the certificate
+-- What is done with the result of a run of tailor. Its error is that of the command, and no file is made. Or the certificate
 -- is kept, where it can be, and the table is written.
 abbrev pub KeepsTailored : {O F M : Type 0} → FileSystem O F M → O → O → List ℕ → SinkState → SinkState
     → Result (TableContent × CertificateContent) RunFault → Result ℕ RunFault → Type 0

@@ -51,16 +51,16 @@ pub trait Opens {
     // What is true of the opener before a call, the name, the result and the opener after, if the impl says it.
     ghost open_gives: { Self → List ℕ → Result Self.File OpenFault → Self → Type 0 } = { λ _ _ _ _. ⊤ };
 
-    // The same of a call that compares two names.
+    // The same for a call that compares two names.
     ghost same_gives: { Self → List ℕ → List ℕ → Bool → Self → Type 0 } = { λ _ _ _ _ _. ⊤ };
 
     // The same for a call that makes a file.
     ghost create_gives: { Self → List ℕ → Result Self.Made MakeFault → Self → Type 0 } = { λ _ _ _ _. ⊤ };
 
-    // The same of a call that keeps a file under a name.
+    // The same for a call that keeps a file under a name.
     ghost keep_gives: { Self → Self.Made → List ℕ → Result (Unit {0}) MakeFault → Self → Type 0 } = { λ _ _ _ _ _. ⊤ };
 
-    // The same of a call that removes a file.
+    // The same for a call that removes a file.
     ghost remove_gives: { Self → Self.Made → Self → Type 0 } = { λ _ _ _. ⊤ };
 
     /// Opens the file of this name to be read.

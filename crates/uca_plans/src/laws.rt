@@ -114,11 +114,10 @@ pub fn one_outcome()
     ensures { OneOutcome }
 {}
 
-/// The base is a table and well-formed under the data for the code points, and the relations are rules of which none is
-/// rejected. Then a level has room exactly where, on each side of its fixed weight (0, 0020, 0002), the base weights that are
-/// numbered and the new weights that go there are at most as many as the places. A new weight goes to the side of its anchor's
-/// weight. Beside the fixed weight itself it goes low if it is put in before it, and high if after. So the insertions alone
-/// tell it.
+/// Take a well-formed base, and rules of which no relation is rejected. A level has room exactly if this is so on each side of
+/// its fixed weight (0, 0020, 0002): the base weights that are numbered there, and the new weights that go there, are together
+/// not more than the places. A new weight goes to the side of its anchor's weight. Beside the fixed weight itself it goes low if
+/// it is put in before it, and high if after. So the insertions alone tell it.
 pub fn room_is_counted()
     ensures { RoomIsCounted }
 {}

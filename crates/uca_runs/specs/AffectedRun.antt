@@ -1,4 +1,4 @@
--- What a run of the lines that rules affect answers and writes.
+-- What a run of the lines that rules affect returns and writes.
 use Rattle.std.specs.Prelude.{◌≡◌, ◌↔◌, ℕ, List, [], ◌∷◌, Bool, true, false, if◌then◌else◌, ◌&&◌, ◌||◌, ◌==◌, Result, chars}
 use Rattle.std.specs.List.{list_any}
 use Rattle.uca_weights.specs.Streams.{SourceState, SinkState}
@@ -11,7 +11,7 @@ use Rattle.uca_runs.specs.declared.faults.RunFault.{RunFault}
 use Rattle.uca_runs.specs.EachLine.{RunsEach, PrintsEach, ended_before_input}
 use Rattle.uca_runs.specs.Files.{DataAndRules, data_and_rules, data_and_rules_roles}
 
--- whether the first list's code points all occur in the second, in their order; others may stand between
+-- whether the first list's code points all occur in the second, in their order; others may be between
 abbrev pub occurs_in_order : List ℕ → List ℕ → Bool
 occurs_in_order [] ys = true
 occurs_in_order (x ∷ xs) [] = false
@@ -33,7 +33,7 @@ if_affected relations text line = if is_affected relations text then ended line 
 abbrev pub affected_line : Properties → List Relation → List ℕ → List ℕ
 affected_line properties relations line = if_affected relations (nfd_text properties (chars line)).points line
 
--- What a run answers under properties and rules. Nothing but its files ends it before its input: it looks no rows up.
+-- What a run returns under properties and rules. Nothing but its files ends it before its input: it looks no rows up.
 abbrev pub RunsAffected : {A : Type 0} → SourceState → SourceState → SinkState → SinkState → Result A RunFault → DataAndRules → Type 0
 RunsAffected input input_new out out_new result files = (ended_before_input result ≡ false) × RunsEach files.properties (affected_line files.properties files.relations) input input_new out out_new result
 

@@ -34,8 +34,8 @@ ended_before_input (Err Memory) = true
 ended_before_input (Err _) = false
 
 -- A run that goes by the files of a reading, and writes while it reads its input: what it returns where the bytes of its
--- files are known; and whatever its files and streams are, that a run that ended before its input did nothing with its
--- streams, and that a source or the output has failed where it had before, or where the run ended by just that.
+-- files are known. Whatever its files and streams are, a run that ended before its input did nothing with its streams. A
+-- source or the output has failed where it had before, or where the run ended by just that.
 pub record PrintsEach {A C : Type 0} (reading : Reading C) (of : List Role) (Runs : C → Type 0) (olds news : List SourceState)
     (input input_new : SourceState) (out out_new : SinkState) (result : Result A RunFault) : Type 0 where
   pub runs : Over reading olds news Runs result

@@ -1,4 +1,4 @@
--- What the runs answer and write that print keys: alone, or each before its line.
+-- What the runs return and write that print keys: alone, or each before its line.
 use Rattle.std.specs.Prelude.{ℕ, List, Option, Result, Err, ⊤}
 use Rattle.uca_weights.specs.declared.Depth.{Depth}
 use Rattle.uca_weights.specs.declared.Weighting.{Weighting}
@@ -17,7 +17,7 @@ WritesKeys c bytes left begun now result = WritesEach c.collation.properties (pr
 abbrev pub WritesKeyedLines : {A : Type 0} → KeySettings → List ℕ → Option (List ℕ) → Option (List ℕ) → Option (List ℕ) → Result A RunFault → Type 0
 WritesKeyedLines c bytes left begun now result = WritesEach c.collation.properties (keyed_line c) bytes left begun now result
 
--- What a run answers under a table and properties that writes these bytes for a line. An allocation that failed for
+-- What a run returns under a table and properties that writes these bytes for a line. An allocation that failed for
 -- looking up rows says nothing of the lines.
 abbrev pub RunsUnder : {A : Type 0} → (KeySettings → List ℕ → List ℕ) → Option Weighting → Depth → SourceState → SourceState → SinkState → SinkState → Result A RunFault → TableAndData → Type 0
 RunsUnder bytes_of asked depth input input_new out out_new (Err Memory) files = ⊤

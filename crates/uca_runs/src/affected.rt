@@ -77,14 +77,14 @@ impl<A: Allocator> AffectedRun<A> {
     }
 }
 
-/// Prints the lines of the input that the rules affect, as they stand and in their order, until the end of the input or its
-/// first line with an error: those in whose text in Normalization Form D a target of the rules occurs, all its code points
-/// in their order, whatever stands between.
+/// Prints the lines of the input that the rules affect, as they are and in their order, until the end of the input or its
+/// first line with an error. A line is affected if a target of the rules occurs in its text in Normalization Form D: all its
+/// code points in their order, whatever is between.
 ///
 /// # Errors
 ///
-/// `Input` for the first line with an error, where the affected lines before it were written; `Write` where the writer
-/// failed, also where a later line has an error.
+/// - `Input`: the first line with an error. The affected lines before it were written.
+/// - `Write`: the writer failed, also where a later line has an error.
 pub fn print_affected<D: Allocator, R: Allocator, A: Allocator, I: Read, W: Write>(
     alloc: A,
     global: Global,
@@ -109,15 +109,16 @@ pub fn print_affected<D: Allocator, R: Allocator, A: Allocator, I: Read, W: Writ
     end_output(&mut run.output, out, end)
 }
 
-/// Prints the lines of `input` that rules affect, under the data file and the rules that are read first: those in which a
-/// target of the rules occurs in order, as they stand, each with LF, in their order. Under each accepted tailoring by the
-/// rules the other lines keep their order among themselves.
+/// Prints the lines of `input` in which a target of the rules occurs in order, each with LF. The data file and the rules are
+/// read first. The lines are as they are, and in their order. Under each accepted tailoring by the rules the other lines keep
+/// their order among themselves.
 ///
 /// # Errors
 ///
-/// `File` where the data file, or else the rules, are rejected: nothing was written, and nothing of the input was read.
-/// `Input` for the first line with an error, where the affected lines before it were written. `Write` where the writer
-/// failed, also where a later line has an error: the first `written` bytes of the whole output went out.
+/// - `File`: the data file, or else the rules, are rejected. Nothing was written, and nothing of the input was read.
+/// - `Input`: the first line with an error. The affected lines before it were written.
+/// - `Write`: the writer failed, also where a later line has an error. The first `written` bytes of the whole output went
+///   out.
 pub fn run_affected<D: Read, U: Read, I: Read, W: Write>(
     alloc: Global,
     properties: &mut Source<D>,

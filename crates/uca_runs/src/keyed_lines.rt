@@ -19,8 +19,8 @@ use uca_weights::{Depth, Sink, Source, Weighting};
 ///
 /// # Errors
 ///
-/// `Input` for the first line with an error, where the lines before it were written with their keys; `Write`
-/// where the writer failed, also where a later line has an error.
+/// - `Input`: the first line with an error. The lines before it were written with their keys.
+/// - `Write`: the writer failed, also where a later line has an error.
 pub fn print_keyed_lines<L: Lookup, T: Allocator, A: Allocator + Copy, I: Read, W: Write>(
     alloc: A,
     global: Global,
@@ -51,17 +51,17 @@ pub fn print_keyed_lines<L: Lookup, T: Allocator, A: Allocator + Copy, I: Read, 
     )
 }
 
-/// Prints each line of `input` after its sort key, under the table and the data file that are read first: the key as
-/// upper-case hexadecimal digits without spaces, a tab, the bytes of the line as they are, and LF. The key is that of
-/// `run_keys`, whose spaces alone are left out; so the first field of each line is the key, and the text after the first tab
-/// the line. The weighting and the depth are those of `run_keys`.
+/// Prints each line of `input` after its sort key. The table and the data file are read first. A line of output is the key in
+/// upper-case hexadecimal digits without spaces, a tab, the bytes of the line, and LF. The key, the weighting and the depth are
+/// those of `run_keys`. So the first field is the key, and the text after the first tab is the line.
 ///
 /// # Errors
 ///
-/// `File` where the table, or else the data file, is rejected, and then `Memory` where an allocation failed
-/// for looking up rows: nothing was written, and nothing of the input was read. `Input` for the first line with an
-/// error, where the lines before it were written with their keys. `Write` where the writer failed, also where a later
-/// line has an error: the first `written` bytes of the whole output went out.
+/// - `File`: the table, or else the data file, is rejected.
+/// - `Memory`: an allocation failed for looking up rows. In both cases nothing was written, and nothing of the input was read.
+/// - `Input`: the first line with an error. The lines before it were written with their keys.
+/// - `Write`: the writer failed, also where a later line has an error. The first `written` bytes of the whole output went
+///   out.
 pub fn run_keyed_lines<T: Read, D: Read, I: Read, W: Write>(
     alloc: Global,
     table: &mut Source<T>,

@@ -46,8 +46,8 @@ pub fn untouched_lines_keep_their_order()
     line_keys_compare_as_lines();
 }
 
-/// The lines that a run of affected lines prints are all but those that the rules leave as they are: a target occurs in order
-/// in the text of each of them, and in the text of no other.
+/// A run of affected lines prints all lines but those that the rules leave as they are. A target occurs in order in the text
+/// of each, and in the text of no other line.
 pub fn affected_texts_are_the_others()
     ensures { AffectedTextsAreTheOthers }
 {}

@@ -1,6 +1,5 @@
-//! The runs over files of the command that need neither the planner nor the auditor: the keys of lines, alone or before the
-//! lines, their order, the lines that rules affect, the check of a table, the comparison of two texts; and the reading of
-//! the files of all runs.
+//! The runs that need neither the planner nor the auditor: keys of lines, sorting, the lines that rules affect, checking a
+//! table, and comparing two texts. It also reads the files of all runs.
 #![tactic(auto)]
 
 pub mod affected;

@@ -56,7 +56,7 @@ abbrev pub affected_app : App
 affected_app = with_rule (with_rule (new_app (codes "affected")) (word_rule (codes "data"))) (word_rule (codes "rules"))
 
 -- The command before its subcommands: one of them has to be named. It has a version, so `clap` adds `--version`, and it
--- adds the subcommand `help`, at which the command always has a fault.
+-- adds the subcommand `help`, which is always an error.
 abbrev pub bare_app : App
 bare_app = on_top (λ s. record s { subcommand_required = true; has_version = true }) (new_app (codes "uca"))
 

@@ -315,13 +315,14 @@ fn subcommand_words<'a>(name: &str, found: &ArgMatches<'a>) -> Result<Words<'a>,
     }
 }
 
-/// Reads the arguments of a command line, of which the first is the program's name. Returns the subcommand with its
-/// arguments, the weighting that is given and how far texts are compared.
+/// Reads the arguments of a command line; the first is the program's name. Returns the subcommand with its arguments, the
+/// weighting that is given, and how far texts are compared.
 ///
 /// # Errors
 ///
-/// `Refused` with the error of `clap` where it rejects the arguments, or help or the version is asked for; `Weighting` where
-/// it accepts them and the value of `--weighting` is not known; `Memory` where an allocation failed.
+/// - `Refused`: `clap` rejects the arguments, or help or the version is asked for. It has the error of `clap`.
+/// - `Weighting`: `clap` accepts the arguments, and the value of `--weighting` is not known.
+/// - `Memory`: an allocation failed.
 pub fn read_words<'a>(alloc: Global, words: &'a [&'a str]) -> Result<Words<'a>, WordFault>
     ensures ok { IfOk result (AreRead (texts words.entry.now)) }
     ensures err { IfErr result (IsFaultOf (texts words.entry.now)) }
