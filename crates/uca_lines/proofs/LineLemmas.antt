@@ -153,18 +153,21 @@ SaysOfBytes-fault known rest line waiting new later capacity n longest Read h so
 SaysOfBytes-fault known rest line waiting new later capacity n longest Memory h some lacks is_new is_later is_longest cause =
     (rw (is_new, is_later) h, HasBytes-waiting known rest line waiting h some)
 
+-- A piece that is not taken for want of memory fits the line, which has less room.
 pub take_fault-memory : (fault : LineFault) (capacity n len : ℕ) → IsTakeFault fault capacity n len → ◌≡◌ {A = Result NextLine LineFault} (Err fault) (Err Memory) → capacity < n
 take_fault-memory TooLong capacity n len h e = cc
 take_fault-memory Limit capacity n len h e = absurd h
 take_fault-memory Read capacity n len h e = absurd h
 take_fault-memory Memory capacity n len h e = omega (arith, h.0, h.1)
 
+-- The limit on lines is no reason not to take a piece.
 pub take_fault-not_limit : (fault : LineFault) (capacity n len : ℕ) → IsTakeFault fault capacity n len → ◌≡◌ {A = Result NextLine LineFault} (Err fault) (Err Limit) → ⊥
 take_fault-not_limit TooLong capacity n len h e = cc
 take_fault-not_limit Limit capacity n len h e = h
 take_fault-not_limit Read capacity n len h e = h
 take_fault-not_limit Memory capacity n len h e = cc
 
+-- Nor is a failed read.
 pub take_fault-not_read : (fault : LineFault) (capacity n len : ℕ) → IsTakeFault fault capacity n len → is_read (Err fault) ≡ false
 take_fault-not_read TooLong capacity n len h = refl
 take_fault-not_read Limit capacity n len h = absurd h

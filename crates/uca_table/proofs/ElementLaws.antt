@@ -141,6 +141,7 @@ after_element text e more h =
 
 -- ---- Why some elements are rejected
 
+-- the rest is not empty, and does not begin as an element does
 pub line_cause : (text : List ℕ) (front : List Element) (rest : List ℕ) → Leads BeginsElement text front rest → false ≡ (length rest == 0)
     → opens rest ≡ false → ElementsCause text kinds.Line
 line_cause text front [] h some o = cc

@@ -21,11 +21,13 @@ pub row_is : (text front back : List ℕ) (b : ℕ) (rest : List ℕ) (row : Ent
 row_is text front back b rest row f h k key elements =
     record { rest = rest; cut = after_semicolon text back b rest h k; key = subst (λ (t : List ℕ). IsKey t row.key) f key; elements = elements }
 
+-- a cause in the key is one in the row
 pub key_fault : (text front : List ℕ) (kind : FaultKind) → front ≡ up_to is_semicolon text → (kind ≡ kinds.Memory) ⊎ KeyCause front kind
     → (kind ≡ kinds.Memory) ⊎ RowTextCause text kind
 key_fault text front kind h (inl m) = inl m
 key_fault text front kind h (inr e) = inr (inl (subst (λ (t : List ℕ). KeyCause t kind) h e))
 
+-- nothing is at the cut, so the row has no `;`
 pub no_semicolon : (text back : List ℕ) → back ≡ from_first is_semicolon text → length back ≡ 0 → (kinds.Line ≡ kinds.Memory) ⊎ RowTextCause text kinds.Line
 no_semicolon text [] h n = inr (inr (inl (sym h, refl)))
 no_semicolon text (b ∷ bs) h n = absurd (omega (arith, n))

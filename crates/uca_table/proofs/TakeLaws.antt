@@ -72,6 +72,7 @@ row_is_entry text row h = record {
 pub takes_nothing : (old inside : TableSoFar) (text : List ℕ) → inside ≡ old → IsTableSoFar inside → text ≡ [] → TakesText old text old
 takes_nothing old inside text same h e = record { item = Nothing; form = e; order = sym (append-nil (in_order old)); begun = subst IsTableSoFar same h }
 
+-- a text without a first byte is empty
 pub empty_without_first : (text : List ℕ) → None ≡ slice_get text 0 → text ≡ []
 empty_without_first [] h = refl
 empty_without_first (b ∷ bs) h = cc
@@ -191,6 +192,7 @@ keeps_version points has inside old text name version h t v named = record {
     same : (n : List ℕ) → Some name ≡ Some n → name ≡ n
     same n q = cc
 
+-- a setting changes neither the keys nor the version
 pub keeps_setting : {K : Type 0} (points : K → List ℕ) (has : K → Bool) (inside old : TableSoFar) (text : List ℕ) (setting : Option Weighting)
     → Keeps points has inside → TakesText old text (record inside { setting = setting }) → Keeps points has (record inside { setting = setting })
 keeps_setting points has inside old text setting h t = record { keys = h.keys; named = h.named; begun = t.begun }
@@ -201,6 +203,7 @@ keeps_ranges points has inside old text all h t = record { keys = h.keys; named 
 
 -- ---- Why a setting, a range or a row is rejected
 
+-- no setting has the argument's word
 pub setting_fault : (b : TableSoFar) (text word : List ℕ) → word_of text ≡ at_variable → word ≡ argument_of text
     → ((setting : Weighting) → word ≡ setting_word setting → ⊥) → (kinds.Line ≡ kinds.Memory) ⊎ TextCause b text kinds.Line
 setting_fault b text word first argument none = cause_in b text ForSetting kinds.Line first (refl, (λ setting h. none setting (argument ∙ h.argument)))

@@ -1,6 +1,6 @@
-use Rattle.std.proofs.Common.{◌+◌, Err, ap, ◌∙◌}
+use Rattle.std.proofs.Common.{◌+◌, Ok, Err, refl, ap, ◌∙◌}
 use Rattle.uca_lines.specs.LineReader.{left_of}
-use Rattle.uca_lines.proofs.FileStepLemmas.{step_fault, line_not_taken}
+use Rattle.uca_lines.proofs.FileStepLemmas.{at_end, step_fault, line_not_taken, last_not_taken}
 use Rattle.uca_lines.proofs.files.reading.take_line.Goals as goal
 
 -- the taker rejects a line
@@ -19,3 +19,18 @@ returns-in-Err-clause-fault g c =
     c.args.taker.now
     c.in-Err.fault c.requires.longest c.requires.few c.in-Err.ensures.bytes c.next_line.ensures.no_lf c.next_line.ensures.fits c.in-Err.ensures.limit
     (λ e. c.next_line.ensures.read (c.in-Err.is ∙ ap Err e)))
+
+-- no LF ends the last line
+pub returns-in-Ok-Unterminated-clause-fault : goal.returns-in-Ok-Unterminated-clause-fault
+returns-in-Ok-Unterminated-clause-fault g c =
+    last_not_taken g.T.LineParser.form g.T.LineParser.cause (left_of c.args.lines.now c.args.source.now)
+    (left_of c.next_line.new.self c.next_line.new.source) c.next_line.new.source.remaining (c.args.lines.now.number + 1) c.args.taker.now
+    c.next_line.new.line.items _ (rw c.in-Ok-Unterminated.field-0-is at c.in-Ok-Unterminated.ensures.bytes) c.next_line.ensures.no_lf
+    (c.next_line.ensures.cut (c.in-Ok-Unterminated.is ∙ ap Ok c.in-Ok-Unterminated.field-0-is))
+    (rw c.deref-in-Ok-Unterminated.ensures.value at c.last_line_kind.ensures.cause)
+
+-- no byte is left
+pub returns-in-Ok-EndOfInput-clause-end : goal.returns-in-Ok-EndOfInput-clause-end
+returns-in-Ok-EndOfInput-clause-end g c =
+    let gone = rw c.in-Ok-EndOfInput.field-0-is at c.in-Ok-EndOfInput.ensures.bytes in
+    (at_end _ _ c.next_line.new.line.items gone.0 (c.next_line.ensures.end (c.in-Ok-EndOfInput.is ∙ ap Ok c.in-Ok-EndOfInput.field-0-is)) gone.1, refl)

@@ -8,6 +8,7 @@ use Rattle.uca_lines.specs.NextLine.{IsWithinLimit}
 use Rattle.uca_lines.specs.LineReader.{LineState}
 use Rattle.uca_lines.proofs.lines.LineReader.next_line.Goals as goal
 
+-- what is returned within the limit, unless it is the error of the limit
 within_limit : (number : ℕ) (result : Result NextLine LineFault) → number < 1000000 → result ≢ Err Limit → IsWithinLimit number result
 within_limit number (Ok Terminated) few other = few
 within_limit number (Ok Unterminated) few other = few

@@ -8,6 +8,7 @@ use Rattle.uca_lines.specs.LineReader.{LineState}
 use Rattle.uca_lines.proofs.LineLemmas.{slice_range-after_lf}
 use Rattle.uca_lines.proofs.lines.LineReader.take_waiting.Goals as goal
 
+-- what holds at an error, at a result that is one
 at_err : {T E : Type 0} (P : Type 0) (result : Result T E) → OnErr result P → true ≡ is_err result → P
 at_err P (Ok x) h e = absurd (false≢true (sym e))
 at_err P (Err x) h e = h
