@@ -128,6 +128,12 @@ pub differs_at : (x y v w : ℕ) (a b c d : Bool) (order : Ordering) → x ≡ v
 differs_at x y v w a b c d order first second left right it =
     subst (λ n. Differs n w c d order) first (subst (λ n. Differs x n c d order) second (subst (λ e. Differs x y e d order) left (subst (λ e. Differs x y a e order) right it)))
 
+-- the same where they allow a step
+pub allows_at : (step : Step) (x y v w : ℕ) (a b c d : Bool) → x ≡ v → y ≡ w → a ≡ c → b ≡ d → AllowsWith step x y a b → AllowsWith step v w c d
+allows_at step x y v w a b c d first second left right it =
+    subst (λ n. AllowsWith step n w c d) first
+    (subst (λ n. AllowsWith step x n c d) second (subst (λ e. AllowsWith step x y e d) left (subst (λ e. AllowsWith step x y a e) right it)))
+
 pub stands_decided : (weighting : Weighting) (es fs : List Element) (left right : FrontState) (s t : LevelsSoFar) (level : ℕ)
     → Stands weighting es fs left right s → 1 ≤ s.first → s.first ≤ level → level ≤ s.through → t.first ≡ s.first → t.through ≡ level - 1 → t.last ≡ s.last
     → Differs (weight_here weighting level left) (weight_here weighting level right) (is_ended left) (is_ended right) t.order → Stands weighting es fs left right t
