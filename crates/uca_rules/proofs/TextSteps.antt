@@ -1,8 +1,7 @@
 -- Texts, a piece further: what is read of one, and why it is none.
-use Rattle.std.proofs.Common.{◌≡◌, ◌≢◌, inl, inr, ℕ, suc, ◌<◌, ◌≤◌, Bool, true, false, ◌==◌, ◌&&◌, IsTrue, IsFalse, List, [], ◌∷◌, ◌++◌, length, take, drop, ◌-◌, Option, Some, None, IfSome, if◌then◌else◌, refl, ap, sym, subst, ◌∙◌, arith}
-use Rattle.std.proofs.lemmas.List.{append-nil, append_assoc, take_at, take_rest, length-drop, flat_map_more}
+use Rattle.std.proofs.Common.{◌≡◌, ◌≢◌, inl, inr, ℕ, suc, ◌<◌, ◌≤◌, Bool, true, false, ◌==◌, ◌&&◌, IsTrue, IsFalse, List, [], ◌∷◌, ◌++◌, length, take, Option, Some, None, IfSome, if◌then◌else◌, refl, ap, sym, subst, ◌∙◌, arith}
+use Rattle.std.proofs.lemmas.List.{append-nil, append_assoc, take_at, length-drop, flat_map_more}
 use Rattle.std.proofs.lemmas.Bool.{false≢true, eqb-false}
-use Rattle.std.specs.Prelude.{slice_get}
 use Rattle.std.specs.Str.{byte}
 use Rattle.uca_rules.specs.declared.characters.Character.{Character}
 use Rattle.uca_rules.specs.declared.faults.RuleFaultKind.{RuleFaultKind}
@@ -259,21 +258,12 @@ some_points false cs symbols rest plain text = cases text.pieces text.are text.g
 
 -- ---- Pieces by their first character
 
-pub quoted_piece : (starred : Bool) (cs : List Character) (first : Character) → Some first ≡ slice_get cs 0 → first.code ≡ apostrophe →
-    piece_at starred cs ≡ behind_apostrophe first (take (length cs - 1) (drop 1 cs))
-quoted_piece starred [] first is code = absurd (let e : ◌≡◌ {A = Option Character} (Some first) None = is in cc)
-quoted_piece starred (c ∷ cs) first is code =
-    let e : ◌≡◌ {A = Option Character} (Some first) (Some c) = is in
-    let same : first ≡ c = cc in
-    let test : (c.code == apostrophe) ≡ true = rw (← same, code) refl in
-    rw (test, take_rest (c ∷ cs) 1, same) refl
+-- At an apostrophe the piece is what `behind_apostrophe` gives.
+pub quoted_piece : (starred : Bool) (cs : List Character) (first : Character) (behind : List Character) → cs ≡ first ∷ behind → first.code ≡ apostrophe →
+    piece_at starred cs ≡ behind_apostrophe first behind
+quoted_piece starred cs first behind is code = rw (is, code) refl
 
-pub escaped_piece : (starred : Bool) (cs : List Character) (first : Character) → Some first ≡ slice_get cs 0 → first.code ≡ backslash →
-    piece_at starred cs ≡ behind_backslash first (take (length cs - 1) (drop 1 cs))
-escaped_piece starred [] first is code = absurd (let e : ◌≡◌ {A = Option Character} (Some first) None = is in cc)
-escaped_piece starred (c ∷ cs) first is code =
-    let e : ◌≡◌ {A = Option Character} (Some first) (Some c) = is in
-    let same : first ≡ c = cc in
-    let no : (c.code == apostrophe) ≡ false = rw (← same, code) refl in
-    let yes : (c.code == backslash) ≡ true = rw (← same, code) refl in
-    rw (no, yes, take_rest (c ∷ cs) 1, same) refl
+-- At a backslash the piece is what `behind_backslash` gives.
+pub escaped_piece : (starred : Bool) (cs : List Character) (first : Character) (behind : List Character) → cs ≡ first ∷ behind → first.code ≡ backslash →
+    piece_at starred cs ≡ behind_backslash first behind
+escaped_piece starred cs first behind is code = rw (is, code) refl

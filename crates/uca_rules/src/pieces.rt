@@ -46,10 +46,9 @@ pub(crate) fn take_piece<'a, A: Allocator>(
 ) -> Result<Option<&'a [Character]>, AllocError>
     ensures { IfOk result (λ found. Takes symbols.old.items symbols.new.items (slice_view found) (Pieces.piece_at starred characters.now)) }
 {
-    let Some(first) = characters.first() else {
+    let Some((first, behind)) = characters.split_first() else {
         return Ok(None);
     };
-    let behind = &characters[1..];
     if first.code == '\'' {
         return behind_apostrophe(symbols, *first, behind);
     }
@@ -73,11 +72,11 @@ fn behind_apostrophe<'a, A: Allocator>(
 ) -> Result<Option<&'a [Character]>, AllocError>
     ensures { IfOk result (λ found. Takes symbols.old.items symbols.new.items (slice_view found) (Pieces.behind_apostrophe first characters.now)) }
 {
-    let Some(second) = characters.first() else {
+    let Some((second, behind)) = characters.split_first() else {
         return Ok(None);
     };
     if second.code == '\'' {
-        return push_symbol(symbols, Symbol::Literal(first), &characters[1..]);
+        return push_symbol(symbols, Symbol::Literal(first), behind);
     }
     inside_quotes(symbols, characters)
 }
@@ -124,8 +123,7 @@ fn behind_backslash<'a, A: Allocator>(
 fn escaped(characters: &[Character]) -> Option<(char, &[Character])>
     ensures { (first : Character) → escaped_piece first result ≡ Pieces.behind_backslash first characters.now }
 {
-    let second = characters.first()?;
-    let behind = &characters[1..];
+    let (second, behind) = characters.split_first()?;
     match second.code {
         'u' => escaped_number(behind, 4),
         'U' => escaped_number(behind, 8),
