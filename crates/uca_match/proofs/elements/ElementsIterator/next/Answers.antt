@@ -1,5 +1,4 @@
-use Rattle.std.proofs.Common.{◌∷◌, Option, None, sym, ap, length, arith, ◌∙◌}
-use Rattle.uca_weights.specs.declared.Element.{Element}
+use Rattle.std.proofs.Common.{sym, ap, length, arith, ◌∙◌}
 use Rattle.std.proofs.lemmas.List.{nil_from_length}
 use Rattle.uca_match.specs.Collations.{collation_of}
 use Rattle.uca_match.specs.Places.{left_of}
@@ -30,31 +29,3 @@ returns-in-Unlisted-clause-steps g c =
 
 pub returns-in-Unlisted-clause-goes : goal.returns-in-Unlisted-clause-goes
 returns-in-Unlisted-clause-goes g c = omega (arith, ap length (returns-in-Unlisted-clause-steps g c))
-
-pub returns-in-Some-clause-steps : goal.returns-in-Some-clause-steps
-returns-in-Some-clause-steps g c =
-    let before = c.self.inside in
-    let rest = λ (second : Option Element). rest_of (collation_of g.L.Lookup.content before.collator) second before.row.now (left_of before.text.now before.place) in
-    sym c.self.view_is
-    ∙ ap rest (sym c.in-Some.ensures.value)
-    ∙ ap (λ second. c.in-Some.second ∷ rest second) (sym c.in-Some.ensures.after)
-
-pub returns-in-Some-clause-goes : goal.returns-in-Some-clause-goes
-returns-in-Some-clause-goes g c = omega (arith, ap length (returns-in-Some-clause-steps g c))
-
-pub returns-in-Some-split_first-clause-steps : goal.returns-in-Some-split_first-clause-steps
-returns-in-Some-split_first-clause-steps g c =
-    let before = c.self.inside in
-    let now = c.loop-first.self-inside in
-    let rest = rest_of (collation_of g.L.Lookup.content now.collator) in
-    let left = left_of now.text.now now.place in
-    let first = c.in-Some-split_first in
-    sym c.self.view_is
-    ∙ ap (λ second. rest_of (collation_of g.L.Lookup.content before.collator) second before.row.now (left_of before.text.now before.place))
-    (sym c.in_default.ensures.value)
-    ∙ sym c.loop-first.invariant.same_rest
-    ∙ ap (λ row. rest None row left) first.ensures.cases.0
-    ∙ ap (λ second. first.first.now ∷ rest second first.rest.now left) (sym c.loop-first.invariant.no_second)
-
-pub returns-in-Some-split_first-clause-goes : goal.returns-in-Some-split_first-clause-goes
-returns-in-Some-split_first-clause-goes g c = omega (arith, ap length (returns-in-Some-split_first-clause-steps g c))
