@@ -13,6 +13,7 @@ use Rattle.uca_plans.proofs.PlanSteps.{target_row, IsStep, AreSteps}
 use Rattle.uca_plans.proofs.KeyPlaces.{one_more_row}
 use Rattle.uca_plans.proofs.DraftReading.{read_by_what_occurs, read_of_key}
 use Rattle.uca_plans.proofs.SameReading.{target_or_not, text_used, text_of_rules}
+use Rattle.uca_tailorings.proofs.TailoredWeights.{target_in_first}
 
 -- ---- Targets
 
@@ -25,12 +26,6 @@ target_split (r ∷ relations) key (inr later) =
     let found = target_split relations key later in
     (r ∷ found.0, found.1, found.2, ap (λ xs. r ∷ xs) found.3, found.4)
 
--- a target of some relations is one of these and more
-target_longer : (relations more : List Relation) (key : List ℕ) → IsTarget relations key → IsTarget (relations ++ more) key
-target_longer [] more key target = absurd target
-target_longer (r ∷ relations) more key (inl here) = inl here
-target_longer (r ∷ relations) more key (inr later) = inr (target_longer relations more key later)
-
 -- where no two relations have the same target, a target of the first ones is none of the others
 pub targets_apart : (before after : List Relation) (key : List ℕ) → AreDistinct (before ++ after) → IsTarget before key → IsTarget after key → ⊥
 targets_apart before after key distinct first second =
@@ -38,7 +33,7 @@ targets_apart before after key distinct first second =
     let whole : before ++ after ≡ (before ++ found.0) ++ found.1 ∷ found.2 =
     ap (λ xs. before ++ xs) found.3 ∙ sym (append_assoc before found.0 (found.1 ∷ found.2)) in
     distinct (before ++ found.0) found.2 found.1 whole
-    (target_longer before found.0 found.1.target.points (subst (IsTarget before) (sym found.4) first))
+    (target_in_first before found.0 found.1.target.points (subst (IsTarget before) (sym found.4) first))
 
 -- ---- Steps
 

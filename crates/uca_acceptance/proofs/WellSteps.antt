@@ -28,12 +28,13 @@ use Rattle.uca_plans.proofs.PlanLists.{list_at, HasGrownLists, good_step, step_l
 use Rattle.uca_plans.proofs.DraftKinds.{accepted_low, joined_is}
 use Rattle.uca_plans.proofs.DraftPairs.{read_each}
 use Rattle.uca_plans.proofs.PlanHolds.{IsListed, IsReadImplicit, Holds}
-use Rattle.uca_plans.proofs.PlanCarried.{with_row_each, listed_grown, reweighted_listed, anchor_at, IsPlacedStep, part_each, text_points, placed_step}
+use Rattle.uca_plans.proofs.PlanCarried.{listed_grown, reweighted_listed, anchor_at, IsPlacedStep, part_each, text_points, placed_step}
 use Rattle.uca_plans.proofs.PlanCarried.{WithElement, carried_step}
 use Rattle.uca_acceptance.proofs.WellDrafts.{IsBelow, IsBelowOrZero, StandWell, HasWellWeights}
 use Rattle.uca_acceptance.proofs.NewWell.{insertion_at, new_well_one, new_well_two, new_well_three}
 use Rattle.uca_acceptance.proofs.BaseOrder.{each_fails}
 use Rattle.uca_acceptance.proofs.BaseWell.{implicit_is}
+use Rattle.uca_plans.proofs.RowSizes.{each_with_row}
 
 -- ---- Lists that have grown
 
@@ -134,7 +135,7 @@ step_well basis n rule a b well step F keeps stands listed made =
       listed = listed;
       outside = λ e read test. keeps e (well.outside e read test);
       held = subst (λ rows. AllByRecursion (λ row. AllByRecursion F row.elements) rows) (sym step.rows)
-          (with_row_each (λ row. AllByRecursion F row.elements) (target_row rule step.new) a.rows made old);
+          (each_with_row (λ row. AllByRecursion F row.elements) (target_row rule step.new) a.rows made old);
     }
 
 -- after a step at no level

@@ -18,13 +18,6 @@ use Rattle.uca_audit.proofs.Passes.{in_step, AllBelow, below_one_more, first_her
 use Rattle.uca_tailorings.proofs.Relating.{one_old}
 use Rattle.uca_audit.proofs.PlacedWeights.{placed_there, puts_there, puts_new}
 
--- the known weights alone
-pub known_alone : (tailoring : Tailoring) (set : Flags) → HoldsKnown tailoring set → HoldsKnownAndNew tailoring [] set
-known_alone tailoring set known level w = (
-  (λ has. inl ((known level w).0 has)),
-  λ is. (known level w).1 (⊎_elim (λ known. known) (λ none. absurd none) is),
-)
-
 -- a new weight stays one with one more relation
 new_earlier : (tailoring : Tailoring) (level : Level) (w : ℕ) (before : List Relation) (r : Relation) → IsNewWeight tailoring level w before →
     IsNewWeight tailoring level w (before ++ r ∷ [])

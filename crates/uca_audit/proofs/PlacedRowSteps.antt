@@ -10,12 +10,7 @@ use Rattle.uca_tailorings.proofs.Relating.{one_anchor}
 use Rattle.uca_audit.specs.Anchors.{IsAnchorAt}
 use Rattle.uca_audit.specs.PlacedRows.{IsRowAt}
 use Rattle.uca_audit.proofs.AnchorSteps.{member_at}
-
--- the new weight of an element
-weight_of_new : (level : Level) (w : ℕ) (e : Element) → weight level (reweighted level w e) ≡ w
-weight_of_new One w e = refl
-weight_of_new Two w e = refl
-weight_of_new Three w e = refl
+use Rattle.uca_tailorings.proofs.Relating.{weight_of_new}
 
 -- a row has one new weight
 pub one_weight : (level : Level) (before : List Element) (last : Element) (expansion : List Element) (v w : ℕ) →

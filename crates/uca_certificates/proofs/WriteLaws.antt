@@ -21,11 +21,6 @@ use Rattle.uca_certificates.proofs.Sizes.{few_proper}
 abbrev pub line_at : Level → Run → List ℕ
 line_at level run = ended (run_text (record { level = level; run = run }))
 
--- the text of a level, line by line
-pub level_text_is : (level : Level) (runs : List Run) → level_text level runs ≡ flat_map (line_at level) runs
-unfolding level_text
-level_text_is level runs = refl
-
 -- the texts of the three levels
 abbrev pub certificate_parts : CertificateContent → List (List ℕ)
 certificate_parts content = level_text One content.primary ∷ level_text Two content.secondary ∷ level_text Three content.tertiary ∷ []

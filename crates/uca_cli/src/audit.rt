@@ -15,7 +15,7 @@ use uca_runs::output::write_text;
 use uca_weights::{Sink, Source};
 
 /// The number that an audit gives to an allocation that failed.
-const NO_MEMORY: u8 = 12;
+const AUDIT_MEMORY: u8 = 12;
 
 /// Audits a tailoring: whether the tailored table is the base as the rules tailor it, with the weights of the base moved
 /// as the certificate says. Returns whether the tailoring is accepted. Writes the verdict as a line: `accepted`, or the
@@ -121,7 +121,7 @@ fn write_verdict<A: Allocator + Copy, W: Write>(
     let Err(fault) = verdict else {
         return end_verdict(true, b"accepted\n", out);
     };
-    if fault.number == NO_MEMORY {
+    if fault.number == AUDIT_MEMORY {
         return Err(RunFault::Memory);
     }
     end_verdict(false, fault.message().text("\n").as_str().as_bytes(), out)

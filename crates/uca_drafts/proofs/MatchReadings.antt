@@ -46,17 +46,6 @@ later_place place (k ∷ keys) key p found = go (same_key k key) found (later_pl
     go true found later = let same : place ≡ p = cc in (0, omega (arith, same))
     go false found later = let l = later found in (suc l.0, omega (arith, l.1))
 
--- a key without a position has no row
-no_row : (place : ℕ) (rows : List DraftRow) (more : List (List ℕ)) (key : List ℕ) → place_at place (keys_in rows ++ more) key ≡ None →
-    draft_at rows key ≡ None
-no_row place [] more key none = refl
-no_row place (row ∷ rows) more key none = go (same_key row.key key) none (no_row (place + 1) rows more key)
-  where
-    go : (b : Bool) → cond b (Some place) (place_at (place + 1) (keys_in rows ++ more) key) ≡ None →
-        (place_at (place + 1) (keys_in rows ++ more) key ≡ None → draft_at rows key ≡ None) → cond b (Some row.elements) (draft_at rows key) ≡ None
-    go true none later = cc
-    go false none later = later none
-
 -- one with a position has the row of the position
 row_there : (place : ℕ) (rows : List DraftRow) (more : List (List ℕ)) (key : List ℕ) (i : ℕ) → place_at place (keys_in rows ++ more) key ≡ Some (place + i) →
     elements_at i rows ≡ unwrap_or (draft_at rows key) []
@@ -111,11 +100,3 @@ pair_stands ranges properties c pair d are =
     ∙ of_pair (λ es. as_draft true (get_or es 0 d) ∷ as_draft true (get_or es 1 d) ∷ [] ≡ map (as_draft true) es) ranges properties c (λ lead low _. refl)
 
 -- ---- One more match
-
--- what one more match gives is put after what the others give
-pub one_more_match : (ranges : List ImplicitRange) (properties : Properties) (rows : List DraftRow) (ms : List (Match ℕ)) (m : Match ℕ) →
-    flat_map (match_drafts ranges properties rows) (ms ++ m ∷ [])
-    ≡ flat_map (match_drafts ranges properties rows) ms ++ match_drafts ranges properties rows m
-one_more_match ranges properties rows ms m =
-    flat_map-append (match_drafts ranges properties rows) ms (m ∷ [])
-    ∙ ap (λ es. flat_map (match_drafts ranges properties rows) ms ++ es) (append-nil (match_drafts ranges properties rows m))

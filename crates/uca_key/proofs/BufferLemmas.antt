@@ -99,19 +99,3 @@ pub taken : {S : Type 0} (steps : S → Option Element → S → Type 0) (s : S)
 taken steps s held key weighting is (p, from, whole, holds) = (p, from, whole, is ∙ holds)
 
 -- ---- The identical level
-
--- the bytes of one more code point
-pub one_point_more : (points : List ℕ) (place point : ℕ) (old held now : List ℕ) → place < length points → point ≡ get_or points place point
-    → held ≡ old ++ (0 ∷ 0 ∷ points_bytes (take place points)) → now ≡ held ++ point_bytes point
-    → now ≡ old ++ (0 ∷ 0 ∷ points_bytes (take (place + 1) points))
-one_point_more points place point old held now within is was grown =
-    let next : take (place + 1) points ≡ take place points ++ point ∷ [] = take_more points place point within ∙ ap (λ p. take place points ++ p ∷ []) (sym is) in
-    let bytes : points_bytes (take (place + 1) points) ≡ points_bytes (take place points) ++ point_bytes point =
-    ap points_bytes next ∙ flat_map-append point_bytes (take place points) (point ∷ []) in
-    grown ∙ ap (λ l. l ++ point_bytes point) was ∙ append_assoc old (0 ∷ 0 ∷ points_bytes (take place points)) (point_bytes point)
-    ∙ ap (λ l. old ++ (0 ∷ 0 ∷ l)) (sym bytes)
-
--- the bytes of all
-pub all_points : (points : List ℕ) (place : ℕ) (old held : List ℕ) → length points ≤ place → held ≡ old ++ (0 ∷ 0 ∷ points_bytes (take place points))
-    → held ≡ old ++ (0 ∷ 0 ∷ points_bytes points)
-all_points points place old held end was = was ∙ ap (λ l. old ++ (0 ∷ 0 ∷ points_bytes l)) (take_all place points end)

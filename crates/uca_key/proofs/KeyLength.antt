@@ -27,6 +27,7 @@ use Rattle.uca_key.specs.Depths.{read_text, points_bytes, key_at}
 use Rattle.uca_key.specs.Lengths.{HasShortRows}
 use Rattle.uca_key.specs.Laws.{KeysAreShort, RowsAreShort}
 use Rattle.std.specs.List.{AllByRecursion, flat_map}
+use Rattle.uca_match.proofs.MatchLemmas.{length-others}
 
 -- ---- Of elements
 
@@ -96,13 +97,6 @@ length-key NonIgnorable es = omega (arith, length-three (weighted NonIgnorable e
 length-key Shifted es = omega (arith, length-four (weighted Shifted es), length-weighted Shifted [] es)
 
 -- ---- Of texts
-
--- the letters at the other positions are no more than the whole
-pub length-others : (set : List Bool) (t : Text) → length (others set t) ≤ length t
-length-others [] t = omega arith
-length-others (b ∷ set) [] = omega arith
-length-others (true ∷ set) (c ∷ t) = omega (arith, length-others set t)
-length-others (false ∷ set) (c ∷ t) = omega (arith, length-others set t)
 
 -- the non-starters and what follows them are the whole
 pub length-non_starters : (t : Text) → length (non_starters_at_front t) + length (after_non_starters t) ≡ length t

@@ -129,10 +129,6 @@ zeros_same (v ∷ vs) xs ys a =
 
 -- ---- The level at which two keys differ
 
--- two lists that differ are Less or Greater
-pub unequal : (vs ws : List ℕ) → (vs ≡ ws → ⊥) → lexicographic vs ws ≡ Equal → ⊥
-unequal vs ws other same = other (same_from_lexicographic vs ws same)
-
 -- what a level says of its own lists and of the levels after it
 pub level_step : (o : Ordering) (n zeros rest : ℕ) (later : Comparison) → ((o ≡ Equal → ⊥) → zeros ≡ 0) → (o ≡ Equal → zeros ≡ suc rest)
     → ((later.order ≡ Equal → ⊥) → later.level ≡ suc n + rest) → ((decided o n later).order ≡ Equal → ⊥) → (decided o n later).level ≡ n + zeros

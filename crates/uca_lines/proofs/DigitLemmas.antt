@@ -29,9 +29,6 @@ number_is p radix text n h = cases (list_all p text) refl
 pub is_number : (p : ℕ → Bool) (radix : ℕ) (text : List ℕ) (n : ℕ) → IsNumber p radix text n → number_of p radix text ≡ Some n
 is_number p radix text n h = rw (h.all, h.value) refl
 
-no_number : (p : ℕ → Bool) (radix : ℕ) (text : List ℕ) → list_all p text ≡ false → number_of p radix text ≡ None
-no_number p radix text h = rw h refl
-
 digit_is : (p : ℕ → Bool) (radix x d : ℕ) → number_of p radix (x ∷ []) ≡ Some d → (p x ≡ true) × (digit_value x ≡ d)
 digit_is p radix x d h = cases (p x) refl
   where
@@ -55,10 +52,6 @@ number_more p radix xs i n d small h k =
       all = list_all_more p xs i 0 small ∙ rw (front.all, last.0) refl;
       value = digits_value_more radix xs i small ∙ rw (front.value, last.1) refl;
     })
-
--- a byte that is no digit
-pub number_stops : (p : ℕ → Bool) (radix : ℕ) (xs : List ℕ) (i : ℕ) → i < length xs → number_of p radix (get_or xs i 0 ∷ []) ≡ None → number_of p radix xs ≡ None
-number_stops p radix xs i small h = no_number p radix xs (list_all_at p xs i 0 small (no_digit p radix (get_or xs i 0) h))
 
 hex_digit_small : (x : ℕ) → is_hex_digit x ≡ true → digit_value x < 16
 hex_digit_small x h = grind (arith, nat_tests)

@@ -129,7 +129,7 @@ word_some text b bs h = some (is_blank b) refl (from_first_passes _ text b bs h)
     some false e k = rw e (omega arith)
 
 -- without the blanks at its front a text is not longer
-length-from_first : (p : ℕ → Bool) (text : List ℕ) → length (from_first p text) ≤ length text
+pub length-from_first : (p : ℕ → Bool) (text : List ℕ) → length (from_first p text) ≤ length text
 length-from_first p text = omega (arith, ap length (parts_of_cut p text), length-append (up_to p text) (from_first p text))
 
 pub length-skip_blanks : (text : List ℕ) → length (skip_blanks text) ≤ length text

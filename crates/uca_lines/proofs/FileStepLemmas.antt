@@ -24,19 +24,6 @@ within : {K : Type 0} (limit : Option K) (count : ℕ) → count ≤ 1000000 →
 within None count few = tt
 within (Some kind) count few = few
 
--- at the start nothing is reached
-pub reaches_start : {K S : Type 0} (form : FileForm K) (Says : List (List ℕ) → S → Type 0) (known : Option (List ℕ)) (pending : List ℕ) (s : S)
-    → pending ≡ [] → Says [] s → ReachesKnown form Says known (prepend_known pending known) 1 s
-reaches_start form Says None pending s empty says = tt
-reaches_start form Says (Some bytes) pending s empty says = record {
-  front = [];
-  before = [];
-  parts = sym (ap (λ (xs : List ℕ). xs ++ bytes) empty);
-  divides = record { parts = refl; each = tt; count = within form.too_many 0 (omega arith) };
-  says = says;
-  place = omega arith;
-}
-
 -- one more line
 more_lines : {K : Type 0} (form : FileForm K) (front : List ℕ) (before : List (List ℕ)) (line : List ℕ) → AreLines form front before
     → IsFileLine form line → length before < 1000000 → AreLines form (front ++ ended line) (before ++ line ∷ [])

@@ -1,5 +1,4 @@
 pub mod LineLemmas
-pub mod LinesOf
 pub mod BufferedLemmas
 pub mod FieldLemmas
 pub mod DigitLemmas

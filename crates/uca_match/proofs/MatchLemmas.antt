@@ -150,10 +150,6 @@ longest_same stands_for keys s place first n m (Some key) same h =
     record { count = h.count; longest = same ∙ h.longest; stands = h.stands; left = h.left; onward = h.onward; within = h.within }
 
 module _ {N : Type 0} (stands_for : N → List ℕ → Type 0) (keys : Keys) (s : NfdText) (place : Place) (first : ℕ) where
-  pub walked_at_start : (root : N) → stands_for root [] → IsWalked stands_for keys s place first first root None
-  walked_at_start root stands =
-      record { count = 0; begun = omega arith; passed = omega arith; left = refl; node_is = stands; best_is = refl }
-
   pub walked_gone : (i : ℕ) (node : N) (best : Option (Longest N)) → length s.classes ≡ length s.points → i < length s.points →
       is_gone place i ≡ true → IsWalked stands_for keys s place first i node best → IsWalked stands_for keys s place first (i + 1) node best
   walked_gone i node best same within gone walked =

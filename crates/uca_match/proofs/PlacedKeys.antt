@@ -63,10 +63,6 @@ placed_push place (k ∷ keys) key =
     ∙ ap (λ p. placed_from (place + 1) keys ++ record { key = key; position = p } ∷ [])
     (let same : place + 1 + length keys ≡ place + suc (length keys) = omega arith in same))
 
-pub length-placed : (place : ℕ) (keys : List (List ℕ)) → length (placed_from place keys) ≡ length keys
-length-placed place [] = refl
-length-placed place (key ∷ keys) = ap suc (length-placed (place + 1) keys)
-
 -- a position is that of one of the keys
 pub placed_within : (place : ℕ) (keys : List (List ℕ)) (key : List ℕ) (p : ℕ) → place_at place keys key ≡ Some p →
     (i : ℕ) × (i < length keys) × (p ≡ place + i)

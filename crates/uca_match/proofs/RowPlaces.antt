@@ -106,9 +106,3 @@ row_later rows i r key test within there e h =
     ap (λ left. rows_of left key) (drop-cons rows i r within ∙ ap (λ s. s ∷ drop (suc i) rows) (sym there))
     ∙ cond-false (same_key r.key key) (Some r.elements) (rows_of (drop (suc i) rows) key) (same_key_is r.key key ∙ sym e ∙ h)
     ∙ ap (λ n. rows_of (drop n rows) key) (sym (add-one i))
-
-pub row_nowhere : (rows : List Entry) (i : ℕ) (key : List ℕ) → length rows ≤ i → rows_of (drop i rows) key ≡ None
-row_nowhere [] zero key h = refl
-row_nowhere [] (suc i) key h = refl
-row_nowhere (r ∷ rows) zero key h = absurd (omega arith)
-row_nowhere (r ∷ rows) (suc i) key h = row_nowhere rows i key (omega arith)

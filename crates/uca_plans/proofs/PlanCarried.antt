@@ -28,19 +28,10 @@ use Rattle.uca_plans.proofs.PlanLists.{list_at, HasGoodLists, HasGrownLists, goo
 use Rattle.uca_plans.proofs.DraftKinds.{IsZero, reset_cases, accepted_low, IsAnchorPart, IsPlacedDraft, placed_is, joined_is}
 use Rattle.uca_plans.proofs.DraftGaps.{HasNoGaps, gaps_joined, part_not_ignorable, placed_gapless}
 use Rattle.uca_plans.proofs.PlanHolds.{IsListed, FitsWeight, IsFitting, Holds, Carries, read_held}
+use borrow.Table.Char.{scalar_below}
+use Rattle.uca_plans.proofs.RowSizes.{each_with_row}
 
 -- ---- Rows
-
--- what is true of a row and of others is true of each with it in its position
-pub with_row_each : (P : DraftRow → Type 0) (new : DraftRow) (rows : List DraftRow) → P new → AllByRecursion P rows
-    → AllByRecursion P (with_row new rows)
-with_row_each P new [] it all = (it, tt)
-with_row_each P new (row ∷ rows) it all = go (with_row_each P new rows it all.1) (same_key row.key new.key)
-  where
-    -- by the test of the first key
-    go : AllByRecursion P (with_row new rows) → (b : Bool) → AllByRecursion P (if b then new ∷ rows else row ∷ with_row new rows)
-    go rest true = (it, all.1)
-    go rest false = (all.0, rest)
 
 -- ---- Elements
 
@@ -163,10 +154,6 @@ new_member basis n rule a b step level before anchor expansion placed there =
 
 -- ---- Texts of relations
 
--- a Unicode scalar value is a code point
-scalar_below : (c : ℕ) → IsScalar c → c < 0x11_0000
-scalar_below c scalar = grind arith
-
 -- a relation's text has code points
 pub text_points : (text : NfdText) → IsRuleText text → AllByRecursion (λ c. c < 0x11_0000) text.points
 text_points text is = each_weaker IsScalar (λ c. c < 0x11_0000) scalar_below text.points is.normal.scalars
@@ -199,9 +186,9 @@ step_holds basis n rule a b holds step F keeps listed fits made whole =
         fits = fits;
         implicits = λ e read. keeps e (holds.implicits e read);
         held = subst (λ rows. AllByRecursion (λ row. AllByRecursion F row.elements) rows) (sym step.rows)
-            (with_row_each (λ row. AllByRecursion F row.elements) (target_row rule step.new) a.rows made old);
+            (each_with_row (λ row. AllByRecursion F row.elements) (target_row rule step.new) a.rows made old);
         gapless = subst (λ rows. AllByRecursion (λ row. HasNoGaps None row.elements) rows) (sym step.rows)
-            (with_row_each (λ row. HasNoGaps None row.elements) (target_row rule step.new) a.rows whole holds.gapless);
+            (each_with_row (λ row. HasNoGaps None row.elements) (target_row rule step.new) a.rows whole holds.gapless);
       };
       elements = keeps;
       grown = good.1;

@@ -26,7 +26,7 @@ use Rattle.uca_plans.proofs.RowSizes.{rows_in, sized_rows_fit}
 -- ---- Weights of 16 bits
 
 -- each level's top is a number of 16 bits
-top_fits : (level : Level) → top_weight level < 0x1_0000
+pub top_fits : (level : Level) → top_weight level < 0x1_0000
 top_fits One = omega arith
 top_fits Two = omega arith
 top_fits Three = omega arith

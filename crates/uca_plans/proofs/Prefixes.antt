@@ -17,12 +17,6 @@ front_left (c ∷ []) last = refl
 front_left (c ∷ d ∷ front) last = ap (λ rest. c ∷ rest) (front_left (d ∷ front) last)
 
 module _ (class : ℕ → ℕ) (rows : List DraftRow) (points : List ℕ) where
-  -- one or two code points need none
-  pub short_needs_none : length points ≤ 2 → needs_prefix class rows points ≡ false
-  short_needs_none short =
-      and_left (ltb 2 (length points)) (ends_with_non_starter class points && not (has_key rows (without_last points)))
-      (le-ltb 2 (length points) short)
-
   -- three or more need one by their last code point and by the others
   pub long_needs : (front : List ℕ) (last : ℕ) → points ≡ front ++ last ∷ [] → 2 < length points →
       needs_prefix class rows points ≡ (not (eqb (class last) 0) && not (has_key rows front))

@@ -17,7 +17,7 @@ use Rattle.uca_plans.specs.ListLaws.{IsRising, IsAmong, StandsBefore}
 use Rattle.uca_plans.proofs.ListMembers.{of_each}
 use Rattle.uca_plans.proofs.BaseWeightLemmas.{bases_rising, fixed_base}
 use Rattle.uca_plans.proofs.RisingNumbers.{fixed_within, level_places}
-use Rattle.uca_plans.proofs.GoodLists.{among_bases, bases_among, bases_of_base, good_base}
+use Rattle.uca_plans.proofs.GoodLists.{among_bases, base_among, bases_among, bases_of_base, good_base}
 use Rattle.uca_plans.specs.Room.{goes_low, low_count, high_count, low_total, high_total, places, RoomIsCounted}
 use Rattle.uca_plans.proofs.AnchoredInsertions.{IsAnchored, AreAnchored, all_anchored}
 use Rattle.uca_plans.proofs.SidesOfFixed.{HasSide, HasSides, goes}
@@ -59,10 +59,6 @@ counted_along level (i ∷ is) ms lows has anchored =
 
 -- ---- Base weights
 
--- a base weight as a member
-as_member : (ws : List ℕ) (w : ℕ) → IsAmong ws w → IsAmong (map Base ws) (Base w)
-as_member ws w among = bases_among (map Base ws) w (subst (λ vs. IsAmong vs w) (sym (bases_of_base ws)) among)
-
 -- each of some rising weights is less than one of them and comes before it, or is the same, or is greater and comes
 -- after it
 base_side : (ws : List ℕ) (f v : ℕ) → IsRising ws → IsAmong ws f → IsAmong ws v
@@ -72,10 +68,10 @@ base_side [] f v rising there among = absurd there
 base_side (w ∷ ws) f v rising (inl here) (inl also) = inr (inl (ap Base (sym also ∙ here)), grind (arith, nat_tests, here, also))
 base_side (w ∷ ws) f v rising (inl here) (inr among) =
     let above : w < v = of_each (λ x. w < x) ws v rising.0 among in
-    inr (inr (inl (ap Base here, as_member ws v among)), grind (arith, nat_tests, here, above))
+    inr (inr (inl (ap Base here, base_among ws v among)), grind (arith, nat_tests, here, above))
 base_side (w ∷ ws) f v rising (inr there) (inl here) =
     let above : w < f = of_each (λ x. w < x) ws f rising.0 there in
-    inl (inl (ap Base here, as_member ws f there), grind (arith, nat_tests, here, above))
+    inl (inl (ap Base here, base_among ws f there), grind (arith, nat_tests, here, above))
 base_side (w ∷ ws) f v rising (inr there) (inr among) = elim (base_side ws f v rising.1 there among) [
   | inl low ↦ inl (inr low.0, low.1)
   | inr high ↦ inr (elim high.0 [ inl same ↦ inl same | inr above ↦ inr (inr above) ], high.1)
@@ -88,7 +84,7 @@ base_sides level es =
     let good = good_base level es in
     record {
       apart = good.apart;
-      there = as_member ws (fixed_weight level) (fixed_base level es);
+      there = base_among ws (fixed_weight level) (fixed_base level es);
       sides = side good.names;
       went = λ n went. absurd (false≢true went);
     }

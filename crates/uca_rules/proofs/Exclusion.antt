@@ -153,11 +153,6 @@ strength_excluded last cs (s ∷ back) on ordered wrong = strength_at_statement 
 
 -- ---- Too many relations
 
--- each piece gives a symbol
-literal_gives : (c : Character) (piece : Option Piece) → IfSome (with_literal c piece) (λ piece. 1 ≤ length piece.symbols)
-literal_gives c None = tt
-literal_gives c (Some piece) = omega arith
-
 first_gives : (d : Character) (piece : Option Piece) → IfSome piece (λ piece. (more : List Symbol) × (piece.symbols ≡ Literal d ∷ more)) → IfSome piece (λ piece. 1 ≤ length piece.symbols)
 first_gives d None first = tt
 first_gives d (Some piece) first = let all = ap length first.1 in omega arith

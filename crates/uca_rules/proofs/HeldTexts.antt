@@ -68,14 +68,6 @@ held_more rs t text = (forth, ⊎_elim earlier own)
     own : IsUsedBy t text × ¬ (IsTarget rs text) → IsHeld (rs ++ t ∷ []) text
     own h = record { before = rs; after = []; r = t; parts = refl; used = h.0; free = h.1 }
 
--- no relations keep no text
-pub held_none : (text : List ℕ) → ¬ (IsHeld [] text)
-held_none text held = none held.before held.parts
-  where
-    none : (before : List Relation) → [] ≡ before ++ held.r ∷ held.after → ⊥
-    none [] e = cc
-    none (b ∷ before) e = cc
-
 -- ---- Rules with one more relation
 
 untouched_more : (rs : List Relation) (t : Relation) (text : List ℕ) → IsUntouched rs text → ¬ (OccursInOrder t.target.points text) → IsUntouched (rs ++ t ∷ []) text
@@ -111,18 +103,6 @@ rules_more rs t rules few texts other none = record {
         (untouched_more (r ∷ earlier.more) t text (rules.none_late before earlier.more r text earlier.parts used free) own))
         (last_or_earlier rs before after t r parts)
 
-pub rules_none : AreRules []
-rules_none = record {
-  few = lit≤ tt;
-  texts = tt;
-  distinct = (λ before after r parts. absurd (no_split before r after parts));
-  none_late = (λ before after r text parts used free. absurd (no_split before r after parts));
-}
-  where
-    no_split : (before : List Relation) (r : Relation) (after : List Relation) → [] ≡ before ++ r ∷ after → ⊥
-    no_split [] r after e = cc
-    no_split (b ∷ before) r after e = cc
-
 -- ---- Texts in turn
 
 -- a part that occurs in none of the texts so far, and not in the next one
@@ -142,10 +122,6 @@ holds_one held text P p t = (
   (λ h. ⊎_elim (λ before. inl before) (λ last. inr (sym last, p)) (Contains-push_cases held text t h)),
   (λ h. ⊎_elim (λ before. Contains-append_left held (text ∷ []) t before) (λ last. subst (λ (s : List ℕ). Contains (held ++ text ∷ []) s) (sym last.0) (Contains-push held text)) h),
 )
-
--- none more
-pub holds_none : (held : List (List ℕ)) (text : List ℕ) (P : Type 0) → P → (t : List ℕ) → Contains held t ↔ (Contains held t ⊎ ((t ≡ text) × ¬ P))
-holds_none held text P p t = ((λ h. inl h), (λ h. ⊎_elim (λ before. before) (λ last. absurd (last.1 p)) h))
 
 -- ---- The growing rules
 

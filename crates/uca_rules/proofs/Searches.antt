@@ -99,9 +99,3 @@ untouched_further relations text i r has is none so_far =
     let more : drop i relations ≡ r ∷ drop (i + 1) relations = subst (λ (z : Relation). drop i relations ≡ z ∷ drop (i + 1) relations) (sym is) (drop_more relations i r has) in
     let here = subst (λ (s : List Relation). IsUntouched relations text ↔ IsUntouched s text) more so_far in
     (λ h. (here.0 h).1, λ h. here.1 (none, h))
-
-pub touched_here : (relations : List Relation) (text : List ℕ) (i : ℕ) (r : Relation) → i < length relations → r ≡ get_or relations i r → OccursInOrder r.target.points text
-    → (IsUntouched relations text ↔ IsUntouched (drop i relations) text) → ¬ (IsUntouched relations text)
-touched_here relations text i r has is occurs so_far h =
-    let more : drop i relations ≡ r ∷ drop (i + 1) relations = subst (λ (z : Relation). drop i relations ≡ z ∷ drop (i + 1) relations) (sym is) (drop_more relations i r has) in
-    ((subst (λ (s : List Relation). IsUntouched relations text ↔ IsUntouched s text) more so_far).0 h).0 occurs

@@ -50,12 +50,6 @@ reset_next properties old cs text rest before written anchor due follows begins 
 
 -- ---- Relations
 
-pub follows_sign : (last : Preceding) (strength : Strength) → last ≢ lasts.Nothing → ((asked : Strength) → last ≡ lasts.Reset (Some asked) → strength ≡ asked) → MayFollow last (Signs strength)
-follows_sign lasts.Nothing strength behind as_asked = absurd (behind refl)
-follows_sign (lasts.Reset None) strength behind as_asked = tt
-follows_sign (lasts.Reset (Some asked)) strength behind as_asked = as_asked asked refl
-follows_sign lasts.Relation strength behind as_asked = tt
-
 memory_in_target : (end : ℕ) (cs text : List Character) (strength : Strength) (starred : Bool) (fault : RuleFault) → IsTargetDue cs strength starred text → IsMemoryIn end text fault → IsMemoryIn end cs fault
 memory_in_target end cs text strength starred fault due memory =
     let ends = behind_ends cs text (target_due_behind cs strength starred text due) in
@@ -167,12 +161,6 @@ expansion_short properties None None are = tt
 expansion_short properties None (Some text) are = absurd are
 expansion_short properties (Some w) None are = absurd are
 expansion_short properties (Some w) (Some text) are = are.short
-
-pub expansion_rule : (properties : Properties) (written : Option Written) (found : Option NfdText) → AreTextsOf properties written found → IfSome found IsRuleText
-expansion_rule properties None None are = tt
-expansion_rule properties None (Some text) are = absurd are
-expansion_rule properties (Some w) None are = absurd are
-expansion_rule properties (Some w) (Some text) are = are.rule
 
 -- the relation of a statement
 pub relation_is : (properties : Properties) (anchor : Anchor) (strength : Strength) (target : Written) (expansion : Option Written) (text : NfdText) (found : Option NfdText)

@@ -18,9 +18,7 @@ use crate::pieces::{begins_piece, take_piece};
 use std::alloc::{AllocError, Allocator, Global};
 use uca_text::{Normal, TextFault, normal};
 use uca_values::Data;
-
-/// How many code points a text of rules may have in Normalization Form D.
-const LONGEST_TEXT: usize = 16;
+use uca_values::limits::MOST_CODE_POINTS;
 
 /// The byte at which the rest of the rules begins. The rules end at `end`.
 pub(crate) fn place_of(end: usize, characters: &[Character]) -> usize
@@ -227,7 +225,7 @@ pub(crate) fn rule_text<A: Allocator, T: Allocator>(
         }
     }
     match normal(global, letters, properties) {
-        Ok(text) => Ok(if text.chars().len() <= LONGEST_TEXT {
+        Ok(text) => Ok(if text.chars().len() <= MOST_CODE_POINTS {
             Some(text)
         } else {
             None

@@ -16,7 +16,7 @@ use uca_values::Data;
 use uca_weights::Source;
 
 /// How many bytes are asked for at most: one more than rules may have.
-const MOST_BYTES: usize = 1_048_577;
+const MOST_BYTES_READ: usize = 1_048_577;
 
 /// How many bytes a read asks for.
 const CHUNK: usize = 4096;
@@ -80,7 +80,7 @@ pub fn read_rule_file<A: Allocator + Copy, U: Read>(
     }
 }
 
-// Reads a source to its end, but at most `MOST_BYTES` bytes.
+// Reads a source to its end, but at most `MOST_BYTES_READ` bytes.
 fn read_bytes<A: Allocator, R: Read>(
     alloc: A,
     source: &mut Source<R>,
@@ -91,7 +91,7 @@ fn read_bytes<A: Allocator, R: Read>(
 {
     let mut bytes = Vec::new(alloc);
     let mut chunk = [0; CHUNK];
-    while bytes.len() < MOST_BYTES {
+    while bytes.len() < MOST_BYTES_READ {
         if !read_more(source, &mut chunk, &mut bytes)? {
             break;
         }
@@ -105,14 +105,14 @@ fn read_more<A: Allocator, R: Read>(
     chunk: &mut [u8; CHUNK],
     bytes: &mut Vec<u8, A>,
 ) -> Result<bool, FileFault>
-    requires room { length bytes.old.items < MOST_BYTES }
+    requires room { length bytes.old.items < MOST_BYTES_READ }
     ensures loses { OnOk result ((start : Option (List ℕ)) → Consumes start source.old.remaining bytes.old.items → Consumes start source.new.remaining bytes.new.items) }
-    ensures few { OnOk result (length bytes.new.items ≤ MOST_BYTES) }
+    ensures few { OnOk result (length bytes.new.items ≤ MOST_BYTES_READ) }
     ensures more { IfOk result (λ more. MatchBool more (length bytes.old.items < length bytes.new.items) (IsAtEnd source.new.remaining)) }
     ensures refused { IfErr result (λ fault. (start : Option (List ℕ)) → Consumes start source.old.remaining bytes.old.items → IsNotRead start source.new.remaining fault) }
     ensures failed { source.new.failed ≡ (source.old.failed || is_rules_read result) }
 {
-    let most = CHUNK.min(MOST_BYTES - bytes.len());
+    let most = CHUNK.min(MOST_BYTES_READ - bytes.len());
     let Ok(count) = source.read(&mut chunk[..most]) else {
         return Err(FileFault::RulesRead);
     };

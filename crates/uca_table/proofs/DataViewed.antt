@@ -29,10 +29,6 @@ begins_view form view Cause t number text kind h = record {
   cause = h.cause;
 }
 
-pub reads_view : {K T S : Type 0} (form : FileForm K) (view : T → S) (Says : List (List ℕ) → S → Type 0) (bytes : List ℕ) (count : ℕ) (t : T)
-    → ReadsLines form (λ lines u. Says lines (view u)) bytes count t → ReadsLines form Says bytes count (view t)
-reads_view form view Says bytes count t h = record { lines = h.lines; divides = h.divides; says = h.says; many = h.many }
-
 fails_view : {K T S : Type 0} (form : FileForm K) (view : T → S) (Says : List (List ℕ) → S → Type 0) (bytes left : List ℕ) (number : ℕ)
     → FailsIn form (λ lines u. Says lines (view u)) bytes left number → FailsIn form Says bytes left number
 fails_view form view Says bytes left number h = record {

@@ -7,6 +7,7 @@ use Rattle.uca_lines.specs.Leads.{BeginsWord}
 use Rattle.uca_lines.proofs.FieldLemmas.{parts_of_cut, word_some}
 use Rattle.uca_lines.proofs.LeadLemmas.{exact_words, leads_same}
 use Rattle.uca_table.specs.DataLines.{AreWords}
+use Rattle.uca_lines.proofs.FieldLemmas.{length-from_first}
 
 -- a text is one list of words
 pub words_same : (text : List ℕ) (xs ys : List (List ℕ)) → AreWords text xs → AreWords text ys → xs ≡ ys
@@ -34,9 +35,6 @@ first_word text front word rest is some cut after (w ∷ words) h =
     let rest_is : h.0 ≡ rest = sym h.1.rest ∙ ap after_word (sym is) ∙ sym after in
     (words, ap (λ x. x ∷ words) word_is, (let P : List ℕ → Type 0 = λ t. AreWords t words in subst P rest_is h.2))
 
-from_first_short : (p : ℕ → Bool) (text : List ℕ) → length (from_first p text) ≤ length text
-from_first_short p text = let parts = ap length (parts_of_cut p text) in omega (arith, parts, length-append (up_to p text) (from_first p text))
-
 after_word_short : (text : List ℕ) → 1 ≤ length (word_of text) → suc (length (after_word text)) ≤ length text
 after_word_short text some = let parts = ap length (parts_of_cut is_blank text) in omega (arith, parts, length-append (word_of text) (after_word text))
 
@@ -46,7 +44,7 @@ more_words text n small rest [] e = ([], e)
 more_words text n small rest (b ∷ bs) e =
     let some = word_some text b bs e in
     let short = after_word_short (b ∷ bs) some in
-    let fits = from_first_short (λ c. not (is_blank c)) text in
+    let fits = length-from_first (λ c. not (is_blank c)) text in
     let long = ap length e in
     let others = rest (after_word (b ∷ bs)) (omega arith) in
     let here : BeginsWord (b ∷ bs) (word_of (b ∷ bs)) (after_word (b ∷ bs)) = record { some = some; word = refl; rest = refl } in
@@ -55,7 +53,7 @@ more_words text n small rest (b ∷ bs) e =
 
 words_within : (n : ℕ) (text : List ℕ) → length text ≤ n → (words : List (List ℕ)) × AreWords text words
 words_within zero text small =
-    ([], nil_from_length (skip_blanks text) (let short = from_first_short (λ b. not (is_blank b)) text in omega arith))
+    ([], nil_from_length (skip_blanks text) (let short = length-from_first (λ b. not (is_blank b)) text in omega arith))
 words_within (suc n) text small =
     more_words text n small (λ t short. words_within n t short) (skip_blanks text) refl
 

@@ -185,9 +185,6 @@ opens_element text e more h = ap opens h.parts ∙ marked e.mark
     marked true = refl
     marked false = refl
 
-some_of_none : {X : Type 0} (xs : List X) → 1 ≤ length xs → xs ≡ [] → ⊥
-some_of_none xs h e = omega (arith, ap length e)
-
 no_values : {X : Type 0} (B : List ℕ → X → List ℕ → Type 0) → IsExact B → (text : List ℕ) (xs : List X) → Leads B text xs [] → 1 ≤ length xs
     → skip_blanks text ≡ [] → ⊥
 no_values B exact text [] h s e = omega arith

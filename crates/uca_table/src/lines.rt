@@ -16,7 +16,7 @@ use uca_values::{FaultKind, Header, ImplicitRange, Row, Table};
 use uca_weights::Weighting;
 
 /// How many `@implicitweights` lines a table may have.
-const MOST_RANGES: usize = 256;
+const MOST_IMPLICIT_RANGES: usize = 256;
 
 /// What the lines of a table file say so far.
 #[derive(Drop)]
@@ -185,7 +185,7 @@ impl<A: Allocator + Copy> TableLines<A> {
         if !may_follow(self.ranges.as_slice(), range) {
             return Err(FaultKind::Range);
         }
-        if self.ranges.len() >= MOST_RANGES {
+        if self.ranges.len() >= MOST_IMPLICIT_RANGES {
             return Err(FaultKind::Limit);
         }
         self.ranges.push(range)?;

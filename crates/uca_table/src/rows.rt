@@ -6,10 +6,8 @@ ghost use Rattle.uca_table.specs.Rows.{IsKey, KeyCause, IsRow, RowTextCause};
 use crate::elements::read_elements;
 use std::alloc::Allocator;
 use uca_lines::fields::{code_point, cut_at, cut_word, skip_blanks};
+use uca_values::limits::MOST_CODE_POINTS;
 use uca_values::{FaultKind, Row};
-
-/// How many code points the key of a row may have.
-const MOST_CODE_POINTS: usize = 16;
 
 /// The row that a text spells: a key, `;` and elements.
 ///

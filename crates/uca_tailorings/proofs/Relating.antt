@@ -107,7 +107,7 @@ one_anchor level (e ∷ before) (f ∷ others) last other trailing more same ign
     (ap₂ (λ x xs. x ∷ xs) first rest.0, rest.1)
 
 -- the new weight of an element
-weight_of_new : (level : Level) (w : ℕ) (e : Element) → weight level (reweighted level w e) ≡ w
+pub weight_of_new : (level : Level) (w : ℕ) (e : Element) → weight level (reweighted level w e) ≡ w
 weight_of_new One w e = refl
 weight_of_new Two w e = refl
 weight_of_new Three w e = refl

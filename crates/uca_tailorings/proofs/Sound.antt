@@ -22,6 +22,7 @@ use Rattle.uca_tailorings.proofs.RowConditions.{at_row}
 use Rattle.uca_values.proofs.ImplicitPairs.{each_pair}
 use Rattle.uca_tailorings.proofs.Parts.{each_by_parts, each_of_both}
 use Rattle.uca_tailorings.proofs.ReadingEach.{points_of_text, read_each}
+use borrow.Table.Char.{scalar_below}
 
 -- ---- Sound elements
 
@@ -63,10 +64,6 @@ sound_pair lead low high below small = (
     tt,
   ),
 )
-
--- a Unicode scalar value is a code point
-pub scalar_below : (c : ℕ) → IsScalar c → c < 0x11_0000
-scalar_below c scalar = grind arith
 
 -- each element that a text has under the tailored table is sound
 pub sound_elements : (tailoring : Tailoring) → IsTailoring tailoring → IsWellFormed tailoring.properties.class tailoring.tailored.rows →

@@ -21,7 +21,7 @@ use Rattle.uca_tailorings.proofs.RowConditions.{target_or_not}
 use Rattle.uca_tailorings.proofs.UntouchedTexts.{no_target}
 use Rattle.uca_tailorings.proofs.Parts.{of_part}
 use Rattle.uca_tailorings.proofs.ReadingEach.{points_of_text, read_each}
-use Rattle.uca_tailorings.proofs.Sound.{scalar_below}
+use borrow.Table.Char.{scalar_below}
 use Rattle.uca_tailorings.proofs.Relating.{key_reads}
 
 -- ---- Targets
@@ -33,7 +33,7 @@ target_parts (r ∷ earlier) later text target =
     ⊎_elim (λ here. inl (inl here)) (λ behind. ⊎_elim (λ first. inl (inr first)) (λ last. inr last) (target_parts earlier later text behind)) target
 
 -- a target of the first is one of all
-target_in_first : (earlier later : List Relation) (text : List ℕ) → IsTarget earlier text → IsTarget (earlier ++ later) text
+pub target_in_first : (earlier later : List Relation) (text : List ℕ) → IsTarget earlier text → IsTarget (earlier ++ later) text
 target_in_first [] later text target = absurd target
 target_in_first (r ∷ earlier) later text target = ⊎_elim (λ here. inl here) (λ behind. inr (target_in_first earlier later text behind)) target
 

@@ -29,6 +29,7 @@ use Rattle.uca_tailorings.proofs.ImplicitImages.{own_implicit}
 use Rattle.uca_tailorings.proofs.RowConditions.{row_kept}
 use Rattle.uca_tailorings.proofs.Images.{images-append, kept_images}
 use Rattle.uca_tailorings.proofs.WeightedImages.{images_order}
+use borrow.Table.Char.{scalar_below}
 
 -- ---- Readings
 
@@ -46,10 +47,6 @@ letters_occur : (points classes : List ℕ) → OccursInOrder (code_points (lett
 letters_occur [] classes = tt
 letters_occur (c ∷ points) [] = tt
 letters_occur (c ∷ points) (k ∷ classes) = inl (refl, letters_occur points classes)
-
--- scalar values are code points
-scalar_bound : (c : ℕ) → IsScalar c → c < 0x11_0000
-scalar_bound c scalar = grind (arith, nat_tests)
 
 -- an untouched text reads as the images of what it read as before
 pub images_read : (tailoring : Tailoring) → IsTailoring tailoring → IsAccepted tailoring → (text : NfdText) → IsNormal text →
@@ -83,7 +80,7 @@ images_read tailoring is accepted text normal untouched =
     own : (c : ℕ) → IsScalar c → AreImages tailoring.maps (old c) (new tailoring.tailored.header c)
     own c scalar =
         subst (λ header. AreImages tailoring.maps (old c) (new header c)) (accepted Header)
-        (own_implicit tailoring.maps is.maps tailoring.base.header.ranges tailoring.properties is.base.header.ranges c (scalar_bound c scalar))
+        (own_implicit tailoring.maps is.maps tailoring.base.header.ranges tailoring.properties is.base.header.ranges c (scalar_below c scalar))
 
 -- ---- Comparison
 

@@ -44,11 +44,6 @@ occurs_take zero xs = tt
 occurs_take (suc n) [] = tt
 occurs_take (suc n) (x ∷ xs) = inl (refl, occurs_take n xs)
 
-pub occurs_drop : {A : Type 0} (n : ℕ) (xs : List A) → OccursInOrder (drop n xs) xs
-occurs_drop zero xs = occurs_refl xs
-occurs_drop (suc n) [] = tt
-occurs_drop (suc n) (x ∷ xs) = occurs_more (drop n xs) x xs (occurs_drop n xs)
-
 -- where letters occur, their code points do
 pub occurs_code_points : (s t : Text) → OccursInOrder s t → OccursInOrder (code_points s) (code_points t)
 occurs_code_points [] t h = tt

@@ -5,7 +5,7 @@ use Rattle.uca_rules.specs.Pieces.{points_of}
 use Rattle.uca_rules.proofs.Hyphens.{no_symbol}
 use Rattle.uca_rules.proofs.RuleTexts.{literal_more, hyphen_more, points_all, short_text, too_long, long_run}
 use Rattle.uca_rules.proofs.texts.rule_text.Goals as goal
-use Rattle.uca_rules.proofs.texts.rule_text.Goals.{in-Literal+in_ok-push, in_default, then-chars-le-LONGEST_TEXT, else-chars-le-LONGEST_TEXT}
+use Rattle.uca_rules.proofs.texts.rule_text.Goals.{in-Literal+in_ok-push, in_default, then-chars-le-MOST_CODE_POINTS, else-chars-le-MOST_CODE_POINTS}
 
 pub loop-symbol-preserved : goal.loop-symbol-preserved
 loop-symbol-preserved g c =
@@ -16,15 +16,15 @@ loop-symbol-preserved g c =
           rw w.letters-is (hyphen_more c.args.symbols.now c.loop-symbol.symbol-index no_symbol w.in_default.field-0 _ c.loop-symbol-test.true w.in_default.is c.loop-symbol.invariant)
     ]
 
-pub returns-after-chars-le-LONGEST_TEXT : goal.returns-after-chars-le-LONGEST_TEXT
-returns-after-chars-le-LONGEST_TEXT g c =
+pub returns-after-chars-le-MOST_CODE_POINTS : goal.returns-after-chars-le-MOST_CODE_POINTS
+returns-after-chars-le-MOST_CODE_POINTS g c =
     let points = points_all c.args.symbols.now c.loop-symbol.symbol-index c.deref.result.now c.loop-symbol-test.false (c.deref.ensures ∙ c.loop-symbol.invariant) c.deref.utf8 in
     let found = rw points at c.in-Ok.ensures.found in
     let long = ap length c.chars.ensures.value in
-    elim c.if-chars-le-LONGEST_TEXT.branch [
-      | then-chars-le-LONGEST_TEXT w ↦
-          rw w.result-is (found, short_text (properties_of c.args.properties.now) (points_of c.args.symbols.now) c.in-Ok.text found c.in-Ok.ensures.accepted c.chars.ensures.scalars c.requires (omega (arith, long, w.if-chars-le-LONGEST_TEXT.true)))
-      | else-chars-le-LONGEST_TEXT w ↦ rw w.result-is (omega (arith, long, ap (λ s. length s.points) found, w.if-chars-le-LONGEST_TEXT.false))
+    elim c.if-chars-le-MOST_CODE_POINTS.branch [
+      | then-chars-le-MOST_CODE_POINTS w ↦
+          rw w.result-is (found, short_text (properties_of c.args.properties.now) (points_of c.args.symbols.now) c.in-Ok.text found c.in-Ok.ensures.accepted c.chars.ensures.scalars c.requires (omega (arith, long, w.if-chars-le-MOST_CODE_POINTS.true)))
+      | else-chars-le-MOST_CODE_POINTS w ↦ rw w.result-is (omega (arith, long, ap (λ s. length s.points) found, w.if-chars-le-MOST_CODE_POINTS.false))
     ]
 
 pub returns-in-Err-LongRun : goal.returns-in-Err-LongRun

@@ -16,8 +16,8 @@ returns-then-not-may_follow-clause-fault g c =
     range_follow_fault c.args.self.now _ c.args.text.now _ c.in_ok-range.range _ _ c.self.view_is c.requires c.cut_word.ensures.rest
     c.in_ok-range.ensures.found c.as_slice.ensures.value c.may_follow.ensures c.if-not-may_follow.true
 
-pub returns-then-len-ge-MOST_RANGES-clause-fault : goal.returns-then-len-ge-MOST_RANGES-clause-fault
-returns-then-len-ge-MOST_RANGES-clause-fault g c =
+pub returns-then-len-ge-MOST_IMPLICIT_RANGES-clause-fault : goal.returns-then-len-ge-MOST_IMPLICIT_RANGES-clause-fault
+returns-then-len-ge-MOST_IMPLICIT_RANGES-clause-fault g c =
     range_limit_fault c.args.self.now _ c.args.text.now _ c.in_ok-range.range c.self.view_is c.requires c.cut_word.ensures.rest
     c.in_ok-range.ensures.found (omega arith)
 
