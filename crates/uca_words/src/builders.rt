@@ -1,6 +1,6 @@
 //! The command `uca` as it is described to `clap`: its subcommands, their arguments, and the help on them.
 
-ghost use Rattle.std.specs.Prelude.{◌≡◌, codes, false, IfOk};
+ghost use Rattle.std.specs.Prelude.{◌≡◌, codes, false, Ok, IfOk, IfSome};
 ghost use Rattle.clap.specs.Words.{App, new_app, rule_of, with_rule, with_subcommand};
 ghost use Rattle.uca_words.specs.Command.{StandsFor, word_rule, weighting_rule, flag_rule, with_files, with_options, with_audit_files, check_app, keys_app, sort_app, compare_app, tailor_app, audit_app, affected_app, bare_app, line_app, uca_app};
 
@@ -42,6 +42,16 @@ fn flag<'a>(alloc: Global, id: &'a str, help: &'a str) -> Arg<'a>
         .help(help)
 }
 
+// Both values, where both are there.
+fn both<T: Drop, U: Drop>(
+    first: Result<T, AllocError>,
+    second: Result<U, AllocError>,
+) -> Option<(T, U)>
+    ensures { IfSome result (λ pair. (first ≡ Ok pair.0) × (second ≡ Ok pair.1)) }
+{
+    first.ok().zip(second.ok())
+}
+
 // One more argument. Each step takes what the step before returned, and returns its error.
 fn take_argument<'a>(
     command: Result<Command<'a>, AllocError>,
@@ -50,9 +60,9 @@ fn take_argument<'a>(
     requires { argument.global ≡ false }
     ensures { (app : App) → IfOk command.entry (StandsFor app) → IfOk result (StandsFor (with_rule app (rule_of argument.entry))) }
 {
-    match command {
-        Ok(command) => command.arg(argument),
-        Err(error) => Err(error),
+    match both(command, Ok(argument)) {
+        Some((command, argument)) => command.arg(argument),
+        None => Err(AllocError),
     }
 }
 
@@ -277,7 +287,7 @@ fn affected_command<'a>(alloc: Global) -> Result<Command<'a>, AllocError>
     take_rules(alloc, take_data(alloc, Ok(affected)))
 }
 
-// One more subcommand. No value is dropped here but the errors: that makes the proof short.
+// One more subcommand.
 fn take_subcommand<'a>(
     command: Result<Command<'a>, AllocError>,
     below: Result<Command<'a>, AllocError>,
@@ -285,7 +295,7 @@ fn take_subcommand<'a>(
     ensures { (app sub : App) → IfOk command.entry (StandsFor app) → IfOk below.entry (StandsFor sub) →
         IfOk result (StandsFor (with_subcommand app sub.top)) }
 {
-    match command.ok().zip(below.ok()) {
+    match both(command, below) {
         Some((command, below)) => command.subcommand(below),
         None => Err(AllocError),
     }

@@ -329,5 +329,8 @@ pub fn read_words<'a>(alloc: Global, words: &'a [&'a str]) -> Result<Words<'a>, 
 {
     let matches = uca_command(alloc)?.try_get_matches_from(words)?;
     let (name, found) = matches.subcommand().unwrap();
-    subcommand_words(name, found)
+    // The matches are dropped in one step: that keeps the proof short.
+    let said = subcommand_words(name, found);
+    drop(matches);
+    said
 }

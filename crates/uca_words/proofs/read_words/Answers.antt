@@ -9,19 +9,19 @@ returns-in_err-matches-clause-err c =
     let refusal = refuses c.in_ok-uca_command.field-0 (texts c.args.words.now) c.in_err-matches.field-0.0 c.in_ok-uca_command.ensures c.in_err-matches.ensures.passes c.in_err-matches.ensures.kinds in
     search rules
 
-pub subcommand_words-requires : goal.subcommand_words-requires
-subcommand_words-requires c = is_known _ c.unwrap.result
+pub subcommand_words-said-requires : goal.subcommand_words-said-requires
+subcommand_words-said-requires c = is_known _ c.unwrap.result
     (meets c.in_ok-uca_command.field-0 (texts c.args.words.now) c.in_ok-matches.matches c.subcommand.result c.unwrap.result c.in_ok-uca_command.ensures c.in_ok-matches.ensures.matches
     c.in_ok-matches.ensures.kinds c.unwrap.ensures c.subcommand.ensures.name c.subcommand.ensures.rows)
 
 pub returns-clause-ok : goal.returns-clause-ok
-returns-clause-ok c = reads _ c.unwrap.result c.subcommand_words.result
+returns-clause-ok c = reads _ c.unwrap.result c.subcommand_words-said.result
     (meets c.in_ok-uca_command.field-0 (texts c.args.words.now) c.in_ok-matches.matches c.subcommand.result c.unwrap.result c.in_ok-uca_command.ensures c.in_ok-matches.ensures.matches
     c.in_ok-matches.ensures.kinds c.unwrap.ensures c.subcommand.ensures.name c.subcommand.ensures.rows)
-    c.subcommand_words.ensures.ok
+    c.subcommand_words-said.ensures.ok
 
 pub returns-clause-err : goal.returns-clause-err
-returns-clause-err c = names_none _ c.unwrap.result c.subcommand_words.result
+returns-clause-err c = names_none _ c.unwrap.result c.subcommand_words-said.result
     (meets c.in_ok-uca_command.field-0 (texts c.args.words.now) c.in_ok-matches.matches c.subcommand.result c.unwrap.result c.in_ok-uca_command.ensures c.in_ok-matches.ensures.matches
     c.in_ok-matches.ensures.kinds c.unwrap.ensures c.subcommand.ensures.name c.subcommand.ensures.rows)
-    c.subcommand_words.ensures.err
+    c.subcommand_words-said.ensures.err
