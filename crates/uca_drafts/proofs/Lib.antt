@@ -1,3 +1,4 @@
+pub mod Mapped
 pub mod AnchorParts
 pub mod PlaceKeys
 pub mod MatchReadings

@@ -1,14 +1,16 @@
 use Rattle.std.proofs.lemmas.Result.{err_from_is_err_and}
-use Rattle.std.proofs.Common.{List, length, sym, subst}
+use Rattle.std.proofs.Common.{◌≡◌, List, Ok, length, sym, ap, subst, ◌∙◌, arith}
 use Rattle.std.specs.List.{AllByRecursion}
-use Rattle.uca_values.specs.Content.{keys_of, properties_of}
-use Rattle.uca_plans.specs.Plans.{Basis}
+use Rattle.uca_values.specs.Content.{TableContent, keys_of, properties_of}
+use Rattle.uca_check.specs.WellFormed.{elements_of}
+use Rattle.uca_plans.specs.Plans.{Basis, begun, with_relations}
 use Rattle.uca_plans.specs.Tailors.{basis_of}
 use Rattle.uca_match.specs.Tries.{positions}
 use Rattle.uca_rules.specs.declared.relations.Relation.{Relation}
 use Rattle.uca_rules.specs.Relations.{AreRules}
 use Rattle.uca_plans.specs.Lists.{InsertsBelow}
 use Rattle.uca_drafts.specs.Places.{ArePlaces}
+use Rattle.uca_drafts.specs.Variables.{AreBounds}
 use Rattle.uca_drafts.proofs.Readiness.{ready}
 use Rattle.uca_drafts.proofs.DraftingSteps.{none_drafted, one_more, rejected_first, all_drafted}
 use Rattle.uca_drafts.proofs.Names.{drafts_named, named_below}
@@ -16,6 +18,17 @@ use Rattle.uca_drafts.proofs.drafting.draft.Goals as goal
 
 pub loop-at-init : goal.loop-at-init
 loop-at-init g c = none_drafted _ _ c.in_ok-drafting.drafting c.in_ok-drafting.ensures.rows c.in_ok-drafting.ensures.insertions c.in_ok-drafting.ensures.few
+
+pub overflow_cast-at : goal.overflow_cast-at
+overflow_cast-at g c = omega (arith, c.relations-relation-items.ensures.rules.few, ap length c.relations-relation-items.ensures.value)
+
+pub add-requires-clause-index : goal.add-requires-clause-index
+add-requires-clause-index g c = omega (arith, c.relations-relation-items.ensures.rules.few, ap length c.relations-relation-items.ensures.value)
+
+pub add-requires-clause-bounds : goal.add-requires-clause-bounds
+add-requires-clause-bounds g c =
+    let rows = c.deref.ensures.value ∙ ap (λ (t : TableContent). t.rows) c.base.view_is in
+    subst (λ rs. AreBounds c.variable_span.result (elements_of rs)) rows c.variable_span.ensures
 
 pub add-requires-clause-ready : goal.add-requires-clause-ready
 add-requires-clause-ready g c =
@@ -29,6 +42,12 @@ pub loop-at-preserved : goal.loop-at-preserved
 loop-at-preserved g c =
     one_more _ c.relations-relation-items.result.now c.loop-at.at c.relation-item.result c.loop-at.drafting c.add.new.self
     c.loop-at-test.true c.relation-item.is c.loop-at.invariant c.in_ok-add.ensures.added
+
+pub returns-clause-drafted : goal.returns-clause-drafted
+returns-clause-drafted g c =
+    let basis : Basis = basis_of c.args.base.now (properties_of c.args.properties.now) in
+    subst (λ (rs : List Relation). with_relations basis 0 rs (begun basis) ≡ Ok c.loop-at.drafting) c.relations-relation-items.ensures.value
+    (all_drafted basis c.relations-relation-items.result.now c.loop-at.at c.loop-at.drafting c.loop-at-test.false c.loop-at.invariant)
 
 pub returns-clause-names : goal.returns-clause-names
 returns-clause-names g c =

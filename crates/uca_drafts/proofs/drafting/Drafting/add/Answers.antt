@@ -1,6 +1,7 @@
 use Rattle.std.specs.List.{list_any}
-use Rattle.std.proofs.Common.{inl, ◌≡◌, ◌<◌, ◌≤◌, ◌&&◌, ◌++◌, ◌∷◌, [], List, length, set, None, Some, true, false, refl, sym, ap, subst, ◌∙◌, arith}
+use Rattle.std.proofs.Common.{inl, ◌≡◌, ◌<◌, ◌≤◌, ◌&&◌, ◌++◌, ◌∷◌, [], ℕ, List, length, set, None, Some, true, false, refl, sym, ap, subst, ◌∙◌, arith}
 use Rattle.uca_check.specs.WellFormed.{elements_of}
+use Rattle.uca_match.specs.Positions.{Positions}
 use Rattle.uca_match.specs.Tries.{positions}
 use Rattle.uca_plans.specs.declared.drafts.DraftWeight.TheVariants.{New}
 use Rattle.uca_plans.specs.Drafts.{DraftRow}
@@ -8,10 +9,24 @@ use Rattle.uca_plans.specs.Plans.{Basis, Drafting, Drafted, drafted, needs_prefi
 use Rattle.uca_plans.specs.Keys.{keys_in, is_among}
 use Rattle.uca_plans.proofs.PlanSteps.{target_row}
 use Rattle.uca_drafts.specs.Places.{IsPlaceOf}
-use Rattle.uca_drafts.specs.Ready.{basis_in, ReadsAlike, IsRejected}
+use Rattle.uca_drafts.specs.Ready.{basis_in, ArePlacesWith, ReadsAlike, IsRejected}
 use Rattle.uca_drafts.proofs.VariableLaws.{holds_is}
 use Rattle.uca_drafts.proofs.DraftingSteps.{drafted_by_rows, refused_anchor, refused_prefix, refused_limit, too_many, refused_room, refused_variable, in_limits, row_put}
 use Rattle.uca_drafts.proofs.drafting.Drafting.add.Goals as goal
+
+-- The same rows have the same positions.
+placed : (places : Positions) (rows same : List DraftRow) → same ≡ rows → (more : List (List ℕ)) → ArePlacesWith places rows more → (m : List (List ℕ)) × ArePlacesWith places same m
+placed places rows same is more each = (more, subst (λ rs. ArePlacesWith places rs more) (sym is) each)
+
+pub draft_target-requires-clause-places : goal.draft_target-requires-clause-places
+draft_target-requires-clause-places g c =
+    let rows : c.deref.result.now ≡ c.args.self.now.rows = c.deref.ensures.value ∙ ap (λ (d : Drafting). d.rows) c.self.view_is in
+    placed (positions c.args.reader.now.places.now) c.args.self.now.rows c.deref.result.now rows c.requires.ready.more c.requires.ready.each
+
+pub needs_prefix-requires : goal.needs_prefix-requires
+needs_prefix-requires g c =
+    let rows : c.deref-2.result.now ≡ c.args.self.now.rows = c.deref-2.ensures.value ∙ ap (λ (d : Drafting). d.rows) c.self.view_is in
+    placed (positions c.args.reader.now.places.now) c.args.self.now.rows c.deref-2.result.now rows c.requires.ready.more c.requires.ready.each
 
 pub draft_target-requires-clause-alike : goal.draft_target-requires-clause-alike
 draft_target-requires-clause-alike g c =
