@@ -1,7 +1,7 @@
 -- The inside of quotes, one character further and at its end.
-use Rattle.std.proofs.Common.{◌≡◌, ◌≢◌, ℕ, ◌+◌, ◌<◌, List, [], ◌∷◌, ◌++◌, length, get_or, drop, Option, Some, None, refl, ap, sym, ◌∙◌, eq-eqb, arith}
+use Rattle.std.proofs.Common.{◌≡◌, ◌≢◌, ℕ, ◌+◌, ◌<◌, ◌≤◌, List, [], ◌∷◌, ◌++◌, length, get_or, take, drop, Option, Some, None, refl, ap, sym, ◌∙◌, eq-eqb, arith}
 use Rattle.std.proofs.lemmas.Bool.{ne_eqb}
-use Rattle.std.proofs.lemmas.List.{append_assoc, append-nil, drop_more}
+use Rattle.std.proofs.lemmas.List.{append_assoc, append-nil, drop_all, drop_more, take_at}
 use Rattle.uca_rules.specs.declared.characters.Character.{Character}
 use Rattle.uca_rules.specs.Characters.{apostrophe}
 use Rattle.uca_rules.specs.Pieces.{Symbol, Literal, Piece, with_literal, inside_quotes}
@@ -57,3 +57,10 @@ inside_double old new new' cs at next d i within is first second more =
     further old new new' cs at next (get_or cs at d) i more (ap inside_quotes (drop_more cs at d (omega arith)) ∙
     (ap (λ rest. inside_quotes (get_or cs at d ∷ rest)) (drop_more cs (at + 1) d within) ∙
     (double (get_or cs at d) (get_or cs (at + 1) d) (drop (at + 1 + 1) cs) first second ∙ ap (λ n. with_literal (get_or cs at d) (inside_quotes (drop n cs))) (sym is))))
+
+-- Where all characters are inside the quotes there is no piece, since the quotes have no end.
+pub inside_all : (old new : List Symbol) (cs : List Character) (at : ℕ) → IsInside old new cs at → length cs ≤ at → (inside_quotes cs ≡ None) × (take (length old) new ≡ old)
+inside_all old new cs at i past = (
+  i.whole ∙ ap (λ rest. behind i.front (inside_quotes rest)) (drop_all at cs past),
+  ap (take (length old)) i.written ∙ take_at old i.front (length old) refl,
+)

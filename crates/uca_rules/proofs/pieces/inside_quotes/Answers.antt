@@ -1,7 +1,7 @@
 -- A character more, two apostrophes, one, or no end.
 use Rattle.std.proofs.Common.{arith}
 use Rattle.uca_rules.proofs.Placing.{no_character}
-use Rattle.uca_rules.proofs.Quotes.{inside_first, inside_letter, inside_double}
+use Rattle.uca_rules.proofs.Quotes.{inside_all, inside_first, inside_letter, inside_double}
 use Rattle.uca_rules.proofs.pieces.inside_quotes.Goals as goal
 use Rattle.uca_rules.proofs.pieces.inside_quotes.Goals.{then-c-eq39+else-at-characters+else-characters-at-ne39, else-c-eq39}
 
@@ -20,3 +20,7 @@ loop-at-preserved g c =
           w.if-characters-at-ne39.false c.in_ok-push.ensures.items
       | else-c-eq39 w ↦ rw w.at-is (inside_letter old c.loop-at.symbols.items _ cs at no_character i c.loop-at-test.true w.if-c-eq39.false c.in_ok-push.ensures.items)
     ]
+
+pub returns : goal.returns
+returns g c =
+    inside_all c.args.symbols.now.items c.loop-at.symbols.items c.args.characters.now c.loop-at.at c.loop-at.invariant c.loop-at-test.false

@@ -1,8 +1,15 @@
-use Rattle.std.proofs.Common.{◌≡◌, ◌+◌, ◌<◌, ◌≤◌, ◌↔◌, ℕ, List, length, drop, subst, sym, arith}
+use Rattle.std.proofs.Common.{◌≡◌, ◌+◌, ◌<◌, ◌≤◌, ◌↔◌, ℕ, List, length, drop, refl, subst, sym, arith}
+use Rattle.std.proofs.lemmas.List.{drop_all}
 use Rattle.uca_text.specs.Occurring.{OccursInOrder}
-use Rattle.uca_rules.proofs.Searches.{both_further, text_further, ended}
+use Rattle.uca_rules.proofs.Searches.{all_found, both_further, text_further, ended}
 use Rattle.uca_rules.proofs.relations.occurs_in_order.Goals as goal
 use Rattle.uca_rules.proofs.relations.occurs_in_order.Goals.{then-c-part, else-c-part}
+
+pub returns-then-at-part : goal.returns-then-at-part
+returns-then-at-part c =
+    let part : List ℕ = c.args.part.now in
+    let at : ℕ = c.loop-c.at in
+    ((λ _. all_found part c.args.text.now at c.loop-c.c-index (drop_all at part (omega arith)) c.loop-c.invariant.1), (λ _. refl))
 
 pub loop-c-preserved : goal.loop-c-preserved
 loop-c-preserved c =

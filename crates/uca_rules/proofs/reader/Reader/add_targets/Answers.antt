@@ -1,9 +1,10 @@
 use Rattle.std.proofs.Common.{◌≡◌, ℕ, List, slice_index_or, sym, subst}
+use Rattle.std.proofs.lemmas.List.{take_all}
 use Rattle.std.proofs.lemmas.Result.{err_from_is_err_and}
 use Rattle.uca_rules.specs.declared.characters.Character.{Character}
 use Rattle.uca_rules.specs.declared.reader.Reader.{Reader}
 use Rattle.uca_rules.specs.Pieces.{Symbol, Literal, Hyphen}
-use Rattle.uca_rules.specs.Statements.{Starred, between}
+use Rattle.uca_rules.specs.Statements.{Starred, between, targets_of}
 use Rattle.uca_rules.specs.Reading.{Adds}
 use Rattle.uca_rules.proofs.StarredLemmas.{Before, adds_character, fault_in_range, fault_of_character, further_hyphen, further_range, no_literal, none_before, range_at, range_before}
 use Rattle.uca_rules.proofs.reader.Reader.add_targets.Goals as goal
@@ -68,3 +69,8 @@ loop-at-preserved g c =
           (none_before c.args.strength symbols at c.in-Literal.c none c.args.self.now c.loop-at.self c.loop-at-test.true w.in_default-open_range.ensures.none c.in-Literal.is c.loop-at.invariant)
     ] in
     adds_character c.args.strength symbols at c.in-Literal.c c.args.self.now c.match-open_range.self c.add_character.new.self before c.in_ok-add_character.ensures.added
+
+pub returns-clause-added : goal.returns-clause-added
+returns-clause-added g c =
+    subst (λ (l : List Symbol). Adds (Starred c.args.strength (targets_of l)) c.args.self.now c.loop-at.self)
+    (take_all c.loop-at.at c.args.symbols.now c.loop-at-test.false) c.loop-at.invariant
