@@ -1,4 +1,4 @@
-use Rattle.std.proofs.Common.{◌≡◌, ◌⊎◌, ℕ, List, false, ap, subst, ◌∙◌}
+use Rattle.std.proofs.Common.{◌≡◌, ◌⊎◌, ℕ, List, false, refl, ap, subst, ◌∙◌}
 use Rattle.std.proofs.lemmas.Result.{err_from_is_err_and}
 use Rattle.uca_values.specs.Content.{Properties}
 use Rattle.uca_rules.specs.declared.characters.Character.{Character}
@@ -6,9 +6,15 @@ use Rattle.uca_rules.specs.Characters.{place_of}
 use Rattle.uca_rules.specs.Faults.{RelationCause}
 use Rattle.uca_rules.specs.Views.{IsMemoryAt, IsTextFault}
 use Rattle.uca_rules.specs.Reading.{AreTextsOf, properties_in, relation_of, state_of}
-use Rattle.uca_rules.proofs.Progress.{kept_properties}
-use Rattle.uca_rules.proofs.StatementSteps.{expansion_fault, relation_fault, written_place}
+use Rattle.uca_rules.proofs.Progress.{kept_properties, keeps_both}
+use Rattle.uca_rules.proofs.StatementSteps.{expansion_fault, plain_adds, relation_fault, target_fault, written_place}
 use Rattle.uca_rules.proofs.reader.Reader.read_target.Goals as goal
+
+pub returns-in_err-target-clause-fault : goal.returns-in_err-target-clause-fault
+returns-in_err-target-clause-fault g c =
+    let p = err_from_is_err_and c.from_residual.result c.from_residual.ensures.1 in
+    let old = c.args.self.now in
+    rw (p.1, p.2) (target_fault (properties_in old.texts) old.texts.end (state_of old) c.args.strength c.args.text.now c.in_err-target.field-0.0 c.in_err-target.ensures.fault)
 
 pub returns-in_err-expansion-clause-fault : goal.returns-in_err-expansion-clause-fault
 returns-in_err-expansion-clause-fault g c =
@@ -39,3 +45,16 @@ returns-in_err-add-clause-fault g c =
     c.in_err-add.ensures.fault) in
     rw (p.1, p.2) (relation_fault (properties_in old.texts) old.texts.end (state_of old) c.args.strength c.args.text.now c.in_ok-target.behind.now rest target.0 expansion.0
     c.in_ok-target.target c.in_ok-expansion.expansion c.in_err-add.field-0.0 target.1 expansion.1 target.2 are fault)
+
+pub returns-clause-found : goal.returns-clause-found
+returns-clause-found g c =
+    let old = c.args.self.now in
+    let target = c.in_ok-target.ensures.found in
+    let expansion = c.in_ok-expansion.ensures.found in
+    let same : properties_in c.read_plain.new.self ≡ properties_in old.texts = kept_properties old.texts c.read_plain.new.self c.in_ok-target.ensures.kept in
+    let are : AreTextsOf (properties_in old.texts) expansion.0 c.in_ok-expansion.expansion =
+    subst (λ (p : Properties). AreTextsOf p expansion.0 c.in_ok-expansion.expansion) same expansion.2 in
+    plain_adds old _ c.add.new.self c.args.strength c.args.text.now c.in_ok-target.behind.now c.in_ok-expansion.rest.now target.0 expansion.0
+    c.in_ok-target.target c.in_ok-expansion.expansion target.1 expansion.1 target.2 are
+    (keeps_both old.texts c.read_plain.new.self c.read_expansion.new.self c.in_ok-target.ensures.kept c.in_ok-expansion.ensures.kept)
+    refl refl refl c.in_ok-add.ensures.added
