@@ -15,7 +15,7 @@ use Rattle.uca_rules.specs.declared.text_reader.TextReader.{TextReader}
 use Rattle.uca_rules.specs.Growing.{AreGrowing}
 use Rattle.uca_rules.specs.Characters.{ampersand, behind_gaps, bracket, place_of}
 use Rattle.uca_rules.specs.Pieces.{Symbol, Written, ArePieces, BeginsWritten}
-use Rattle.uca_rules.specs.Statements.{Statement, Reset, Plain, Starred, Resets, Signs, IsAnchorDue, IsTargetDue, BeginsExpansion, BeginsStatement, IsExpansionDue, bracket_at, sign_at, MayFollow, last_is, opening, targets_of}
+use Rattle.uca_rules.specs.Statements.{IsNotAt, Statement, Reset, Plain, Starred, Resets, Signs, IsAnchorDue, IsTargetDue, BeginsExpansion, BeginsStatement, IsExpansionDue, bracket_at, sign_at, MayFollow, last_is, opening, targets_of}
 use Rattle.uca_rules.specs.Meaning.{Anchor, IsShort, Taken, relations_in, relations_of, anchor_behind}
 use Rattle.uca_rules.specs.Views.{IsMemoryAt, IsTextFault}
 use Rattle.uca_rules.specs.Relations.{IsRuleText}
@@ -274,6 +274,25 @@ bracketed (first ∷ cs) behind text strength is gap found due =
         ap (λ (l : List Character). behind_gaps (drop 10 l)) (sym gap) ∙ sym due,
       );
     }
+
+-- another character than this one is at the front
+pub other_at : (code : ℕ) (cs : List Character) (c : Character) → Some c ≡ slice_get cs 0 → c.code ≢ code → IsNotAt code cs
+other_at code [] c at other = tt
+other_at code (b ∷ cs) c at other =
+    let e : ◌≡◌ {A = Option Character} (Some c) (Some b) = at in
+    let same : c ≡ b = cc in
+    λ is. other (ap (λ (x : Character). x.code) same ∙ is)
+
+-- nothing is at the front
+pub nothing_at : (code : ℕ) (cs : List Character) → None ≡ slice_get cs 0 → IsNotAt code cs
+nothing_at code [] at = tt
+nothing_at code (b ∷ cs) at = absurd (let e : ◌≡◌ {A = Option Character} None (Some b) = at in cc)
+
+-- no bracket comes after `&`, and the anchor must come there
+pub not_bracketed : (cs text : List Character) → first_code cs ≡ ampersand → text ≡ behind_gaps (drop 1 cs) → IsNotAt bracket text → IsAnchorDue cs None text
+not_bracketed [] text is gap other = absurd (let e : 0 ≡ ampersand = is in omega (arith, e))
+not_bracketed (first ∷ cs) text is gap other =
+    record { first = first; behind = cs; are = refl; is = is; perhaps = (subst (IsNotAt bracket) gap other, sym gap) }
 
 -- a bracket comes after `&` that is none of the three
 pub wrong_bracket : (cs behind : List Character) (c : Character) → first_code cs ≡ ampersand → behind ≡ behind_gaps (drop 1 cs) → Some c ≡ slice_get behind 0 → c.code ≡ bracket → bracket_at behind ≡ None

@@ -1,8 +1,9 @@
 use Rattle.std.proofs.Common.{sym, ap, ◌∙◌, refl}
 use Rattle.std.proofs.lemmas.List.{take_rest}
-use Rattle.uca_rules.specs.Characters.{behind_gaps}
-use Rattle.uca_rules.proofs.StatementSteps.{bracketed, wrong_bracket}
+use Rattle.uca_rules.specs.Characters.{bracket, behind_gaps}
+use Rattle.uca_rules.proofs.StatementSteps.{bracketed, not_bracketed, nothing_at, other_at, wrong_bracket}
 use Rattle.uca_rules.proofs.reader.behind_ampersand.Goals as goal
+use Rattle.uca_rules.proofs.reader.behind_ampersand.Goals.{in_default-via-in-Some+else-c-eq91, in_default-via-in_default}
 
 pub returns-in-None-clause-fault : goal.returns-in-None-clause-fault
 returns-in-None-clause-fault c =
@@ -13,3 +14,12 @@ returns-in-Some-bracket_at-clause-found c =
     bracketed c.args.characters.now c.behind_gaps-behind.result.now c.behind_gaps.result.now c.in-Some-bracket_at.strength c.requires
     (c.behind_gaps-behind.ensures ∙ ap behind_gaps (take_rest c.args.characters.now 1)) (sym c.bracket_at.ensures ∙ c.in-Some-bracket_at.is)
     (c.behind_gaps.ensures ∙ ap behind_gaps (take_rest c.behind_gaps-behind.result.now 10))
+
+pub returns-in_default-clause-found : goal.returns-in_default-clause-found
+returns-in_default-clause-found c =
+    let behind = c.behind_gaps-behind.result.now in
+    not_bracketed c.args.characters.now behind c.requires (c.behind_gaps-behind.ensures ∙ ap behind_gaps (take_rest c.args.characters.now 1))
+    (elim c.in_default.branch [
+      | in_default-via-in-Some+else-c-eq91 w ↦ other_at bracket behind w.in-Some.c.now w.in-Some.ensures.value w.if-c-eq91.false
+      | in_default-via-in_default w ↦ nothing_at bracket behind w.in_default.ensures.value
+    ])

@@ -29,6 +29,11 @@ test_hyphens-requires-clause-so_far g c =
     let front = front_of_some old c.take_piece.new.symbols.items c.deref-then-starred.result.now _ _ c.len-count.result (rw c.in-Ok-Some.field-0-is at c.in-Ok-Some.ensures) count c.deref-then-starred.ensures.value in
     subst HasRangesSoFar (sym front) (c.loop-symbols.invariant.so_far c.if-starred.true)
 
+pub returns-in_err-begins_text-clause-fault : goal.returns-in_err-begins_text-clause-fault
+returns-in_err-begins_text-clause-fault g c =
+    let p = err_from_is_err_and c.from_residual.result c.from_residual.ensures.1 in
+    rw (p.1, p.2) (inr c.in_err-begins_text.ensures.fault)
+
 pub returns-in_err-test_hyphens-clause-fault : goal.returns-in_err-test_hyphens-clause-fault
 returns-in_err-test_hyphens-clause-fault g c =
     let p = err_from_is_err_and c.from_residual-in_err-test_hyphens.result c.from_residual-in_err-test_hyphens.ensures.1 in
