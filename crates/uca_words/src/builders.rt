@@ -42,7 +42,7 @@ fn flag<'a>(alloc: Global, id: &'a str, help: &'a str) -> Arg<'a>
         .help(help)
 }
 
-// Both values, where both are there.
+// Both values, where both are there. A caller that takes them in one step has nothing else to drop: that keeps its proof short.
 fn both<T: Drop, U: Drop>(
     first: Result<T, AllocError>,
     second: Result<U, AllocError>,
