@@ -187,9 +187,9 @@ Lines of equal keys keep their order | sort --help
 Example: uca sort  | sort --help
 <LEFT> <RIGHT> | compare --help
 `<`, `=` or `>` | compare --help
-0 if none | compare --help
+first differ, or 0 | compare --help
 Usage: uca tailor <TABLE> <DATA> <RULES> <CERTIFICATE> | tailor --help
-a file of that name is replaced | tailor --help
+A file of that name is replaced | tailor --help
 Example: uca tailor table.txt data.txt rules.txt certificate.txt > tailored.txt | tailor --help
 <BASE> <DATA> <RULES> <TAILORED> <CERTIFICATE> | audit --help
 Example: uca audit table.txt data.txt rules.txt tailored.txt certificate.txt | audit --help";
