@@ -7,9 +7,9 @@
 they were checked. So the time between two files is that of the second. Remove that folder, check the crate, and then run this
 script: after later checks, or in a copy of the folder, the times are no longer those of one check.
 
-For each function it names the parts. `Lts` is the borrow checker's account of its code, `Proof` the goals that the prover
-searches for, `Answers` those with a proof in a file, and `Tie` the code against its contract. Lemmas and definitions have
-their own lines.
+For each function it names the parts. `Lts` is the borrow checker's account of its code. `Proof` is the goals that the prover
+searches for, and `Answers` those with a proof in a file. `Tie` is the code against its contract. Lemmas and definitions have their
+own lines.
 """
 import collections
 import os

@@ -1,4 +1,4 @@
--- The run of an audit, from what its files mean and what is answered for that.
+-- The run of an audit, from what its files mean and what is returned for that.
 use Rattle.std.specs.Prelude.{⊤, MatchResult, is_err}
 use Rattle.std.proofs.Common.{◌≡◌, ◌∙◌, Bool, true, Ok, Err, Result, List, ap, subst, sym}
 use Rattle.uca_weights.specs.Streams.{SourceState, SinkState}
@@ -24,7 +24,7 @@ module _ {T : Type 0} (olds news : List SourceState) (out out_new : SinkState) (
     out_failed = ap (λ o. o.failed) same ∙ as_before out.failed _ (no_write_before Bool T fault (file_before T T fault of_files));
   }
 
-  -- what is answered for what they mean
+  -- what is returned for what they mean
   audits_one : (files : T) (result : Result Bool RunFault) → Over audit_files olds news (IsRead tailoring_of (Ok files)) (Ok files)
       → ReadsOnly audit_files olds tailoring_of (Ok files) → HaveFailed audit_roles olds news (Ok files)
       → AnswersAudit (tailoring_of files) out out_new result → Audits olds news out out_new result

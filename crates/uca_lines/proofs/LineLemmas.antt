@@ -153,7 +153,7 @@ SaysOfBytes-fault known rest line waiting new later capacity n longest Read h so
 SaysOfBytes-fault known rest line waiting new later capacity n longest Memory h some lacks is_new is_later is_longest cause =
     (rw (is_new, is_later) h, HasBytes-waiting known rest line waiting h some)
 
--- A piece that is not taken for want of memory fits the line, which has less room.
+-- A piece that is not taken because memory ran out fits the line, which has less room.
 pub take_fault-memory : (fault : LineFault) (capacity n len : ℕ) → IsTakeFault fault capacity n len → ◌≡◌ {A = Result NextLine LineFault} (Err fault) (Err Memory) → capacity < n
 take_fault-memory TooLong capacity n len h e = cc
 take_fault-memory Limit capacity n len h e = absurd h

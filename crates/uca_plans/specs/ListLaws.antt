@@ -98,7 +98,7 @@ TakesOnePlace fixed i members =
 abbrev pub NewWeightsTakePlaces : Type 0
 NewWeightsTakePlaces = (fixed : DraftWeight) (i : Insertion) (members : List DraftWeight) → IsAmong members fixed → IsAmong members i.anchor → (i.new ≡ fixed → ⊥) → TakesOnePlace fixed i members
 
--- nothing of the list is between an anchor's weight and the new one; and the weights that were there keep their
+-- no member of the list is between an anchor's weight and the new one; and the weights that were there keep their
 -- order
 pub record StandsNext (i : Insertion) (members : List DraftWeight) : Type 0 where
   pub none_behind : (w : DraftWeight) → StandsBefore (inserted i members) i.anchor w → StandsBefore (inserted i members) w i.new → ⊥

@@ -114,10 +114,10 @@ pub fn one_outcome()
     ensures { OneOutcome }
 {}
 
-/// Take a well-formed base, and rules of which no relation is rejected. A level has room exactly if this is so on each side of
-/// its fixed weight (0, 0020, 0002): the base weights that are numbered there, and the new weights that go there, are together
-/// not more than the places. A new weight goes to the side of its anchor's weight. Beside the fixed weight itself it goes low if
-/// it is put in before it, and high if after. So the insertions alone tell it.
+/// Take a well-formed base, and rules without a relation that is rejected. A level has room exactly if each side of its fixed
+/// weight (0, 0020, 0002) has room. A side has room if the base weights that are numbered there and the new weights that go
+/// there are together not more than its places. A new weight goes to the side of its anchor's weight. Beside the fixed weight
+/// itself it goes low if it is put in before it, and high if after. So the insertions alone tell it.
 pub fn room_is_counted()
     ensures { RoomIsCounted }
 {}

@@ -318,7 +318,7 @@ digits_of_all digits part n len all twice written =
     written_front digits n len text [] (written ∙ ap (flat_map byte_digits) (take_all n part (omega (arith, all))) ∙ sym (append-nil text))
     (length-digits part ∙ sym twice)
 
--- the digits of a key of which so much is left were written that far
+-- the digits of a key were written, but for the part that is left
 pub record HasDigitsUpTo (key rest : List ℕ) (out now : SinkState) (buffer held : BufferState) : Type 0 where
   pub done : List ℕ
   pub key_is : key ≡ done ++ rest

@@ -13,8 +13,8 @@ use Rattle.uca_runs.specs.Files.{Reading, Over, HaveFailed}
 use Rattle.uca_runs.specs.Input.{clean_lines}
 use Rattle.uca_runs.specs.Runs.{IsClean, IsInputFault, is_input_read, ended_by_output}
 
--- What is written of an input, whose source has something left, by a writer that held `begun` and holds `now`: the bytes
--- of each line before the first one with an error.
+-- What is written of an input: the bytes of each line before the first one with an error. The source has something left,
+-- and the writer held `begun` and holds `now`.
 abbrev pub WritesEach : {A : Type 0} → Properties → (List ℕ → List ℕ) → List ℕ → Option (List ℕ) → Option (List ℕ) → Option (List ℕ) → Result A RunFault → Type 0
 WritesEach properties bytes_of bytes left begun now (Ok x) = IsClean properties bytes × Appends begun now (flat_map bytes_of (lines_of bytes))
 WritesEach properties bytes_of bytes left begun now (Err (Input number kind)) = (before : List (List ℕ)) × IsInputFault properties bytes left before number kind × Appends begun now (flat_map bytes_of before)

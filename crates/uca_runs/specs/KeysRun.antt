@@ -9,8 +9,8 @@ use Rattle.uca_runs.specs.EachLine.{WritesEach, RunsEach, PrintsEach}
 use Rattle.uca_runs.specs.Files.{TableAndData, table_and_data, table_and_data_roles}
 use Rattle.uca_runs.specs.Keys.{KeySettings, key_settings, printed_key, keyed_line}
 
--- What is written of an input, whose source has something left, by a writer that held `begun` and holds `now`: the key of
--- each line before the first one with an error, or these keys with their lines.
+-- What is written of an input: the key of each line before the first one with an error, or these keys with their lines. The
+-- source has something left, and the writer held `begun` and holds `now`.
 abbrev pub WritesKeys : {A : Type 0} → KeySettings → List ℕ → Option (List ℕ) → Option (List ℕ) → Option (List ℕ) → Result A RunFault → Type 0
 WritesKeys c bytes left begun now result = WritesEach c.collation.properties (printed_key c) bytes left begun now result
 

@@ -1,4 +1,4 @@
--- Where a level of a parse has no fault, it does not stop at the subcommand `help` that `clap` adds: that one is always a fault.
+-- Where a level of a parse has no error, it does not stop at the subcommand `help` that `clap` adds: that is always an error.
 use Rattle.std.proofs.Common.{◌≡◌, ◌&&◌, Bool, cond, true, false, not, refl, true≢false, List, [], ◌∷◌, ℕ, Option, Some, None, is_some, codes}
 use Rattle.std.specs.Prelude.{fold}
 use Rattle.std.specs.Option.{option_map_or}
@@ -41,7 +41,7 @@ long_other : (c : List Rule) (waiting : Waiting) (word : Text) (o : Option (Text
 long_other c waiting word (Some p) h = flag_other c waiting word (long_met c (arg_by_long c p.0) p.1 h).0 (long_met c (arg_by_long c p.0) p.1 h).1
 long_other c waiting word None h = short_other c waiting word (short_of word) h
 
--- `help` is a fault
+-- `help` is an error
 passes_help : (b off : Bool) (k : Kinds) → off ≡ false → (cond (b && not off) (Rattle.clap.specs.declared.error.kind.ErrorKind.TheVariants.DisplayHelp ∷ k) []) ≡ [] → not b ≡ true
 passes_help false off k on passes = refl
 passes_help true true k on passes = absurd (true≢false on)
@@ -87,7 +87,7 @@ past_walked s names w word on passes past = go w.stopped past passes
         past_step s.rules word w _ (word_met s.rules names w.is_trailing w.waiting w.position word w.held).1
         (word_other s names w.is_trailing w.waiting w.position word w.held on parts.0) past
 
--- a walk with no fault does not stop at `help`
+-- a walk with no error does not stop at `help`
 pub past_walk : (s : Shape) (names : Names) (words : List Text) (w : Walk) → s.disable_help_subcommand ≡ false → walk_fault s names w words ≡ [] → is_past_help w.stopped ≡ true
     → is_past_help (fold (walked s.rules names) w words).stopped ≡ true
 unfolding walk_fault

@@ -1,4 +1,4 @@
--- Where a command that requires a subcommand has no fault at the words, one of its own subcommands was met, and each
+-- Where a command that requires a subcommand has no error at the words, one of its own subcommands was met, and each
 -- word that it requires has a value.
 use Rattle.std.proofs.Common.{◌≡◌, ◌∙◌, ◌&&◌, ◌||◌, Bool, cond, true, false, not, refl, sym, ap, ap₂, List, [], ◌∷◌, Option, Some, None, is_some, true≢false, option_map}
 use Rattle.std.specs.Prelude.{find}
