@@ -16,6 +16,7 @@ Python's `unicodedata`, and says so on standard error: that may be another editi
 import argparse
 import os
 import re
+import signal
 import sys
 import unicodedata
 
@@ -141,6 +142,8 @@ def print_table(name):
 
 
 def main():
+    # A reader such as `head` may close the pipe.
+    signal.signal(signal.SIGPIPE, signal.SIG_DFL)
     parser = argparse.ArgumentParser(description=__doc__.split("\n")[0], epilog="docs/UNICODE.md says more.")
     parser.add_argument("what", choices=("table", "data"))
     parser.add_argument("--folder", default=FOLDER, help=f"the folder with Unicode's files ({FOLDER})")
