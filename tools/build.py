@@ -25,7 +25,7 @@ IDLE = ""
 # A check by two processes takes about as long as one by one process, and half as much processor time again.
 JOBS = ["--jobs", "1"]
 
-# The lanes of `rt` count a task of this name as one processor. A task of another name counts as all that are idle when it begins.
+# The lanes of `rt` count a task of this name as one processor. A task of another name counts as its share of those that are idle.
 TASK = "edits"
 
 
