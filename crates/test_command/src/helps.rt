@@ -221,7 +221,7 @@ const AFFECTED: &str =
 
 /// What `--version` prints.
 pub const VERSION: &str =
-    "uca 0.1.0 (normalization of Unicode 18.0.0, proved with rattle-kit-13b)\n";
+    "uca 0.1.0 (normalization of Unicode 18.0.0, proved with rattle-kit-13f)\n";
 
 // No file is opened.
 fn end_of(status: u8, out: &'static str, err: &'static str) -> End<'static> {

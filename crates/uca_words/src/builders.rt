@@ -9,7 +9,7 @@ use std::alloc::{AllocError, Global};
 
 // What `--version` prints after the name: the version, the Unicode edition of the normalization, and the kit that proves it.
 // `tools/packaging.py` compares the kit with that of the machine.
-const VERSION: &str = "0.1.0 (normalization of Unicode 18.0.0, proved with rattle-kit-13b)";
+const VERSION: &str = "0.1.0 (normalization of Unicode 18.0.0, proved with rattle-kit-13f)";
 
 fn word<'a>(alloc: Global, id: &'a str, name: &'a str, help: &'a str) -> Arg<'a>
     ensures rule { rule_of result ≡ word_rule id.entry.now }
