@@ -10,7 +10,7 @@ with Unicode's files, and `table ALLKEYS` another `allkeys.txt`.
 `table` prints a weight table: `allkeys.txt` with rows added after its own. As it is published it is not well-formed (UTS #10, section 9.2, WF5),
 since the rows of two keys are missing. These are added, and four more that keep what the file says of the signs after them.
 
-`data` prints a data file: combining classes and Han ranges, from UnicodeData.txt, PropList.txt and Blocks.txt. Without these files it takes both from
+`data` prints a data file: combining classes and Han ranges, from DerivedCombiningClass.txt, PropList.txt and Blocks.txt. Without these files it takes both from
 Python's `unicodedata`, and says so on standard error: that may be another edition. docs/UNICODE.md says more.
 """
 import argparse
@@ -21,7 +21,7 @@ import sys
 import unicodedata
 
 FOLDER = "/usr/share/unicode"
-SOURCES = ("UnicodeData.txt", "PropList.txt", "Blocks.txt")
+SOURCES = ("DerivedCombiningClass.txt", "PropList.txt", "Blocks.txt")
 
 # The blocks whose unified ideographs are core Han (UTS #10, section 10.1.3).
 CORE_BLOCKS = ("CJK Unified Ideographs", "CJK Compatibility Ideographs")
@@ -71,10 +71,20 @@ def ranges(values):
 # ---- The data file
 
 
+def place(folder, name):
+    """Where a file of Unicode is: in the folder, or in its folder `extracted`, as Unicode publishes DerivedCombiningClass.txt."""
+    extracted = os.path.join(folder, "extracted", name)
+    return extracted if os.path.exists(extracted) else os.path.join(folder, name)
+
+
 def published_data(folder):
     """The combining classes, the kinds of Han and the edition, from Unicode's files."""
-    characters, properties, blocks = (content(os.path.join(folder, name)) for name in SOURCES)
-    classes = {int(fields[0], 16): int(fields[3]) for fields in fields_of(characters) if fields[3] != "0"}
+    combining, properties, blocks = (content(place(folder, name)) for name in SOURCES)
+    classes = {}
+    for field, number in fields_of(combining):
+        first, last = ends_of(field)
+        if number != "0":
+            classes.update(dict.fromkeys(range(first, last + 1), int(number)))
     core = [ends_of(field) for field, name in fields_of(blocks) if name in CORE_BLOCKS]
     han = {}
     for field, name in fields_of(properties):
@@ -104,7 +114,7 @@ def python_data():
 
 
 def print_data(folder):
-    if all(os.path.exists(os.path.join(folder, name)) for name in SOURCES):
+    if all(os.path.exists(place(folder, name)) for name in SOURCES):
         classes, han, edition = published_data(folder)
     else:
         classes, han, edition = python_data()
