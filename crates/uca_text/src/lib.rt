@@ -2,6 +2,7 @@
 //! combining class (UAX #44), within fixed limits on length and on runs of non-starters.
 #![tactic(auto)]
 
+mod decompositions;
 mod laws;
 mod normal_text;
 mod normalize;

@@ -11,12 +11,12 @@ ghost use Rattle.uca_text.specs.Faults.{IsCause};
 ghost use Rattle.uca_text.specs.FaultText.{text_fault_text};
 
 use crate::Normal;
+use crate::decompositions::decompose;
 use std::alloc::{AllocError, AllocFailed, Allocator, Global};
-use std::{fmt, mem};
+use std::fmt;
 use thiserror::Error;
 use uca_values::Data;
 use uca_weights::Message;
-use unicode_normalization::slice::extend_nfd;
 
 /// How many code points a text may have in Normalization Form D.
 const LONGEST_TEXT: usize = 1_048_576;
@@ -148,33 +148,6 @@ fn normalize_into<A: Allocator>(
         return Err(TextFault::TooLong);
     }
     classify(classes, points, properties)
-}
-
-/// Writes the code points of the text in Normalization Form D, in the memory of one of the two lists.
-fn decompose(points: &mut Vec<char>, spare: &mut Vec<char>, text: &str) -> Result<(), AllocError>
-    ensures { OnOk result (points.new.items ≡ nfd (chars text.now)) }
-{
-    write_points(points, text)?;
-    // One code point for each byte: the text is ASCII, and ASCII is in Normalization Form D.
-    if points.len() == text.len() {
-        return Ok(());
-    }
-    spare.clear();
-    extend_nfd(spare, points)?;
-    mem::swap(points, spare);
-    Ok(())
-}
-
-/// Writes the code points of the text without a change.
-#[tactic(auto, using(std::proofs::lemmas::Str::chars_from_encodes))]
-fn write_points(points: &mut Vec<char>, text: &str) -> Result<(), AllocError>
-    ensures { OnOk result (points.new.items ≡ chars text.now) }
-{
-    points.clear();
-    for point in text.chars() {
-        points.push(point)?;
-    }
-    Ok(())
 }
 
 /// Writes the class of each code point, unless more than 64 non-starters come in a row.
