@@ -8,6 +8,7 @@ pub mod ExtensionEnd
 pub mod Portions
 pub mod OccurringLetters
 pub mod Parts
+pub mod CutReading
 pub mod RelatedReading
 pub mod RowsByKey
 pub mod Prefixes
@@ -18,3 +19,6 @@ pub mod PlacedKeys
 pub mod TrieKeys
 pub mod TrieLookups
 pub mod RootIndexLemmas
+pub mod CharMapLemmas
+pub mod Leaves
+pub mod Followers

@@ -1,10 +1,12 @@
 pub mod Rows
 pub mod Parts
 pub mod Reading
+pub mod Cuts
 pub mod Collations
 pub mod Lookups
 pub mod RowLists
 pub mod Positions
+pub mod CharMaps
 pub mod Tries
 pub mod NumberedKeys
 pub mod Places
