@@ -6,7 +6,7 @@ use Rattle.std.specs.List.{list_all}
 use Rattle.std.specs.Char.{digit_value}
 use Rattle.std.specs.Str.Parse.{digits_value}
 use Rattle.std.proofs.lemmas.Int.Digits.{digits_value_push, digits_value_more}
-use Rattle.std.proofs.lemmas.List.Folds.{list_all-append, list_all_more, list_all_at}
+use Rattle.std.proofs.lemmas.List.Folds.{list_all-append, list_all_more}
 use Rattle.std.proofs.lemmas.Nat.{div-mul-add, mod-mul-add}
 use Rattle.std.proofs.lemmas.Bool.{and_parts}
 use Rattle.std.proofs.lemmas.Bool.Decides.{nat_tests}
@@ -53,29 +53,14 @@ number_more p radix xs i n d small h k =
       value = digits_value_more radix xs i small ∙ rw (front.value, last.1) refl;
     })
 
-hex_digit_small : (x : ℕ) → is_hex_digit x ≡ true → digit_value x < 16
+pub hex_digit_small : (x : ℕ) → is_hex_digit x ≡ true → digit_value x < 16
 hex_digit_small x h = grind (arith, nat_tests)
 
 decimal_digit_small : (x : ℕ) → is_decimal_digit x ≡ true → digit_value x < 10
 decimal_digit_small x h = grind (arith, nat_tests)
 
-pub hex_small : (x d : ℕ) → hex_of (x ∷ []) ≡ Some d → d < 16
-hex_small x d h = let k = digit_is is_hex_digit 16 x d h in rw (← k.1) (hex_digit_small x k.0)
-
 pub decimal_small : (x d : ℕ) → decimal_of (x ∷ []) ≡ Some d → d < 10
 decimal_small x d h = let k = digit_is is_decimal_digit 10 x d h in rw (← k.1) (decimal_digit_small x k.0)
-
-pow_small : (i : ℕ) → i < 6 → 16 ^ i ≤ 1048576
-pow_small zero h = lit≤ tt
-pow_small (suc zero) h = lit≤ tt
-pow_small (suc (suc zero)) h = lit≤ tt
-pow_small (suc (suc (suc zero))) h = lit≤ tt
-pow_small (suc (suc (suc (suc zero)))) h = lit≤ tt
-pow_small (suc (suc (suc (suc (suc zero))))) h = lit≤ tt
-pow_small (suc (suc (suc (suc (suc (suc i)))))) h = absurd (omega arith)
-
-pub hex_fits : (n i : ℕ) → n < 16 ^ i → i < 6 → n < 1048576
-hex_fits n i h k = omega (arith, h, pow_small i k)
 
 pow_ten : (i : ℕ) → i < 3 → 10 ^ i ≤ 100
 pow_ten zero h = lit≤ tt

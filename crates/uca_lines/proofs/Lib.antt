@@ -2,6 +2,7 @@ pub mod LineLemmas
 pub mod BufferedLemmas
 pub mod FieldLemmas
 pub mod DigitLemmas
+pub mod DigitValues
 pub mod LeadLemmas
 pub mod ManyDigits
 pub mod LineCuts

@@ -6,6 +6,7 @@ pub mod OutputBuffer
 pub mod Buffered
 pub mod Fields
 pub mod Numbers
+pub mod DigitValues
 pub mod CodePointRanges
 pub mod Leads
 pub mod FileStops

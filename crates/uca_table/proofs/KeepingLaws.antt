@@ -115,3 +115,7 @@ not_contained rows all key same r k has h e c = false≢true (sym e ∙ h.1 (con
 pub added_at : (key row others : List ℕ) (now before : Bool) → key ≡ row → now ≡ cond (is_eq (slice_cmp nat_cmp key others)) true before
     → now ≡ cond (bytes_eq row others) true before
 added_at key row others now before k h = h ∙ ap (λ b. cond b true before) (is_eq-slice_cmp key others ∙ ap (λ ks. bytes_eq ks others) k)
+
+pub added_key : (key row others : List ℕ) (now before : Bool) → key ≡ row → now ≡ cond (bytes_eq key others) true before
+    → now ≡ cond (bytes_eq row others) true before
+added_key key row others now before k h = h ∙ ap (λ ks. cond (bytes_eq ks others) true before) k

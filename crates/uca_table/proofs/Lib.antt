@@ -4,6 +4,7 @@ pub mod KindLemmas
 pub mod ElementLaws
 pub mod KeyLaws
 pub mod RowLaws
+pub mod KeyBits
 pub mod KeepingLaws
 pub mod OrderLaws
 pub mod TakeLaws

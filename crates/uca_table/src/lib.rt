@@ -7,6 +7,7 @@ mod canonical;
 mod data_file;
 mod elements;
 mod headers;
+mod keys;
 mod laws;
 mod lines;
 mod read;

@@ -4,9 +4,9 @@ ghost use Rattle.std.specs.Prelude.{◌≡◌};
 ghost use Rattle.uca_table.specs.Headers.{argument_of};
 
 use crate::headers::{is_version_name, may_follow, read_range, setting};
+use crate::keys::RowKeys;
 use crate::rows::read_row;
 use std::alloc::{Allocator, Global};
-use std::collections::BTreeSet;
 use std::marker::Model;
 use std::str;
 use uca_lines::fields::{cut_word, line_text, skip_blanks};
@@ -26,7 +26,7 @@ pub struct TableLines<A: Allocator + Copy = Global> {
     setting: Option<Weighting>,
     ranges: Vec<ImplicitRange, A>,
     rows: Vec<Row<A>, A>,
-    keys: BTreeSet<Vec<char, A>, A>,
+    keys: RowKeys<A>,
 }
 
 impl<A: Allocator + Copy> Model for TableLines<A> {
@@ -36,7 +36,7 @@ impl<A: Allocator + Copy> Model for TableLines<A> {
     ghost use Rattle.std.specs.Cmp.Lexicographic.{slice_cmp};
     ghost use Rattle.std.specs.BTreeSet.{contains};
     ghost use Rattle.uca_table.specs.TableSoFar.{TableSoFar};
-    ghost use Rattle.uca_table.specs.Keeping.{Keeps};
+    ghost use Rattle.uca_table.specs.Keeping.{Keeps, kept};
 
     ghost Value = { TableSoFar };
 
@@ -48,7 +48,7 @@ impl<A: Allocator + Copy> Model for TableLines<A> {
     } };
 
     ghost invariant = { λ t. Keeps (λ k. k.items)
-        (contains (λ a b. slice_cmp nat_cmp a.items b.items) t.keys)
+        (kept (λ k. k.items) t.keys.bits.items (contains (λ a b. slice_cmp nat_cmp a.items b.items) t.keys.longer))
         (record {
           version = option_map string_bytes t.version;
           setting = t.setting;
@@ -71,7 +71,7 @@ impl<A: Allocator + Copy> TableLines<A> {
             setting: None,
             ranges: Vec::new(alloc),
             rows: Vec::new(alloc),
-            keys: BTreeSet::new(alloc),
+            keys: RowKeys::new(alloc),
         }
     }
 
@@ -221,9 +221,8 @@ impl<A: Allocator + Copy> TableLines<A> {
         if self.rows.len() >= MOST_ROWS {
             return Err(FaultKind::Limit);
         }
-        let key = Vec::from_slice(self.alloc, row.key.as_slice())?;
         self.rows.reserve(1)?;
-        self.keys.insert(key)?;
+        self.keys.insert(self.alloc, &row.key)?;
         self.rows.push(row)?;
         Ok(())
     }

@@ -3,18 +3,18 @@
 ghost use Rattle.std.specs.Prelude.{◌≡◌, ◌==◌, MatchOption, None, Some, length, ◌≤◌};
 ghost use Rattle.uca_lines.specs.Fields;
 
+use memchr::memchr;
+
 /// The text up to the first such byte, and the text from that byte on: the second part is empty, or
 /// begins with the byte.
 pub fn cut_at(text: &[u8], byte: u8) -> (&[u8], &[u8])
     ensures front { result.0.now ≡ Fields.up_to (λ b. b == byte) text.now }
     ensures back { result.1.now ≡ Fields.from_first (λ b. b == byte) text.now }
 {
-    for (at, b) in text.iter().enumerate() {
-        if *b == byte {
-            return text.split_at(at);
-        }
+    match memchr(byte, text) {
+        Some(at) => text.split_at(at),
+        None => text.split_at(text.len()),
     }
-    text.split_at(text.len())
 }
 
 /// The word at the front of the text, up to the first blank, and what follows it. The word is empty

@@ -1,6 +1,7 @@
 //! Numbers in a text.
 
-ghost use Rattle.std.specs.Prelude.{◌≡◌, ◌≤◌, ◌<◌, ◌^◌, ◌%◌, length, IfSome, [], ◌∷◌};
+ghost use Rattle.std.specs.Prelude.{◌≡◌, ◌*◌, ◌≤◌, ◌<◌, ◌^◌, ◌%◌, length, IfSome, [], ◌∷◌};
+ghost use Rattle.uca_lines.specs.DigitValues.{value_or_more, number_or_more};
 ghost use Rattle.uca_lines.specs.Numbers.{hex_of, code_point_of, weight_of, decimal_of, class_of, upper_digit, digits};
 
 /// The code point that a word of four to six digits stands for; `None` if the word is another text, a
@@ -40,28 +41,72 @@ pub fn class_number(word: &[u8]) -> Option<u8>
     Some(number as u8)
 }
 
-// The number that at most six digits stand for.
+// The number that four to six digits stand for.
 fn hexadecimal(word: &[u8]) -> Option<u32>
-    requires { length word.now ≤ 6 }
+    requires least { 4 ≤ length word.now }
+    requires most { length word.now ≤ 6 }
     ensures number { result ≡ hex_of word.now }
     ensures small { IfSome result (λ n. n < 16 ^ length word.now) }
 {
-    let mut number = 0;
-    for byte in word {
-        number = number * 16 + digit(*byte)?;
+    let number = number_or_more(word);
+    if number >= NO {
+        return None;
     }
-    Some(number)
+    Some(number as u32)
 }
 
-fn digit(byte: u8) -> Option<u32>
-    ensures { result ≡ hex_of (byte ∷ []) }
+// The same number, or `NO` or more if a byte is no digit.
+fn number_or_more(word: &[u8]) -> u64
+    requires least { 4 ≤ length word.now }
+    requires most { length word.now ≤ 6 }
+    ensures { result ≡ number_or_more 0 word.now }
 {
-    match byte {
-        b'0'..=b'9' => Some(u32::from(byte - b'0')),
-        b'A'..=b'F' => Some(u32::from(byte - b'A') + 10),
-        _ => None,
+    match word {
+        [a, b, c, d] => four_values(*a, *b, *c, *d),
+        [a, b, c, d, e] => four_values(*a, *b, *c, *d) * 16 + value(*e),
+        [a, b, c, d, e, f] => (four_values(*a, *b, *c, *d) * 16 + value(*e)) * 16 + value(*f),
+        _ => NO,
     }
 }
+
+fn four_values(a: u8, b: u8, c: u8, d: u8) -> u64
+    ensures number { result ≡ number_or_more 0 (a ∷ b ∷ c ∷ d ∷ []) }
+    ensures small { result ≤ 0x1111 * NO }
+{
+    ((value(a) * 16 + value(b)) * 16 + value(c)) * 16 + value(d)
+}
+
+// The value of a digit. That of another byte is `NO`.
+fn value(byte: u8) -> u64
+    ensures value { result ≡ value_or_more byte }
+    ensures small { result ≤ NO }
+{
+    VALUES[byte as usize]
+}
+
+// The value of a byte that is no digit: more than any number of six digits.
+const NO: u64 = 0x100_0000;
+
+// The value of each byte.
+#[rattlefmt::skip]
+static VALUES: [u64; 256] = [
+    NO, NO, NO, NO, NO, NO, NO, NO, NO, NO, NO, NO, NO, NO, NO, NO,
+    NO, NO, NO, NO, NO, NO, NO, NO, NO, NO, NO, NO, NO, NO, NO, NO,
+    NO, NO, NO, NO, NO, NO, NO, NO, NO, NO, NO, NO, NO, NO, NO, NO,
+    0, 1, 2, 3, 4, 5, 6, 7, 8, 9, NO, NO, NO, NO, NO, NO,
+    NO, 10, 11, 12, 13, 14, 15, NO, NO, NO, NO, NO, NO, NO, NO, NO,
+    NO, NO, NO, NO, NO, NO, NO, NO, NO, NO, NO, NO, NO, NO, NO, NO,
+    NO, NO, NO, NO, NO, NO, NO, NO, NO, NO, NO, NO, NO, NO, NO, NO,
+    NO, NO, NO, NO, NO, NO, NO, NO, NO, NO, NO, NO, NO, NO, NO, NO,
+    NO, NO, NO, NO, NO, NO, NO, NO, NO, NO, NO, NO, NO, NO, NO, NO,
+    NO, NO, NO, NO, NO, NO, NO, NO, NO, NO, NO, NO, NO, NO, NO, NO,
+    NO, NO, NO, NO, NO, NO, NO, NO, NO, NO, NO, NO, NO, NO, NO, NO,
+    NO, NO, NO, NO, NO, NO, NO, NO, NO, NO, NO, NO, NO, NO, NO, NO,
+    NO, NO, NO, NO, NO, NO, NO, NO, NO, NO, NO, NO, NO, NO, NO, NO,
+    NO, NO, NO, NO, NO, NO, NO, NO, NO, NO, NO, NO, NO, NO, NO, NO,
+    NO, NO, NO, NO, NO, NO, NO, NO, NO, NO, NO, NO, NO, NO, NO, NO,
+    NO, NO, NO, NO, NO, NO, NO, NO, NO, NO, NO, NO, NO, NO, NO, NO,
+];
 
 // The number that at most three decimal digits stand for.
 fn decimal(word: &[u8]) -> Option<u16>

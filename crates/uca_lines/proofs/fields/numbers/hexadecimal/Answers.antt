@@ -1,22 +1,13 @@
--- The number so far is below 16 to the number of its digits.
-use Rattle.std.proofs.Common.{sym, get_or, arith}
-use Rattle.uca_weights.proofs.Numbers.{grows}
-use Rattle.uca_lines.specs.Numbers.{is_hex_digit}
-use Rattle.uca_lines.proofs.DigitLemmas.{number_more, hex_small, hex_fits}
+-- A number below the value of a byte that is no digit is that of digits.
+use Rattle.std.proofs.Common.{sym, arith}
+use Rattle.uca_lines.proofs.DigitValues.{hex_read, hex_not_read, hex-lt}
 use Rattle.uca_lines.proofs.fields.numbers.hexadecimal.Goals as goal
 
-pub overflow_mul-number : goal.overflow_mul-number
-overflow_mul-number c = omega (arith, hex_fits _ _ c.loop-byte.invariant.small (omega arith))
+pub returns-then-number-ge-NO-clause-number : goal.returns-then-number-ge-NO-clause-number
+returns-then-number-ge-NO-clause-number c = sym (hex_not_read c.args.word.now c.requires.most (omega arith))
 
-pub overflow_add-number : goal.overflow_add-number
-overflow_add-number c =
-    let last = get_or c.args.word.now c.loop-byte.byte-index 0 in
-    omega (arith, hex_fits _ _ c.loop-byte.invariant.small (omega arith), hex_small last c.in_ok-number.field-0 (sym c.in_ok-number.ensures))
+pub returns-clause-number : goal.returns-clause-number
+returns-clause-number c = rw c.number_or_more-number.ensures (sym (hex_read c.args.word.now (omega arith)))
 
-pub loop-byte-preserved : goal.loop-byte-preserved
-loop-byte-preserved c =
-    let last = get_or c.args.word.now c.loop-byte.byte-index 0 in
-    record {
-      read = number_more is_hex_digit 16 c.args.word.now c.loop-byte.byte-index c.loop-byte.number c.in_ok-number.field-0 (omega arith) c.loop-byte.invariant.read (sym c.in_ok-number.ensures);
-      small = grows 16 _ _ _ c.loop-byte.invariant.small (hex_small last c.in_ok-number.field-0 (sym c.in_ok-number.ensures));
-    }
+pub returns-clause-small : goal.returns-clause-small
+returns-clause-small c = hex-lt c.args.word.now _ (rw c.number_or_more-number.ensures (hex_read c.args.word.now (omega arith)))

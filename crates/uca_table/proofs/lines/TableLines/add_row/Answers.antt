@@ -3,7 +3,7 @@ use Rattle.std.proofs.Common.{◌++◌, ◌∷◌, [], ◌<◌, ◌≤◌, lengt
 use Rattle.std.specs.Prelude.{IsSome}
 use Rattle.uca_values.specs.Content.{Entry}
 use Rattle.uca_table.specs.TableSoFar.{TableSoFar}
-use Rattle.uca_table.proofs.KeepingLaws.{with_rows, keeps_row, keeps_same, contained, not_contained, added_at}
+use Rattle.uca_table.proofs.KeepingLaws.{with_rows, keeps_row, keeps_same, contained, not_contained, added_key}
 use Rattle.uca_table.proofs.lines.TableLines.add_row.Goals as goal
 
 pub returns-then-contains-clause-fault : goal.returns-then-contains-clause-fault
@@ -14,7 +14,7 @@ returns-then-contains-clause-fault g c =
 
 pub invariant_of-self-in_err-insert : goal.invariant_of-self-in_err-insert
 invariant_of-self-in_err-insert g c =
-    keeps_same _ _ _ _ _ c.self.invariant (ap (with_rows _ _ _) c.in_ok-reserve.ensures.items) (λ q. rw c.in_err-insert.ensures.err refl)
+    keeps_same _ _ _ _ _ c.self.invariant (ap (with_rows _ _ _) c.in_ok-reserve.ensures.items) c.in_err-insert.ensures.same
 
 pub invariant_of-self-2 : goal.invariant_of-self-2
 invariant_of-self-2 g c =
@@ -25,7 +25,7 @@ invariant_of-self-2 g c =
     (omega arith)
     (let P : TableSoFar → Type 0 = λ b. IsSome b.version in subst P (sym c.self.view_is) c.requires.versioned)
     (ap (with_rows _ _ _) items)
-    (λ q. added_at _ _ _ _ _ (c.in_ok-key.ensures.items ∙ c.as_slice.ensures.value ∙ key) (c.in_ok-insert.ensures.updates.0 q))
+    (λ q. added_key _ _ _ _ _ (c.deref.ensures.value ∙ key) (c.in_ok-insert.ensures.added q))
 
 pub returns-clause-new : goal.returns-clause-new
 returns-clause-new g c =
