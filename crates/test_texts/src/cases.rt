@@ -23,27 +23,34 @@ pub fn text_of(alloc: Global, points: &str) -> Result<String, Fail> {
     Ok(text)
 }
 
-/// The bytes of some groups, each in hexadecimal digits: four digits are two bytes, and two are one.
+/// Adds the bytes of a group in hexadecimal digits: four digits are two bytes, and two are one.
+fn push_group(bytes: &mut Vec<u8>, digits: &str) -> Result<(), Fail> {
+    let [_, _, high, low] = number(digits)?.to_be_bytes();
+    let group = [high, low];
+    let unused = if digits.len() == 4 { 0 } else { 1 };
+    Ok(bytes.extend_from_slice(&group[unused..])?)
+}
+
+/// The bytes of some groups.
 pub fn bytes_of(alloc: Global, groups: &str) -> Result<Vec<u8>, Fail> {
     let mut bytes = Vec::new(alloc);
     for digits in groups.split_whitespace() {
-        let [_, _, high, low] = number(digits)?.to_be_bytes();
-        if digits.len() == 4 {
-            bytes.push(high)?;
-        }
-        bytes.push(low)?;
+        push_group(&mut bytes, digits)?;
     }
     Ok(bytes)
+}
+
+/// Adds a byte in hexadecimal digits, and a space before it where a group begins.
+fn push_byte(groups: &mut String, place: usize, byte: u8) -> Result<(), AllocError> {
+    let space = if place > 0 && place % 2 == 0 { " " } else { "" };
+    write!(groups, "{space}{byte:02X}")
 }
 
 /// Bytes as groups of two in hexadecimal digits.
 fn groups_of(alloc: Global, bytes: &[u8]) -> Result<String, AllocError> {
     let mut groups = String::new(alloc);
     for (place, byte) in bytes.iter().enumerate() {
-        if place > 0 && place % 2 == 0 {
-            groups.push(' ')?;
-        }
-        groups.push_str(&format!(in alloc; "{:02X}", byte)?)?;
+        push_byte(&mut groups, place, *byte)?;
     }
     Ok(groups)
 }
@@ -51,6 +58,11 @@ fn groups_of(alloc: Global, bytes: &[u8]) -> Result<String, AllocError> {
 /// The two parts of a case, around the first ` | `.
 pub fn halves(case: &str) -> Result<(&str, &str), Fail> {
     Ok(case.split_once(" | ").ok_or("a case without its answer")?)
+}
+
+/// A text in code points, and what is said of it with a space before each word.
+pub fn words_of_case(case: &str) -> Result<(&str, &str), Fail> {
+    Ok(case.split_once(" |").ok_or("a case without its answer")?)
 }
 
 /// Fails with the case unless this holds.

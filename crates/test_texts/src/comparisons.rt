@@ -76,6 +76,20 @@ fn check_depths<L: Lookup>(
     )
 }
 
+/// A text, another one, and what is returned.
+fn check_right<L: Lookup>(
+    alloc: Global,
+    collator: &Collator<L>,
+    weighting: Weighting,
+    left: &Normal,
+    (right, answers): (&str, &str),
+) -> Result<(), Fail> {
+    let right = normal_of(alloc, right, collator.data)?;
+    let checked = check_depths(alloc, collator, weighting, (left, &right), answers);
+    drop(right);
+    checked
+}
+
 /// Two texts, and what is returned.
 fn check_case<L: Lookup>(
     alloc: Global,
@@ -86,8 +100,9 @@ fn check_case<L: Lookup>(
     let (left, rest) = halves(case)?;
     let (right, answers) = halves(rest)?;
     let left = normal_of(alloc, left, collator.data)?;
-    let right = normal_of(alloc, right, collator.data)?;
-    check_depths(alloc, collator, weighting, (&left, &right), answers)
+    let checked = check_right(alloc, collator, weighting, &left, (right, answers));
+    drop(left);
+    checked
 }
 
 const PLAINLY: &str = r"0041 0061 | 0061 0062 | Less 1 | Less 1 | 2 2

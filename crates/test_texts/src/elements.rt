@@ -1,11 +1,11 @@
 //! What texts read as: the longest key, the marks that it takes, and implicit weights.
 
-use crate::cases::{holds, same};
+use crate::cases::{holds, same, words_of_case};
 use crate::samples::{CLASSES, Check, normal_of, over_both};
 use std::alloc::{AllocError, Global};
 use std::test::Fail;
 use uca_match::{Collator, Lookup};
-use uca_text::{Normal, normal};
+use uca_text::Normal;
 
 const CONTRACTIONS: &str = "@version 1\n\
     0061 ; [.0001.0020.0002]\n\
@@ -26,7 +26,7 @@ fn primaries<L: Lookup>(
     let mut weights = String::new(alloc);
     for element in collator.elements(text) {
         if element.primary != 0 {
-            weights.push_str(&format!(in alloc; " {:04X}", element.primary)?)?;
+            write!(weights, " {:04X}", element.primary)?;
         }
     }
     Ok(weights)
@@ -56,18 +56,24 @@ fn check_case<L: Lookup>(alloc: Global, collator: &Collator<L>, case: &str) -> R
     if case.starts_with("--") {
         return Ok(());
     }
-    let (points, wanted) = case.split_once(" |").ok_or("a case without its answer")?;
+    let (points, wanted) = words_of_case(case)?;
     let text = normal_of(alloc, points, collator.data)?;
-    same(&primaries(alloc, collator, &text)?, wanted, case)
+    let found = primaries(alloc, collator, &text);
+    drop(text);
+    same(&found?, wanted, case)
 }
 
 /// Nothing comes after the last element, however often it is asked for.
 fn check_end<L: Lookup>(alloc: Global, collator: &Collator<L>) -> Result<(), Fail> {
-    let text = normal(alloc, "a", collator.data)?;
+    let text = normal_of(alloc, "0061", collator.data)?;
     let mut elements = collator.elements(&text);
-    holds(elements.next().is_some(), "the element")?;
-    holds(elements.next().is_none(), "after the last element")?;
-    holds(elements.next().is_none(), "and again")
+    let first = elements.next().is_some();
+    let second = elements.next().is_some();
+    let third = elements.next().is_some();
+    holds(
+        [first, second, third] == [true, false, false],
+        "one element, and no more",
+    )
 }
 
 /// The texts of `READ`, and the end of the elements.

@@ -1,6 +1,6 @@
 //! Maps of keys to their positions, and what texts are matched as by them.
 
-use crate::cases::{halves, holds, same};
+use crate::cases::{halves, holds, same, words_of_case};
 use crate::lookups::points_of;
 use crate::samples::{CLASSES, data_of, normal_of, table_of};
 use std::alloc::{AllocError, Global};
@@ -22,12 +22,17 @@ fn said(alloc: Global, keys: &KeyMap, key: &[char]) -> Result<String, AllocError
     }
 }
 
-/// Some code points and their position, a case a line.
+/// Some code points and their position.
+fn check_position(alloc: Global, keys: &KeyMap, case: &str) -> Result<(), Fail> {
+    let (numbers, wanted) = halves(case)?;
+    let points = points_of(alloc, numbers)?;
+    same(&said(alloc, keys, &points)?, wanted, case)
+}
+
+/// The same, a case a line.
 fn check_positions(alloc: Global, keys: &KeyMap, cases: &str) -> Result<(), Fail> {
     for case in cases.lines() {
-        let (numbers, wanted) = halves(case)?;
-        let points = points_of(alloc, numbers)?;
-        same(&said(alloc, keys, &points)?, wanted, case)?;
+        check_position(alloc, keys, case)?;
     }
     Ok(())
 }
@@ -121,14 +126,15 @@ struct Made {
 /// Adds two keys: a letter, and the letter with U+0061 after it. The longer one has this position. With U+0062 it is
 /// not a key, and the next code point begins no key.
 fn add_letter(made: &mut Made, position: u32, code: u32) -> Result<(), AllocError> {
-    let alloc = *made.file.allocator();
     let (next, beside) = (position.saturating_add(1), code.saturating_add(1));
-    made.file.push_str(&format!(in alloc;
+    write!(
+        made.file,
         "{code:04X} 0061 ; [.0001.0020.0002]\n{code:04X} ; [.0002.0020.0002]\n"
-    )?)?;
-    made.cases.push_str(&format!(in alloc;
+    )?;
+    write!(
+        made.cases,
         "{code:04X} 0061 | {position}\n{code:04X} | {next}\n{code:04X} 0062 | none\n{beside:04X} | none\n"
-    )?)
+    )
 }
 
 /// 900 letters, each two code points after another from U+3000 on, in mixed order: 907 is a prime, so no remainder comes
@@ -151,23 +157,34 @@ fn finds_positions_of_many_keys(rt: HostRuntime) -> Result<(), Fail> {
     check(rt.alloc(), &made.file, &made.cases)
 }
 
+/// Adds a key, with `;` after it.
+fn push_key(list: &mut String, key: &[char]) -> Result<(), AllocError> {
+    for point in key {
+        write!(list, "{:04X} ", u32::from(*point))?;
+    }
+    list.push_str("; ")
+}
+
 /// Keys, each with `;` after it.
 fn listed(alloc: Global, keys: &[&[char]]) -> Result<String, AllocError> {
     let mut list = String::new(alloc);
     for key in keys {
-        for point in *key {
-            list.push_str(&format!(in alloc; "{:04X} ", u32::from(*point))?)?;
-        }
-        list.push_str("; ")?;
+        push_key(&mut list, key)?;
     }
     Ok(list)
+}
+
+/// The keys of a table.
+fn list_of(alloc: Global, table: &Table) -> Result<String, AllocError> {
+    listed(alloc, &key_list(alloc, &table.rows)?)
 }
 
 /// The keys of a table file.
 fn check_list(alloc: Global, file: &str, wanted: &str) -> Result<(), Fail> {
     let table = table_of(alloc, file)?;
-    let keys = key_list(alloc, &table.rows)?;
-    same(&listed(alloc, &keys)?, wanted, file)
+    let list = list_of(alloc, &table);
+    drop(table);
+    same(&list?, wanted, file)
 }
 
 #[test]
@@ -219,15 +236,19 @@ const MATCHED: &str = r" |
 -- marks alone
 0323 0301 | 5 3";
 
+/// Adds what a part of a text is matched as.
+fn push_part(words: &mut String, part: Match<usize>) -> Result<(), AllocError> {
+    match part {
+        Match::Key(position) => write!(words, " {position}"),
+        Match::Unlisted(point) => write!(words, " U+{:04X}", u32::from(point)),
+    }
+}
+
 /// What a text is matched as.
 fn matched(alloc: Global, keys: &KeyMap, text: &Normal) -> Result<String, AllocError> {
     let mut words = String::new(alloc);
     for part in Matches::new(keys, text) {
-        let word = match part {
-            Match::Key(position) => format!(in alloc; " {position}")?,
-            Match::Unlisted(point) => format!(in alloc; " U+{:04X}", u32::from(point))?,
-        };
-        words.push_str(&word)?;
+        push_part(&mut words, part)?;
     }
     Ok(words)
 }
@@ -237,18 +258,24 @@ fn check_match(alloc: Global, keys: &KeyMap, data: &Data, case: &str) -> Result<
     if case.starts_with("--") {
         return Ok(());
     }
-    let (points, wanted) = case.split_once(" |").ok_or("a case without its answer")?;
+    let (points, wanted) = words_of_case(case)?;
     let text = normal_of(alloc, points, data)?;
-    same(&matched(alloc, keys, &text)?, wanted, case)
+    let found = matched(alloc, keys, &text);
+    drop(text);
+    same(&found?, wanted, case)
 }
 
 /// Nothing comes after the last match, however often it is asked for. No key covers the code point.
 fn check_end(alloc: Global, keys: &KeyMap, data: &Data) -> Result<(), Fail> {
     let text = normal_of(alloc, "4E00", data)?;
     let mut matches = Matches::new(keys, &text);
-    holds(matches.next().is_some(), "the match")?;
-    holds(matches.next().is_none(), "after the last match")?;
-    holds(matches.next().is_none(), "and again")
+    let first = matches.next().is_some();
+    let second = matches.next().is_some();
+    let third = matches.next().is_some();
+    holds(
+        [first, second, third] == [true, false, false],
+        "one match, and no more",
+    )
 }
 
 /// Cases over keys, and the end of the matches.

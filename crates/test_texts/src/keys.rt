@@ -2,22 +2,37 @@
 
 use crate::cases::{halves, same_bytes};
 use crate::samples::{Check, DATA, TABLE, normal_of, over_both, table_of};
-use std::alloc::Global;
+use std::alloc::{AllocError, Global};
 use std::test::Fail;
 use uca_key::{KeyBuffer, key, key_of};
 use uca_match::{Collator, Lookup};
 use uca_text::Normal;
+use uca_values::Table;
 use uca_weights::Weighting::{NonIgnorable, Shifted};
 use uca_weights::{Depth, Element, Weighting};
 
 /// The elements that are written so in a row.
 pub fn elements_of(alloc: Global, text: &str) -> Result<Vec<Element>, Fail> {
+    if text.is_empty() {
+        return Ok(Vec::new(alloc));
+    }
+    let file = format!(in alloc; "@version 1\n0061 ; {text}\n")?;
+    elements_of_file(alloc, &file)
+}
+
+/// The elements of all rows of a table file.
+fn elements_of_file(alloc: Global, file: &str) -> Result<Vec<Element>, Fail> {
+    let table = table_of(alloc, file)?;
+    let elements = elements_of_table(alloc, &table);
+    drop(table);
+    Ok(elements?)
+}
+
+/// The elements of all rows of a table.
+fn elements_of_table(alloc: Global, table: &Table) -> Result<Vec<Element>, AllocError> {
     let mut elements = Vec::new(alloc);
-    if !text.is_empty() {
-        let table = table_of(alloc, &format!(in alloc; "@version 1\n0061 ; {text}\n")?)?;
-        for row in &table.rows {
-            elements.extend_from_slice(&row.elements)?;
-        }
+    for row in &table.rows {
+        elements.extend_from_slice(&row.elements)?;
     }
     Ok(elements)
 }

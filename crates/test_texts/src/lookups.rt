@@ -6,6 +6,8 @@ use crate::samples::table_of;
 use std::alloc::{AllocError, Global};
 use std::test::Fail;
 use uca_match::{Lookup, RowList, Trie, row_of};
+use uca_values::Table;
+use uca_weights::Element;
 
 /// What a lookup says of some code points. `nothing`: no key begins with them. `beginning`: they are not a
 /// key, but there is a node for them. The primary weight of the first element: they are a key.
@@ -33,15 +35,20 @@ pub fn points_of(alloc: Global, numbers: &str) -> Result<Vec<char>, Fail> {
     Ok(points)
 }
 
+/// The elements of a row, if there is one: the primary weight of the first.
+fn check_row(alloc: Global, row: Option<&[Element]>, wanted: &str, case: &str) -> Result<(), Fail> {
+    match row {
+        Some([first, ..]) => same(&format!(in alloc; "{:04X}", first.primary)?, wanted, case),
+        _ => holds(wanted == "beginning" || wanted == "nothing", case),
+    }
+}
+
 /// Some code points, and what the lookup says of them, step by step and at once.
 fn check_case<L: Lookup>(alloc: Global, lookup: &L, case: &str) -> Result<(), Fail> {
     let (numbers, wanted) = halves(case)?;
     let points = points_of(alloc, numbers)?;
     same(&said(alloc, lookup, &points)?, wanted, case)?;
-    match row_of(lookup, &points) {
-        Some([first, ..]) => same(&format!(in alloc; "{:04X}", first.primary)?, wanted, case),
-        _ => holds(wanted == "beginning" || wanted == "nothing", case),
-    }
+    check_row(alloc, row_of(lookup, &points), wanted, case)
 }
 
 /// Cases over a lookup.
@@ -52,11 +59,26 @@ fn check_lookup<L: Lookup>(alloc: Global, lookup: &L, cases: &str) -> Result<(),
     Ok(())
 }
 
+/// Cases over a trie of a table.
+fn check_trie(alloc: Global, table: &Table, cases: &str) -> Result<(), Fail> {
+    let trie = Trie::new(alloc, table)?;
+    let checked = check_lookup(alloc, &trie, cases);
+    drop(trie);
+    checked
+}
+
+/// Cases over both lookups of a table.
+fn check_both(alloc: Global, table: &Table, cases: &str) -> Result<(), Fail> {
+    check_lookup(alloc, &RowList::new(table), cases)?;
+    check_trie(alloc, table, cases)
+}
+
 /// Cases over both lookups of a table file.
 fn check(alloc: Global, file: &str, cases: &str) -> Result<(), Fail> {
     let table = table_of(alloc, file)?;
-    check_lookup(alloc, &RowList::new(&table), cases)?;
-    check_lookup(alloc, &Trie::new(alloc, &table)?, cases)
+    let checked = check_both(alloc, &table, cases);
+    drop(table);
+    checked
 }
 
 /// A key of 16 code points.
@@ -184,16 +206,12 @@ impl Made {
 
     /// Adds a key that ends in the code point of this number. No key ends so in the next code point.
     fn add(&mut self, front: &str, code: u32, weight: u16) -> Result<(), AllocError> {
-        let alloc = *self.file.allocator();
         let beside = code.saturating_add(1);
-        self.file.push_str(&format!(in alloc;
-            "{front}{:04X} ; [.{:04X}.0020.0002]\n",
-            code, weight
-        )?)?;
-        self.cases.push_str(&format!(in alloc;
-            "{front}{:04X} | {:04X}\n{front}{:04X} | nothing\n",
-            code, weight, beside
-        )?)
+        write!(self.file, "{front}{code:04X} ; [.{weight:04X}.0020.0002]\n")?;
+        write!(
+            self.cases,
+            "{front}{code:04X} | {weight:04X}\n{front}{beside:04X} | nothing\n"
+        )
     }
 }
 
@@ -223,9 +241,16 @@ fn many_letters(alloc: Global) -> Result<Made, AllocError> {
     Ok(made)
 }
 
+/// Cases over a trie alone: a list of so many rows takes long.
+fn check_many(alloc: Global, made: &Made) -> Result<(), Fail> {
+    let table = table_of(alloc, &made.file)?;
+    let checked = check_trie(alloc, &table, &made.cases);
+    drop(table);
+    checked
+}
+
 #[test]
 fn finds_each_of_many_letters(rt: HostRuntime) -> Result<(), Fail> {
     let made = many_letters(rt.alloc())?;
-    let table = table_of(rt.alloc(), &made.file)?;
-    check_lookup(rt.alloc(), &Trie::new(rt.alloc(), &table)?, &made.cases)
+    check_many(rt.alloc(), &made)
 }

@@ -63,10 +63,22 @@ fn over_trie<C: Check>(alloc: Global, table: &Table, data: &Data, cases: &C) -> 
     cases.check(alloc, &Collator::new(&trie, &table.header, data))
 }
 
+fn over_values<C: Check>(alloc: Global, table: &Table, data: &Data, cases: &C) -> Result<(), Fail> {
+    over_rows(alloc, table, data, cases)?;
+    over_trie(alloc, table, data, cases)
+}
+
+fn over_table<C: Check>(alloc: Global, table: &Table, data: &str, cases: &C) -> Result<(), Fail> {
+    let data = data_of(alloc, data)?;
+    let checked = over_values(alloc, table, &data, cases);
+    drop(data);
+    checked
+}
+
 /// Checks the collators over both lookups of a table file.
 pub fn over_both<C: Check>(alloc: Global, table: &str, data: &str, cases: &C) -> Result<(), Fail> {
     let table = table_of(alloc, table)?;
-    let data = data_of(alloc, data)?;
-    over_rows(alloc, &table, &data, cases)?;
-    over_trie(alloc, &table, &data, cases)
+    let checked = over_table(alloc, &table, data, cases);
+    drop(table);
+    checked
 }

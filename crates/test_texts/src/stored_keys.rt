@@ -117,13 +117,18 @@ const WRITTEN: &str = r"[.1C47.0020.0002] | [.1C60.0020.0002] : Less 1 : Less 1
 [.1C47.0020.0002][*0209.0020.0002][.1C60.0020.0002] | [.1C47.0020.0002][.1C60.0020.0002] : Less 1 : Less 4
 [*0209.0020.0002][.0000.0024.0002] | [*0209.0020.0002] : Greater 2 : Equal 0";
 
+/// Two lists of elements, and how their keys compare under each weighting.
+fn check_orders(alloc: Global, case: &str) -> Result<(), Fail> {
+    let (keys, orders) = case.split_once(" : ").ok_or("no orders")?;
+    let (plainly, shifted) = orders.split_once(" : ").ok_or("one order")?;
+    check_written(alloc, NonIgnorable, keys, plainly)?;
+    check_written(alloc, Shifted, keys, shifted)
+}
+
 #[test]
 fn written_keys_compare(rt: HostRuntime) -> Result<(), Fail> {
     for case in WRITTEN.lines() {
-        let (keys, orders) = case.split_once(" : ").ok_or("no orders")?;
-        let (plainly, shifted) = orders.split_once(" : ").ok_or("one order")?;
-        check_written(rt.alloc(), NonIgnorable, keys, plainly)?;
-        check_written(rt.alloc(), Shifted, keys, shifted)?;
+        check_orders(rt.alloc(), case)?;
     }
     Ok(())
 }

@@ -37,21 +37,19 @@ fn push_all(text: &mut String, parts: &[&str]) -> Result<(), AllocError> {
 
 /// A mark of a class, with a secondary weight of its own, after a letter.
 fn add_mark(made: &mut Made, class: &str, code: &str, weight: &str) -> Result<(), AllocError> {
-    push_all(
-        &mut made.data,
-        &["ccc ", code, "..", code, " ", class, "\n"],
-    )?;
+    let ranges = ["ccc ", code, "..", code, " ", class, "\n"];
+    push_all(&mut made.data, &ranges)?;
     push_all(&mut made.table, &[code, " ; [.0000.", weight, ".0002]\n"])?;
-    push_all(&mut made.cases, &["0061 ", code])?;
-    push_all(
-        &mut made.cases,
-        &[" | 1C47 0000 0020 ", weight, " 0000 0002 0002"],
-    )?;
-    push_all(
-        &mut made.cases,
-        &[" | 1C47 0000 0020 ", weight, " 0000 0002 0002"],
-    )?;
-    made.cases.push_str(" 0000 FFFF FFFF\n")
+    let keys = [
+        "0061 ",
+        code,
+        " | 1C47 0000 0020 ",
+        weight,
+        " 0000 0002 0002 | 1C47 0000 0020 ",
+        weight,
+        " 0000 0002 0002 0000 FFFF FFFF\n",
+    ];
+    push_all(&mut made.cases, &keys)
 }
 
 /// A mark of a class in a private use area.
@@ -65,7 +63,18 @@ fn add_class(made: &mut Made, alloc: Global, class: u8) -> Result<(), AllocError
 fn check_class(alloc: Global, data: &Data, class: u8) -> Result<(), Fail> {
     let code = format!(in alloc; "0061 {:04X}", 0xE000 + u16::from(class))?;
     let text = normal_of(alloc, &code, data)?;
-    holds(text.classes() == [0, class].as_slice(), &code)
+    let is_so = text.classes() == [0, class].as_slice();
+    drop(text);
+    holds(is_so, &code)
+}
+
+/// The class of each mark.
+fn check_classes(alloc: Global, data: &str) -> Result<(), Fail> {
+    let data = data_of(alloc, data)?;
+    for class in 1..=254u8 {
+        check_class(alloc, &data, class)?;
+    }
+    Ok(())
 }
 
 #[test]
@@ -75,11 +84,7 @@ fn each_class(rt: HostRuntime) -> Result<(), Fail> {
         add_class(&mut made, rt.alloc(), class)?;
     }
     check_texts(rt.alloc(), Weights, &made.table, &made.data, &made.cases)?;
-    let data = data_of(rt.alloc(), &made.data)?;
-    for class in 1..=254u8 {
-        check_class(rt.alloc(), &data, class)?;
-    }
-    Ok(())
+    check_classes(rt.alloc(), &made.data)
 }
 
 /// Adds a part this many times.

@@ -14,11 +14,8 @@ fn spelling(alloc: Global, text: &Normal) -> Result<String, AllocError> {
     }
     let mut words = String::new(alloc);
     for (point, class) in text.chars().iter().zip(text.classes()) {
-        if !words.is_empty() {
-            words.push(' ')?;
-        }
-        let code = u32::from(*point);
-        words.push_str(&format!(in alloc; "{:04X}.{class}", code)?)?;
+        let space = if words.is_empty() { "" } else { " " };
+        write!(words, "{space}{:04X}.{class}", u32::from(*point))?;
     }
     Ok(words)
 }
@@ -33,6 +30,14 @@ const SPELLED: &str = r"0061 | 0061.0
 1EA1 0301 0062 | 0061.0 0323.220 0301.230 0062.0
  | ";
 
+/// The spelling of a text on its own.
+fn new_spelling(alloc: Global, data: &Data, text: &str) -> Result<String, Fail> {
+    let text = normal(alloc, text, data)?;
+    let found = spelling(alloc, &text);
+    drop(text);
+    Ok(found?)
+}
+
 /// A text has this spelling, on its own and when it replaces another.
 fn check_spelling(
     alloc: Global,
@@ -42,11 +47,7 @@ fn check_spelling(
 ) -> Result<(), Fail> {
     let (points, wanted) = halves(case)?;
     let text = text_of(alloc, points)?;
-    same(
-        &spelling(alloc, &normal(alloc, &text, data)?)?,
-        wanted,
-        case,
-    )?;
+    same(&new_spelling(alloc, data, &text)?, wanted, case)?;
     renewed.renew(&text, data)?;
     same(&spelling(alloc, renewed)?, wanted, case)
 }
@@ -82,18 +83,29 @@ fn takes_texts_after_a_refused_one(rt: HostRuntime) -> Result<(), Fail> {
     check_refused(rt.alloc(), &data, &mut text)
 }
 
+/// How a copy of a text is spelled after the text is renewed.
+fn copied(alloc: Global, data: &Data, text: &mut Normal) -> Result<String, Fail> {
+    let copy = text.clone()?;
+    let is_renewed = text.renew("\u{323}", data).is_ok();
+    let found = spelling(alloc, &copy);
+    drop(copy);
+    holds(is_renewed, "renewed")?;
+    Ok(found?)
+}
+
+/// A copy of a text stays as it is if the text is renewed.
+fn check_copy(alloc: Global, data: &Data, text: &mut Normal) -> Result<(), Fail> {
+    let found = copied(alloc, data, text)?;
+    same(&found, "0061.0 0301.230 0062.0", "copied")?;
+    same(&spelling(alloc, text)?, "0323.220", "renewed")
+}
+
 #[test]
 fn a_copy_stays_as_it_is(rt: HostRuntime) -> Result<(), Fail> {
     let data = data_of(rt.alloc(), CLASSES)?;
-    let mut text = normal(rt.alloc(), "\u{e1}b", &data)?;
-    let copy = text.clone()?;
-    text.renew("\u{323}", &data)?;
-    same(&spelling(rt.alloc(), &text)?, "0323.220", "renewed")?;
-    same(
-        &spelling(rt.alloc(), &copy)?,
-        "0061.0 0301.230 0062.0",
-        "copied",
-    )
+    let mut text = Normal::new(rt.alloc());
+    text.renew("\u{e1}b", &data)?;
+    check_copy(rt.alloc(), &data, &mut text)
 }
 
 #[test]
@@ -131,13 +143,19 @@ fn said(alloc: Global, text: &str, data: &Data) -> Result<String, Fail> {
     }
 }
 
+/// A text, and then a character as often as is written after it.
+fn text_with_last(alloc: Global, start: &str, last: &str) -> Result<String, Fail> {
+    let (last, count) = last.split_once(" x ").ok_or("no count")?;
+    let (last, count) = (code_point(last)?, count.parse()?);
+    let start = text_of(alloc, start)?;
+    Ok(with_repeated(alloc, &start, last, count)?)
+}
+
 /// The start of a text, the character that follows it and how often, and what is said of the text.
 fn check_limit(alloc: Global, data: &Data, case: &str) -> Result<(), Fail> {
     let (start, rest) = halves(case)?;
     let (last, wanted) = halves(rest)?;
-    let (last, count) = last.split_once(" x ").ok_or("no count")?;
-    let start = text_of(alloc, start)?;
-    let text = with_repeated(alloc, &start, code_point(last)?, count.parse()?)?;
+    let text = text_with_last(alloc, start, last)?;
     same(&said(alloc, &text, data)?, wanted, case)
 }
 
