@@ -1,4 +1,4 @@
--- Normalization Form D of a text is that of its two pieces, where the second begins with a code point that decomposes into a
+-- Normalization Form D of a text is that of its two pieces. The second begins with a code point that decomposes into a
 -- starter of Unicode's classes and what follows it.
 use Rattle.std.proofs.Common.{◌≡◌, ℕ, ◌≤◌, List, [], ◌∷◌, ◌++◌, length, map, sym, ap, ◌∙◌, subst, arith}
 use Rattle.std.specs.List.{flat_map}

@@ -84,7 +84,7 @@ no_long_run classes here run counted all place long = counted.none place (omega 
 pub few_have_no_long_run : (classes : List ℕ) → length classes ≤ 64 → HasNoLongRun classes
 few_have_no_long_run classes few place long = omega (arith, long.within, few)
 
--- two texts without a long run, the second of which begins with a starter
+-- two texts without a long run, where the second begins with a starter
 pub no_long_run_joined : (a b : List ℕ) → HasNoLongRun a → HasNoLongRun (0 ∷ b) → HasNoLongRun (a ++ 0 ∷ b)
 no_long_run_joined a b first second place long =
     elim (cases_lt (length a) place) [

@@ -18,7 +18,7 @@ use std::marker::Model;
 
 /// What a data file says: the combining class of each code point, and which code points are core Han
 /// or other unified ideographs (UTS #10, section 10.1.3). The classes of the code points below U+2000 are also
-/// in a list of 8,192 bytes, which the first range with a class makes: so most code points of a text need no search.
+/// in a list of 8,192 bytes. The first range with a class makes it. So most code points of a text need no search.
 #[derive(Drop)]
 pub struct Data<A: Allocator = Global> {
     classes: Vec<ClassRange, A>,
