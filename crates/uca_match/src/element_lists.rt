@@ -7,7 +7,7 @@ use std::marker::Model;
 use uca_values::Row;
 use uca_weights::Element;
 
-/// Lists of collation elements, which are kept one after the other in one list.
+/// Lists of collation elements, which are kept in turn in one list.
 #[derive(Drop)]
 pub(crate) struct ElementLists<A: Allocator> {
     // where each list is among the elements
