@@ -22,3 +22,4 @@ pub mod RootIndexLemmas
 pub mod CharMapLemmas
 pub mod Leaves
 pub mod Followers
+pub mod Spans

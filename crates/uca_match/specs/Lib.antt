@@ -9,6 +9,7 @@ pub mod Positions
 pub mod CharMaps
 pub mod Tries
 pub mod NumberedKeys
+pub mod Spans
 pub mod Places
 pub mod Matches
 pub mod Extensions

@@ -4,6 +4,7 @@
 
 mod char_map;
 mod collator;
+mod element_lists;
 mod elements;
 mod key_map;
 mod key_sets;

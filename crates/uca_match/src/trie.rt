@@ -1,10 +1,11 @@
 //! The rows of a table as a tree of code points, for lookups by a few steps.
-ghost use Rattle.std.specs.Prelude.{◌≡◌, ℕ, List, map, option_map, slice_index_or, [], Some, IfOk};
+ghost use Rattle.std.specs.Prelude.{◌≡◌, ℕ, List, option_map, slice_index_or, [], Some, IfOk};
 ghost use Rattle.uca_values.specs.Content.{keys_of};
 ghost use Rattle.uca_match.specs.Rows.{rows_of};
 ghost use Rattle.uca_match.specs.Tries.{walk};
-ghost use Rattle.uca_match.specs.NumberedKeys.{points_of, elements_of, rows_at};
+ghost use Rattle.uca_match.specs.NumberedKeys.{points_of, rows_at};
 
+use crate::element_lists::ElementLists;
 use crate::key_sets::KeySet;
 use crate::{KeyMap, Lookup, TrieNode};
 use std::alloc::{AllocError, Allocator, Global};
@@ -18,19 +19,19 @@ use uca_weights::Element;
 #[derive(Drop)]
 pub struct Trie<A: Allocator = Global> {
     keys: KeyMap<A>,
-    rows: Vec<Vec<Element, A>, A>,
+    rows: ElementLists<A>,
 }
 
 impl<A: Allocator> Model for Trie<A> {
-    ghost use Rattle.std.specs.Prelude.{ℕ, ◌≡◌, ◌<◌, List, length, map, Some};
+    ghost use Rattle.std.specs.Prelude.{ℕ, ◌≡◌, ◌<◌, List, length, Some};
     ghost use Rattle.uca_match.specs.Tries.{positions};
     ghost use Rattle.uca_match.specs.NumberedKeys.{TrieContent};
 
     ghost Value = { TrieContent };
 
-    ghost view = { λ t. record { keys = t.keys; rows = map (λ row. row.items) t.rows.items } };
+    ghost view = { λ t. record { keys = t.keys; rows = t.rows } };
 
-    ghost invariant = { λ t. (key : List ℕ) (position : ℕ) → positions t.keys key ≡ Some position → position < length t.rows.items };
+    ghost invariant = { λ t. (key : List ℕ) (position : ℕ) → positions t.keys key ≡ Some position → position < length t.rows };
 }
 
 impl<A: Allocator + Copy> Trie<A> {
@@ -44,7 +45,7 @@ impl<A: Allocator + Copy> Trie<A> {
             ⟦<Trie<A> as Lookup>⟧.content trie key ≡ rows_of table.now.rows key) }
     {
         let keys = KeyMap::new(alloc, &key_list(alloc, &table.rows)?)?;
-        let rows = element_lists(alloc, &table.rows)?;
+        let rows = ElementLists::of_rows(alloc, &table.rows)?;
         Ok(Trie { keys, rows })
     }
 }
@@ -67,21 +68,6 @@ pub fn key_list<A: Allocator, T: Allocator>(
     Ok(list)
 }
 
-/// Copies of the elements of rows, in their order.
-fn element_lists<A: Allocator + Copy, T: Allocator>(
-    alloc: A,
-    rows: &[Row<T>],
-) -> Result<Vec<Vec<Element, A>, A>, AllocError>
-    ensures { IfOk result (λ lists. map (λ row. row.items) lists.items ≡ elements_of rows.now) }
-{
-    let mut lists = Vec::with_capacity(alloc, rows.len())?;
-    for row in rows {
-        let elements = Vec::from_slice(alloc, &row.elements)?;
-        lists.push(elements)?;
-    }
-    Ok(lists)
-}
-
 impl<A: Allocator> Lookup for Trie<A> {
     type Node = TrieNode;
 
@@ -99,7 +85,7 @@ impl<A: Allocator> Lookup for Trie<A> {
 
     fn elements(&self, node: TrieNode) -> Option<&[Element]> {
         let position = self.keys.position_at(node)?;
-        Some(&self.rows[position])
+        Some(self.rows.get(position))
     }
 
     fn may_go_on(&self, node: TrieNode) -> bool {

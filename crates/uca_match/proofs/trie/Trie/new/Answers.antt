@@ -22,8 +22,7 @@ invariant_of-result g c = λ key position found.
     let table : List Entry = c.args.table.now.rows in
     let keys : points_of c.deref-2.result.now ≡ keys_of table = ap points_of c.deref-2.ensures.value ∙ c.in_ok-key_list.ensures ∙ ap keys_of rows in
     let there = placed_within 0 (points_of c.deref-2.result.now) key position (sym (c.in_ok-keys.ensures key) ∙ found) in
-    let count : length (elements_of table) ≡ length c.in_ok-rows.rows.items =
-    sym (ap length (c.in_ok-rows.ensures ∙ ap elements_of again)) ∙ length-map c.in_ok-rows.rows.items _ in
+    let count : length (elements_of table) ≡ length c.in_ok-rows.rows = sym (ap length (c.in_ok-rows.ensures ∙ ap elements_of again)) in
     omega (arith, there.1, there.2, ap length keys, length-map table (λ (r : Entry). r.key), count, length-map table (λ (r : Entry). r.elements))
 
 pub returns : goal.returns
