@@ -235,7 +235,7 @@ fn make_low_classes<A: Allocator>(low_classes: &mut Vec<u8, A>) -> Result<(), Al
     ensures made { OnOk result (0 < length low_classes.new.items) }
 {
     if low_classes.is_empty() {
-        low_classes.resize(LOW_CLASSES, 0)?;
+        low_classes.extend_from_slice(&[0; LOW_CLASSES])?;
     }
     Ok(())
 }
