@@ -26,7 +26,9 @@ fn used_by(run: Run) -> [bool; 4] {
 fn check_step(alloc: Global, case: &Case, step: usize) -> Result<(), Fail> {
     let outcome = run_at(alloc, case, [Pace::steps(step); 4])?;
     let is_used = outcome.called == used_by(case.run);
-    holds(is_whole(case, &outcome) && is_used, &outcome.end)
+    let checked = holds(is_whole(case, &outcome) && is_used, &outcome.end);
+    drop(outcome);
+    checked
 }
 
 // However many bytes a call gives or takes.
@@ -165,7 +167,9 @@ fn check_end<'a>(alloc: Global, lines: &'a str, keys: &'a str, end: &'a str) -> 
     let whole = with_input(&KEYS, lines.as_bytes(), keys);
     let case = Case { end, ..whole };
     let outcome = run_at(alloc, &case, [Pace::steps(usize::MAX); 4])?;
-    holds(is_whole(&case, &outcome), &outcome.end)
+    let checked = holds(is_whole(&case, &outcome), &outcome.end);
+    drop(outcome);
+    checked
 }
 
 // The keys of a million empty lines, and then the end of the run, where this comes after the lines.

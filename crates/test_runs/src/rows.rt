@@ -32,10 +32,24 @@ pub fn printed_by_rows(
     run: Run,
     outcome: &Outcome,
 ) -> Option<Vec<u8>> {
-    let table = joined(alloc, files.table).ok()?;
-    let table = read_table(alloc, &mut Source::new(table.as_bytes())).ok()?;
+    let text = joined(alloc, files.table).ok()?;
+    let table = read_table(alloc, &mut Source::new(text.as_bytes())).ok()?;
+    let printed = printed_over_table(alloc, &table, (files, run), outcome);
+    drop(table);
+    printed
+}
+
+// The same for the table of the files.
+fn printed_over_table(
+    alloc: Global,
+    table: &Table,
+    (files, run): (Files, Run),
+    outcome: &Outcome,
+) -> Option<Vec<u8>> {
     let properties = read_data(alloc, &mut Source::new(files.data.as_bytes())).ok()?;
-    printed_over(alloc, (&table, &properties), (run, files.input), outcome)
+    let printed = printed_over(alloc, (table, &properties), (run, files.input), outcome);
+    drop(properties);
+    printed
 }
 
 // The same for the table and the properties of the files.
@@ -85,6 +99,43 @@ fn begins_group(place: usize, weights: usize) -> bool {
     }
 }
 
+// Adds a byte of a key, after a space or nothing.
+fn push_byte(text: &mut Vec<u8>, space: &str, byte: u8) -> Option<()> {
+    let digits = format!(in *text.allocator(); "{space}{byte:02X}").ok()?;
+    text.extend_from_slice(digits.as_bytes()).ok()
+}
+
+// Adds a key as a line, in groups.
+fn push_groups(text: &mut Vec<u8>, keyed: &KeyedLine) -> Option<()> {
+    for (place, byte) in keyed.key.iter().enumerate() {
+        let is_first = begins_group(place, keyed.weights);
+        push_byte(text, if is_first { " " } else { "" }, *byte)?;
+    }
+    text.push(b'\n').ok()
+}
+
+// Adds the digits of a key, a tab and the line.
+fn push_keyed_line(text: &mut Vec<u8>, keyed: &KeyedLine) -> Option<()> {
+    for byte in &keyed.key {
+        push_byte(text, "", *byte)?;
+    }
+    text.push(b'\t').ok()?;
+    text.extend_from_slice(keyed.line).ok()?;
+    text.push(b'\n').ok()
+}
+
+// How two keys compare, as it is printed.
+fn comparison_of(alloc: Global, left: &[u8], right: &[u8], levels: u8) -> Option<Vec<u8>> {
+    let (order, level) = compare_keys(left, right, levels);
+    let sign = match order {
+        Ordering::Less => '<',
+        Ordering::Equal => '=',
+        Ordering::Greater => '>',
+    };
+    let line = format!(in alloc; "{sign} {level}\n").ok()?;
+    Vec::from_slice(alloc, line.as_bytes()).ok()
+}
+
 impl<'a> Library<'a> {
     // What a run prints of the first `count` lines of an input, or of its two texts.
     fn output(self, run: Run, input: &[u8], count: usize) -> Option<Vec<u8>> {
@@ -116,6 +167,20 @@ impl<'a> Library<'a> {
         key(self.alloc, &self.collator, weighting, depth, &text).ok()
     }
 
+    // A line with its key.
+    fn keyed_line<'t>(
+        self,
+        weighting: Weighting,
+        depth: Depth,
+        line: &'t [u8],
+    ) -> Option<KeyedLine<'t>> {
+        let line = line.strip_suffix(b"\n").unwrap_or(line);
+        let text = str::from_utf8(line).ok()?;
+        let weights = self.key(weighting, Depth::Weights, text)?.len();
+        let key = self.key(weighting, depth, text)?;
+        Some(KeyedLine { key, weights, line })
+    }
+
     // The first `count` lines of an input with their keys.
     fn keyed_lines<'t>(
         self,
@@ -126,11 +191,8 @@ impl<'a> Library<'a> {
     ) -> Option<Vec<KeyedLine<'t>>> {
         let mut lines = Vec::new(self.alloc);
         for line in input.split_inclusive(|byte| *byte == b'\n').take(count) {
-            let line = line.strip_suffix(b"\n").unwrap_or(line);
-            let text = str::from_utf8(line).ok()?;
-            let key = self.key(weighting, depth, text)?;
-            let weights = self.key(weighting, Depth::Weights, text)?.len();
-            lines.push(KeyedLine { key, weights, line }).ok()?;
+            let keyed = self.keyed_line(weighting, depth, line)?;
+            lines.push(keyed).ok()?;
         }
         Some(lines)
     }
@@ -145,16 +207,7 @@ impl<'a> Library<'a> {
     ) -> Option<Vec<u8>> {
         let mut text = Vec::new(self.alloc);
         for keyed in &self.keyed_lines(weighting, depth, input, count)? {
-            for (place, byte) in keyed.key.iter().enumerate() {
-                let space = if begins_group(place, keyed.weights) {
-                    " "
-                } else {
-                    ""
-                };
-                let digits = format!(in self.alloc; "{space}{byte:02X}").ok()?;
-                text.extend_from_slice(digits.as_bytes()).ok()?;
-            }
-            text.push(b'\n').ok()?;
+            push_groups(&mut text, keyed)?;
         }
         Some(text)
     }
@@ -169,13 +222,7 @@ impl<'a> Library<'a> {
     ) -> Option<Vec<u8>> {
         let mut text = Vec::new(self.alloc);
         for keyed in &self.keyed_lines(weighting, depth, input, count)? {
-            for byte in &keyed.key {
-                let digits = format!(in self.alloc; "{byte:02X}").ok()?;
-                text.extend_from_slice(digits.as_bytes()).ok()?;
-            }
-            text.push(b'\t').ok()?;
-            text.extend_from_slice(keyed.line).ok()?;
-            text.push(b'\n').ok()?;
+            push_keyed_line(&mut text, keyed)?;
         }
         Some(text)
     }
@@ -204,14 +251,6 @@ impl<'a> Library<'a> {
     ) -> Option<Vec<u8>> {
         let left = self.key(weighting, depth, left)?;
         let right = self.key(weighting, depth, right)?;
-        let levels = level_count(weighting, depth);
-        let (order, level) = compare_keys(&left, &right, levels);
-        let sign = match order {
-            Ordering::Less => '<',
-            Ordering::Equal => '=',
-            Ordering::Greater => '>',
-        };
-        let line = format!(in self.alloc; "{sign} {level}\n").ok()?;
-        Vec::from_slice(self.alloc, line.as_bytes()).ok()
+        comparison_of(self.alloc, &left, &right, level_count(weighting, depth))
     }
 }

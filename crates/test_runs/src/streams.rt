@@ -2,8 +2,8 @@
 
 use crate::files::KEY_OF_A;
 use crate::paces::{
-    CHECK, COMPARE, Case, FAILED_CHECK, IDENTICAL_KEYS, KEYED_LINES, KEYS, LINES, SORT, Stream,
-    is_whole, run_at, with_input,
+    CHECK, COMPARE, Case, FAILED_CHECK, IDENTICAL_KEYS, KEYED_LINES, KEYS, LINES, Outcome, SORT,
+    Stream, is_whole, run_at, with_input,
 };
 use std::alloc::{AllocError, Global};
 use std::io::ErrorKind;
@@ -31,6 +31,12 @@ const BROKEN: Pace = Pace {
     failure: Failure::Error(ErrorKind::Other),
 };
 
+// This is said of the end of a run, and what else came of it is so.
+fn check_end(outcome: &Outcome, is_so: bool, end: &str) -> Result<(), Fail> {
+    holds(is_so, end)?;
+    same(&outcome.end, end, "the end")
+}
+
 // A run in which one reader fails: this is said, and this was printed. The streams that it would use later are
 // not called.
 fn check_read_at(
@@ -43,8 +49,13 @@ fn check_read_at(
     let outcome = run_at(alloc, case, paces)?;
     let called = which.read_up_to(!printed.is_empty());
     let is_so = outcome.failed == which.alone() && outcome.called == called;
-    holds(is_so && outcome.printed.as_slice() == printed, end)?;
-    same(&outcome.end, end, "the end")
+    let checked = check_end(
+        &outcome,
+        is_so && outcome.printed.as_slice() == printed,
+        end,
+    );
+    drop(outcome);
+    checked
 }
 
 // A run where one reader fails after this many bytes, in this way.
@@ -190,8 +201,9 @@ fn check_write_at(
     let outcome = run_at(alloc, case, [WHOLE, WHOLE, input, out])?;
     let [_, _, _, is_told] = outcome.failed;
     let is_begun = Some(outcome.printed.as_slice()) == case.printed.as_bytes().get(..good);
-    holds(is_told && is_begun, end)?;
-    same(&outcome.end, end, "the end")
+    let checked = check_end(&outcome, is_told && is_begun, end);
+    drop(outcome);
+    checked
 }
 
 // A run over a writer that takes this many bytes and then fails in each way.
@@ -261,7 +273,9 @@ fn check_unsorted(alloc: Global, lines: &[u8], input: Pace, end: &str) -> Result
         let out = Pace::failing(1, 0, failure);
         let outcome = run_at(alloc, &case, [WHOLE, WHOLE, input, out])?;
         let [_, _, _, is_called] = outcome.called;
-        holds(!is_called && outcome.end.as_str() == end, end)?;
+        let is_so = !is_called && outcome.end.as_str() == end;
+        drop(outcome);
+        holds(is_so, end)?;
     }
     Ok(())
 }
@@ -274,12 +288,19 @@ fn lines_are_sorted_before_any_is_written(rt: HostRuntime) -> Result<(), Fail> {
     check_unsorted(rt.alloc(), b"a\nbb\n", BROKEN, read)
 }
 
+// A run over a writer of this pace is whole.
+fn check_whole(alloc: Global, case: &Case, out: Pace) -> Result<(), Fail> {
+    let outcome = run_at(alloc, case, [WHOLE, WHOLE, WHOLE, out])?;
+    let checked = holds(is_whole(case, &outcome), &outcome.end);
+    drop(outcome);
+    checked
+}
+
 // A writer that would fail in each way takes all that there is, and is not called again.
 fn check_late_writer(alloc: Global, case: &Case) -> Result<(), Fail> {
     for failure in FAILURES {
         let out = Pace::failing(5, case.printed.len(), failure);
-        let outcome = run_at(alloc, case, [WHOLE, WHOLE, WHOLE, out])?;
-        holds(is_whole(case, &outcome), &outcome.end)?;
+        check_whole(alloc, case, out)?;
     }
     Ok(())
 }
@@ -306,8 +327,7 @@ fn check_long_output(alloc: Global, case: &Case) -> Result<(), Fail> {
     holds(length > 40_000, "a short output")?;
     check_write_fault(alloc, case, length.saturating_sub(1), WHOLE)?;
     check_write_fault(alloc, case, length.saturating_sub(20_000), WHOLE)?;
-    let outcome = run_at(alloc, case, [WHOLE; 4])?;
-    holds(is_whole(case, &outcome), &outcome.end)
+    check_whole(alloc, case, WHOLE)
 }
 
 #[test]
