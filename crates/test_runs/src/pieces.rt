@@ -39,16 +39,24 @@ fn check_pieces(alloc: Global, case: &Case) -> Result<(), Fail> {
     Ok(())
 }
 
+/// The cases of all runs.
+const EACH: [Case<'static>; 7] = [
+    KEYS,
+    IDENTICAL_KEYS,
+    KEYED_LINES,
+    SORT,
+    CHECK,
+    FAILED_CHECK,
+    COMPARE,
+];
+
 // A source that ends without its reader, and a run that always says that no memory is left, do not print this.
 #[test]
 fn any_number_of_bytes_a_call(rt: HostRuntime) -> Result<(), Fail> {
-    check_pieces(rt.alloc(), &KEYS)?;
-    check_pieces(rt.alloc(), &IDENTICAL_KEYS)?;
-    check_pieces(rt.alloc(), &KEYED_LINES)?;
-    check_pieces(rt.alloc(), &SORT)?;
-    check_pieces(rt.alloc(), &CHECK)?;
-    check_pieces(rt.alloc(), &FAILED_CHECK)?;
-    check_pieces(rt.alloc(), &COMPARE)
+    for case in &EACH {
+        check_pieces(rt.alloc(), case)?;
+    }
+    Ok(())
 }
 
 // A line of this many `a`.

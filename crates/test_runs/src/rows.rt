@@ -124,6 +124,23 @@ fn push_keyed_line(text: &mut Vec<u8>, keyed: &KeyedLine) -> Option<()> {
     text.push(b'\n').ok()
 }
 
+// The keys of lines, each with its line or alone.
+fn text_of_keys(alloc: Global, lines: &[KeyedLine], has_lines: bool) -> Option<Vec<u8>> {
+    let mut text = Vec::new(alloc);
+    for keyed in lines {
+        push_printed(&mut text, keyed, has_lines)?;
+    }
+    Some(text)
+}
+
+fn push_printed(text: &mut Vec<u8>, keyed: &KeyedLine, has_lines: bool) -> Option<()> {
+    if has_lines {
+        push_keyed_line(text, keyed)
+    } else {
+        push_groups(text, keyed)
+    }
+}
+
 // How two keys compare, as it is printed.
 fn comparison_of(alloc: Global, left: &[u8], right: &[u8], levels: u8) -> Option<Vec<u8>> {
     let (order, level) = compare_keys(left, right, levels);
@@ -140,9 +157,11 @@ impl<'a> Library<'a> {
     // What a run prints of the first `count` lines of an input, or of its two texts.
     fn output(self, run: Run, input: &[u8], count: usize) -> Option<Vec<u8>> {
         match run {
-            Run::Keys(asked, depth) => self.key_lines(self.chosen(asked), depth, input, count),
+            Run::Keys(asked, depth) => {
+                self.key_lines((self.chosen(asked), depth), input, count, false)
+            }
             Run::KeyedLines(asked, depth) => {
-                self.lines_with_keys(self.chosen(asked), depth, input, count)
+                self.key_lines((self.chosen(asked), depth), input, count, true)
             }
             Run::Sort(asked, depth) => self.sorted_lines(self.chosen(asked), depth, input),
             Run::Compare(left, right, asked, depth) => {
@@ -167,18 +186,18 @@ impl<'a> Library<'a> {
         key(self.alloc, &self.collator, weighting, depth, &text).ok()
     }
 
-    // A line with its key.
-    fn keyed_line<'t>(
+    // Adds a line with its key.
+    fn push_line<'t>(
         self,
-        weighting: Weighting,
-        depth: Depth,
+        lines: &mut Vec<KeyedLine<'t>>,
+        (weighting, depth): (Weighting, Depth),
         line: &'t [u8],
-    ) -> Option<KeyedLine<'t>> {
+    ) -> Option<()> {
         let line = line.strip_suffix(b"\n").unwrap_or(line);
         let text = str::from_utf8(line).ok()?;
         let weights = self.key(weighting, Depth::Weights, text)?.len();
         let key = self.key(weighting, depth, text)?;
-        Some(KeyedLine { key, weights, line })
+        lines.push(KeyedLine { key, weights, line }).ok()
     }
 
     // The first `count` lines of an input with their keys.
@@ -191,40 +210,23 @@ impl<'a> Library<'a> {
     ) -> Option<Vec<KeyedLine<'t>>> {
         let mut lines = Vec::new(self.alloc);
         for line in input.split_inclusive(|byte| *byte == b'\n').take(count) {
-            let keyed = self.keyed_line(weighting, depth, line)?;
-            lines.push(keyed).ok()?;
+            self.push_line(&mut lines, (weighting, depth), line)?;
         }
         Some(lines)
     }
 
-    // The keys of the lines, as they are printed.
+    // The keys of the lines, as they are printed: with the lines, or alone in groups.
     fn key_lines(
         self,
-        weighting: Weighting,
-        depth: Depth,
+        (weighting, depth): (Weighting, Depth),
         input: &[u8],
         count: usize,
+        has_lines: bool,
     ) -> Option<Vec<u8>> {
-        let mut text = Vec::new(self.alloc);
-        for keyed in &self.keyed_lines(weighting, depth, input, count)? {
-            push_groups(&mut text, keyed)?;
-        }
-        Some(text)
-    }
-
-    // The lines, each after the digits of its key and a tab.
-    fn lines_with_keys(
-        self,
-        weighting: Weighting,
-        depth: Depth,
-        input: &[u8],
-        count: usize,
-    ) -> Option<Vec<u8>> {
-        let mut text = Vec::new(self.alloc);
-        for keyed in &self.keyed_lines(weighting, depth, input, count)? {
-            push_keyed_line(&mut text, keyed)?;
-        }
-        Some(text)
+        let lines = self.keyed_lines(weighting, depth, input, count)?;
+        let text = text_of_keys(self.alloc, &lines, has_lines);
+        drop(lines);
+        text
     }
 
     // The lines in the order of their keys.
