@@ -95,6 +95,14 @@ fn run_at(alloc: Global, texts: Texts, paces: [Pace; 4]) -> Result<Outcome, Fail
     })
 }
 
+// A run ended so, and this went out.
+fn check_end(outcome: &Outcome, printed: &[u8], end: &str) -> Result<(), Fail> {
+    if outcome.end.as_str() == end && outcome.printed.as_slice() == printed {
+        return Ok(());
+    }
+    Err(Fail::new(format_args!("{}, not {end}", outcome.end)))
+}
+
 // A run of these paces ends so, and this went out.
 fn check_at(
     alloc: Global,
@@ -103,11 +111,9 @@ fn check_at(
     (printed, end): (&[u8], &str),
 ) -> Result<(), Fail> {
     let outcome = run_at(alloc, texts, paces)?;
-    let is_so = outcome.end.as_str() == end && outcome.printed.as_slice() == printed;
-    if is_so {
-        return Ok(());
-    }
-    Err(Fail::new(format_args!("{}, not {end}", outcome.end)))
+    let checked = check_end(&outcome, printed, end);
+    drop(outcome);
+    checked
 }
 
 // The same where a call gives or takes few bytes, or all.
@@ -193,6 +199,7 @@ fn check_read(
     let outcome = run_at(alloc, TEXTS, paces)?;
     let is_so = outcome.failed == failed && outcome.called == called;
     let is_told = outcome.end.as_str() == end && outcome.printed.as_slice() == printed;
+    drop(outcome);
     holds(is_so && is_told, end)
 }
 

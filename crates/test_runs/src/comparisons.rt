@@ -124,15 +124,26 @@ fn check_refused(
 }
 
 // As many accents as a text may have in a row, more of them, and this many after a letter.
-fn check_accents(alloc: Global, short: &str, long: &str, later: &str) -> Result<(), Fail> {
-    check_refused(alloc, (short, short), "= 0\n", "done")?;
-    check_refused(alloc, (long, "a"), "", "left: LongRun at 0")?;
-    check_refused(alloc, ("a", long), "", "right: LongRun at 0")?;
-    check_refused(alloc, (long, long), "", "left: LongRun at 0")?;
-    check_refused(alloc, (later, "a"), "", "left: LongRun at 1")?;
-    check_refused(alloc, (short, later), "", "right: LongRun at 1")?;
-    check_refused(alloc, (later, long), "", "left: LongRun at 1")?;
-    check_refused(alloc, (long, later), "", "left: LongRun at 0")
+fn check_accents<'a>(
+    alloc: Global,
+    short: &'a str,
+    long: &'a str,
+    later: &'a str,
+) -> Result<(), Fail> {
+    let cases = [
+        (short, short, "= 0\n", "done"),
+        (long, "a", "", "left: LongRun at 0"),
+        ("a", long, "", "right: LongRun at 0"),
+        (long, long, "", "left: LongRun at 0"),
+        (later, "a", "", "left: LongRun at 1"),
+        (short, later, "", "right: LongRun at 1"),
+        (later, long, "", "left: LongRun at 1"),
+        (long, later, "", "left: LongRun at 0"),
+    ];
+    for (left, right, printed, end) in cases {
+        check_refused(alloc, (left, right), printed, end)?;
+    }
+    Ok(())
 }
 
 #[test]

@@ -31,8 +31,8 @@ pub fn acutes(alloc: Global, count: usize) -> Result<String, AllocError> {
     repeated(alloc, "\u{301}", count)
 }
 
-// A weight in each of this many elements, as it is printed with its space.
-fn push_weights(text: &mut String, weight: &str, count: usize) -> Result<(), AllocError> {
+/// Adds a weight this many times, as it is printed.
+pub fn push_weights(text: &mut String, weight: &str, count: usize) -> Result<(), AllocError> {
     for _ in 0..count {
         text.push_str(weight)?;
     }

@@ -1,6 +1,6 @@
 //! Whole runs: the lines that they print after their keys.
 
-use crate::files::{SHORT, SMALL};
+use crate::files::{SHORT, SMALL, push_weights};
 use crate::runs::Run;
 use crate::runs::Run::KeyedLines;
 use crate::trials::{check, check_inputs};
@@ -56,16 +56,22 @@ fn lines_after_keys_with_an_identical_level(rt: HostRuntime) -> Result<(), Fail>
     check_inputs(rt.alloc(), &SMALL, by_four, IDENTICAL_BY_FOUR)
 }
 
+// Adds the line of output of so many `a`.
+fn push_line(text: &mut String, count: usize) -> Result<(), AllocError> {
+    push_weights(text, "1C47", count)?;
+    text.push_str("0000")?;
+    push_weights(text, "0020", count)?;
+    text.push_str("0000")?;
+    push_weights(text, "0002", count)?;
+    text.push('\t')?;
+    push_weights(text, "a", count)?;
+    text.push('\n')
+}
+
 // The line of output of so many `a`: the three levels of the key have one weight each for a letter.
 fn keyed_line(alloc: Global, count: usize) -> Result<String, AllocError> {
-    let mut text = repeated(alloc, "1C47", count)?;
-    text.push_str("0000")?;
-    text.push_str(&repeated(alloc, "0020", count)?)?;
-    text.push_str("0000")?;
-    text.push_str(&repeated(alloc, "0002", count)?)?;
-    text.push('\t')?;
-    text.push_str(&repeated(alloc, "a", count)?)?;
-    text.push('\n')?;
+    let mut text = String::new(alloc);
+    push_line(&mut text, count)?;
     Ok(text)
 }
 

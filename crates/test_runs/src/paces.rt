@@ -174,8 +174,7 @@ fn status_of(alloc: Global, fault: &RunFault) -> u8 {
 fn end_of(alloc: Global, end: &Result<Answer, RunFault>) -> Result<String, AllocError> {
     let mut text = told(alloc, end)?;
     if let Err(fault) = end {
-        let status = format!(in alloc; ", status {}", status_of(alloc, fault))?;
-        text.push_str(&status)?;
+        write!(text, ", status {}", status_of(alloc, fault))?;
     }
     Ok(text)
 }

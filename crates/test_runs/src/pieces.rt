@@ -26,7 +26,9 @@ fn used_by(run: Run) -> [bool; 4] {
 fn check_step(alloc: Global, case: &Case, step: usize) -> Result<(), Fail> {
     let outcome = run_at(alloc, case, [Pace::steps(step); 4])?;
     let is_used = outcome.called == used_by(case.run);
-    holds(is_whole(case, &outcome) && is_used, &outcome.end)
+    let checked = holds(is_whole(case, &outcome) && is_used, &outcome.end);
+    drop(outcome);
+    checked
 }
 
 // However many bytes a call gives or takes.
@@ -37,16 +39,24 @@ fn check_pieces(alloc: Global, case: &Case) -> Result<(), Fail> {
     Ok(())
 }
 
+/// The cases of all runs.
+const EACH: [Case<'static>; 7] = [
+    KEYS,
+    IDENTICAL_KEYS,
+    KEYED_LINES,
+    SORT,
+    CHECK,
+    FAILED_CHECK,
+    COMPARE,
+];
+
 // A source that ends without its reader, and a run that always says that no memory is left, do not print this.
 #[test]
 fn any_number_of_bytes_a_call(rt: HostRuntime) -> Result<(), Fail> {
-    check_pieces(rt.alloc(), &KEYS)?;
-    check_pieces(rt.alloc(), &IDENTICAL_KEYS)?;
-    check_pieces(rt.alloc(), &KEYED_LINES)?;
-    check_pieces(rt.alloc(), &SORT)?;
-    check_pieces(rt.alloc(), &CHECK)?;
-    check_pieces(rt.alloc(), &FAILED_CHECK)?;
-    check_pieces(rt.alloc(), &COMPARE)
+    for case in &EACH {
+        check_pieces(rt.alloc(), case)?;
+    }
+    Ok(())
 }
 
 // A line of this many `a`.
@@ -165,7 +175,9 @@ fn check_end<'a>(alloc: Global, lines: &'a str, keys: &'a str, end: &'a str) -> 
     let whole = with_input(&KEYS, lines.as_bytes(), keys);
     let case = Case { end, ..whole };
     let outcome = run_at(alloc, &case, [Pace::steps(usize::MAX); 4])?;
-    holds(is_whole(&case, &outcome), &outcome.end)
+    let checked = holds(is_whole(&case, &outcome), &outcome.end);
+    drop(outcome);
+    checked
 }
 
 // The keys of a million empty lines, and then the end of the run, where this comes after the lines.

@@ -32,10 +32,24 @@ pub fn printed_by_rows(
     run: Run,
     outcome: &Outcome,
 ) -> Option<Vec<u8>> {
-    let table = joined(alloc, files.table).ok()?;
-    let table = read_table(alloc, &mut Source::new(table.as_bytes())).ok()?;
+    let text = joined(alloc, files.table).ok()?;
+    let table = read_table(alloc, &mut Source::new(text.as_bytes())).ok()?;
+    let printed = printed_over_table(alloc, &table, (files, run), outcome);
+    drop(table);
+    printed
+}
+
+// The same for the table of the files.
+fn printed_over_table(
+    alloc: Global,
+    table: &Table,
+    (files, run): (Files, Run),
+    outcome: &Outcome,
+) -> Option<Vec<u8>> {
     let properties = read_data(alloc, &mut Source::new(files.data.as_bytes())).ok()?;
-    printed_over(alloc, (&table, &properties), (run, files.input), outcome)
+    let printed = printed_over(alloc, (table, &properties), (run, files.input), outcome);
+    drop(properties);
+    printed
 }
 
 // The same for the table and the properties of the files.
@@ -85,13 +99,69 @@ fn begins_group(place: usize, weights: usize) -> bool {
     }
 }
 
+// Adds a byte of a key, after a space or nothing.
+fn push_byte(text: &mut Vec<u8>, space: &str, byte: u8) -> Option<()> {
+    let digits = format!(in *text.allocator(); "{space}{byte:02X}").ok()?;
+    text.extend_from_slice(digits.as_bytes()).ok()
+}
+
+// Adds a key as a line, in groups.
+fn push_groups(text: &mut Vec<u8>, keyed: &KeyedLine) -> Option<()> {
+    for (place, byte) in keyed.key.iter().enumerate() {
+        let is_first = begins_group(place, keyed.weights);
+        push_byte(text, if is_first { " " } else { "" }, *byte)?;
+    }
+    text.push(b'\n').ok()
+}
+
+// Adds the digits of a key, a tab and the line.
+fn push_keyed_line(text: &mut Vec<u8>, keyed: &KeyedLine) -> Option<()> {
+    for byte in &keyed.key {
+        push_byte(text, "", *byte)?;
+    }
+    text.push(b'\t').ok()?;
+    text.extend_from_slice(keyed.line).ok()?;
+    text.push(b'\n').ok()
+}
+
+// The keys of lines, each with its line or alone.
+fn text_of_keys(alloc: Global, lines: &[KeyedLine], has_lines: bool) -> Option<Vec<u8>> {
+    let mut text = Vec::new(alloc);
+    for keyed in lines {
+        push_printed(&mut text, keyed, has_lines)?;
+    }
+    Some(text)
+}
+
+fn push_printed(text: &mut Vec<u8>, keyed: &KeyedLine, has_lines: bool) -> Option<()> {
+    if has_lines {
+        push_keyed_line(text, keyed)
+    } else {
+        push_groups(text, keyed)
+    }
+}
+
+// How two keys compare, as it is printed.
+fn comparison_of(alloc: Global, left: &[u8], right: &[u8], levels: u8) -> Option<Vec<u8>> {
+    let (order, level) = compare_keys(left, right, levels);
+    let sign = match order {
+        Ordering::Less => '<',
+        Ordering::Equal => '=',
+        Ordering::Greater => '>',
+    };
+    let line = format!(in alloc; "{sign} {level}\n").ok()?;
+    Vec::from_slice(alloc, line.as_bytes()).ok()
+}
+
 impl<'a> Library<'a> {
     // What a run prints of the first `count` lines of an input, or of its two texts.
     fn output(self, run: Run, input: &[u8], count: usize) -> Option<Vec<u8>> {
         match run {
-            Run::Keys(asked, depth) => self.key_lines(self.chosen(asked), depth, input, count),
+            Run::Keys(asked, depth) => {
+                self.key_lines((self.chosen(asked), depth), input, count, false)
+            }
             Run::KeyedLines(asked, depth) => {
-                self.lines_with_keys(self.chosen(asked), depth, input, count)
+                self.key_lines((self.chosen(asked), depth), input, count, true)
             }
             Run::Sort(asked, depth) => self.sorted_lines(self.chosen(asked), depth, input),
             Run::Compare(left, right, asked, depth) => {
@@ -116,6 +186,20 @@ impl<'a> Library<'a> {
         key(self.alloc, &self.collator, weighting, depth, &text).ok()
     }
 
+    // Adds a line with its key.
+    fn push_line<'t>(
+        self,
+        lines: &mut Vec<KeyedLine<'t>>,
+        (weighting, depth): (Weighting, Depth),
+        line: &'t [u8],
+    ) -> Option<()> {
+        let line = line.strip_suffix(b"\n").unwrap_or(line);
+        let text = str::from_utf8(line).ok()?;
+        let weights = self.key(weighting, Depth::Weights, text)?.len();
+        let key = self.key(weighting, depth, text)?;
+        lines.push(KeyedLine { key, weights, line }).ok()
+    }
+
     // The first `count` lines of an input with their keys.
     fn keyed_lines<'t>(
         self,
@@ -126,58 +210,23 @@ impl<'a> Library<'a> {
     ) -> Option<Vec<KeyedLine<'t>>> {
         let mut lines = Vec::new(self.alloc);
         for line in input.split_inclusive(|byte| *byte == b'\n').take(count) {
-            let line = line.strip_suffix(b"\n").unwrap_or(line);
-            let text = str::from_utf8(line).ok()?;
-            let key = self.key(weighting, depth, text)?;
-            let weights = self.key(weighting, Depth::Weights, text)?.len();
-            lines.push(KeyedLine { key, weights, line }).ok()?;
+            self.push_line(&mut lines, (weighting, depth), line)?;
         }
         Some(lines)
     }
 
-    // The keys of the lines, as they are printed.
+    // The keys of the lines, as they are printed: with the lines, or alone in groups.
     fn key_lines(
         self,
-        weighting: Weighting,
-        depth: Depth,
+        (weighting, depth): (Weighting, Depth),
         input: &[u8],
         count: usize,
+        has_lines: bool,
     ) -> Option<Vec<u8>> {
-        let mut text = Vec::new(self.alloc);
-        for keyed in &self.keyed_lines(weighting, depth, input, count)? {
-            for (place, byte) in keyed.key.iter().enumerate() {
-                let space = if begins_group(place, keyed.weights) {
-                    " "
-                } else {
-                    ""
-                };
-                let digits = format!(in self.alloc; "{space}{byte:02X}").ok()?;
-                text.extend_from_slice(digits.as_bytes()).ok()?;
-            }
-            text.push(b'\n').ok()?;
-        }
-        Some(text)
-    }
-
-    // The lines, each after the digits of its key and a tab.
-    fn lines_with_keys(
-        self,
-        weighting: Weighting,
-        depth: Depth,
-        input: &[u8],
-        count: usize,
-    ) -> Option<Vec<u8>> {
-        let mut text = Vec::new(self.alloc);
-        for keyed in &self.keyed_lines(weighting, depth, input, count)? {
-            for byte in &keyed.key {
-                let digits = format!(in self.alloc; "{byte:02X}").ok()?;
-                text.extend_from_slice(digits.as_bytes()).ok()?;
-            }
-            text.push(b'\t').ok()?;
-            text.extend_from_slice(keyed.line).ok()?;
-            text.push(b'\n').ok()?;
-        }
-        Some(text)
+        let lines = self.keyed_lines(weighting, depth, input, count)?;
+        let text = text_of_keys(self.alloc, &lines, has_lines);
+        drop(lines);
+        text
     }
 
     // The lines in the order of their keys.
@@ -204,14 +253,6 @@ impl<'a> Library<'a> {
     ) -> Option<Vec<u8>> {
         let left = self.key(weighting, depth, left)?;
         let right = self.key(weighting, depth, right)?;
-        let levels = level_count(weighting, depth);
-        let (order, level) = compare_keys(&left, &right, levels);
-        let sign = match order {
-            Ordering::Less => '<',
-            Ordering::Equal => '=',
-            Ordering::Greater => '>',
-        };
-        let line = format!(in self.alloc; "{sign} {level}\n").ok()?;
-        Vec::from_slice(self.alloc, line.as_bytes()).ok()
+        comparison_of(self.alloc, &left, &right, level_count(weighting, depth))
     }
 }

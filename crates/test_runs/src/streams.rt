@@ -1,9 +1,9 @@
 //! Runs over readers and writers that fail at a chosen byte.
 
-use crate::files::KEY_OF_A;
+use crate::files::{Files, KEY_OF_A, SHORT};
 use crate::paces::{
-    CHECK, COMPARE, Case, FAILED_CHECK, IDENTICAL_KEYS, KEYED_LINES, KEYS, LINES, SORT, Stream,
-    is_whole, run_at, with_input,
+    CHECK, COMPARE, Case, FAILED_CHECK, IDENTICAL_KEYS, KEYED_LINES, KEYS, LINES, Outcome, SORT,
+    Stream, is_whole, run_at, with_input,
 };
 use std::alloc::{AllocError, Global};
 use std::io::ErrorKind;
@@ -31,6 +31,12 @@ const BROKEN: Pace = Pace {
     failure: Failure::Error(ErrorKind::Other),
 };
 
+// This is said of the end of a run, and what else came of it is so.
+fn check_end(outcome: &Outcome, is_so: bool, end: &str) -> Result<(), Fail> {
+    holds(is_so, end)?;
+    same(&outcome.end, end, "the end")
+}
+
 // A run in which one reader fails: this is said, and this was printed. The streams that it would use later are
 // not called.
 fn check_read_at(
@@ -43,8 +49,13 @@ fn check_read_at(
     let outcome = run_at(alloc, case, paces)?;
     let called = which.read_up_to(!printed.is_empty());
     let is_so = outcome.failed == which.alone() && outcome.called == called;
-    holds(is_so && outcome.printed.as_slice() == printed, end)?;
-    same(&outcome.end, end, "the end")
+    let checked = check_end(
+        &outcome,
+        is_so && outcome.printed.as_slice() == printed,
+        end,
+    );
+    drop(outcome);
+    checked
 }
 
 // A run where one reader fails after this many bytes, in this way.
@@ -169,13 +180,19 @@ fn check_files(alloc: Global, case: &Case) -> Result<(), Fail> {
     check_bytes(alloc, case, Stream::Data, case.files.data.as_bytes())
 }
 
+/// The runs that print nothing where a reader fails.
+const WITHOUT_KEYS: [Case<'static>; 4] = [SORT, CHECK, FAILED_CHECK, COMPARE];
+
+fn check_input_of_sort(alloc: Global) -> Result<(), Fail> {
+    check_bytes(alloc, &SORT, Stream::Input, LINES.input)
+}
+
 #[test]
 fn readers_of_other_runs_that_fail(rt: HostRuntime) -> Result<(), Fail> {
-    check_files(rt.alloc(), &SORT)?;
-    check_files(rt.alloc(), &CHECK)?;
-    check_files(rt.alloc(), &FAILED_CHECK)?;
-    check_files(rt.alloc(), &COMPARE)?;
-    check_bytes(rt.alloc(), &SORT, Stream::Input, LINES.input)
+    for case in &WITHOUT_KEYS {
+        check_files(rt.alloc(), case)?;
+    }
+    check_input_of_sort(rt.alloc())
 }
 
 // A run over such an input and a writer that fails after this many bytes: this is said, and these bytes of the whole
@@ -190,8 +207,9 @@ fn check_write_at(
     let outcome = run_at(alloc, case, [WHOLE, WHOLE, input, out])?;
     let [_, _, _, is_told] = outcome.failed;
     let is_begun = Some(outcome.printed.as_slice()) == case.printed.as_bytes().get(..good);
-    holds(is_told && is_begun, end)?;
-    same(&outcome.end, end, "the end")
+    let checked = check_end(&outcome, is_told && is_begun, end);
+    drop(outcome);
+    checked
 }
 
 // A run over a writer that takes this many bytes and then fails in each way.
@@ -214,44 +232,80 @@ fn check_write_faults(alloc: Global, case: &Case, input: Pace) -> Result<(), Fai
     Ok(())
 }
 
+// The same for a case with these lines, for which this is printed.
+fn check_lines(
+    alloc: Global,
+    case: &Case,
+    (lines, printed): (&[u8], &str),
+    input: Pace,
+) -> Result<(), Fail> {
+    let case = with_input(case, lines, printed);
+    check_write_faults(alloc, &case, input)
+}
+
+// The same after the first lines of an output. This is the output as far as it goes.
+fn check_begun(
+    alloc: Global,
+    case: &Case,
+    (lines, begun): (&[u8], &str),
+    good: usize,
+) -> Result<(), Fail> {
+    let case = with_input(case, lines, begun);
+    check_write_fault(alloc, &case, good, WHOLE)
+}
+
+/// Lines, and the pace of their reader. The key of the first line is printed. A later line has an error, or cannot be
+/// read: the earlier lines go out first.
+const BEFORE_A_FAULT: [(&[u8], Pace); 3] = [
+    (b"a\n", WHOLE),
+    (b"a\n\xFF\n", WHOLE),
+    (b"a\nb\n", BROKEN),
+];
+
 #[test]
 fn writers_of_keys_that_fail(rt: HostRuntime) -> Result<(), Fail> {
-    let begun = with_input(&KEYS, b"a\n", "1C47 00");
-    check_write_fault(rt.alloc(), &begun, 7, WHOLE)?;
-    let line = with_input(&KEYS, b"a\n", KEY_OF_A);
-    check_write_faults(rt.alloc(), &line, WHOLE)?;
-    // A later line has an error, or cannot be read: the earlier lines go out first.
-    let faulty = with_input(&KEYS, b"a\n\xFF\n", KEY_OF_A);
-    check_write_faults(rt.alloc(), &faulty, WHOLE)?;
-    let unread = with_input(&KEYS, b"a\nb\n", KEY_OF_A);
-    check_write_faults(rt.alloc(), &unread, BROKEN)
+    check_begun(rt.alloc(), &KEYS, (b"a\n", "1C47 00"), 7)?;
+    for (lines, input) in BEFORE_A_FAULT {
+        check_lines(rt.alloc(), &KEYS, (lines, KEY_OF_A), input)?;
+    }
+    Ok(())
+}
+
+/// The line of output of `a`.
+const KEYED_A: &str = "1C4700000020000000020000000061\ta\n";
+
+fn check_keyed_lines(alloc: Global, lines: &[u8], input: Pace) -> Result<(), Fail> {
+    check_lines(alloc, &KEYED_LINES, (lines, KEYED_A), input)
 }
 
 #[test]
 fn writers_of_keyed_lines_that_fail(rt: HostRuntime) -> Result<(), Fail> {
-    check_write_faults(rt.alloc(), &KEYED_LINES, WHOLE)?;
-    let line = "1C4700000020000000020000000061\ta\n";
-    let faulty = with_input(&KEYED_LINES, b"a\n\xFF\n", line);
-    check_write_faults(rt.alloc(), &faulty, WHOLE)?;
-    let unread = with_input(&KEYED_LINES, b"a\nb\n", line);
-    check_write_faults(rt.alloc(), &unread, BROKEN)
+    check_keyed_lines(rt.alloc(), b"a\n\xFF\n", WHOLE)?;
+    check_keyed_lines(rt.alloc(), b"a\nb\n", BROKEN)
 }
 
 #[test]
 fn writers_of_sorted_lines_that_fail(rt: HostRuntime) -> Result<(), Fail> {
-    let begun = with_input(&SORT, b"b\na\n", "a\nb");
-    check_write_fault(rt.alloc(), &begun, 3, WHOLE)?;
-    let two_lines = with_input(&SORT, b"b\na\n", "a\nb\n");
-    check_write_faults(rt.alloc(), &two_lines, WHOLE)?;
-    check_write_faults(rt.alloc(), &SORT, WHOLE)
+    check_begun(rt.alloc(), &SORT, (b"b\na\n", "a\nb"), 3)?;
+    check_lines(rt.alloc(), &SORT, (b"b\na\n", "a\nb\n"), WHOLE)
 }
 
+/// The runs that are tried over their own lines.
+const OVER_OWN_LINES: [Case<'static>; 6] = [
+    SORT,
+    KEYED_LINES,
+    IDENTICAL_KEYS,
+    CHECK,
+    FAILED_CHECK,
+    COMPARE,
+];
+
 #[test]
-fn writers_of_other_runs_that_fail(rt: HostRuntime) -> Result<(), Fail> {
-    check_write_faults(rt.alloc(), &IDENTICAL_KEYS, WHOLE)?;
-    check_write_faults(rt.alloc(), &CHECK, WHOLE)?;
-    check_write_faults(rt.alloc(), &FAILED_CHECK, WHOLE)?;
-    check_write_faults(rt.alloc(), &COMPARE, WHOLE)
+fn writers_of_each_run_that_fail(rt: HostRuntime) -> Result<(), Fail> {
+    for case in &OVER_OWN_LINES {
+        check_write_faults(rt.alloc(), case, WHOLE)?;
+    }
+    Ok(())
 }
 
 // One of the lines has an error, or cannot be read: a writer that would fail at once is not called.
@@ -261,7 +315,9 @@ fn check_unsorted(alloc: Global, lines: &[u8], input: Pace, end: &str) -> Result
         let out = Pace::failing(1, 0, failure);
         let outcome = run_at(alloc, &case, [WHOLE, WHOLE, input, out])?;
         let [_, _, _, is_called] = outcome.called;
-        holds(!is_called && outcome.end.as_str() == end, end)?;
+        let is_so = !is_called && outcome.end.as_str() == end;
+        drop(outcome);
+        holds(is_so, end)?;
     }
     Ok(())
 }
@@ -274,29 +330,51 @@ fn lines_are_sorted_before_any_is_written(rt: HostRuntime) -> Result<(), Fail> {
     check_unsorted(rt.alloc(), b"a\nbb\n", BROKEN, read)
 }
 
+// A run over a writer of this pace is whole.
+fn check_whole(alloc: Global, case: &Case, out: Pace) -> Result<(), Fail> {
+    let outcome = run_at(alloc, case, [WHOLE, WHOLE, WHOLE, out])?;
+    let checked = holds(is_whole(case, &outcome), &outcome.end);
+    drop(outcome);
+    checked
+}
+
 // A writer that would fail in each way takes all that there is, and is not called again.
 fn check_late_writer(alloc: Global, case: &Case) -> Result<(), Fail> {
     for failure in FAILURES {
         let out = Pace::failing(5, case.printed.len(), failure);
-        let outcome = run_at(alloc, case, [WHOLE, WHOLE, WHOLE, out])?;
-        holds(is_whole(case, &outcome), &outcome.end)?;
+        check_whole(alloc, case, out)?;
     }
     Ok(())
 }
 
+/// The runs that are tried.
+const EACH: [Case<'static>; 7] = [
+    FAULTY_KEYS,
+    KEYS,
+    KEYED_LINES,
+    SORT,
+    CHECK,
+    FAILED_CHECK,
+    COMPARE,
+];
+
+/// The second line has an error.
+const FAULTY_KEYS: Case<'static> = Case {
+    files: Files {
+        input: b"a\n\xFF\n",
+        ..SHORT
+    },
+    printed: KEY_OF_A,
+    end: "input line 2: Utf8, status 1",
+    ..KEYS
+};
+
 #[test]
 fn a_writer_that_fails_too_late(rt: HostRuntime) -> Result<(), Fail> {
-    let faulty = Case {
-        end: "input line 2: Utf8, status 1",
-        ..with_input(&KEYS, b"a\n\xFF\n", KEY_OF_A)
-    };
-    check_late_writer(rt.alloc(), &faulty)?;
-    check_late_writer(rt.alloc(), &KEYS)?;
-    check_late_writer(rt.alloc(), &KEYED_LINES)?;
-    check_late_writer(rt.alloc(), &SORT)?;
-    check_late_writer(rt.alloc(), &CHECK)?;
-    check_late_writer(rt.alloc(), &FAILED_CHECK)?;
-    check_late_writer(rt.alloc(), &COMPARE)
+    for case in &EACH {
+        check_late_writer(rt.alloc(), case)?;
+    }
+    Ok(())
 }
 
 // A run whose output is longer than what is written at once. What is written is counted from the
@@ -306,8 +384,7 @@ fn check_long_output(alloc: Global, case: &Case) -> Result<(), Fail> {
     holds(length > 40_000, "a short output")?;
     check_write_fault(alloc, case, length.saturating_sub(1), WHOLE)?;
     check_write_fault(alloc, case, length.saturating_sub(20_000), WHOLE)?;
-    let outcome = run_at(alloc, case, [WHOLE; 4])?;
-    holds(is_whole(case, &outcome), &outcome.end)
+    check_whole(alloc, case, WHOLE)
 }
 
 #[test]
