@@ -8,6 +8,7 @@ pub mod ExtensionEnd
 pub mod Portions
 pub mod OccurringLetters
 pub mod Parts
+pub mod CutReading
 pub mod RelatedReading
 pub mod RowsByKey
 pub mod Prefixes

@@ -1,6 +1,7 @@
 pub mod Rows
 pub mod Parts
 pub mod Reading
+pub mod Cuts
 pub mod Collations
 pub mod Lookups
 pub mod RowLists

@@ -3,6 +3,7 @@
 ghost use Rattle.std.specs.Prelude.{List, []};
 ghost use Rattle.uca_weights.specs.declared.Element.{Element};
 ghost use Rattle.uca_match.specs.Laws.{OneReading, RowsByKey, KeysReadAsRows, IsKeptByAppend, RelatedRowsReadAlike, SameKeysReadByParts, PartsOfTexts, ElementsOfParts};
+ghost use Rattle.uca_match.specs.Cuts.{PartsInPieces, TextsReadInPieces};
 ghost use Rattle.uca_match.specs.WorkedReadings.{WorkedReadings};
 
 use std::marker::Brand;
@@ -85,6 +86,13 @@ pub fn parts_of_texts()
 /// implicit weights of each other code point.
 pub fn elements_of_parts()
     ensures { ElementsOfParts }
+{}
+
+/// A text may be cut before a starter that no key has after its first code point. It is matched as its two pieces in
+/// turn, and its collation elements are those of the pieces. This holds for every set of keys and all rows.
+pub fn texts_read_in_pieces()
+    ensures parts { PartsInPieces }
+    ensures reading { TextsReadInPieces }
 {}
 
 /// The definitions give the elements that were worked out by hand for some texts: letters, accents,
