@@ -4,9 +4,11 @@
     tools/gate_times.py          at the top of the repository, instead of `rt ci`
 
 It loads the command `rt` of the kit, and each task of `rt` then counts the user and system time of the processes that it
-starts. Nothing else is changed: what `rt ci` prints comes first, and the status is that of `rt ci`. docs/GATE.md has the
-table that this prints last, and says what a yardstick is.
+starts. It proves all from nothing, as `rt ci --anew` does: nothing is taken of what was proved on this machine before. What
+`rt ci` prints comes first, and the status is that of `rt ci`. docs/GATE.md has the table that this prints last, and says what
+a yardstick is.
 """
+import collections
 import os
 import sys
 import time
@@ -18,8 +20,16 @@ IDLE = ("", "runs")
 TIMES = kit.Times()
 
 
+def by_part(times):
+    """The seconds of each crate and part. Every task that is no proof, no tests and no run tries edits, or makes ready for them."""
+    seconds = collections.Counter()
+    for (name, part, *_), spent in times.items():
+        seconds[name, part if part in (*PARTS, "runs") else "edits"] += spent
+    return seconds
+
+
 def table():
-    seconds = TIMES.processor
+    seconds = by_part(TIMES.processor)
     sums = {part: sum(v for key, v in seconds.items() if key[1] == part) for part in (*PARTS, "runs")}
     whole = {name: sum(seconds.get((name, part), 0.0) for part in PARTS) for name, _ in seconds if name}
     print("| Crate | library | tests | edits | together |\n|---|--:|--:|--:|--:|")
@@ -29,7 +39,7 @@ def table():
     print("| all | " + " | ".join(f"{sums[part]:.0f}" for part in PARTS) + f" | {sum(sums.values()):.0f} |")
     print(f"processor seconds, user and system; running programs and tests took {sums['runs']:.0f} of them")
     longest = sorted(TIMES.clock.items(), key=lambda it: -it[1])[:8]
-    print("longest on the clock: " + ", ".join(f"{name} {part} {spent:.0f} s" for (name, part), spent in longest))
+    print("longest on the clock: " + ", ".join(f"{' '.join(map(str, key))} {spent:.0f} s" for key, spent in longest))
 
 
 def main():
@@ -38,7 +48,7 @@ def main():
     in_lanes = rt.in_lanes
     rt.in_lanes = lambda tasks: in_lanes({key: (*task[:3], TIMES.task(key, IDLE, task[3])) for key, task in tasks.items()})
     begun = time.time()
-    status = rt.ci()
+    status = rt.ci(True)
     table()
     print(f"on the clock {(time.time() - begun) / 60:.0f} minutes, {os.cpu_count()} processors")
     return status

@@ -121,13 +121,12 @@ def print_rules(options):
         sys.exit(f"{options.locale}: more than {MOST_RELATIONS} relations, which is more than uca takes")
     rules = rules_of(options.locale, translation)
     if not program(options):
-        print("not planned: there is no program crates/uca/out/uca or uca", file=sys.stderr)
-    else:
-        with tempfile.TemporaryDirectory() as folder:
-            data = write_by(unicode_files.print_data, os.path.join(folder, "data"), unicode_files.FOLDER)
-            error = planned(options, folder, rules, options.table, data).error
-        if error:
-            sys.exit(f"{options.locale}: {error}")
+        sys.exit("there is no program crates/uca/out/uca or uca: rules are printed once they are planned and audited")
+    with tempfile.TemporaryDirectory() as folder:
+        data = write_by(unicode_files.print_data, os.path.join(folder, "data"), unicode_files.FOLDER)
+        error = planned(options, folder, rules, options.table, data).error
+    if error:
+        sys.exit(f"{options.locale}: {error}")
     sys.stdout.write(rules)
 
 

@@ -9,7 +9,8 @@ of examples/ runs in that copy. The program is crates/uca/out/uca, which tools/b
 
 A block ```console unicode needs files of Debian's packages unicode-data and, in docs/LANGUAGES.md, unicode-cldr-core. Without them
 it is not run, and a line says so. docs/STORED_KEYS.md needs the package sqlite3; its blocks ```console postgresql need a server, so
-examples/databases/run_all.py runs them. The last line is `N passed, M failed`.
+examples/databases/run_all.py runs them. The last line is `N passed, M failed`, and how many were not run if there are any. A named
+page without a command fails. (Blocks of `sh` are not run: docs/GATE.md and docs/LIBRARY.md have one each, which build.)
 """
 import os
 import re
@@ -44,22 +45,26 @@ def outputs_of(commands, folder, environment):
 
 
 def runnable(page):
-    """The commands of a page that can be run here. It prints which file the others need."""
+    """The commands of a page that can be run here, and how many cannot. It prints which file those need."""
     needed = [ALLKEYS, CLDR] if page == "docs/LANGUAGES.md" else [ALLKEYS]
     missing = [it for it in needed if not os.path.exists(it)]
     others = commands_of(page, "console unicode")
     if missing and others:
         print(f"{page}: {len(others)} commands were not run, since there is no {missing[0]}")
-    return commands_of(page, "console" if missing else "console(?: unicode)?")
+    return commands_of(page, "console" if missing else "console(?: unicode)?"), len(others) if missing else 0
 
 
 def main(pages):
     if not os.path.exists(f"{TOP}/crates/uca/out/uca"):
         sys.exit("there is no crates/uca/out/uca: run tools/build.py first")
-    passed = failed = 0
+    passed = failed = skipped = 0
     environment = {**os.environ, "PATH": f"{TOP}/crates/uca/out:{os.environ['PATH']}"}
     for page in pages or PAGES:
-        commands = runnable(page)
+        commands, missing = runnable(page)
+        skipped += missing
+        if page in pages and not commands and not missing:
+            failed += 1
+            print(f"{page}: it shows no command")
         with tempfile.TemporaryDirectory(prefix="uca-page-") as room:
             shutil.copytree(f"{TOP}/examples", f"{room}/examples")
             for name in ("tools", "crates"):
@@ -71,7 +76,7 @@ def main(pages):
             else:
                 failed += 1
                 print(f"{page}: $ {command}\n-- printed:\n{got}\n-- the page shows:\n{wanted}")
-    print(f"{passed} passed, {failed} failed")
+    print(f"{passed} passed, {failed} failed" + (f", {skipped} not run" if skipped else ""))
     return 1 if failed else 0
 
 

@@ -133,21 +133,29 @@ def is_accented(letter):
     return unicodedata.category(letter) == "Ll" and any(map(unicodedata.combining, unicodedata.normalize("NFD", letter)))
 
 
+def cells(language):
+    """What the page says of a language: the first column of its table, without the numbers in it, and the language's column."""
+    rows = [[cell.strip() for cell in line.strip("|").split("|")] for line in content("docs/UNICODE.md").splitlines() if line.startswith("| ")]
+    titles = next(row for row in rows if language.capitalize() in row)
+    at = titles.index(language.capitalize())
+    return {row[0]: row[at] for row in rows if len(row) == len(titles)}
+
+
 def changes(options, table, tailored, data):
-    """How many rows of the base have other elements, and how many texts that are its keys have other keys."""
+    """How many rows of the base have other elements, and how many texts that are its keys have other keys, by the page's first column."""
     base, now = rows_of(content(table)), rows_of(content(tailored))
     changed = sum(1 for key, elements in base.items() if now[key] != elements)
-    said = ["%d rows, %d of them new; %d of the others have other weights" % (len(now), len(now) - len(base), changed)]
+    counts = {"rows of the tailored table": len(now), "of these new": len(now) - len(base), "rows of the base with other weights": changed}
     texts = ["".join(chr(int(code, 16)) for code in key.split()) for key in base]
     texts = [text for text in texts if "\n" not in text]  # each is a line
     pairs = zip(texts, keys(options, table, data, texts), keys(options, tailored, data, texts), strict=True)
     other = {text for text, left, right in pairs if left != right}
     single = [text for text in texts if len(text) == 1]
     upper = [text for text in single if unicodedata.category(text) == "Lu"]
-    for name, chosen in (("texts of a key", texts), ("capital letters", upper), ("lower-case letters with a mark", filter(is_accented, single))):
+    for name, chosen in (("capital letters", upper), ("lower-case letters with a mark", filter(is_accented, single))):
         chosen = set(chosen)
-        said.append("%d keys of %d %s" % (len(chosen & other), len(chosen), name))
-    return "; ".join(said)
+        counts["other keys, of %s %s" % (f"{len(chosen):,}", name)] = len(chosen & other)
+    return counts
 
 
 def tailor(options, folder, table, data, language):
@@ -163,7 +171,9 @@ def tailor(options, folder, table, data, language):
     see("audit " + language, out == "accepted\n", "%s in %.2f s" % (out.strip() or said, seconds))
     moved, click = moves(certificate), rows_of(content(table))["01C0"].split(".")[1]
     see("moved " + language, all(it.startswith("level 1: 1 from %s " % click) for it in moved if it.startswith("level 1")), "; ".join(moved))
-    see("changed " + language, True, changes(options, table, tailored, data))
+    shown = cells(language)
+    for name, count in changes(options, table, tailored, data).items():
+        see("%s, %s" % (language, name), shown.get(name) == f"{count:,}", "%s, and the page has %s" % (f"{count:,}", shown.get(name)))
     words = content("examples/words_%s.txt" % language)
     turned = "".join(sorted(words.splitlines(True), reverse=True)).encode()
     see("sort " + language, run([options.uca, "sort", tailored, data], turned)[0] == words, "as in examples/words_%s.txt" % language)

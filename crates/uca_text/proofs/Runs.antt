@@ -1,7 +1,7 @@
 -- Counting non-starters in a row.
-use Rattle.std.proofs.Common.{◌≡◌, inl, inr, ℕ, ◌+◌, ◌-◌, ◌<◌, ◌≤◌, List, [], ◌∷◌, ◌++◌, length, map, take, get_or, sym, ◌∙◌, ap, subst, arith}
+use Rattle.std.proofs.Common.{◌≡◌, inl, inr, ℕ, ◌+◌, ◌-◌, ◌<◌, ◌≤◌, List, [], ◌∷◌, ◌++◌, length, map, take, get_or, refl, sym, ◌∙◌, ap, subst, arith, length-append}
 use Rattle.std.proofs.lemmas.Bool.{cases_lt}
-use Rattle.std.proofs.lemmas.List.{get_or-map, take_more, take_all}
+use Rattle.std.proofs.lemmas.List.{get_or-map, get_or_at, get_or_append_left, get_or-append_right, take_more, take_all}
 use Rattle.std.specs.List.{AllByRecursion}
 use Rattle.std.specs.Char.{IsScalar}
 use Rattle.std.proofs.lemmas.Grind.{common_steps}
@@ -79,6 +79,37 @@ first_long_run classes here run counted non_starter full within = record {
 -- the end of the text
 pub no_long_run : (classes : List ℕ) (here run : ℕ) → IsCounted classes here run → length classes ≤ here → HasNoLongRun classes
 no_long_run classes here run counted all place long = counted.none place (omega (arith, long.within)) long
+
+-- fewer than 65 classes
+pub few_have_no_long_run : (classes : List ℕ) → length classes ≤ 64 → HasNoLongRun classes
+few_have_no_long_run classes few place long = omega (arith, long.within, few)
+
+-- two texts without a long run, the second of which begins with a starter
+pub no_long_run_joined : (a b : List ℕ) → HasNoLongRun a → HasNoLongRun (0 ∷ b) → HasNoLongRun (a ++ 0 ∷ b)
+no_long_run_joined a b first second place long =
+    elim (cases_lt (length a) place) [
+      | inl after ↦ second (place - length a) (record {
+        within = omega (arith, long.within, length-append a (0 ∷ b));
+        non_starters = λ k below.
+            let same : get_or (a ++ 0 ∷ b) (place + k) 0 ≡ get_or (0 ∷ b) (place + k - length a) 0 =
+            get_or-append_right a (0 ∷ b) (length a) (place + k) 0 refl (omega arith) in
+            let moved : place + k - length a ≡ place - length a + k = omega arith in
+            let there : 0 < get_or (0 ∷ b) (place + k - length a) 0 = rw same at (long.non_starters k below) in
+            rw (← moved) there;
+      })
+      | inr upto ↦ elim (cases_lt (length a) (place + 65)) [
+        | inl inside ↦
+            let same : place + (length a - place) ≡ length a = omega arith in
+            let here : 0 < get_or (a ++ 0 ∷ b) (place + (length a - place)) 0 = long.non_starters (length a - place) (omega arith) in
+            omega (arith, rw same at here, get_or_at a 0 b 0 (length a) refl)
+        | inr before ↦ first place (record {
+          within = before;
+          non_starters = λ k below.
+              let l : place + k < length a = omega arith in
+              rw (get_or_append_left a (0 ∷ b) 0 (place + k) l) at (long.non_starters k below);
+        })
+      ]
+    ]
 
 -- the class at a position
 pub class_at : (f : ℕ → ℕ) (points : List ℕ) (here point class : ℕ) → here < length points → point ≡ get_or points here point → class ≡ f point →

@@ -2,3 +2,4 @@ pub mod Rising
 pub mod Leads
 pub mod ImplicitPairs
 pub mod Gaps
+pub mod LowClasses

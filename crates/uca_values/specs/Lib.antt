@@ -1,5 +1,6 @@
 pub mod Ranges
 pub mod Gaps
+pub mod LowClasses
 pub mod Content
 pub mod Implicit
 pub mod Worked

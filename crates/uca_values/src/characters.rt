@@ -1,40 +1,52 @@
 //! The properties of code points that collation needs: combining classes and Han ranges.
 
-ghost use Rattle.std.specs.Prelude.{◌≡◌, ℕ, ◌<◌, ◌≤◌, length, nat_lt, true, false, [], ◌≢◌, ◌+◌, OnOk, IfErr, MatchOption};
+ghost use Rattle.std.specs.Prelude.{◌≡◌, ℕ, ◌<◌, ◌≤◌, List, length, nat_lt, true, false, [], ◌≢◌, ◌+◌, OnOk, IfErr, MatchOption, slice_index, if◌then◌else◌};
 ghost use Rattle.std.specs.List.Sorted.{IsPartitionPoint};
-ghost use Rattle.uca_values.specs.Ranges.{is_within, class_in, AreRising, AreRisingClasses};
+ghost use Rattle.uca_values.specs.Ranges.{is_between, is_within, class_in, AreRising, AreRisingClasses};
+ghost use Rattle.uca_values.specs.LowClasses.{AreLowClasses};
+ghost use Rattle.uca_values.specs.declared.ClassRange.{ClassRange};
 ghost use Rattle.std.specs.List.{AllByRecursion};
 ghost use Rattle.uca_values.specs.Gaps.{IsGap};
 ghost use Rattle.uca_values.specs.Content.{IsClass};
 ghost use Rattle.uca_values.specs.Adding.{AddsClass, AddsCore, AddsOther, RefusesClass, RefusesCore, RefusesOther};
 
 use crate::{ClassRange, CodePointRange};
-use std::alloc::{Allocator, Global};
+use std::alloc::{AllocError, Allocator, Global};
 use std::error::Error;
 use std::fmt;
 use std::marker::Model;
 
 /// What a data file says: the combining class of each code point, and which code points are core Han
-/// or other unified ideographs (UTS #10, section 10.1.3).
+/// or other unified ideographs (UTS #10, section 10.1.3). The classes of the code points below U+2000 are also
+/// in a list of 8,192 bytes, which the first range with a class makes: so most code points of a text need no search.
 #[derive(Drop)]
 pub struct Data<A: Allocator = Global> {
     classes: Vec<ClassRange, A>,
+    // The class of each code point below U+2000; empty while no range has a class.
+    low_classes: Vec<u8, A>,
     core: Vec<CodePointRange, A>,
     other: Vec<CodePointRange, A>,
 }
 
 impl<A: Allocator> Model for Data<A> {
     ghost use Rattle.uca_values.specs.Content.{DataContent, IsData};
+    ghost use Rattle.uca_values.specs.LowClasses.{AreLowClasses};
 
     ghost Value = { DataContent };
 
     ghost view = { λ d. record { classes = d.classes.items; core = d.core.items; other = d.other.items } };
 
-    ghost invariant = { λ d. IsData (record { classes = d.classes.items; core = d.core.items; other = d.other.items }) };
+    ghost invariant = { λ d. record {
+      ranges : IsData (record { classes = d.classes.items; core = d.core.items; other = d.other.items });
+      low : AreLowClasses d.classes.items d.low_classes.items;
+    } };
 }
 
 /// How many ranges of each kind there may be.
 const MOST_RANGES: usize = 4096;
+
+/// How many code points have their class in a list.
+const LOW_CLASSES: usize = 0x2000;
 
 /// Why a range is not added. Of several causes the first of this list is returned.
 #[derive(Clone, Copy, Debug, PartialEq, Eq)]
@@ -71,6 +83,7 @@ impl<A: Allocator> Data<A> {
     {
         Data {
             classes: Vec::new(alloc),
+            low_classes: Vec::new(alloc),
             core: Vec::new(alloc),
             other: Vec::new(alloc),
         }
@@ -100,9 +113,13 @@ impl<A: Allocator> Data<A> {
         if self.classes.len() >= MOST_RANGES {
             return Err(RangeFault::Limit);
         }
+        if make_low_classes(&mut self.low_classes).is_err() {
+            return Err(RangeFault::Memory);
+        }
         if self.classes.insert(at, range).is_err() {
             return Err(RangeFault::Memory);
         }
+        write_class(&mut self.low_classes, range);
         Ok(())
     }
 
@@ -169,6 +186,10 @@ impl<A: Allocator> Data<A> {
     pub fn class(&self, point: char) -> u8
         ensures { result ≡ class_in self.now.classes point }
     {
+        let place = point as usize;
+        if place < self.low_classes.len() {
+            return self.low_classes[place];
+        }
         class_at(&self.classes, point)
     }
 
@@ -205,6 +226,30 @@ impl<A: Allocator> Data<A> {
         ensures { result.now ≡ self.now.other }
     {
         &self.other
+    }
+}
+
+// Makes the list of the classes of low code points, unless it is there. All its classes are 0.
+fn make_low_classes<A: Allocator>(low_classes: &mut Vec<u8, A>) -> Result<(), AllocError>
+    ensures kept { (ranges : List ClassRange) → AreLowClasses ranges low_classes.old.items → AreLowClasses ranges low_classes.new.items }
+    ensures made { OnOk result (0 < length low_classes.new.items) }
+{
+    if low_classes.is_empty() {
+        low_classes.resize(LOW_CLASSES, 0)?;
+    }
+    Ok(())
+}
+
+// Writes the class of a range at those of its code points that the list has.
+fn write_class(low_classes: &mut [u8], range: ClassRange)
+    requires { range.first ≤ range.last }
+    ensures len { length low_classes.new ≡ length low_classes.old }
+    ensures each { (point : ℕ) → point < length low_classes.old →
+        slice_index low_classes.new point ≡ (if is_between range.first range.last point then range.class else slice_index low_classes.old point) }
+{
+    let end = low_classes.len().min(range.last as usize + 1);
+    for place in range.first as usize..end {
+        low_classes[place] = range.class;
     }
 }
 

@@ -4,13 +4,16 @@ use Rattle.uca_values.proofs.characters.Data.add_core.Goals as goal
 
 pub invariant_of-self-2 : goal.invariant_of-self-2
 invariant_of-self-2 g c = record {
-  classes = c.self.invariant.classes;
-  numbers = c.self.invariant.numbers;
-  core = keeps_rising c.self.inside.core.items _ _ c.args.range _ c.deref.ensures.value (taken _ _ _ _ _ c.insert.ensures.items c.is_err.ensures.negation c.if-is_err.false) c.self.invariant.core (omega arith) c.in-Some.ensures;
-  other = c.self.invariant.other;
-  few_classes = c.self.invariant.few_classes;
-  few_core = few_put c.self.inside.core.items _ _ c.args.range _ c.deref.ensures.value (taken _ _ _ _ _ c.insert.ensures.items c.is_err.ensures.negation c.if-is_err.false) c.in-Some.ensures (omega (arith, c.len.ensures));
-  few_other = c.self.invariant.few_other;
+  ranges = record {
+    classes = c.self.invariant.ranges.classes;
+    numbers = c.self.invariant.ranges.numbers;
+    core = keeps_rising c.self.inside.core.items _ _ c.args.range _ c.deref.ensures.value (taken _ _ _ _ _ c.insert.ensures.items c.is_err.ensures.negation c.if-is_err.false) c.self.invariant.ranges.core (omega arith) c.in-Some.ensures;
+    other = c.self.invariant.ranges.other;
+    few_classes = c.self.invariant.ranges.few_classes;
+    few_core = few_put c.self.inside.core.items _ _ c.args.range _ c.deref.ensures.value (taken _ _ _ _ _ c.insert.ensures.items c.is_err.ensures.negation c.if-is_err.false) c.in-Some.ensures (omega (arith, c.len.ensures));
+    few_other = c.self.invariant.ranges.few_other;
+  };
+  low = c.self.invariant.low;
 }
 
 pub returns-clause-added : goal.returns-clause-added

@@ -4,13 +4,16 @@ use Rattle.uca_values.proofs.characters.Data.add_other.Goals as goal
 
 pub invariant_of-self-2 : goal.invariant_of-self-2
 invariant_of-self-2 g c = record {
-  classes = c.self.invariant.classes;
-  numbers = c.self.invariant.numbers;
-  other = keeps_rising c.self.inside.other.items _ _ c.args.range _ c.deref.ensures.value (taken _ _ _ _ _ c.insert.ensures.items c.is_err.ensures.negation c.if-is_err.false) c.self.invariant.other (omega arith) c.in-Some.ensures;
-  core = c.self.invariant.core;
-  few_classes = c.self.invariant.few_classes;
-  few_other = few_put c.self.inside.other.items _ _ c.args.range _ c.deref.ensures.value (taken _ _ _ _ _ c.insert.ensures.items c.is_err.ensures.negation c.if-is_err.false) c.in-Some.ensures (omega (arith, c.len.ensures));
-  few_core = c.self.invariant.few_core;
+  ranges = record {
+    classes = c.self.invariant.ranges.classes;
+    numbers = c.self.invariant.ranges.numbers;
+    other = keeps_rising c.self.inside.other.items _ _ c.args.range _ c.deref.ensures.value (taken _ _ _ _ _ c.insert.ensures.items c.is_err.ensures.negation c.if-is_err.false) c.self.invariant.ranges.other (omega arith) c.in-Some.ensures;
+    core = c.self.invariant.ranges.core;
+    few_classes = c.self.invariant.ranges.few_classes;
+    few_other = few_put c.self.inside.other.items _ _ c.args.range _ c.deref.ensures.value (taken _ _ _ _ _ c.insert.ensures.items c.is_err.ensures.negation c.if-is_err.false) c.in-Some.ensures (omega (arith, c.len.ensures));
+    few_core = c.self.invariant.ranges.few_core;
+  };
+  low = c.self.invariant.low;
 }
 
 pub returns-clause-added : goal.returns-clause-added
