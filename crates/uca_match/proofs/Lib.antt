@@ -19,3 +19,6 @@ pub mod PlacedKeys
 pub mod TrieKeys
 pub mod TrieLookups
 pub mod RootIndexLemmas
+pub mod CharMapLemmas
+pub mod Leaves
+pub mod Followers

@@ -1,6 +1,6 @@
 -- The longest key at the front of a text, the non-starters after it, and the walk to it.
 use Rattle.std.proofs.Common.{◌≡◌, ℕ, zero, suc, ◌<◌, ◌≤◌, List, [], ◌∷◌, ◌++◌, length, take, Bool, true, false, cond, IsFalse, sym, ap, subst, refl}
-use Rattle.std.proofs.Common.{◌∙◌, append-nil, ⊎_elim, arith, ◌+◌, drop, get_or, Option, Some, None, add-one, length-drop, take-append-drop}
+use Rattle.std.proofs.Common.{◌∙◌, append-nil, ⊎_elim, arith, ◌+◌, drop, get_or, Option, Some, None, add-one, length-drop, length-take-le, take-append-drop, append_assoc}
 use Rattle.std.proofs.lemmas.Bool.{cond_both, cond-true, cond-false, cases_Bool, cases_eq, both_ways}
 use Rattle.std.specs.List.{AllByRecursion}
 use Rattle.uca_text.specs.Texts.{Letter, Text, code_points, is_starter, NfdText}
@@ -149,6 +149,15 @@ longest_same stands_for keys s place first n m None same h = same ∙ h
 longest_same stands_for keys s place first n m (Some key) same h =
     record { count = h.count; longest = same ∙ h.longest; stands = h.stands; left = h.left; onward = h.onward; within = h.within }
 
+-- no key begins with a list with which no longer one begins, and goes on
+no_key_past_leaf : (keys : Keys) (begin rest : Text) → 0 < length rest → ((c : ℕ) → BeginsNoKeyIn keys (code_points begin ++ c ∷ [])) →
+    IsKeyOf keys (code_points (begin ++ rest)) → ⊥
+no_key_past_leaf keys begin [] some leaf key = absurd (omega arith)
+no_key_past_leaf keys begin (c ∷ rest) some leaf key =
+    let split : code_points (begin ++ c ∷ rest) ≡ (code_points begin ++ c.code ∷ []) ++ code_points rest = code_points-append begin (c ∷ rest)
+    ∙ sym (append_assoc (code_points begin) (c.code ∷ []) (code_points rest)) in
+    leaf c.code (code_points rest, subst (λ k. keys k ≡ true) split key)
+
 module _ {N : Type 0} (stands_for : N → List ℕ → Type 0) (keys : Keys) (s : NfdText) (place : Place) (first : ℕ) where
   pub walked_gone : (i : ℕ) (node : N) (best : Option (Longest N)) → length s.classes ≡ length s.points → i < length s.points →
       is_gone place i ≡ true → IsWalked stands_for keys s place first i node best → IsWalked stands_for keys s place first (i + 1) node best
@@ -228,6 +237,22 @@ module _ {N : Type 0} (stands_for : N → List ℕ → Type 0) (keys : Keys) (s 
           onward = omega (arith, walked.begun);
           within = omega arith;
         }
+
+  -- no longer key begins with what the walk has come to
+  pub walked_to_leaf : (i : ℕ) (node : N) (best : Option (Longest N)) → (walked : IsWalked stands_for keys s place first i node best) →
+      ((c : ℕ) → BeginsNoKeyIn keys (code_points (take walked.count (left_at s place first)) ++ c ∷ [])) →
+      IsLongest stands_for keys s place first (length (left_at s place first)) best
+  walked_to_leaf i node best walked leaf =
+      let t : Text = left_at s place first in
+      let n : ℕ = walked.count in
+      let no_key : (m : ℕ) → n < m → m ≤ length t → keys (code_points (take m t)) ≡ false = λ m above below.
+      not_true (keys (code_points (take m t)))
+      (λ key.
+      let split : take m t ≡ take n t ++ drop n (take m t) = sym (take-append-drop n (take m t))
+      ∙ ap (λ f. f ++ drop n (take m t)) (take-take n m t (omega arith)) in
+      no_key_past_leaf keys (take n t) (drop n (take m t)) (omega (arith, length-drop n (take m t), length-take-le m t below)) leaf
+      (subst (λ f. IsKeyOf keys (code_points f)) split key)) in
+      longest_same stands_for keys s place first (length t) n best (no_longer keys t n (length t) walked.passed no_key) walked.best_is
 
   -- the walk comes to the end of the text
   pub walked_through : (i : ℕ) (node : N) (best : Option (Longest N)) → length s.classes ≡ length s.points → length s.points ≤ i →

@@ -141,7 +141,7 @@ rows_by_position rows key = rows_behind [] rows key
 -- ---- The keys of a trie
 
 -- a list of code points is a key of a trie exactly where it has a position
-keys_of_trie : (trie : TrieContent) (key : List ℕ) → is_some (rows_at trie key) ≡ is_some (positions trie.keys key)
+pub keys_of_trie : (trie : TrieContent) (key : List ℕ) → is_some (rows_at trie key) ≡ is_some (positions trie.keys key)
 keys_of_trie trie key = go (positions trie.keys key)
   where
     go : (o : Option ℕ) → is_some (option_map (λ p. get_or trie.rows p []) o) ≡ is_some o

@@ -39,7 +39,7 @@ target_of_last (f ∷ edges) e none =
     (λ other rest. cond-false (nat_eq f.point e.point) (Some f.target) (target_of (edges ++ e ∷ []) e.point) other ∙ target_of_last edges e rest)
     none
 
-target_of_front : (edges : List Edge) (e : Edge) (c : ℕ) → (e.point ≡ c → ⊥) → target_of (edges ++ e ∷ []) c ≡ target_of edges c
+pub target_of_front : (edges : List Edge) (e : Edge) (c : ℕ) → (e.point ≡ c → ⊥) → target_of (edges ++ e ∷ []) c ≡ target_of edges c
 target_of_front [] e c other = cond-false (nat_eq e.point c) (Some e.target) None (ne_eqb e.point c other)
 target_of_front (f ∷ edges) e c other = ap (cond (nat_eq f.point c) (Some f.target)) (target_of_front edges e c other)
 

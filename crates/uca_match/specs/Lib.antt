@@ -6,6 +6,7 @@ pub mod Collations
 pub mod Lookups
 pub mod RowLists
 pub mod Positions
+pub mod CharMaps
 pub mod Tries
 pub mod NumberedKeys
 pub mod Places

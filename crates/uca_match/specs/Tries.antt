@@ -95,7 +95,12 @@ indexed_target (suc n) = Some (suc n)
 abbrev pub IsRootIndex : List Edge → List ℕ → Type 0
 IsRootIndex edges root_index = (c : ℕ) → c < length root_index → target_of edges c ≡ indexed_target (slice_index_or root_index c 0)
 
+-- each code point that leads from a node other than the root has a number above 0
+abbrev pub AreFollowers : List NodeContent → (ℕ → ℕ) → Type 0
+AreFollowers nodes numbers = (n c m : ℕ) → 0 < n → target_of (node_at nodes n).edges c ≡ Some m → 0 < numbers c
+
 -- what is true of every map from keys to positions
-pub record IsTrie (nodes : List NodeContent) (root_index : List ℕ) : Type 0 where
+pub record IsTrie (nodes : List NodeContent) (root_index : List ℕ) (numbers : ℕ → ℕ) : Type 0 where
   pub tree : IsTree nodes
   pub first_steps : IsRootIndex (node_at nodes 0).edges root_index
+  pub followers : AreFollowers nodes numbers

@@ -1,10 +1,13 @@
 //! `KeyMap`: keys and their positions in a list, as a tree of code points.
-ghost use Rattle.std.specs.Prelude.{◌≡◌, ℕ, ◌<◌, ◌∷◌, ◌++◌, List, [], length, map, IfOk, OnOk, MatchResult, Some, None, ◌≤◌};
+ghost use Rattle.std.specs.Prelude.{◌≡◌, ◌≢◌, ℕ, false, ◌<◌, ◌∷◌, ◌++◌, List, [], length, map, IfOk, OnOk, MatchResult, Some, None, ◌≤◌};
 ghost use Rattle.std.specs.List.Sorted.{IsPartitionPoint, IsPermutation};
 ghost use Rattle.uca_match.specs.Positions.{is_placed, place_at, AreDistinctKeys, placed_from};
-ghost use Rattle.uca_match.specs.Tries.{NodeContent, target_of, positions, node_at, walk, with_position, AreRisingEdges, IsNewPlace, IsTree, IsAlong, IsRootIndex};
+ghost use Rattle.uca_match.specs.Tries.{NodeContent, target_of, positions, node_at, walk, with_position, AreRisingEdges, IsNewPlace, IsTree, IsAlong, IsRootIndex, AreFollowers};
+ghost use Rattle.uca_match.specs.Cuts.{IsNoFollower};
+ghost use Rattle.uca_match.specs.CharMaps.{number_of};
 ghost use Rattle.uca_match.specs.NumberedKeys.{points_of, placed_of};
 
+use crate::char_map::CharMap;
 use crate::key_sets::KeySet;
 use std::alloc::{AllocError, Allocator, Global};
 use std::cmp::Ordering;
@@ -29,17 +32,20 @@ pub struct KeyMap<A: Allocator = Global> {
     nodes: Vec<Node<A>, A>,
     // where each of the first code points leads from the root, or 0 if it leads nowhere
     root_index: Vec<usize, A>,
+    // 1 for each code point that some key has after its first one
+    followers: CharMap<A>,
 }
 
 impl<A: Allocator> Model for KeyMap<A> {
     ghost use Rattle.std.specs.Prelude.{List};
+    ghost use Rattle.uca_match.specs.CharMaps.{number_of};
     ghost use Rattle.uca_match.specs.Tries.{NodeContent, IsTrie};
 
     ghost Value = { List NodeContent };
 
     ghost view = { λ t. t.nodes.items };
 
-    ghost invariant = { λ t. IsTrie t.nodes.items t.root_index.items };
+    ghost invariant = { λ t. IsTrie t.nodes.items t.root_index.items (number_of t.followers) };
 }
 
 /// What follows some code points with which a key begins.
@@ -84,7 +90,12 @@ impl<A: Allocator + Copy> KeyMap<A> {
     {
         let nodes = nodes_of(alloc, keys)?;
         let root_index = root_index_of(alloc, &nodes)?;
-        Ok(KeyMap { nodes, root_index })
+        let followers = followers_of(alloc, &nodes)?;
+        Ok(KeyMap {
+            nodes,
+            root_index,
+            followers,
+        })
     }
 }
 
@@ -106,6 +117,13 @@ impl<A: Allocator> KeyMap<A> {
         ensures { (key : List ℕ) → walk self.now 0 key ≡ Some node.number → result ≡ positions self.now key }
     {
         self.nodes[node.number].position
+    }
+
+    /// Whether some key may have `c` after its first code point.
+    pub(crate) fn may_follow(&self, c: char) -> bool
+        ensures { result ≡ false → IsNoFollower (is_placed (positions self.now)) c }
+    {
+        self.followers.get(c) > 0
     }
 }
 
@@ -256,6 +274,29 @@ fn root_index_of<A: Allocator>(alloc: A, nodes: &[Node<A>]) -> Result<Vec<usize,
     Ok(root_index)
 }
 
+/// 1 for each code point that leads from a node other than the root.
+fn followers_of<A: Allocator + Copy>(alloc: A, nodes: &[Node<A>]) -> Result<CharMap<A>, AllocError>
+    ensures { IfOk result (λ followers. AreFollowers nodes.now (number_of followers)) }
+{
+    let mut followers = CharMap::new(alloc)?;
+    for i in 1..nodes.len() {
+        let node = &nodes[i];
+        add_followers(&mut followers, &node.edges)?;
+    }
+    Ok(followers)
+}
+
+/// Gives 1 to the code points of edges.
+fn add_followers<A: Allocator>(followers: &mut CharMap<A>, edges: &[Edge]) -> Result<(), AllocError>
+    ensures before { OnOk result ((c : ℕ) → 0 < number_of followers.old c → 0 < number_of followers.new c) }
+    ensures edges { OnOk result ((c m : ℕ) → target_of edges.now c ≡ Some m → 0 < number_of followers.new c) }
+{
+    for edge in edges {
+        followers.set(edge.point, 1)?;
+    }
+    Ok(())
+}
+
 impl<A: Allocator> KeySet for KeyMap<A> {
     type Node = TrieNode;
 
@@ -284,5 +325,9 @@ impl<A: Allocator> KeySet for KeyMap<A> {
 
     fn is_key(&self, node: TrieNode) -> bool {
         self.position_at(node).is_some()
+    }
+
+    fn may_go_on(&self, node: TrieNode) -> bool {
+        !self.nodes[node.number].edges.is_empty()
     }
 }

@@ -1,5 +1,5 @@
 //! `KeySet`: a set of keys, in which a key is found code point by code point.
-ghost use Rattle.std.specs.Prelude.{◌≡◌, ℕ, List, [], ◌∷◌, ◌++◌, MatchOption, unwrap_or};
+ghost use Rattle.std.specs.Prelude.{◌≡◌, ℕ, false, List, [], ◌∷◌, ◌++◌, MatchOption, unwrap_or};
 ghost use Rattle.uca_match.specs.Rows.{Keys, is_key};
 ghost use Rattle.uca_match.specs.Lookups.{BeginsKeyIn, BeginsNoKeyIn};
 
@@ -34,6 +34,13 @@ pub trait KeySet {
     fn is_key(&self, node: Self::Node) -> bool
         requires { (key : List ℕ) × stands_for self.now node key }
         ensures { (key : List ℕ) → stands_for self.now node key → result ≡ keys self.now key };
+
+    /// Whether some key may begin with the list that `node` stands for and be longer. It is asked for speed alone: `true`
+    /// says nothing.
+    fn may_go_on(&self, node: Self::Node) -> bool
+        requires { (key : List ℕ) × stands_for self.now node key }
+        ensures { (key : List ℕ) → stands_for self.now node key → result ≡ false →
+            (c : ℕ) → BeginsNoKeyIn (keys self.now) (key ++ c ∷ []) };
 }
 
 /// The keys of a lookup.
@@ -60,6 +67,10 @@ impl<'a, L: Lookup> KeySet for LookupKeys<'a, L> {
 
     fn is_key(&self, node: L::Node) -> bool {
         self.lookup.elements(node).is_some()
+    }
+
+    fn may_go_on(&self, node: L::Node) -> bool {
+        self.lookup.may_go_on(node)
     }
 }
 

@@ -2,6 +2,7 @@
 //! (UTS #10, section 7.2, "Produce Collation Element Arrays").
 #![tactic(auto)]
 
+mod char_map;
 mod collator;
 mod elements;
 mod key_map;

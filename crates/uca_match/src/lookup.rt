@@ -1,7 +1,9 @@
 //! `Lookup`: a map from keys to collation elements, in which a key is found code point by code point.
-ghost use Rattle.std.specs.Prelude.{◌≡◌, ℕ, List, [], ◌∷◌, ◌++◌, Option, Some, None, MatchOption};
+ghost use Rattle.std.specs.Prelude.{◌≡◌, ℕ, false, List, [], ◌∷◌, ◌++◌, Option, Some, None, MatchOption};
 ghost use Rattle.uca_weights.specs.declared.Element.{Element};
+ghost use Rattle.uca_match.specs.Rows.{is_key};
 ghost use Rattle.uca_match.specs.Lookups.{BeginsSomeKey, BeginsNoKey};
+ghost use Rattle.uca_match.specs.Cuts.{IsNoFollower};
 
 use uca_weights::Element;
 
@@ -34,6 +36,26 @@ pub trait Lookup {
         requires { (key : List ℕ) × stands_for self.now node key }
         ensures { (key : List ℕ) → stands_for self.now node key →
             MatchOption result (content self.now key ≡ None) (λ row. content self.now key ≡ Some row.now) };
+
+    /// Whether some key may begin with the list that `node` stands for and be longer. It is asked for speed alone:
+    /// `true` says nothing, and is what a lookup returns that has no better method.
+    fn may_go_on(&self, node: Self::Node) -> bool
+        requires { (key : List ℕ) × stands_for self.now node key }
+        ensures { (key : List ℕ) → stands_for self.now node key → result ≡ false →
+            (c : ℕ) → BeginsNoKey (content self.now) (key ++ c ∷ []) }
+    {
+        let _ = node;
+        true
+    }
+
+    /// Whether some key may have `c` after its first code point. It is asked for speed alone: `true` says nothing, and is
+    /// what a lookup returns that has no better method.
+    fn may_follow(&self, c: char) -> bool
+        ensures { result ≡ false → IsNoFollower (is_key (content self.now)) c }
+    {
+        let _ = c;
+        true
+    }
 }
 
 /// The elements of a key, borrowed from the lookup, or `None` if the list is not a key.

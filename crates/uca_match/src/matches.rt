@@ -63,6 +63,9 @@ fn longest_match<K: KeySet>(
     let mut node = keys.root();
     let mut best = None;
     for i in first..chars.len() {
+        if !keys.may_go_on(node) {
+            return best;
+        }
         if place.is_removed(i) {
             continue;
         }
@@ -177,5 +180,11 @@ pub fn next_portion<K: KeySet>(keys: &K, text: &Normal, place: Place) -> Option<
         });
     };
     let behind = place.moved(text, key.behind);
+    if !keys.may_go_on(key.node) {
+        return Some(Portion {
+            given: Match::Key(key.node),
+            next: behind,
+        });
+    }
     Some(extend(keys, text, key.node, behind))
 }

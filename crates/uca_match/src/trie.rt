@@ -101,4 +101,12 @@ impl<A: Allocator> Lookup for Trie<A> {
         let position = self.keys.position_at(node)?;
         Some(&self.rows[position])
     }
+
+    fn may_go_on(&self, node: TrieNode) -> bool {
+        self.keys.may_go_on(node)
+    }
+
+    fn may_follow(&self, c: char) -> bool {
+        self.keys.may_follow(c)
+    }
 }

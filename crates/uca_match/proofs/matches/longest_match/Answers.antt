@@ -3,7 +3,7 @@ use Rattle.uca_text.specs.Texts.{code_points}
 use Rattle.uca_match.specs.Places.{left_at}
 use Rattle.uca_match.specs.Lookups.{BeginsNoKeyIn}
 use Rattle.uca_match.proofs.ExtensionSteps.{read_at}
-use Rattle.uca_match.proofs.MatchLemmas.{IsWalked, walked_gone, walked_out, walked_on, walked_through, longest_as_before, longest_now}
+use Rattle.uca_match.proofs.MatchLemmas.{IsWalked, walked_gone, walked_out, walked_on, walked_through, walked_to_leaf, longest_as_before, longest_now}
 use Rattle.uca_match.proofs.matches.longest_match.Goals as goal
 use Rattle.uca_match.proofs.matches.longest_match.Goals.{then-is_key, else-is_key}
 
@@ -62,3 +62,11 @@ returns g c =
     let s = c.args.text.now in
     walked_through _ _ s c.args.place c.args.first c.loop-i.i c.loop-i.node c.loop-i.best c.chars-chars.ensures.accepted.same
     (omega (arith, ap length c.chars-chars.ensures.value)) c.loop-i.invariant
+
+pub returns-then-not-may_go_on : goal.returns-then-not-may_go_on
+returns-then-not-may_go_on g c =
+    let s = c.args.text.now in
+    let walked = c.loop-i.invariant in
+    let key = code_points (take walked.count (left_at s c.args.place c.args.first)) in
+    walked_to_leaf _ _ s c.args.place c.args.first c.loop-i.i c.loop-i.node c.loop-i.best walked
+    (c.may_go_on.ensures key walked.node_is c.if-not-may_go_on.true)

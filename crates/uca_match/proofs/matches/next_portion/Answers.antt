@@ -1,5 +1,7 @@
 use Rattle.std.proofs.Common.{◌<◌, suc, take, length, ap, sym, ◌∙◌, arith}
+use Rattle.uca_text.specs.Texts.{code_points}
 use Rattle.uca_match.specs.Places.{left_at}
+use Rattle.uca_match.proofs.Leaves.{extended_at_leaf}
 use Rattle.uca_match.proofs.ExtensionSteps.{read_at}
 use Rattle.uca_match.proofs.PlaceLemmas.{left_end}
 use Rattle.uca_match.proofs.Portions.{portion_unlisted, portion_listed}
@@ -31,3 +33,14 @@ returns g c =
     portion_listed (g.K.KeySet.stands_for c.args.keys.now) (g.K.KeySet.keys c.args.keys.now) s c.args.place first.result first.ensures.behind
     first.ensures.left c.in-Some.key c.moved-behind.result c.extend.result longest c.moved-behind.ensures.at
     c.moved-behind.ensures.left (c.extend.ensures front longest.stands)
+
+pub returns-then-not-may_go_on : goal.returns-then-not-may_go_on
+returns-then-not-may_go_on g c =
+    let s = c.args.text.now in
+    let first = c.first_left-first in
+    let longest = c.in-Some.ensures in
+    let front = take (suc longest.count) (left_at s c.args.place first.result) in
+    portion_listed (g.K.KeySet.stands_for c.args.keys.now) (g.K.KeySet.keys c.args.keys.now) s c.args.place first.result first.ensures.behind
+    first.ensures.left c.in-Some.key c.moved-behind.result _ longest c.moved-behind.ensures.at c.moved-behind.ensures.left
+    (extended_at_leaf (g.K.KeySet.stands_for c.args.keys.now) (g.K.KeySet.keys c.args.keys.now) s front c.moved-behind.result c.in-Some.key.node
+    (c.may_go_on.ensures (code_points front) longest.stands c.if-not-may_go_on.true) longest.stands c.moved-behind.ensures.place)
