@@ -1,20 +1,22 @@
 -- What one more element adds to the levels of a key in the making, and what the levels make when they are joined.
 use Rattle.std.proofs.Common.{Option, None, Result, Ok, Err, OnOk, ◌≡◌, ℕ, List, [], ◌∷◌, ◌++◌, Bool, true, false}
-use Rattle.std.proofs.Common.{cond, not, nat_eq, filter, map, refl, sym, ap, ◌∙◌, subst, get_or}
+use Rattle.std.proofs.Common.{cond, not, nat_eq, filter, map, refl, sym, ap, ◌∙◌, subst, get_or, ◌+◌, ◌<◌, ◌≤◌, length, take}
 use Rattle.std.specs.Prelude.{reverse, if◌then◌else◌}
 use Rattle.std.proofs.lemmas.List.{reverse-append, map-append}
 use Rattle.std.proofs.lemmas.List.Elements.{filter-append}
 use Rattle.std.proofs.lemmas.Grind.{flat_map-append}
+use Rattle.std.proofs.lemmas.List.{append_assoc, append-nil, take_more, take_all}
 use mathlib.Core.List.{reverse_aux}
 use Rattle.std.specs.Iterator.{Yields}
 use Rattle.std.specs.Iterator.Runs.{WholeRun}
 use Rattle.std.proofs.iter.runs.Made.{run, to_end}
 use Rattle.uca_weights.specs.declared.Element.{Element}
 use Rattle.uca_weights.specs.declared.Weighting.{Weighting}
+use Rattle.uca_weights.specs.declared.Weighting.TheVariants.{NonIgnorable, Shifted}
 use Rattle.uca_key.specs.Levels.{weight_at, level_list, weighted, weight_bytes, level_bytes, weighted_following}
 use Rattle.uca_key.specs.Levels.{weights_of, follows_variable, key_bytes}
 use Rattle.uca_key.specs.StreamedWeights.{at_four_levels, is_after_variable}
-use Rattle.uca_key.specs.LevelBuffers.{LevelState, HoldsLevels, bytes_of_level}
+use Rattle.uca_key.specs.LevelBuffers.{LevelState, HoldsLevels, bytes_of_level, flattened}
 
 -- the bytes of a weight, none of the weight 0
 abbrev pub added : ℕ → List ℕ
@@ -61,23 +63,64 @@ pub follows-push : (es : List Element) (e : Element)
     → follows_variable (reverse (es ++ e ∷ [])) ≡ is_after_variable (follows_variable (reverse es)) e
 follows-push es e = ap follows_variable (reverse-append es (e ∷ []))
 
--- buffers that have got one more element
-pub pushed : (weighting : Weighting) (inside old new : LevelState) (es : List Element) (e : Element) (ws : List ℕ)
-    → inside ≡ old → HoldsLevels weighting es old → ws ≡ at_four_levels (weights_of weighting inside.after_variable e)
+-- the bytes of one more weight
+pub flattened-push : (pairs : List (List ℕ)) (pair : List ℕ) → flattened (pairs ++ pair ∷ []) ≡ flattened pairs ++ pair
+flattened-push pairs pair = flat_map-append (λ (l : List ℕ). l) pairs (pair ∷ []) ∙ ap (λ l. flattened pairs ++ l) (append-nil pair)
+
+-- empty buffers
+pub nothing_held : (weighting : Weighting) (b : LevelState) → b.after_variable ≡ false → b.primary ≡ [] → b.secondary ≡ [] → b.tertiary ≡ []
+    → b.quaternary ≡ [] → HoldsLevels weighting [] b
+nothing_held NonIgnorable b after primary secondary tertiary quaternary =
+    record { after_variable = tt; primary = primary; secondary = secondary; tertiary = tertiary; quaternary = quaternary }
+nothing_held Shifted b after primary secondary tertiary quaternary =
+    record { after_variable = after; primary = primary; secondary = secondary; tertiary = tertiary; quaternary = quaternary }
+
+-- buffers that have got one more element at the levels of `NonIgnorable`
+pub pushed_three : (inside old new : LevelState) (es : List Element) (e : Element) → inside ≡ old → HoldsLevels NonIgnorable es old
+    → new.primary ≡ inside.primary ++ added e.primary → new.secondary ≡ inside.secondary ++ added e.secondary
+    → new.tertiary ≡ inside.tertiary ++ added e.tertiary → new.quaternary ≡ inside.quaternary → HoldsLevels NonIgnorable (es ++ e ∷ []) new
+pushed_three inside old new es e same holds primary secondary tertiary quaternary =
+    let h = subst (HoldsLevels NonIgnorable es) (sym same) holds in
+    record {
+      after_variable = tt;
+      primary = level_pushed 1 NonIgnorable es e e.primary inside.primary new.primary h.primary refl primary;
+      secondary = level_pushed 2 NonIgnorable es e e.secondary inside.secondary new.secondary h.secondary refl secondary;
+      tertiary = level_pushed 3 NonIgnorable es e e.tertiary inside.tertiary new.tertiary h.tertiary refl tertiary;
+      quaternary = level_pushed 4 NonIgnorable es e 0 inside.quaternary new.quaternary h.quaternary refl (quaternary ∙ sym (append-nil inside.quaternary));
+    }
+
+-- the same at those of `Shifted`
+pub pushed_four : (inside old new : LevelState) (es : List Element) (e : Element) (ws : List ℕ)
+    → inside ≡ old → HoldsLevels Shifted es old → ws ≡ at_four_levels (weights_of Shifted inside.after_variable e)
     → new.after_variable ≡ is_after_variable inside.after_variable e
-    → new.key ≡ inside.key ++ added (get_or ws 0 0) → new.secondary ≡ inside.secondary ++ added (get_or ws 1 0)
+    → new.primary ≡ inside.primary ++ added (get_or ws 0 0) → new.secondary ≡ inside.secondary ++ added (get_or ws 1 0)
     → new.tertiary ≡ inside.tertiary ++ added (get_or ws 2 0) → new.quaternary ≡ inside.quaternary ++ added (get_or ws 3 0)
-    → HoldsLevels weighting (es ++ e ∷ []) new
-pushed weighting inside old new es e ws same holds weighs after primary secondary tertiary quaternary =
-    let h = subst (HoldsLevels weighting es) (sym same) holds in
-    let four = weighs ∙ ap (λ flag. at_four_levels (weights_of weighting flag e)) h.after_variable in
+    → HoldsLevels Shifted (es ++ e ∷ []) new
+pushed_four inside old new es e ws same holds weighs after primary secondary tertiary quaternary =
+    let h = subst (HoldsLevels Shifted es) (sym same) holds in
+    let four = weighs ∙ ap (λ flag. at_four_levels (weights_of Shifted flag e)) h.after_variable in
     record {
       after_variable = after ∙ ap (λ flag. is_after_variable flag e) h.after_variable ∙ sym (follows-push es e);
-      primary = level_pushed 1 weighting es e (get_or ws 0 0) inside.key new.key h.primary (ap (λ l. get_or l 0 0) four) primary;
-      secondary = level_pushed 2 weighting es e (get_or ws 1 0) inside.secondary new.secondary h.secondary (ap (λ l. get_or l 1 0) four) secondary;
-      tertiary = level_pushed 3 weighting es e (get_or ws 2 0) inside.tertiary new.tertiary h.tertiary (ap (λ l. get_or l 2 0) four) tertiary;
-      quaternary = level_pushed 4 weighting es e (get_or ws 3 0) inside.quaternary new.quaternary h.quaternary (ap (λ l. get_or l 3 0) four) quaternary;
+      primary = level_pushed 1 Shifted es e (get_or ws 0 0) inside.primary new.primary h.primary (ap (λ l. get_or l 0 0) four) primary;
+      secondary = level_pushed 2 Shifted es e (get_or ws 1 0) inside.secondary new.secondary h.secondary (ap (λ l. get_or l 1 0) four) secondary;
+      tertiary = level_pushed 3 Shifted es e (get_or ws 2 0) inside.tertiary new.tertiary h.tertiary (ap (λ l. get_or l 2 0) four) tertiary;
+      quaternary = level_pushed 4 Shifted es e (get_or ws 3 0) inside.quaternary new.quaternary h.quaternary (ap (λ l. get_or l 3 0) four) quaternary;
     }
+
+-- ---- Elements in turn
+
+pub pushed_none : (weighting : Weighting) (es ds : List Element) (b : LevelState) → HoldsLevels weighting es b → HoldsLevels weighting (es ++ take 0 ds) b
+pushed_none weighting es ds b h = subst (λ l. HoldsLevels weighting l b) (sym (append-nil es)) h
+
+pub pushed_next : (weighting : Weighting) (es ds : List Element) (i : ℕ) (d : Element) (b : LevelState) → i < length ds
+    → HoldsLevels weighting ((es ++ take i ds) ++ get_or ds i d ∷ []) b → HoldsLevels weighting (es ++ take (i + 1) ds) b
+pushed_next weighting es ds i d b below h =
+    let more : take (i + 1) ds ≡ take i ds ++ get_or ds i d ∷ [] = take_more ds i d below in
+    subst (λ l. HoldsLevels weighting l b) (append_assoc es (take i ds) (get_or ds i d ∷ []) ∙ ap (λ l. es ++ l) (sym more)) h
+
+pub pushed_last : (weighting : Weighting) (es ds : List Element) (i : ℕ) (b : LevelState) → length ds ≤ i
+    → HoldsLevels weighting (es ++ take i ds) b → HoldsLevels weighting (es ++ ds) b
+pushed_last weighting es ds i b all h = subst (λ l. HoldsLevels weighting (es ++ l) b) (take_all i ds all) h
 
 -- ---- The whole key
 
@@ -95,5 +138,3 @@ written steps s start t u es (Err e) key weighting same begins ran ends under is
 pub taken : {S : Type 0} (steps : S → Option Element → S → Type 0) (s : S) (held key : List ℕ) (weighting : Weighting)
     → key ≡ held → WholeRun steps s (λ p. held ≡ key_bytes weighting p.items) → WholeRun steps s (λ p. key ≡ key_bytes weighting p.items)
 taken steps s held key weighting is (p, from, whole, holds) = (p, from, whole, is ∙ holds)
-
--- ---- The identical level

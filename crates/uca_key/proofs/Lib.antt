@@ -10,3 +10,5 @@ pub mod WalkSteps
 pub mod LevelSteps
 pub mod FetchedLemmas
 pub mod DepthOrder
+pub mod PlainTexts
+pub mod PlainEntries

@@ -1,25 +1,36 @@
 -- The levels of a key in the making. Only private contracts cite this file.
-use Rattle.std.specs.Prelude.{◌≡◌, ℕ, List, Bool, reverse}
+use Rattle.std.specs.Prelude.{◌≡◌, ℕ, List, Bool, reverse, flat_map, ⊤}
 use Rattle.uca_weights.specs.declared.Element.{Element}
 use Rattle.uca_weights.specs.declared.Weighting.{Weighting}
+use Rattle.uca_weights.specs.declared.Weighting.TheVariants.{NonIgnorable, Shifted}
 use Rattle.uca_key.specs.Levels.{follows_variable, weighted, level_list, level_bytes}
 
--- a buffer for each level; the first becomes the key
+-- the bytes of each level, and the key
 pub record LevelState : Type 0 where
   pub after_variable : Bool
-  pub key : List ℕ
+  pub primary : List ℕ
   pub secondary : List ℕ
   pub tertiary : List ℕ
   pub quaternary : List ℕ
+  pub key : List ℕ
+
+-- the bytes of some weights, each as a list of its two bytes
+abbrev pub flattened : List (List ℕ) → List ℕ
+flattened pairs = flat_map (λ pair. pair) pairs
 
 -- the bytes of a level of the elements, from 1 on
 abbrev pub bytes_of_level : Weighting → List Element → ℕ → List ℕ
 bytes_of_level weighting es level = level_bytes (level_list level (weighted weighting es))
 
+-- the flag says whether the next element follows a variable one; `NonIgnorable` does not ask
+abbrev pub HoldsFlag : Weighting → List Element → Bool → Type 0
+HoldsFlag NonIgnorable es flag = ⊤
+HoldsFlag Shifted es flag = flag ≡ follows_variable (reverse es)
+
 -- the buffers have the bytes of the level lists of the elements
 pub record HoldsLevels (weighting : Weighting) (es : List Element) (buffers : LevelState) : Type 0 where
-  pub after_variable : buffers.after_variable ≡ follows_variable (reverse es)
-  pub primary : buffers.key ≡ bytes_of_level weighting es 1
+  pub after_variable : HoldsFlag weighting es buffers.after_variable
+  pub primary : buffers.primary ≡ bytes_of_level weighting es 1
   pub secondary : buffers.secondary ≡ bytes_of_level weighting es 2
   pub tertiary : buffers.tertiary ≡ bytes_of_level weighting es 3
   pub quaternary : buffers.quaternary ≡ bytes_of_level weighting es 4

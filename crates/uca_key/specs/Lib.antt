@@ -5,6 +5,8 @@ pub mod Laws
 pub mod StreamedWeights
 pub mod Buffers
 pub mod Writers
+pub mod Plain
+pub mod PlainPoints
 pub mod LevelBuffers
 pub mod Comparisons
 pub mod Fronts

@@ -1,16 +1,26 @@
 //! `KeyBuffer`: memory that is used for one key after another.
 
-ghost use Rattle.std.specs.Prelude.{◌≡◌, [], ◌<◌, ◌^◌, length, OnOk};
+ghost use Rattle.std.specs.Prelude.{◌≡◌, [], ◌<◌, ◌^◌, length, chars, flat_map, OnOk, IfOk};
+ghost use Rattle.std.specs.Bool.{OnTrue};
+ghost use Rattle.uca_text.specs.Texts.{nfd_text};
+ghost use Rattle.uca_text.specs.Limits.{IsAccepted};
 ghost use Rattle.uca_match.specs.Collations.{collation_of};
 ghost use Rattle.uca_key.specs.Depths.{read_text, key_at};
 ghost use Rattle.uca_key.specs.Lengths.{HasShortRows};
+ghost use Rattle.uca_key.specs.LevelBuffers.{HoldsLevels};
+ghost use Rattle.uca_key.specs.Plain.{ArePlain, elements_alone};
+ghost use Rattle.uca_key.specs.PlainPoints.{AreTrueEntries};
 
 use crate::level_buffers::LevelBuffers;
+use crate::plain::PlainPoints;
 use std::alloc::{AllocError, Allocator, Global};
 use std::marker::Model;
 use uca_match::{Collator, Lookup};
 use uca_text::Normal;
 use uca_weights::{Depth, Weighting};
+
+/// A text of so many bytes has at most 1,048,576 code points in Normalization Form D, two for each byte.
+const SHORT_TEXT: usize = 524_288;
 
 /// Memory for sort keys (UTS #10, section 7.3) under one weighting and at one depth. Each key that is written replaces
 /// the one before, and the memory is used again.
@@ -71,6 +81,51 @@ impl<A: Allocator> KeyBuffer<A> {
         }
     }
 
+    /// Writes the key of a text by its code points, over the key that was there, and returns `true`. If a code point is
+    /// not plain, the text has more than 524,288 bytes or the depth is `Identical`, it returns `false`, and the bytes are
+    /// unspecified.
+    ///
+    /// # Errors
+    ///
+    /// An allocation failed. The bytes are then unspecified until the next successful write.
+    pub(crate) fn write_plain<L: Lookup, T: Allocator>(
+        &mut self,
+        collator: &Collator<L, T>,
+        points: &mut PlainPoints<A>,
+        text: &str,
+    ) -> Result<bool, AllocError>
+        requires { AreTrueEntries (collation_of L.content collator.now) points.old.entries.items }
+        ensures entries { AreTrueEntries (collation_of L.content collator.now) points.new.entries.items }
+        ensures key { let c = collation_of L.content collator.now in
+            IfOk result (λ plain. OnTrue plain (self.new.key ≡ key_at self.old.depth self.old.weighting
+            (read_text c (nfd_text c.properties (chars text.now))))) }
+        ensures accepted { let c = collation_of L.content collator.now in
+            IfOk result (λ plain. OnTrue plain (IsAccepted (nfd_text c.properties (chars text.now)))) }
+        ensures short { HasShortRows (collation_of L.content collator.now).rows →
+            IfOk result (λ plain. OnTrue plain (length self.new.key < 2 ^ 40)) }
+        ensures weighting { self.new.weighting ≡ self.old.weighting }
+        ensures depth { self.new.depth ≡ self.old.depth }
+    {
+        if text.len() > SHORT_TEXT {
+            return Ok(false);
+        }
+        match self.depth {
+            Depth::Identical => Ok(false),
+            Depth::Weights => {
+                self.levels.clear();
+                let is_plain = push_plain(
+                    &mut self.levels,
+                    self.weighting,
+                    collator,
+                    points,
+                    text,
+                )?;
+                self.levels.join(self.weighting)?;
+                Ok(is_plain)
+            }
+        }
+    }
+
     /// The key that was written last: the weights of each level, two bytes each with the high byte first,
     /// and two bytes 0 between two levels. At the depth `Identical` two bytes 0 more follow, and each code point
     /// of the text in Normalization Form D as three bytes, the high byte first.
@@ -87,4 +142,29 @@ impl<A: Allocator> KeyBuffer<A> {
         let KeyBuffer { levels, .. } = self;
         levels.into_key()
     }
+}
+
+// Adds the weights of a text to empty levels, if all of its code points are plain, and returns whether they are.
+fn push_plain<L: Lookup, T: Allocator, A: Allocator>(
+    levels: &mut LevelBuffers<A>,
+    weighting: Weighting,
+    collator: &Collator<L, T>,
+    points: &mut PlainPoints<A>,
+    text: &str,
+) -> Result<bool, AllocError>
+    requires empty { HoldsLevels weighting [] levels.old }
+    requires entries { AreTrueEntries (collation_of L.content collator.now) points.old.entries.items }
+    ensures entries { AreTrueEntries (collation_of L.content collator.now) points.new.entries.items }
+    ensures plain { IfOk result (λ plain. OnTrue plain (ArePlain (collation_of L.content collator.now) (chars text.now))) }
+    ensures levels { IfOk result (λ plain. OnTrue plain (HoldsLevels weighting
+        (flat_map (elements_alone (collation_of L.content collator.now)) (chars text.now)) levels.new)) }
+{
+    for point in text.chars() {
+        let known = points.get(collator, point)?;
+        let Some(elements) = known.elements() else {
+            return Ok(false);
+        };
+        levels.push_all(weighting, elements)?;
+    }
+    Ok(true)
 }

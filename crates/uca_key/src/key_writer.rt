@@ -10,6 +10,7 @@ ghost use Rattle.uca_key.specs.Lengths.{HasShortRows};
 ghost use Rattle.uca_key.specs.Writers.{collation_by};
 
 use crate::KeyBuffer;
+use crate::plain::PlainPoints;
 use std::alloc::{Allocator, Global};
 use std::marker::Model;
 use uca_match::{Collator, Lookup};
@@ -22,11 +23,15 @@ use uca_weights::{Depth, Weighting};
 pub struct KeyWriter<'a, L: Lookup, T: Allocator = Global, A: Allocator = Global> {
     collator: Collator<'a, L, T>,
     buffer: KeyBuffer<A>,
+    // what is known of the code points that were met
+    points: PlainPoints<A>,
     // the text of the key, in memory for the next one
     text: Normal,
 }
 
 impl<'a, L: Lookup, T: Allocator, A: Allocator> Model for KeyWriter<'a, L, T, A> {
+    ghost use Rattle.uca_match.specs.Collations.{collation_of};
+    ghost use Rattle.uca_key.specs.PlainPoints.{AreTrueEntries};
     ghost use Rattle.uca_key.specs.Writers.{WriterState};
 
     ghost Value = { WriterState L };
@@ -39,6 +44,8 @@ impl<'a, L: Lookup, T: Allocator, A: Allocator> Model for KeyWriter<'a, L, T, A>
       depth = w.buffer.depth;
       key = w.buffer.key;
     } };
+
+    ghost invariant = { λ w. AreTrueEntries (collation_of L.content w.collator) w.points.entries.items };
 }
 
 impl<'a, L: Lookup, T: Allocator, A: Allocator + Copy> KeyWriter<'a, L, T, A> {
@@ -58,6 +65,7 @@ impl<'a, L: Lookup, T: Allocator, A: Allocator + Copy> KeyWriter<'a, L, T, A> {
         KeyWriter {
             collator,
             buffer: KeyBuffer::new(alloc, weighting, depth),
+            points: PlainPoints::new(alloc, global),
             text: Normal::new(global),
         }
     }
@@ -81,6 +89,12 @@ impl<'a, L: Lookup, T: Allocator, A: Allocator> KeyWriter<'a, L, T, A> {
         ensures weighting { self.new.weighting ≡ self.old.weighting }
         ensures depth { self.new.depth ≡ self.old.depth }
     {
+        if self
+            .buffer
+            .write_plain(&self.collator, &mut self.points, text)?
+        {
+            return Ok(());
+        }
         self.text.renew(text, self.collator.data)?;
         self.buffer.write_text(&self.collator, &self.text)?;
         Ok(())

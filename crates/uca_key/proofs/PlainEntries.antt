@@ -1,0 +1,44 @@
+-- What is kept of code points stays true.
+use Rattle.std.proofs.Common.{◌≡◌, ℕ, zero, suc, ◌+◌, ◌<◌, ◌≤◌, List, ◌∷◌, [], ◌++◌, length, take, replicate, sym, ap, subst, ◌∙◌, arith}
+use Rattle.std.specs.Char.{encode_utf8}
+use Rattle.std.specs.Str.{chars, IsUtf8}
+use Rattle.std.proofs.Math.ListN.{set}
+use Rattle.std.proofs.lemmas.List.{append-nil, take_all, take_more_set}
+use Rattle.std.proofs.lemmas.Str.{chars-nil, chars_past_char}
+use Rattle.uca_weights.specs.declared.Element.{Element}
+use Rattle.uca_weights.proofs.Lists.{each_append}
+use Rattle.uca_text.specs.Texts.{NfdText, nfd_text}
+use Rattle.uca_match.specs.Collations.{Collation, elements_of}
+use Rattle.uca_key.specs.declared.plain.Known.{Known}
+use Rattle.uca_key.specs.Plain.{IsPlain}
+use Rattle.uca_key.specs.PlainPoints.{IsTrueEntry, AreTrueEntries}
+
+replicate_true : (c : Collation) (known : Known) → 3 < known.count → (n : ℕ) → AreTrueEntries c (replicate n known)
+replicate_true c known none zero = tt
+replicate_true c known none (suc n) = ((λ few. absurd (omega arith)), replicate_true c known none n)
+
+-- more entries that have nothing to give
+pub more_entries : (c : Collation) (entries new : List Known) (n k : ℕ) (known : Known) → 3 < known.count → length entries ≤ n
+    → new ≡ take n entries ++ replicate k known → AreTrueEntries c entries → AreTrueEntries c new
+more_entries c entries new n k known none all are true =
+    subst (AreTrueEntries c) (sym (are ∙ ap (λ l. l ++ replicate k known) (take_all n entries all)))
+    (each_append (IsTrueEntry c) entries (replicate k known) true (replicate_true c known none k))
+
+-- an entry gets one more element
+pub element_kept : (elements so_far : List Element) (count at : ℕ) (e : Element) → at ≡ count → count < length elements → take count elements ≡ so_far
+    → take (count + 1) (set elements at e) ≡ so_far ++ e ∷ []
+element_kept elements so_far count at e same below are =
+    ap (λ n. take (count + 1) (set elements n e)) same ∙ take_more_set elements count e below ∙ ap (λ l. l ++ e ∷ []) are
+
+-- the text of one code point
+chars_alone : (text : List ℕ) (x : ℕ) → IsUtf8 text → text ≡ encode_utf8 x → chars text ≡ x ∷ []
+chars_alone text x utf8 is = chars_past_char text [] x utf8 (is ∙ sym (append-nil (encode_utf8 x))) ∙ ap (λ l. x ∷ l) chars-nil
+
+-- the entry of a plain code point, by that text
+pub entry_of : (c : Collation) (x : ℕ) (text : List ℕ) (normal : NfdText) (known : Known) → IsUtf8 text → text ≡ encode_utf8 x → IsPlain c x
+    → normal ≡ nfd_text c.properties (chars text) → known.point ≡ x → (known.count ≤ 3 → take known.count known.elements ≡ elements_of c normal)
+    → IsTrueEntry c known
+entry_of c x text normal known utf8 is plain normalized point has = λ few. (
+  subst (IsPlain c) (sym point) plain,
+  has few ∙ ap (elements_of c) (normalized ∙ ap (nfd_text c.properties) (chars_alone text x utf8 is ∙ ap (λ y. y ∷ []) (sym point))),
+)

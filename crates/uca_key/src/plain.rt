@@ -1,0 +1,236 @@
+//! `PlainPoints`: the elements of code points that read alone, kept for one text after another.
+
+ghost use Rattle.std.specs.Prelude.{◌≡◌, ◌≤◌, take, IfOk, IfSome};
+ghost use Rattle.std.specs.Bool.{OnTrue};
+ghost use Rattle.uca_match.specs.Collations.{Collation, collation_of, elements_of};
+ghost use Rattle.uca_key.specs.Plain.{IsPlain, elements_alone};
+ghost use Rattle.uca_key.specs.PlainPoints.{IsTrueEntry, AreTrueEntries};
+
+use std::alloc::{AllocError, Allocator, Global};
+use uca_match::{Collator, Lookup};
+use uca_text::{Normal, TextFault};
+use uca_weights::Element;
+use unicode_normalization::Form;
+use unicode_normalization::char::{canonical_combining_class, decomposition};
+
+/// How many code points share a page.
+const PAGE: usize = 256;
+
+/// How many pages there are for all code points.
+const PAGES: usize = 0x1100;
+
+/// What stands for a page that was not made.
+const NO_PAGE: u16 = 0xFFFF;
+
+/// How many elements an entry has room for.
+const ROOM: usize = 3;
+
+/// The number of elements in an entry that has none to give.
+const BOUND: u8 = 4;
+
+const NO_ELEMENT: Element = Element {
+    primary: 0,
+    secondary: 0,
+    tertiary: 0,
+    mark: false,
+};
+
+/// The entry of a code point that was not met: it is that of the last code point.
+const NOT_MET: Known = Known {
+    point: '\u{10FFFF}',
+    count: BOUND,
+    elements: [NO_ELEMENT; ROOM],
+};
+
+/// What is known of a code point.
+#[derive(Clone, Copy)]
+pub(crate) struct Known {
+    point: char,
+    // How many elements it has, if it is plain and has at most three. Otherwise 4.
+    count: u8,
+    elements: [Element; ROOM],
+}
+
+impl Known {
+    // A code point that is not plain, or has too many elements.
+    fn bound(point: char) -> Known
+        ensures point { result.point ≡ point }
+        ensures count { result.count ≡ 4 }
+        ensures entry { (c : Collation) → IsTrueEntry c result }
+    {
+        Known { point, ..NOT_MET }
+    }
+
+    /// The elements of the code point, if it is plain.
+    pub(crate) fn elements(&self) -> Option<&[Element]>
+        ensures { (c : Collation) → IsTrueEntry c self.now →
+            IfSome result (λ elements. IsPlain c self.now.point × (elements.now ≡ elements_alone c self.now.point)) }
+    {
+        if self.count < BOUND {
+            Some(&self.elements[..usize::from(self.count)])
+        } else {
+            None
+        }
+    }
+}
+
+/// What is known of the code points that were met, in pages of 256 code points.
+#[derive(Drop)]
+pub(crate) struct PlainPoints<A: Allocator> {
+    // of each page, its position among the pages of entries; there are none before the first code point
+    pages: Vec<u16, A>,
+    entries: Vec<Known, A>,
+    // lends its memory to the texts of single code points
+    text: Normal,
+}
+
+impl<A: Allocator + Copy> PlainPoints<A> {
+    /// Nothing is known, and no memory is taken yet.
+    pub(crate) fn new(alloc: A, global: Global) -> PlainPoints<A>
+        ensures { (c : Collation) → AreTrueEntries c result.entries.items }
+    {
+        PlainPoints {
+            pages: Vec::new(alloc),
+            entries: Vec::new(alloc),
+            text: Normal::new(global),
+        }
+    }
+}
+
+impl<A: Allocator> PlainPoints<A> {
+    /// What is known of a code point, which is found out if it was not met.
+    pub(crate) fn get<L: Lookup, T: Allocator>(
+        &mut self,
+        collator: &Collator<L, T>,
+        point: char,
+    ) -> Result<Known, AllocError>
+        requires { AreTrueEntries (collation_of L.content collator.now) self.old.entries.items }
+        ensures entries { AreTrueEntries (collation_of L.content collator.now) self.new.entries.items }
+        ensures known { IfOk result (λ known. (known.point ≡ point) × IsTrueEntry (collation_of L.content collator.now) known) }
+    {
+        match self.find(point) {
+            Some(known) => Ok(known),
+            None => self.learn(collator, point),
+        }
+    }
+
+    // What is known of a code point that was met.
+    fn find(&self, point: char) -> Option<Known>
+        ensures { (c : Collation) → AreTrueEntries c self.now.entries.items →
+            IfSome result (λ known. (known.point ≡ point) × IsTrueEntry c known) }
+    {
+        let code = u32::from(point) as usize;
+        let page = usize::from(*self.pages.get(code / PAGE)?);
+        let known = *self.entries.get(page * PAGE + code % PAGE)?;
+        if known.point == point {
+            Some(known)
+        } else {
+            None
+        }
+    }
+
+    // Finds out about a code point, and keeps it.
+    fn learn<L: Lookup, T: Allocator>(
+        &mut self,
+        collator: &Collator<L, T>,
+        point: char,
+    ) -> Result<Known, AllocError>
+        requires { AreTrueEntries (collation_of L.content collator.now) self.old.entries.items }
+        ensures entries { AreTrueEntries (collation_of L.content collator.now) self.new.entries.items }
+        ensures known { IfOk result (λ known. (known.point ≡ point) × IsTrueEntry (collation_of L.content collator.now) known) }
+    {
+        let known = read_point(collator, &mut self.text, point)?;
+        self.open_page(u32::from(point) as usize / PAGE)?;
+        self.keep(known);
+        Ok(known)
+    }
+
+    // Makes the page with this number, if there is none.
+    fn open_page(&mut self, number: usize) -> Result<(), AllocError>
+        ensures { (c : Collation) → AreTrueEntries c self.old.entries.items → AreTrueEntries c self.new.entries.items }
+    {
+        fill_pages(&mut self.pages)?;
+        if number < self.pages.len() && self.pages[number] == NO_PAGE {
+            let begin = self.entries.len();
+            self.entries.resize(begin + PAGE, NOT_MET)?;
+            self.pages[number] = u16::try_from(begin / PAGE).unwrap_or(NO_PAGE);
+        }
+        Ok(())
+    }
+
+    // Keeps what is known of a code point in its page.
+    fn keep(&mut self, known: Known)
+        ensures { (c : Collation) → AreTrueEntries c self.old.entries.items → IsTrueEntry c known → AreTrueEntries c self.new.entries.items }
+    {
+        let code = u32::from(known.point) as usize;
+        let Some(page) = self.pages.get(code / PAGE) else {
+            return;
+        };
+        let place = usize::from(*page) * PAGE + code % PAGE;
+        if place < self.entries.len() {
+            self.entries[place] = known;
+        }
+    }
+}
+
+// Makes room for the numbers of all pages, none of which is made yet.
+fn fill_pages<A: Allocator>(pages: &mut Vec<u16, A>) -> Result<(), AllocError> {
+    if pages.is_empty() {
+        pages.resize(PAGES, NO_PAGE)?;
+    }
+    Ok(())
+}
+
+// What is to be known of a code point. The text lends its memory.
+fn read_point<L: Lookup, T: Allocator>(
+    collator: &Collator<L, T>,
+    text: &mut Normal,
+    point: char,
+) -> Result<Known, AllocError>
+    ensures { IfOk result (λ known. (known.point ≡ point) × IsTrueEntry (collation_of L.content collator.now) known) }
+{
+    if !is_plain(collator, point) {
+        return Ok(Known::bound(point));
+    }
+    let mut room = [0; 4];
+    match text.renew(point.encode_utf8(&mut room), collator.data) {
+        Ok(()) => Ok(first_elements(collator, text, point)),
+        Err(TextFault::Memory) => Err(AllocError),
+        Err(_) => Ok(Known::bound(point)),
+    }
+}
+
+// Whether a code point is plain.
+fn is_plain<L: Lookup, T: Allocator>(collator: &Collator<L, T>, point: char) -> bool
+    ensures { OnTrue result (IsPlain (collation_of L.content collator.now) point) }
+{
+    let mut room = [point; 3];
+    let first = decomposition(point, Form::Nfd, &mut room)[0];
+    canonical_combining_class(first) == 0
+        && collator.data.class(first) == 0
+        && !collator.lookup.may_follow(first)
+}
+
+// The entry of a plain code point with this text.
+fn first_elements<L: Lookup, T: Allocator>(
+    collator: &Collator<L, T>,
+    text: &Normal,
+    point: char,
+) -> Known
+    ensures point { result.point ≡ point }
+    ensures elements { result.count ≤ 3 → take result.count result.elements ≡ elements_of (collation_of L.content collator.now) text.now }
+{
+    let mut known = Known {
+        point,
+        count: 0,
+        elements: [NO_ELEMENT; ROOM],
+    };
+    for element in collator.elements(text) {
+        if usize::from(known.count) >= ROOM {
+            return Known::bound(point);
+        }
+        known.elements[usize::from(known.count)] = element;
+        known.count += 1;
+    }
+    known
+}
