@@ -40,7 +40,7 @@ fn check_pieces(alloc: Global, case: &Case) -> Result<(), Fail> {
 }
 
 /// The cases of all runs.
-const EACH: [Case<'static>; 7] = [
+const EACH: &[Case<'static>] = &[
     KEYS,
     IDENTICAL_KEYS,
     KEYED_LINES,
@@ -53,7 +53,7 @@ const EACH: [Case<'static>; 7] = [
 // A source that ends without its reader, and a run that always says that no memory is left, do not print this.
 #[test]
 fn any_number_of_bytes_a_call(rt: HostRuntime) -> Result<(), Fail> {
-    for case in &EACH {
+    for case in EACH {
         check_pieces(rt.alloc(), case)?;
     }
     Ok(())

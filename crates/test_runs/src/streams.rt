@@ -181,7 +181,7 @@ fn check_files(alloc: Global, case: &Case) -> Result<(), Fail> {
 }
 
 /// The runs that print nothing where a reader fails.
-const WITHOUT_KEYS: [Case<'static>; 4] = [SORT, CHECK, FAILED_CHECK, COMPARE];
+const WITHOUT_KEYS: &[Case<'static>] = &[SORT, CHECK, FAILED_CHECK, COMPARE];
 
 fn check_input_of_sort(alloc: Global) -> Result<(), Fail> {
     check_bytes(alloc, &SORT, Stream::Input, LINES.input)
@@ -189,7 +189,7 @@ fn check_input_of_sort(alloc: Global) -> Result<(), Fail> {
 
 #[test]
 fn readers_of_other_runs_that_fail(rt: HostRuntime) -> Result<(), Fail> {
-    for case in &WITHOUT_KEYS {
+    for case in WITHOUT_KEYS {
         check_files(rt.alloc(), case)?;
     }
     check_input_of_sort(rt.alloc())
@@ -291,7 +291,7 @@ fn writers_of_sorted_lines_that_fail(rt: HostRuntime) -> Result<(), Fail> {
 }
 
 /// The runs that are tried over their own lines.
-const OVER_OWN_LINES: [Case<'static>; 6] = [
+const OVER_OWN_LINES: &[Case<'static>] = &[
     SORT,
     KEYED_LINES,
     IDENTICAL_KEYS,
@@ -302,7 +302,7 @@ const OVER_OWN_LINES: [Case<'static>; 6] = [
 
 #[test]
 fn writers_of_each_run_that_fail(rt: HostRuntime) -> Result<(), Fail> {
-    for case in &OVER_OWN_LINES {
+    for case in OVER_OWN_LINES {
         check_write_faults(rt.alloc(), case, WHOLE)?;
     }
     Ok(())
@@ -348,7 +348,7 @@ fn check_late_writer(alloc: Global, case: &Case) -> Result<(), Fail> {
 }
 
 /// The runs that are tried.
-const EACH: [Case<'static>; 7] = [
+const EACH: &[Case<'static>] = &[
     FAULTY_KEYS,
     KEYS,
     KEYED_LINES,
@@ -371,7 +371,7 @@ const FAULTY_KEYS: Case<'static> = Case {
 
 #[test]
 fn a_writer_that_fails_too_late(rt: HostRuntime) -> Result<(), Fail> {
-    for case in &EACH {
+    for case in EACH {
         check_late_writer(rt.alloc(), case)?;
     }
     Ok(())
