@@ -12,6 +12,7 @@ mod input;
 pub mod keyed_lines;
 pub mod keys;
 pub mod laws;
+mod line_keys;
 pub mod output;
 pub mod print;
 mod rule_file;
