@@ -73,15 +73,22 @@ fn answer_over(
     calls: &AllCalls,
     name: &str,
 ) -> Result<Answer, Fail> {
-    let end = end_of(memory, &mut streams, name)?;
+    let end = end_of(memory, &mut streams, name);
     let failed = streams.failed();
+    let [file, out] = streams.into_texts();
     Ok(Answer {
-        end,
-        out: streams.out.into_inner().text,
-        file: streams.file.into_inner().text,
+        end: end?,
+        out,
+        file,
         failed,
         is_broken: calls.have_failed(),
     })
+}
+
+// No stream was called again after it failed, and all memory that was tried is given back.
+fn check_after(memory: Memory, calls: &AllCalls) -> Result<(), Fail> {
+    holds(!calls.are_late(), "a call after one that failed")?;
+    holds(memory.tried.held() == 0, "memory that is not given back")
 }
 
 /// What comes of a call over fresh streams. No stream is called again after it failed, and all memory that was tried is
@@ -90,7 +97,11 @@ pub fn answered(memory: Memory, case: &Case, trouble: Trouble) -> Result<Answer,
     let calls = AllCalls::new();
     let streams = Streams::new(memory.ample, &case.texts, trouble, &calls);
     let found = answer_over(memory, streams, &calls, case.name)?;
-    holds(!calls.are_late(), "a call after one that failed")?;
-    holds(memory.tried.held() == 0, "memory that is not given back")?;
-    Ok(found)
+    match check_after(memory, &calls) {
+        Ok(()) => Ok(found),
+        Err(fail) => {
+            drop(found);
+            Err(fail)
+        }
+    }
 }

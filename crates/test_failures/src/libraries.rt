@@ -45,6 +45,7 @@ fn show(streams: &mut Streams, bytes: &[u8]) {
 fn reads_table(memory: Memory, streams: &mut Streams) -> Result<(), TableFault> {
     let table = read_table(memory.tried, &mut streams.table)?;
     let _ = write_table(&table, &mut streams.out);
+    drop(table);
     Ok(())
 }
 
@@ -60,12 +61,14 @@ fn show_properties<A: Allocator>(streams: &mut Streams, data: &Data<A>) {
 fn reads_data(memory: Memory, streams: &mut Streams) -> Result<(), TableFault> {
     let data = read_data(memory.tried, &mut streams.table)?;
     show_properties(streams, &data);
+    drop(data);
     Ok(())
 }
 
 fn reads_certificate(memory: Memory, streams: &mut Streams) -> Result<(), CertificateFault> {
     let certificate = read_certificate(memory.tried, &mut streams.table)?;
     let _ = write_certificate(&certificate, &mut streams.out);
+    drop(certificate);
     Ok(())
 }
 
@@ -86,8 +89,9 @@ fn add_lines(
 ) -> Result<(), LineFault> {
     let mut line = Vec::new(memory.tried);
     for _ in 0..100 {
-        if reader.next_line(&mut streams.table, &mut line)? == NextLine::EndOfInput {
-            return Ok(());
+        let next = reader.next_line(&mut streams.table, &mut line)?;
+        if next == NextLine::EndOfInput {
+            break;
         }
         let _ = lines.extend_from_slice(&line);
     }
@@ -147,7 +151,11 @@ fn show_rules<A: Allocator>(
 
 fn reads_rules(memory: Memory, streams: &mut Streams, data: &Data) -> Result<String, Fail> {
     match read_rules_in(memory.tried, memory.ample, RULES.as_bytes(), data) {
-        Ok(rules) => show_rules(memory, streams, &rules),
+        Ok(rules) => {
+            let shown = show_rules(memory, streams, &rules);
+            drop(rules);
+            shown
+        }
         Err(fault) => said::<RuleFault>(memory.ample, Err(fault)),
     }
 }
@@ -167,19 +175,24 @@ pub fn reads(memory: Memory, streams: &mut Streams, name: &str) -> Result<String
 /// A call that writes. It takes no memory.
 pub fn writes(memory: Memory, streams: &mut Streams, name: &str) -> Result<String, Fail> {
     match name {
-        "table" => {
-            let table = base(memory.ample)?;
-            said(memory.ample, write_table(&table, &mut streams.out))
-        }
-        "certificate" => {
-            let certificate = worked_certificate(memory.ample)?;
-            said(
-                memory.ample,
-                write_certificate(&certificate, &mut streams.out),
-            )
-        }
+        "table" => writes_table(memory, streams),
+        "certificate" => writes_certificate(memory, streams),
         _ => Err(Fail::new(name)),
     }
+}
+
+fn writes_table(memory: Memory, streams: &mut Streams) -> Result<String, Fail> {
+    let table = base(memory.ample)?;
+    let written = write_table(&table, &mut streams.out);
+    drop(table);
+    said(memory.ample, written)
+}
+
+fn writes_certificate(memory: Memory, streams: &mut Streams) -> Result<String, Fail> {
+    let certificate = worked_certificate(memory.ample)?;
+    let written = write_certificate(&certificate, &mut streams.out);
+    drop(certificate);
+    said(memory.ample, written)
 }
 
 /// The classes of two accents.
@@ -206,15 +219,23 @@ const OTHER: CodePointRange = CodePointRange {
     last: '\u{20FFF}',
 };
 
-// Properties that are added one at a time.
-fn makes_properties(memory: Memory, streams: &mut Streams) -> Result<(), RangeFault> {
-    let mut data = Data::new(memory.tried);
+// Adds properties one at a time.
+fn add_properties<A: Allocator>(data: &mut Data<A>) -> Result<(), RangeFault> {
     data.add_class(ABOVE)?;
     data.add_class(BELOW)?;
     data.add_core(CORE)?;
-    data.add_other(OTHER)?;
-    show_properties(streams, &data);
-    Ok(())
+    data.add_other(OTHER)
+}
+
+// Properties that are added one at a time.
+fn makes_properties(memory: Memory, streams: &mut Streams) -> Result<(), RangeFault> {
+    let mut data = Data::new(memory.tried);
+    let added = add_properties(&mut data);
+    if added.is_ok() {
+        show_properties(streams, &data);
+    }
+    drop(data);
+    added
 }
 
 // Writes the key of a text with all rows of a table.
@@ -226,14 +247,20 @@ fn show_key<L: Lookup>(
 ) -> Result<String, Fail> {
     let data = classes(memory.ample)?;
     let collator = Collator::new(rows, &table.header, &data);
-    show(streams, &key_of_contractions(memory.ample, &collator)?);
+    let key = key_of_contractions(memory.ample, &collator);
+    drop(data);
+    show(streams, &key?);
     Ok(String::from_str(memory.ample, "done")?)
 }
 
 // A trie that finds each row of a table.
 fn makes_trie(memory: Memory, streams: &mut Streams, table: &Table) -> Result<String, Fail> {
     match Trie::new(memory.tried, table) {
-        Ok(rows) => show_key(memory, streams, table, &rows),
+        Ok(rows) => {
+            let shown = show_key(memory, streams, table, &rows);
+            drop(rows);
+            shown
+        }
         Err(_) => Ok(String::from_str(memory.ample, "memory")?),
     }
 }
@@ -282,6 +309,7 @@ fn makes_key_map(memory: Memory, streams: &mut Streams, table: &Table) -> Result
         show(streams, &[position_of(&map, &row.key)]);
     }
     show(streams, &[position_of(&map, &['x'])]);
+    drop(map);
     Ok(())
 }
 
@@ -319,10 +347,21 @@ fn writes_key(
     text: &Normal,
 ) -> Result<(), AllocError> {
     let mut buffer = KeyBuffer::new(memory.tried, Shifted, Identical);
+    let written = write_twice(&mut buffer, collator, text);
+    if written.is_ok() {
+        show(streams, buffer.bytes());
+    }
+    drop(buffer);
+    written
+}
+
+fn write_twice<A: Allocator>(
+    buffer: &mut KeyBuffer<A>,
+    collator: &Collator<RowList>,
+    text: &Normal,
+) -> Result<(), AllocError> {
     buffer.write_text(collator, text)?;
-    buffer.write_text(collator, text)?;
-    show(streams, buffer.bytes());
-    Ok(())
+    buffer.write_text(collator, text)
 }
 
 // A key of elements alone.
@@ -337,25 +376,69 @@ fn makes_key_of_elements(
     Ok(())
 }
 
-fn makes_keys(memory: Memory, streams: &mut Streams, name: &str) -> Result<String, Fail> {
-    let table = contractions(memory.ample)?;
-    let data = classes(memory.ample)?;
-    let text = accented_text(memory.ample, &data)?;
-    let rows = RowList::new(&table);
-    let collator = Collator::new(&rows, &table.header, &data);
-    let answer = match name {
-        "key in a buffer" => writes_key(memory, streams, &collator, &text),
-        "key of elements" => makes_key_of_elements(memory, streams, &collator, &text),
-        _ => makes_key(memory, streams, &collator, &text),
-    };
+// A key of a text under a table.
+fn makes_key_of_text(
+    memory: Memory,
+    streams: &mut Streams,
+    (table, data, text): (&Table, &Data, &Normal),
+    name: &str,
+) -> Result<(), AllocError> {
+    let rows = RowList::new(table);
+    let collator = Collator::new(&rows, &table.header, data);
+    match name {
+        "key in a buffer" => writes_key(memory, streams, &collator, text),
+        "key of elements" => makes_key_of_elements(memory, streams, &collator, text),
+        _ => makes_key(memory, streams, &collator, text),
+    }
+}
+
+fn makes_key_with(
+    memory: Memory,
+    streams: &mut Streams,
+    (table, data): (&Table, &Data),
+    name: &str,
+) -> Result<String, Fail> {
+    let text = accented_text(memory.ample, data)?;
+    let answer = makes_key_of_text(memory, streams, (table, data, &text), name);
+    drop(text);
     said_of_memory(memory.ample, answer)
 }
 
-fn makes_audit(memory: Memory, table: &Table, data: &Data, rules: &Rules) -> Result<String, Fail> {
-    let tailored = tailored(memory.ample)?;
+fn makes_key_under(
+    memory: Memory,
+    streams: &mut Streams,
+    table: &Table,
+    name: &str,
+) -> Result<String, Fail> {
+    let data = classes(memory.ample)?;
+    let said = makes_key_with(memory, streams, (table, &data), name);
+    drop(data);
+    said
+}
+
+fn makes_keys(memory: Memory, streams: &mut Streams, name: &str) -> Result<String, Fail> {
+    let table = contractions(memory.ample)?;
+    let said = makes_key_under(memory, streams, &table, name);
+    drop(table);
+    said
+}
+
+fn makes_audit_of(
+    memory: Memory,
+    (table, data, rules): (&Table, &Data, &Rules),
+    tailored: &Table,
+) -> Result<String, Fail> {
     let certificate = certificate(memory.ample)?;
-    let verdict = audit(memory.tried, table, data, rules, &tailored, &certificate);
+    let verdict = audit(memory.tried, table, data, rules, tailored, &certificate);
+    drop(certificate);
     said(memory.ample, verdict)
+}
+
+fn makes_audit(memory: Memory, values: (&Table, &Data, &Rules)) -> Result<String, Fail> {
+    let tailored = tailored(memory.ample)?;
+    let said = makes_audit_of(memory, values, &tailored);
+    drop(tailored);
+    said
 }
 
 // Writes a plan.
@@ -375,28 +458,78 @@ fn makes_plan(
     (table, data, rules): (&Table, &Data, &Rules),
 ) -> Result<String, Fail> {
     match tailor(memory.tried, table, data, rules) {
-        Ok(plan) => show_plan(memory, streams, &plan),
+        Ok(plan) => {
+            let shown = show_plan(memory, streams, &plan);
+            drop(plan);
+            shown
+        }
         Err(fault) => said::<TailorFault>(memory.ample, Err(fault)),
     }
 }
 
+fn makes_tailoring_of(
+    memory: Memory,
+    streams: &mut Streams,
+    (table, data): (&Table, &Data),
+    is_plan: bool,
+) -> Result<String, Fail> {
+    let rules = rules(memory.ample, data)?;
+    let said = if is_plan {
+        makes_plan(memory, streams, (table, data, &rules))
+    } else {
+        makes_audit(memory, (table, data, &rules))
+    };
+    drop(rules);
+    said
+}
+
+fn makes_tailoring_over(
+    memory: Memory,
+    streams: &mut Streams,
+    table: &Table,
+    is_plan: bool,
+) -> Result<String, Fail> {
+    let data = properties(memory.ample)?;
+    let said = makes_tailoring_of(memory, streams, (table, &data), is_plan);
+    drop(data);
+    said
+}
+
 fn makes_tailoring(memory: Memory, streams: &mut Streams, is_plan: bool) -> Result<String, Fail> {
     let table = base(memory.ample)?;
-    let data = properties(memory.ample)?;
-    let rules = rules(memory.ample, &data)?;
-    if is_plan {
-        makes_plan(memory, streams, (&table, &data, &rules))
-    } else {
-        makes_audit(memory, &table, &data, &rules)
+    let said = makes_tailoring_over(memory, streams, &table, is_plan);
+    drop(table);
+    said
+}
+
+fn makes_of_table(
+    memory: Memory,
+    streams: &mut Streams,
+    table: &Table,
+    name: &str,
+) -> Result<String, Fail> {
+    match name {
+        "trie" => makes_trie(memory, streams, table),
+        "key list" => makes_key_positions(memory, streams, table, false),
+        _ => makes_key_positions(memory, streams, table, true),
     }
+}
+
+fn makes_of_contractions(
+    memory: Memory,
+    streams: &mut Streams,
+    name: &str,
+) -> Result<String, Fail> {
+    let table = contractions(memory.ample)?;
+    let said = makes_of_table(memory, streams, &table, name);
+    drop(table);
+    said
 }
 
 /// A call that makes something of values.
 pub fn makes(memory: Memory, streams: &mut Streams, name: &str) -> Result<String, Fail> {
     match name {
-        "trie" => makes_trie(memory, streams, &contractions(memory.ample)?),
-        "key list" => makes_key_positions(memory, streams, &contractions(memory.ample)?, false),
-        "key map" => makes_key_positions(memory, streams, &contractions(memory.ample)?, true),
+        "trie" | "key list" | "key map" => makes_of_contractions(memory, streams, name),
         "key" | "key in a buffer" | "key of elements" => makes_keys(memory, streams, name),
         "properties" => said(memory.ample, makes_properties(memory, streams)),
         "audit" => makes_tailoring(memory, streams, false),

@@ -95,7 +95,11 @@ fn tailor(memory: Memory, streams: &mut Streams) -> Result<(), RunFault> {
         &mut streams.text,
     );
     match run {
-        Ok(plan) => write_plan(streams, &plan),
+        Ok(plan) => {
+            let written = write_plan(streams, &plan);
+            drop(plan);
+            written
+        }
         Err(fault) => Err(fault),
     }
 }
@@ -158,21 +162,54 @@ fn end_of_verdict(ample: Global, answer: &Result<bool, RunFault>) -> Result<Stri
     }
 }
 
+// A run with a verdict.
+fn run_with_verdict(memory: Memory, streams: &mut Streams, name: &str) -> Result<bool, RunFault> {
+    match name {
+        "check" => check(memory, streams),
+        _ => audit(memory, streams),
+    }
+}
+
+// A run without a verdict.
+fn run(memory: Memory, streams: &mut Streams, name: &str) -> Result<(), RunFault> {
+    match name {
+        "keys" => keys(memory, streams, Weights),
+        "identical keys" => keys(memory, streams, Identical),
+        "keyed lines" => keyed_lines(memory, streams, Weights),
+        "identical keyed lines" => keyed_lines(memory, streams, Identical),
+        "affected" => affected(memory, streams),
+        "sort" => sort(memory, streams),
+        "compare" => compare(memory, streams),
+        _ => tailor(memory, streams),
+    }
+}
+
+fn told_of_verdict(memory: Memory, streams: &mut Streams, name: &str) -> Result<String, Fail> {
+    let answer = run_with_verdict(memory, streams, name);
+    let told = end_of_verdict(memory.ample, &answer);
+    drop(answer);
+    told
+}
+
+fn told_of_run(memory: Memory, streams: &mut Streams, name: &str) -> Result<String, Fail> {
+    let answer = run(memory, streams, name);
+    let told = end_of(memory.ample, &answer);
+    drop(answer);
+    told
+}
+
 /// The run of this name, and what is said of its end.
 pub fn runs(memory: Memory, streams: &mut Streams, name: &str) -> Result<String, Fail> {
     match name {
-        "check" => end_of_verdict(memory.ample, &check(memory, streams)),
-        "audit" => end_of_verdict(memory.ample, &audit(memory, streams)),
-        "keys" => end_of(memory.ample, &keys(memory, streams, Weights)),
-        "identical keys" => end_of(memory.ample, &keys(memory, streams, Identical)),
-        "keyed lines" => end_of(memory.ample, &keyed_lines(memory, streams, Weights)),
-        "identical keyed lines" => {
-            end_of(memory.ample, &keyed_lines(memory, streams, Identical))
-        }
-        "affected" => end_of(memory.ample, &affected(memory, streams)),
-        "sort" => end_of(memory.ample, &sort(memory, streams)),
-        "compare" => end_of(memory.ample, &compare(memory, streams)),
-        "tailor" => end_of(memory.ample, &tailor(memory, streams)),
+        "check" | "audit" => told_of_verdict(memory, streams, name),
+        "keys"
+        | "identical keys"
+        | "keyed lines"
+        | "identical keyed lines"
+        | "affected"
+        | "sort"
+        | "compare"
+        | "tailor" => told_of_run(memory, streams, name),
         _ => Err(Fail::new(name)),
     }
 }

@@ -145,6 +145,11 @@ impl<'a> Streams<'a> {
         }
     }
 
+    /// What went out to the file of a certificate, and to the output.
+    pub fn into_texts(self) -> [Vec<u8>; 2] {
+        [self.file.into_inner().text, self.out.into_inner().text]
+    }
+
     /// Which of them say that they failed.
     pub fn failed(&self) -> [bool; NONE] {
         [

@@ -125,7 +125,9 @@ fn first_bytes(text: &[u8], count: usize) -> &[u8] {
 pub fn check_whole(trial: Trial, step: usize) -> Result<(), Fail> {
     trial.memory.tried.refuse(None);
     let found = answered(trial.memory, trial.case, Trouble::none(step))?;
-    found.check(trial.wanted(), trial.case.name)
+    let checked = found.check(trial.wanted(), trial.case.name);
+    drop(found);
+    checked
 }
 
 // How the call ends if the allocation of this number is rejected; `None` if it asks for fewer.
@@ -201,7 +203,9 @@ fn check_broken(trial: Trial, trouble: Trouble, wanted: Wanted) -> Result<(), Fa
     trial.memory.tried.refuse(None);
     let found = answered(trial.memory, trial.case, trouble)?;
     trial.broken.set(trial.broken.get().saturating_add(1));
-    check_broken_answer(trial, &found, wanted)
+    let checked = check_broken_answer(trial, &found, wanted);
+    drop(found);
+    checked
 }
 
 /// The same in each way in which a stream fails after this many bytes. Afterwards the call returns as if nothing

@@ -77,13 +77,41 @@ pub fn certificate(ample: Global) -> Result<Certificate, Fail> {
     Ok(read_certificate(ample, &mut source)?)
 }
 
+// The certificate of rules.
+fn certificate_of(
+    ample: Global,
+    (table, properties, rules): (&Table, &Data, &Rules),
+) -> Result<Certificate, Fail> {
+    let (table, certificate) = tailor(ample, table, properties, rules)?;
+    drop(table);
+    Ok(certificate)
+}
+
+// The certificate of the small rules.
+fn certificate_of_rules(
+    ample: Global,
+    table: &Table,
+    properties: &Data,
+) -> Result<Certificate, Fail> {
+    let rules = rules(ample, properties)?;
+    let certificate = certificate_of(ample, (table, properties, &rules));
+    drop(rules);
+    certificate
+}
+
+fn certificate_over(ample: Global, table: &Table) -> Result<Certificate, Fail> {
+    let properties = data_of(ample, samples::DATA)?;
+    let certificate = certificate_of_rules(ample, table, &properties);
+    drop(properties);
+    certificate
+}
+
 /// The certificate of the same rules over the table that other tests share.
 pub fn worked_certificate(ample: Global) -> Result<Certificate, Fail> {
     let table = table_of(ample, samples::TABLE)?;
-    let properties = data_of(ample, samples::DATA)?;
-    let rules = rules(ample, &properties)?;
-    let (_, certificate) = tailor(ample, &table, &properties, &rules)?;
-    Ok(certificate)
+    let certificate = certificate_over(ample, &table);
+    drop(table);
+    certificate
 }
 
 fn text_of(ample: Global, text: &str, properties: &Data) -> Result<Normal, Fail> {
