@@ -12,3 +12,4 @@ pub mod FetchedLemmas
 pub mod DepthOrder
 pub mod PlainTexts
 pub mod PlainEntries
+pub mod PieceSteps

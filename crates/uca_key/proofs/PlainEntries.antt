@@ -31,7 +31,7 @@ element_kept elements so_far count at e same below are =
     ap (λ n. take (count + 1) (set elements n e)) same ∙ take_more_set elements count e below ∙ ap (λ l. l ++ e ∷ []) are
 
 -- the text of one code point
-chars_alone : (text : List ℕ) (x : ℕ) → IsUtf8 text → text ≡ encode_utf8 x → chars text ≡ x ∷ []
+pub chars_alone : (text : List ℕ) (x : ℕ) → IsUtf8 text → text ≡ encode_utf8 x → chars text ≡ x ∷ []
 chars_alone text x utf8 is = chars_past_char text [] x utf8 (is ∙ sym (append-nil (encode_utf8 x))) ∙ ap (λ l. x ∷ l) chars-nil
 
 -- the entry of a plain code point, by that text

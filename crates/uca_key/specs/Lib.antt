@@ -7,6 +7,7 @@ pub mod Buffers
 pub mod Writers
 pub mod Plain
 pub mod PlainPoints
+pub mod Pieces
 pub mod LevelBuffers
 pub mod Comparisons
 pub mod Fronts

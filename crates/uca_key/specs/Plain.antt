@@ -1,5 +1,5 @@
 -- Code points that read alone, whatever plain ones stand around them.
-use Rattle.std.specs.Prelude.{◌≡◌, ℕ, List, [], ◌∷◌, flat_map}
+use Rattle.std.specs.Prelude.{◌≡◌, ℕ, List, [], ◌∷◌, ◌++◌, flat_map}
 use Rattle.std.specs.List.{AllByRecursion}
 use Rattle.ucd_normal.specs.CanonicalCombiningClass.{canonical_combining_class}
 use Rattle.unicode_normalization.specs.Forms.{Nfd}
@@ -26,6 +26,11 @@ ArePlain c xs = AllByRecursion (IsPlain c) xs
 -- the elements of the text that is this code point alone
 abbrev pub elements_alone : Collation → ℕ → List Element
 elements_alone c x = elements_of c (nfd_text c.properties (x ∷ []))
+
+-- a text may be cut before a plain code point: it reads as its two pieces
+abbrev pub PlainPointsCutTexts : Type 0
+PlainPointsCutTexts = (c : Collation) (xs : List ℕ) (y : ℕ) (ys : List ℕ) → IsPlain c y →
+    elements_of c (nfd_text c.properties (xs ++ y ∷ ys)) ≡ elements_of c (nfd_text c.properties xs) ++ elements_of c (nfd_text c.properties (y ∷ ys))
 
 -- a text of plain code points reads as they do one by one
 abbrev pub PlainTextsReadByPoints : Type 0

@@ -1,6 +1,6 @@
 //! `KeyBuffer`: memory that is used for one key after another.
 
-ghost use Rattle.std.specs.Prelude.{◌≡◌, [], ◌<◌, ◌^◌, length, chars, flat_map, OnOk, IfOk};
+ghost use Rattle.std.specs.Prelude.{◌≡◌, [], ◌<◌, ◌^◌, length, chars, OnOk, IfOk};
 ghost use Rattle.std.specs.Bool.{OnTrue};
 ghost use Rattle.uca_text.specs.Texts.{nfd_text};
 ghost use Rattle.uca_text.specs.Limits.{IsAccepted};
@@ -8,10 +8,11 @@ ghost use Rattle.uca_match.specs.Collations.{collation_of};
 ghost use Rattle.uca_key.specs.Depths.{read_text, key_at};
 ghost use Rattle.uca_key.specs.Lengths.{HasShortRows};
 ghost use Rattle.uca_key.specs.LevelBuffers.{HoldsLevels};
-ghost use Rattle.uca_key.specs.Plain.{ArePlain, elements_alone};
+ghost use Rattle.uca_key.specs.Pieces.{HasRead};
 ghost use Rattle.uca_key.specs.PlainPoints.{AreTrueEntries};
 
 use crate::level_buffers::LevelBuffers;
+use crate::pieces::Piece;
 use crate::plain::PlainPoints;
 use std::alloc::{AllocError, Allocator, Global};
 use std::marker::Model;
@@ -81,28 +82,28 @@ impl<A: Allocator> KeyBuffer<A> {
         }
     }
 
-    /// Writes the key of a text by its code points, over the key that was there, and returns `true`. If a code point is
-    /// not plain, the text has more than 524,288 bytes or the depth is `Identical`, it returns `false`, and the bytes are
-    /// unspecified.
+    /// Writes the key of a text piece by piece, over the key that was there, and returns `true`. If a piece is rejected, the
+    /// text has more than 524,288 bytes or the depth is `Identical`, it returns `false`, and the bytes are unspecified.
     ///
     /// # Errors
     ///
     /// An allocation failed. The bytes are then unspecified until the next successful write.
-    pub(crate) fn write_plain<L: Lookup, T: Allocator>(
+    pub(crate) fn write_pieces<L: Lookup, T: Allocator>(
         &mut self,
         collator: &Collator<L, T>,
         points: &mut PlainPoints<A>,
+        piece: &mut Piece,
         text: &str,
     ) -> Result<bool, AllocError>
         requires { AreTrueEntries (collation_of L.content collator.now) points.old.entries.items }
         ensures entries { AreTrueEntries (collation_of L.content collator.now) points.new.entries.items }
         ensures key { let c = collation_of L.content collator.now in
-            IfOk result (λ plain. OnTrue plain (self.new.key ≡ key_at self.old.depth self.old.weighting
+            IfOk result (λ accepted. OnTrue accepted (self.new.key ≡ key_at self.old.depth self.old.weighting
             (read_text c (nfd_text c.properties (chars text.now))))) }
         ensures accepted { let c = collation_of L.content collator.now in
-            IfOk result (λ plain. OnTrue plain (IsAccepted (nfd_text c.properties (chars text.now)))) }
+            IfOk result (λ accepted. OnTrue accepted (IsAccepted (nfd_text c.properties (chars text.now)))) }
         ensures short { HasShortRows (collation_of L.content collator.now).rows →
-            IfOk result (λ plain. OnTrue plain (length self.new.key < 2 ^ 40)) }
+            IfOk result (λ accepted. OnTrue accepted (length self.new.key < 2 ^ 40)) }
         ensures weighting { self.new.weighting ≡ self.old.weighting }
         ensures depth { self.new.depth ≡ self.old.depth }
     {
@@ -113,15 +114,16 @@ impl<A: Allocator> KeyBuffer<A> {
             Depth::Identical => Ok(false),
             Depth::Weights => {
                 self.levels.clear();
-                let is_plain = push_plain(
+                let accepted = push_pieces(
                     &mut self.levels,
                     self.weighting,
                     collator,
                     points,
+                    piece,
                     text,
                 )?;
                 self.levels.join(self.weighting)?;
-                Ok(is_plain)
+                Ok(accepted)
             }
         }
     }
@@ -144,27 +146,27 @@ impl<A: Allocator> KeyBuffer<A> {
     }
 }
 
-// Adds the weights of a text to empty levels, if all of its code points are plain, and returns whether they are.
-fn push_plain<L: Lookup, T: Allocator, A: Allocator>(
+// Adds the weights of a text to empty levels, piece by piece, and returns whether each piece is accepted.
+fn push_pieces<L: Lookup, T: Allocator, A: Allocator>(
     levels: &mut LevelBuffers<A>,
     weighting: Weighting,
     collator: &Collator<L, T>,
     points: &mut PlainPoints<A>,
+    piece: &mut Piece,
     text: &str,
 ) -> Result<bool, AllocError>
     requires empty { HoldsLevels weighting [] levels.old }
     requires entries { AreTrueEntries (collation_of L.content collator.now) points.old.entries.items }
     ensures entries { AreTrueEntries (collation_of L.content collator.now) points.new.entries.items }
-    ensures plain { IfOk result (λ plain. OnTrue plain (ArePlain (collation_of L.content collator.now) (chars text.now))) }
-    ensures levels { IfOk result (λ plain. OnTrue plain (HoldsLevels weighting
-        (flat_map (elements_alone (collation_of L.content collator.now)) (chars text.now)) levels.new)) }
+    ensures read { let c = collation_of L.content collator.now in
+        IfOk result (λ accepted. OnTrue accepted (HasRead c weighting (chars text.now) levels.new)) }
 {
+    piece.clear();
     for point in text.chars() {
         let known = points.get(collator, point)?;
-        let Some(elements) = known.elements() else {
+        if !piece.go_on(levels, weighting, collator, known)? {
             return Ok(false);
-        };
-        levels.push_all(weighting, elements)?;
+        }
     }
-    Ok(true)
+    piece.end(levels, weighting, collator)
 }

@@ -10,6 +10,7 @@ ghost use Rattle.uca_key.specs.Lengths.{HasShortRows};
 ghost use Rattle.uca_key.specs.Writers.{collation_by};
 
 use crate::KeyBuffer;
+use crate::pieces::Piece;
 use crate::plain::PlainPoints;
 use std::alloc::{Allocator, Global};
 use std::marker::Model;
@@ -25,7 +26,8 @@ pub struct KeyWriter<'a, L: Lookup, T: Allocator = Global, A: Allocator = Global
     buffer: KeyBuffer<A>,
     // what is known of the code points that were met
     points: PlainPoints<A>,
-    // the text of the key, in memory for the next one
+    piece: Piece,
+    // the text of a key that is not written piece by piece
     text: Normal,
 }
 
@@ -66,6 +68,7 @@ impl<'a, L: Lookup, T: Allocator, A: Allocator + Copy> KeyWriter<'a, L, T, A> {
             collator,
             buffer: KeyBuffer::new(alloc, weighting, depth),
             points: PlainPoints::new(alloc, global),
+            piece: Piece::new(global),
             text: Normal::new(global),
         }
     }
@@ -89,10 +92,10 @@ impl<'a, L: Lookup, T: Allocator, A: Allocator> KeyWriter<'a, L, T, A> {
         ensures weighting { self.new.weighting ≡ self.old.weighting }
         ensures depth { self.new.depth ≡ self.old.depth }
     {
-        if self
+        let accepted = self
             .buffer
-            .write_plain(&self.collator, &mut self.points, text)?
-        {
+            .write_pieces(&self.collator, &mut self.points, &mut self.piece, text)?;
+        if accepted {
             return Ok(());
         }
         self.text.renew(text, self.collator.data)?;

@@ -1,6 +1,7 @@
 //! What is true of the keys of all texts. The functions do nothing: their contracts are the laws.
 
 ghost use Rattle.uca_key.specs.Laws.{KeysCompareAsElements, CanonicallyEquivalentTextsHaveEqualKeys, KeysAreShort, RowsAreShort, FindsCompletelyIgnorable, StoredKeysCompareAsElements, KeysCompareAsTexts, StoredKeysCompareAsTexts, IdenticalKeysAreOfEquivalentTexts, CountsAreExact};
+ghost use Rattle.uca_key.specs.Plain.{PlainPointsCutTexts, PlainTextsReadByPoints};
 ghost use Rattle.uca_key.specs.StreamedWeights.{WeightsMayBeStreamed};
 ghost use Rattle.uca_key.specs.WorkedKeys.{WorkedKeys};
 ghost use Rattle.uca_key.specs.WorkedComparisons.{WorkedComparisons};
@@ -82,4 +83,17 @@ pub fn worked_comparisons()
 /// as was worked out by hand.
 pub fn worked_texts()
     ensures { WorkedTexts }
+{}
+
+/// A text may be cut before each plain code point: its collation elements are those of the piece before it, and then those
+/// of the piece from it on. A code point is plain for a table and a data file if it decomposes into a starter and what
+/// follows it, and no key of the table has the starter after its first code point.
+pub fn plain_points_cut_texts()
+    ensures { PlainPointsCutTexts }
+{}
+
+/// A text of plain code points has the collation elements of its code points, each read as a text of its own, whatever
+/// contractions the table has.
+pub fn plain_texts_read_by_points()
+    ensures { PlainTextsReadByPoints }
 {}

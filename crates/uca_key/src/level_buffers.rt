@@ -79,10 +79,7 @@ impl<A: Allocator> LevelBuffers<A> {
     {
         self.clear();
         for element in elements {
-            match weighting {
-                Weighting::NonIgnorable => self.push_three(element)?,
-                Weighting::Shifted => self.push_four(element)?,
-            }
+            self.push(weighting, element)?;
         }
         self.join(weighting)
     }
@@ -96,6 +93,17 @@ impl<A: Allocator> LevelBuffers<A> {
         self.secondary.clear();
         self.tertiary.clear();
         self.quaternary.clear();
+    }
+
+    /// Adds the weights of the next element.
+    pub(crate) fn push(&mut self, weighting: Weighting, element: Element) -> Result<(), AllocError>
+        ensures { (es : List Element) → HoldsLevels weighting es self.old →
+            OnOk result (HoldsLevels weighting (es ++ element ∷ []) self.new) }
+    {
+        match weighting {
+            Weighting::NonIgnorable => self.push_three(element),
+            Weighting::Shifted => self.push_four(element),
+        }
     }
 
     /// Adds the weights of the next elements.

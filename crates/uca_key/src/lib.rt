@@ -10,6 +10,7 @@ pub mod key_writer;
 pub mod keys;
 pub mod laws;
 mod level_buffers;
+mod pieces;
 mod plain;
 pub mod stored;
 mod walk;

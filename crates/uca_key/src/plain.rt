@@ -1,7 +1,7 @@
 //! `PlainPoints`: the elements of code points that read alone, kept for one text after another.
 
-ghost use Rattle.std.specs.Prelude.{◌≡◌, ◌≤◌, take, IfOk, IfSome};
-ghost use Rattle.std.specs.Bool.{OnTrue};
+ghost use Rattle.std.specs.Prelude.{◌≡◌, ◌<◌, ◌≤◌, take, IfOk, IfSome};
+ghost use Rattle.std.specs.Bool.{OnTrue, MatchBool};
 ghost use Rattle.uca_match.specs.Collations.{Collation, collation_of, elements_of};
 ghost use Rattle.uca_key.specs.Plain.{IsPlain, elements_alone};
 ghost use Rattle.uca_key.specs.PlainPoints.{IsTrueEntry, AreTrueEntries};
@@ -45,7 +45,7 @@ const NOT_MET: Known = Known {
 /// What is known of a code point.
 #[derive(Clone, Copy)]
 pub(crate) struct Known {
-    point: char,
+    pub(crate) point: char,
     // How many elements it has, if it is plain and has at most three. Otherwise 4.
     count: u8,
     elements: [Element; ROOM],
@@ -59,6 +59,13 @@ impl Known {
         ensures entry { (c : Collation) → IsTrueEntry c result }
     {
         Known { point, ..NOT_MET }
+    }
+
+    /// Whether it has no elements to give.
+    pub(crate) fn is_bound(&self) -> bool
+        ensures { MatchBool result (3 < self.now.count) (self.now.count ≤ 3) }
+    {
+        self.count >= BOUND
     }
 
     /// The elements of the code point, if it is plain.

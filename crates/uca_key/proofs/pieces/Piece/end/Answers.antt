@@ -1,0 +1,27 @@
+use Rattle.std.proofs.Common.{[], ◌∷◌, ap, sym, subst, ◌∙◌}
+use Rattle.std.specs.Str.{chars}
+use Rattle.std.specs.String.{string_bytes}
+use Rattle.uca_text.specs.Texts.{nfd_text}
+use Rattle.uca_match.specs.Collations.{collation_of, elements_of}
+use Rattle.uca_key.specs.Pieces.{points_by, IsTrueAlone}
+use Rattle.uca_key.proofs.PlainTexts.{alone_no_long_run}
+use Rattle.uca_key.proofs.PieceSteps.{on_any, end_piece}
+use Rattle.uca_key.proofs.pieces.Piece.end.Goals as goal
+
+pub returns-in-Some : goal.returns-in-Some
+returns-in-Some g c = λ xs reads.
+    let collation = collation_of g.L.Lookup.content c.args.collator.now in
+    let point = c.in-Some.known.point in
+    let alone = subst (IsTrueAlone collation) c.in-Some.is reads.alone in
+    end_piece collation c.args.weighting xs (point ∷ []) _ _ c.args.self.now c.push_known.result reads
+    (ap (λ o. points_by o (chars (string_bytes c.args.self.now.text))) c.in-Some.is)
+    (c.push_known.ensures collation (elements_of collation (nfd_text collation.properties reads.before)) alone.1 reads.held)
+    (on_any c.push_known.result (alone_no_long_run collation.properties.class point))
+
+pub returns-in-None : goal.returns-in-None
+returns-in-None g c = λ xs reads.
+    let collation = collation_of g.L.Lookup.content c.args.collator.now in
+    end_piece collation c.args.weighting xs (chars c.as_str.result.now) _ _ c.args.self.now c.push_text.result reads
+    (ap (λ o. points_by o (chars (string_bytes c.args.self.now.text))) c.in-None.is ∙ ap chars (sym c.as_str.ensures.value))
+    (c.push_text.ensures.levels (elements_of collation (nfd_text collation.properties reads.before)) reads.held)
+    c.push_text.ensures.runs

@@ -1,0 +1,174 @@
+//! `Piece`: a piece of a text, which is cut before each plain code point.
+
+ghost use Rattle.std.specs.Prelude.{◌≡◌, ℕ, [], ◌∷◌, ◌++◌, List, chars, map, IfOk, OnOk};
+ghost use Rattle.std.specs.Bool.{OnTrue};
+ghost use Rattle.unicode_normalization.specs.Forms.{nfd};
+ghost use Rattle.uca_weights.specs.declared.Element.{Element};
+ghost use Rattle.uca_text.specs.Texts.{nfd_text};
+ghost use Rattle.uca_text.specs.Limits.{HasNoLongRun};
+ghost use Rattle.uca_match.specs.Collations.{Collation, collation_of, elements_of};
+ghost use Rattle.uca_key.specs.LevelBuffers.{HoldsLevels};
+ghost use Rattle.uca_key.specs.Pieces.{piece_points, ReadsTo, HasRead};
+ghost use Rattle.uca_key.specs.Plain.{elements_alone};
+ghost use Rattle.uca_key.specs.PlainPoints.{IsTrueEntry};
+
+use crate::level_buffers::LevelBuffers;
+use crate::plain::Known;
+use std::alloc::{AllocError, Allocator, Global};
+use uca_match::{Collator, Lookup};
+use uca_text::{Normal, TextFault};
+use uca_weights::Weighting;
+
+/// The code points of a text from its last plain one on.
+#[derive(Drop)]
+pub(crate) struct Piece {
+    // the piece, where it is one plain code point
+    alone: Option<Known>,
+    // otherwise its code points
+    text: String,
+    // lends its memory to their Normalization Form D
+    normal: Normal,
+}
+
+impl Piece {
+    /// The empty piece, which takes no memory.
+    pub(crate) fn new(global: Global) -> Piece {
+        Piece {
+            alone: None,
+            text: String::new(global),
+            normal: Normal::new(global),
+        }
+    }
+
+    /// Makes it empty.
+    pub(crate) fn clear(&mut self)
+        ensures points { piece_points self.new ≡ [] }
+        ensures alone { self.new.alone ≡ None }
+    {
+        self.alone = None;
+        self.text.clear();
+    }
+
+    // Writes out the code point that is the piece alone.
+    fn write_out(&mut self) -> Result<(), AllocError>
+        ensures points { OnOk result (piece_points self.new ≡ piece_points self.old) }
+        ensures alone { OnOk result (self.new.alone ≡ None) }
+    {
+        let Some(known) = self.alone else {
+            return Ok(());
+        };
+        self.text.clear();
+        self.text.push(known.point)?;
+        self.alone = None;
+        Ok(())
+    }
+
+    // Adds a code point that is not plain.
+    fn push(&mut self, point: char) -> Result<(), AllocError>
+        ensures points { OnOk result (piece_points self.new ≡ piece_points self.old ++ point ∷ []) }
+        ensures alone { OnOk result (self.new.alone ≡ None) }
+    {
+        self.write_out()?;
+        self.text.push(point)?;
+        Ok(())
+    }
+
+    /// Goes on by the next code point of the text. A plain one ends the piece, whose weights are added to the levels, and
+    /// begins the next. Returns whether the piece that ended was accepted.
+    pub(crate) fn go_on<L: Lookup, T: Allocator, A: Allocator>(
+        &mut self,
+        levels: &mut LevelBuffers<A>,
+        weighting: Weighting,
+        collator: &Collator<L, T>,
+        known: Known,
+    ) -> Result<bool, AllocError>
+        requires { IsTrueEntry (collation_of L.content collator.now) known }
+        ensures { let c = collation_of L.content collator.now in (xs : List ℕ) → ReadsTo c weighting xs levels.old self.old →
+            IfOk result (λ accepted. OnTrue accepted (ReadsTo c weighting (xs ++ known.point ∷ []) levels.new self.new)) }
+    {
+        if known.is_bound() {
+            self.push(known.point)?;
+            return Ok(true);
+        }
+        let accepted = self.end(levels, weighting, collator)?;
+        self.alone = Some(known);
+        Ok(accepted)
+    }
+
+    /// Adds the weights of the piece to the levels, and returns whether it is accepted.
+    pub(crate) fn end<L: Lookup, T: Allocator, A: Allocator>(
+        &mut self,
+        levels: &mut LevelBuffers<A>,
+        weighting: Weighting,
+        collator: &Collator<L, T>,
+    ) -> Result<bool, AllocError>
+        ensures { let c = collation_of L.content collator.now in (xs : List ℕ) → ReadsTo c weighting xs levels.old self.old →
+            IfOk result (λ accepted. OnTrue accepted (HasRead c weighting xs levels.new)) }
+    {
+        match &self.alone {
+            Some(known) => push_known(levels, weighting, known),
+            None => push_text(
+                levels,
+                weighting,
+                collator,
+                self.text.as_str(),
+                &mut self.normal,
+            ),
+        }
+    }
+}
+
+// Adds the weights of a plain code point.
+fn push_known<A: Allocator>(
+    levels: &mut LevelBuffers<A>,
+    weighting: Weighting,
+    known: &Known,
+) -> Result<bool, AllocError>
+    ensures { (c : Collation) (es : List Element) → IsTrueEntry c known.now → HoldsLevels weighting es levels.old →
+        IfOk result (λ plain. OnTrue plain (HoldsLevels weighting (es ++ elements_alone c known.now.point) levels.new)) }
+{
+    let Some(elements) = known.elements() else {
+        return Ok(false);
+    };
+    levels.push_all(weighting, elements)?;
+    Ok(true)
+}
+
+// Adds the weights of a text, and returns whether it is accepted. Its Normalization Form D is written over the other text.
+fn push_text<L: Lookup, T: Allocator, A: Allocator>(
+    levels: &mut LevelBuffers<A>,
+    weighting: Weighting,
+    collator: &Collator<L, T>,
+    text: &str,
+    normal: &mut Normal,
+) -> Result<bool, AllocError>
+    ensures levels { let c = collation_of L.content collator.now in (es : List Element) → HoldsLevels weighting es levels.old →
+        IfOk result (λ accepted. OnTrue accepted (HoldsLevels weighting (es ++ elements_of c (nfd_text c.properties (chars text.now))) levels.new)) }
+    ensures runs { let c = collation_of L.content collator.now in
+        IfOk result (λ accepted. OnTrue accepted (HasNoLongRun (map c.properties.class (nfd (chars text.now))))) }
+{
+    match normal.renew(text, collator.data) {
+        Ok(()) => {
+            push_elements(levels, weighting, collator, normal)?;
+            Ok(true)
+        }
+        Err(TextFault::Memory) => Err(AllocError),
+        Err(_) => Ok(false),
+    }
+}
+
+// Adds the weights of a text in Normalization Form D.
+fn push_elements<L: Lookup, T: Allocator, A: Allocator>(
+    levels: &mut LevelBuffers<A>,
+    weighting: Weighting,
+    collator: &Collator<L, T>,
+    text: &Normal,
+) -> Result<(), AllocError>
+    ensures { (es : List Element) → HoldsLevels weighting es levels.old →
+        OnOk result (HoldsLevels weighting (es ++ elements_of (collation_of L.content collator.now) text.now) levels.new) }
+{
+    for element in collator.elements(text) {
+        levels.push(weighting, element)?;
+    }
+    Ok(())
+}
