@@ -1,12 +1,10 @@
 -- What one more element adds to the levels of a key in the making, and what the levels make when they are joined.
 use Rattle.std.proofs.Common.{Option, None, Result, Ok, Err, OnOk, ◌≡◌, ℕ, List, [], ◌∷◌, ◌++◌, Bool, true, false}
-use Rattle.std.proofs.Common.{cond, not, nat_eq, filter, map, refl, sym, ap, ◌∙◌, subst, get_or, ◌+◌, ◌<◌, ◌≤◌, length, take}
+use Rattle.std.proofs.Common.{cond, not, nat_eq, filter, map, refl, sym, ap, ◌∙◌, subst, get_or}
 use Rattle.std.specs.Prelude.{reverse, if◌then◌else◌}
 use Rattle.std.proofs.lemmas.List.{reverse-append, map-append}
 use Rattle.std.proofs.lemmas.List.Elements.{filter-append}
 use Rattle.std.proofs.lemmas.Grind.{flat_map-append}
-use Rattle.std.proofs.lemmas.List.{append_assoc, take_more, take_all}
-use Rattle.uca_key.specs.Depths.{point_bytes, points_bytes}
 use mathlib.Core.List.{reverse_aux}
 use Rattle.std.specs.Iterator.{Yields}
 use Rattle.std.specs.Iterator.Runs.{WholeRun}

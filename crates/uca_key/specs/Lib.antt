@@ -4,6 +4,7 @@ pub mod Fetched
 pub mod Laws
 pub mod StreamedWeights
 pub mod Buffers
+pub mod Writers
 pub mod LevelBuffers
 pub mod Comparisons
 pub mod Fronts

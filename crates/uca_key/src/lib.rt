@@ -6,6 +6,7 @@
 pub mod comparison;
 mod front;
 pub mod key_buffer;
+pub mod key_writer;
 pub mod keys;
 pub mod laws;
 mod level_buffers;
@@ -15,6 +16,7 @@ pub mod weighting;
 
 pub use comparison::{Compared, compare};
 pub use key_buffer::KeyBuffer;
+pub use key_writer::KeyWriter;
 pub use keys::{key, key_of};
 pub use stored::{compare_keys, level_count};
 pub use weighting::{is_after_variable, weights_of};

@@ -18,7 +18,7 @@ use Rattle.uca_runs.specs.Input.{clean_lines}
 use Rattle.uca_runs.specs.Runs.{IsInputFault, ended_by_output}
 use Rattle.uca_runs.specs.EachLine.{WritesEach, ended_before_input}
 use Rattle.uca_runs.specs.LinesSoFar.{AreAll}
-use Rattle.uca_runs.specs.Texts.{TextsState, HasRead}
+use Rattle.uca_runs.specs.Texts.{LinesState, HasRead}
 use Rattle.uca_runs.specs.EachLineSoFar.{HasWritten, IsPartOfOutput, WritesRest}
 
 -- of a longer text as much went out
@@ -32,10 +32,10 @@ module _ (properties : Properties) (bytes_of : List ℕ → List ℕ) where
   output_of bytes = flat_map bytes_of (clean_lines properties (lines_of bytes))
 
   -- nothing was written yet
-  pub started : (texts : TextsState) (input : SourceState) (buffer : BufferState) (out : SinkState)
-      → HasRead properties input.remaining [] texts input → buffer.held ≡ [] → buffer.written ≡ 0
-      → HasWritten properties bytes_of input.remaining out.contents [] texts input buffer out
-  started texts input buffer out read held written = record { read = read; written = none_buffered out.contents buffer held written }
+  pub started : (lines : LinesState) (input : SourceState) (buffer : BufferState) (out : SinkState)
+      → HasRead properties input.remaining [] lines input → buffer.held ≡ [] → buffer.written ≡ 0
+      → HasWritten properties bytes_of input.remaining out.contents [] lines input buffer out
+  started lines input buffer out read held written = record { read = read; written = none_buffered out.contents buffer held written }
 
   -- part of what begins the output is part of the output
   part_of : (start begun now : Option (List ℕ)) (written : ℕ) → IsPartOfOutput properties bytes_of start begun now written

@@ -15,7 +15,7 @@ use Rattle.uca_runs.specs.Input.{clean_from, clean_lines}
 use Rattle.uca_runs.specs.EachLineSoFar.{IsStopped, WritesText}
 use Rattle.uca_runs.specs.LinesSoFar.{IsAfter, OnKnown}
 use Rattle.uca_runs.specs.Runs.{ended_by_output}
-use Rattle.uca_runs.specs.Texts.{TextsState, HasText}
+use Rattle.uca_runs.specs.Texts.{LinesState, HasCleanLine}
 
 -- ---- Counts
 
@@ -47,15 +47,15 @@ module _ (properties : Properties) (bytes_of : List ℕ → List ℕ) where
       let more = clean_from properties (length before) (lines_of left) in
       (flat_map bytes_of more, ap (flat_map bytes_of) after.clean ∙ flat_map-append _ before more)
 
-  module _ (start begun : Option (List ℕ)) (before : List (List ℕ)) (texts : TextsState) (input : SourceState) (t : HasText properties start before texts input)
-      (piece : List ℕ) (is : piece ≡ bytes_of texts.line) where
+  module _ (start begun : Option (List ℕ)) (before : List (List ℕ)) (lines : LinesState) (input : SourceState) (t : HasCleanLine properties start before lines input)
+      (piece : List ℕ) (is : piece ≡ bytes_of lines.line) where
     -- the bytes of the lines so far
-    written_line : flat_map bytes_of before ++ piece ≡ flat_map bytes_of (before ++ texts.line ∷ [])
-    written_line = ap (λ p. flat_map bytes_of before ++ p) is ∙ sym (bytes-push before texts.line)
+    written_line : flat_map bytes_of before ++ piece ≡ flat_map bytes_of (before ++ lines.line ∷ [])
+    written_line = ap (λ p. flat_map bytes_of before ++ p) is ∙ sym (bytes-push before lines.line)
 
     -- those of the line were not written, or not all of them
     pub not_written : (buffer held : BufferState) (out sink : SinkState) (fault : RunFault) → IsBuffered begun out.contents (flat_map bytes_of before) buffer
-        → WritesText {A = Unit {0}} begun (flat_map bytes_of before) piece texts.reader.number buffer out held sink (Err fault)
+        → WritesText {A = Unit {0}} begun (flat_map bytes_of before) piece lines.reader.number buffer out held sink (Err fault)
         → IsStopped properties bytes_of start begun before input held sink fault
     not_written buffer held out sink (Input number kind) written stops =
         let at_number = subst (λ n. IsStopped properties bytes_of start begun before input buffer out (Input n Memory)) (sym stops.0) (t.memory, written) in
@@ -63,8 +63,8 @@ module _ (properties : Properties) (bytes_of : List ℕ → List ℕ) where
         let at_buffer = subst (λ b. IsStopped properties bytes_of start begun before input b out (Input number kind)) (sym stops.2) at_kind in
         subst (λ s. IsStopped properties bytes_of start begun before input held s (Input number kind)) (sym stops.3) at_buffer
     not_written buffer held out sink (Write written) before_it stops = record {
-      text = flat_map bytes_of (before ++ texts.line ∷ []);
+      text = flat_map bytes_of (before ++ lines.line ∷ []);
       went_out = subst (λ output. WentOut begun sink.contents output written) written_line stops;
-      begins = goes_on start (left_of texts.reader input) (before ++ texts.line ∷ []) texts.is_cut t.read.after;
+      begins = goes_on start (left_of lines.reader input) (before ++ lines.line ∷ []) lines.is_cut t.read.after;
     }
     not_written buffer held out sink _ written stops = absurd stops

@@ -11,11 +11,11 @@ use Rattle.uca_runs.specs.declared.faults.RunFault.{RunFault}
 use Rattle.uca_runs.specs.declared.faults.RunFault.TheVariants.{Input, Write}
 use Rattle.uca_runs.specs.declared.faults.InputKind.TheVariants.{Memory as InputMemory}
 use Rattle.uca_runs.specs.Input.{clean_lines}
-use Rattle.uca_runs.specs.Texts.{TextsState, HasRead, HasReadAll, HasNoText}
+use Rattle.uca_runs.specs.Texts.{LinesState, HasRead, HasReadAll, HasNoText}
 
 -- The bytes of these lines, which were read since the input had `start` and the output held `begun`, were written.
-pub record HasWritten (properties : Properties) (bytes_of : List ℕ → List ℕ) (start begun : Option (List ℕ)) (before : List (List ℕ)) (texts : TextsState) (input : SourceState) (buffer : BufferState) (out : SinkState) : Type 0 where
-  pub read : HasRead properties start before texts input
+pub record HasWritten (properties : Properties) (bytes_of : List ℕ → List ℕ) (start begun : Option (List ℕ)) (before : List (List ℕ)) (lines : LinesState) (input : SourceState) (buffer : BufferState) (out : SinkState) : Type 0 where
+  pub read : HasRead properties start before lines input
   pub written : IsBuffered begun out.contents (flat_map bytes_of before) buffer
 
 -- those of all lines were written

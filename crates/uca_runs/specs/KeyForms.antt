@@ -1,12 +1,14 @@
 -- The forms of a line of output that has a key. Only contracts of private functions cite this: no promise of the crate
 -- rests on it.
-use Rattle.std.specs.Prelude.{ℕ, List, Option, Result, chars}
+use Rattle.std.specs.Prelude.{ℕ, List, Bool, true, false, Option, Result, chars}
 use Rattle.uca_weights.specs.Streams.{SourceState, SinkState}
 use Rattle.uca_weights.specs.declared.Weighting.{Weighting}
 use Rattle.uca_weights.specs.declared.Depth.{Depth}
-use Rattle.uca_weights.specs.declared.Depth.TheVariants.{Weights}
+use Rattle.uca_weights.specs.declared.Depth.TheVariants.{Weights, Identical}
 use Rattle.uca_text.specs.Texts.{NfdText, nfd_text}
+use Rattle.uca_match.specs.Rows.{Rows}
 use Rattle.uca_key.specs.Depths.{read_text, key_at}
+use Rattle.uca_key.specs.Writers.{WriterState, collation_by}
 use Rattle.uca_runs.specs.declared.faults.RunFault.{RunFault}
 use Rattle.uca_runs.specs.declared.keys.KeyForm.{KeyForm}
 use Rattle.uca_runs.specs.declared.keys.KeyForm.TheVariants.{Alone, BeforeLine}
@@ -21,6 +23,12 @@ abbrev pub depth_as : KeyForm → Depth → Depth
 depth_as Alone depth = Weights
 depth_as BeforeLine depth = depth
 
+-- whether the code points of the text are printed: those of a key alone are, with an identical level
+abbrev pub shows_points : KeyForm → Depth → Bool
+shows_points Alone Weights = false
+shows_points Alone Identical = true
+shows_points BeforeLine depth = false
+
 -- the line of output, by that key, the code points of the text, and the line of the input
 abbrev pub printed_as : KeyForm → Depth → List ℕ → List ℕ → List ℕ → List ℕ
 printed_as Alone depth key points line = print_line_at depth key points
@@ -33,6 +41,10 @@ text_as form c text line = printed_as form c.depth (key_at (depth_as form c.dept
 -- that of a line of the input, which is UTF-8
 abbrev pub line_as : KeyForm → KeySettings → List ℕ → List ℕ
 line_as form c line = text_as form c (nfd_text c.collation.properties (chars line)) line
+
+-- what the keys of a writer go by, and this depth
+abbrev pub settings_at : {L : Type 0} → (L → Rows) → WriterState L → Depth → KeySettings
+settings_at content writer depth = record { collation = collation_by content writer; weighting = writer.weighting; depth = depth }
 
 -- a run that writes such a line for each line of its input
 abbrev pub PrintsAs : {A : Type 0} → KeyForm → Option Weighting → Depth → List SourceState → List SourceState → SourceState → SourceState

@@ -1,8 +1,8 @@
--- The lines of an input as texts. Only contracts of private functions cite this: no promise of the crate rests on it.
-use Rattle.std.specs.Prelude.{◌≡◌, ℕ, suc, ◌+◌, Bool, false, MatchBool, List, [], ◌∷◌, ◌++◌, Option, Some, Result, Ok, Err, IfSome, length, chars, ⊤}
+-- The lines of an input. Only contracts of private functions cite this: no promise of the crate rests on it.
+use Rattle.std.specs.Prelude.{◌≡◌, ℕ, suc, ◌+◌, Bool, false, MatchBool, List, [], ◌∷◌, ◌++◌, Option, Some, Result, Ok, Err, IfSome, length, ⊤}
 use Rattle.uca_weights.specs.Streams.{SourceState}
 use Rattle.uca_values.specs.Content.{Properties}
-use Rattle.uca_text.specs.Texts.{NfdText, nfd_text}
+use Rattle.uca_text.specs.Texts.{NfdText}
 use Rattle.uca_text.specs.declared.normalize.TextFault.{TextFault}
 use Rattle.uca_text.specs.declared.normalize.TextFault.TheVariants as text_fault
 use Rattle.uca_lines.specs.LineReader.{LineState, left_of}
@@ -44,20 +44,18 @@ abbrev pub is_read : {A : Type 0} → Result A InputKind → Bool
 is_read (Ok x) = false
 is_read (Err kind) = is_input_read_kind kind
 
--- ---- Lines and their texts
+-- ---- Lines
 
--- What a clause sees of an `InputTexts`: the reader of lines, the line that was read last and its text, and whether no LF
--- ended that line.
-pub record TextsState : Type 0 where
+-- What a clause sees of an `InputLines`: the reader of lines, the line that was read last, and whether no LF ended it.
+pub record LinesState : Type 0 where
   pub reader : LineState
   pub line : List ℕ
-  pub text : NfdText
   pub is_cut : Bool
 
 -- These lines, none of them with an error, were read since the input had `start`.
-pub record HasRead (properties : Properties) (start : Option (List ℕ)) (before : List (List ℕ)) (texts : TextsState) (input : SourceState) : Type 0 where
-  pub after : OnKnown start (left_of texts.reader input) (λ bytes left. IsAfter properties bytes left texts.is_cut before)
-  pub count : texts.reader.number ≡ length before
+pub record HasRead (properties : Properties) (start : Option (List ℕ)) (before : List (List ℕ)) (lines : LinesState) (input : SourceState) : Type 0 where
+  pub after : OnKnown start (left_of lines.reader input) (λ bytes left. IsAfter properties bytes left lines.is_cut before)
+  pub count : lines.reader.number ≡ length before
 
 -- no line is left after these
 abbrev pub HasReadAll : Properties → Option (List ℕ) → List (List ℕ) → Type 0
@@ -68,28 +66,33 @@ abbrev pub HasNoText : Properties → Option (List ℕ) → List (List ℕ) → 
 HasNoText properties start before input number kind = IfSome start (λ bytes. IsInputFault properties bytes input.remaining before number kind)
 
 -- The next line was read, and its bytes were not looked at.
-pub record HasLine (properties : Properties) (start : Option (List ℕ)) (before : List (List ℕ)) (texts : TextsState) (input : SourceState) : Type 0 where
-  pub next : OnKnown start (left_of texts.reader input) (λ bytes left. IsNext properties bytes left texts.is_cut before texts.line)
-  pub count : texts.reader.number ≡ length before + 1
+pub record HasLine (properties : Properties) (start : Option (List ℕ)) (before : List (List ℕ)) (lines : LinesState) (input : SourceState) : Type 0 where
+  pub next : OnKnown start (left_of lines.reader input) (λ bytes left. IsNext properties bytes left lines.is_cut before lines.line)
+  pub count : lines.reader.number ≡ length before + 1
 
 -- what is returned where a line may come: the next line, that none is left, or why it is not read
-abbrev pub ReadsLine : Properties → Option (List ℕ) → List (List ℕ) → TextsState → SourceState → Result Bool InputKind → Type 0
-ReadsLine properties start before texts input (Ok more) = MatchBool more (HasLine properties start before texts input) (HasReadAll properties start before)
-ReadsLine properties start before texts input (Err kind) = HasNoText properties start before input (suc (length before)) kind
-
--- The next line has no error, and this is its text. An allocation that fails now is an error of this line.
-pub record HasText (properties : Properties) (start : Option (List ℕ)) (before : List (List ℕ)) (texts : TextsState) (input : SourceState) : Type 0 where
-  pub read : HasRead properties start (before ++ texts.line ∷ []) texts input
-  pub text : texts.text ≡ nfd_text properties (chars texts.line)
-  pub memory : HasNoText properties start before input texts.reader.number Memory
-
--- what is returned where a text may come: the text of the next line, that no line is left, or why there is no text
-abbrev pub ReadsText : Properties → Option (List ℕ) → List (List ℕ) → TextsState → SourceState → Result Bool InputKind → Type 0
-ReadsText properties start before texts input (Ok more) = MatchBool more (HasText properties start before texts input) (HasReadAll properties start before)
-ReadsText properties start before texts input (Err kind) = HasNoText properties start before input (suc (length before)) kind
+abbrev pub ReadsLine : Properties → Option (List ℕ) → List (List ℕ) → LinesState → SourceState → Result Bool InputKind → Type 0
+ReadsLine properties start before lines input (Ok more) = MatchBool more (HasLine properties start before lines input) (HasReadAll properties start before)
+ReadsLine properties start before lines input (Err kind) = HasNoText properties start before input (suc (length before)) kind
 
 -- the same with the number of the line in the error
-abbrev pub ReadsNext : Properties → Option (List ℕ) → List (List ℕ) → TextsState → SourceState → Result Bool RunFault → Type 0
-ReadsNext properties start before texts input (Ok more) = MatchBool more (HasText properties start before texts input) (HasReadAll properties start before)
-ReadsNext properties start before texts input (Err (Input number kind)) = HasNoText properties start before input number kind
-ReadsNext properties start before texts input (Err _) = ⊥
+abbrev pub ReadsNextLine : Properties → Option (List ℕ) → List (List ℕ) → LinesState → SourceState → Result Bool RunFault → Type 0
+ReadsNextLine properties start before lines input (Ok more) = MatchBool more (HasLine properties start before lines input) (HasReadAll properties start before)
+ReadsNextLine properties start before lines input (Err (Input number kind)) = HasNoText properties start before input number kind
+ReadsNextLine properties start before lines input (Err _) = ⊥
+
+-- The next line has no error. An allocation that fails now is an error of this line.
+pub record HasCleanLine (properties : Properties) (start : Option (List ℕ)) (before : List (List ℕ)) (lines : LinesState) (input : SourceState) : Type 0 where
+  pub read : HasRead properties start (before ++ lines.line ∷ []) lines input
+  pub memory : HasNoText properties start before input lines.reader.number Memory
+
+-- what is returned where a line without an error may come: the next line, that none is left, or why it gives no text
+abbrev pub ReadsCleanLine : Properties → Option (List ℕ) → List (List ℕ) → LinesState → SourceState → Result Bool RunFault → Type 0
+ReadsCleanLine properties start before lines input (Ok more) = MatchBool more (HasCleanLine properties start before lines input) (HasReadAll properties start before)
+ReadsCleanLine properties start before lines input (Err (Input number kind)) = HasNoText properties start before input number kind
+ReadsCleanLine properties start before lines input (Err _) = ⊥
+
+-- What a clause sees of an `InputTexts`: the lines, and the text of the one that was read last.
+pub record TextsState : Type 0 where
+  pub lines : LinesState
+  pub text : NfdText

@@ -17,7 +17,7 @@ use crate::faults::{InputKind, RunFault};
 use crate::files::read_collation;
 use crate::input::InputTexts;
 use crate::output::end_output;
-use crate::print::{print_key, print_keyed_line};
+use crate::print::{KeyDigits, print_key, print_keyed_line};
 use std::alloc::{Allocator, Global};
 use std::io::{Read, Write};
 use uca_key::KeyBuffer;
@@ -36,6 +36,7 @@ pub(crate) enum KeyForm {
 
 // Writes the line of output of a line. The key is at the depth that the form asks for.
 fn print_as<W: Write>(
+    digits: &mut KeyDigits,
     buffer: &mut OutputBuffer,
     out: &mut Sink<W>,
     form: KeyForm,
@@ -48,8 +49,8 @@ fn print_as<W: Write>(
     ensures { WritesThrough (printed_as form depth key.now points.now line.now) buffer.old buffer.new out.old out.new result }
 {
     match form {
-        KeyForm::Alone => print_key(buffer, out, depth, key, points),
-        KeyForm::BeforeLine => print_keyed_line(buffer, out, key, line),
+        KeyForm::Alone => print_key(digits, buffer, out, depth, key, points),
+        KeyForm::BeforeLine => print_keyed_line(digits, buffer, out, key, line),
     }
 }
 
@@ -71,6 +72,8 @@ struct KeyRun<A: Allocator> {
     form: KeyForm,
     depth: Depth,
     output: OutputBuffer,
+    // room for the digits of a key
+    digits: KeyDigits,
 }
 
 impl<A: Allocator> KeyRun<A> {
@@ -82,16 +85,16 @@ impl<A: Allocator> KeyRun<A> {
     ) -> Result<(), RunFault>
         requires key_depth { self.old.key.depth ≡ depth_as self.old.form self.old.depth }
         requires short_rows { HasShortRows (collation_of L.content collator.now).rows }
-        requires few { 0 < self.old.texts.reader.number }
+        requires few { 0 < self.old.texts.lines.reader.number }
         requires small { self.old.output.written + length self.old.output.held
-            ≤ (self.old.texts.reader.number - 1) * 2 ^ 42 }
+            ≤ (self.old.texts.lines.reader.number - 1) * 2 ^ 42 }
         ensures prints { (begun : Option (List ℕ)) (before : List ℕ) →
             let c = key_settings_of L.content collator.now self.old.key.weighting self.old.depth in
             IsBuffered begun out.old.contents before self.old.output →
-            WritesText begun before (text_as self.old.form c self.old.texts.text self.old.texts.line)
-            self.old.texts.reader.number self.old.output out.old self.new.output out.new result }
+            WritesText begun before (text_as self.old.form c self.old.texts.text self.old.texts.lines.line)
+            self.old.texts.lines.reader.number self.old.output out.old self.new.output out.new result }
         ensures small { OnOk result (self.new.output.written + length self.new.output.held
-            ≤ self.old.texts.reader.number * 2 ^ 42) }
+            ≤ self.old.texts.lines.reader.number * 2 ^ 42) }
         ensures texts { self.new.texts ≡ self.old.texts }
         ensures weighting { self.new.key.weighting ≡ self.old.key.weighting }
         ensures key_depth { self.new.key.depth ≡ self.old.key.depth }
@@ -109,6 +112,7 @@ impl<A: Allocator> KeyRun<A> {
             });
         }
         Ok(print_as(
+            &mut self.digits,
             &mut self.output,
             out,
             self.form,
@@ -129,10 +133,10 @@ impl<A: Allocator> KeyRun<A> {
         requires key_depth { self.old.key.depth ≡ depth_as self.old.form self.old.depth }
         requires short_rows { HasShortRows (collation_of L.content collator.now).rows }
         requires small { self.old.output.written + length self.old.output.held
-            ≤ self.old.texts.reader.number * 2 ^ 42 }
+            ≤ self.old.texts.lines.reader.number * 2 ^ 42 }
         ensures prints { (start begun : Option (List ℕ)) (before : List (List ℕ)) →
             let c = key_settings_of L.content collator.now self.old.key.weighting self.old.depth in
-            HasWritten c.collation.properties (line_as self.old.form c) start begun before self.old.texts input.old self.old.output out.old →
+            HasWritten c.collation.properties (line_as self.old.form c) start begun before self.old.texts.lines input.old self.old.output out.old →
             WritesRest c.collation.properties (line_as self.old.form c) start begun input.new self.new.output out.new result }
         ensures input_failed { input.new.failed ≡ (input.old.failed || is_input_read result) }
         ensures out_failed { out.new.failed ≡ (out.old.failed || ended_by_output result) }
@@ -174,6 +178,7 @@ pub(crate) fn print_lines<L: Lookup, T: Allocator, A: Allocator + Copy, I: Read,
         form,
         depth,
         output: OutputBuffer::new(),
+        digits: KeyDigits::new(),
     };
     let end = run.print_rest(collator, input, out);
     end_output(&mut run.output, out, end)

@@ -14,6 +14,7 @@ mod key_groups;
 pub mod keyed_lines;
 pub mod keys;
 pub mod laws;
+mod line_keys;
 pub mod output;
 pub mod print;
 mod rule_file;

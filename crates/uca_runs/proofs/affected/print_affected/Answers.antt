@@ -11,7 +11,7 @@ returns-clause-writes g c =
     let bytes_of = affected_line properties c.args.rules.now in
     let input = c.args.input.now in
     let out = c.args.out.now in
-    let begin = started properties bytes_of c.new.result input c.new-2.result out (c.new.ensures.read properties input) c.new-2.ensures.held c.new-2.ensures.written in
+    let begin = started properties bytes_of c.new.result.lines input c.new-2.result out (c.new.ensures.read properties input) c.new-2.ensures.held c.new-2.ensures.written in
     c.end_output.ensures.writes properties bytes_of input.remaining out.contents c.print_rest-end.new.input (c.print_rest-end.ensures.prints input.remaining out.contents [] begin)
 
 pub returns-clause-of_lines : goal.returns-clause-of_lines
@@ -20,7 +20,7 @@ returns-clause-of_lines g c =
     let bytes_of = affected_line properties c.args.rules.now in
     let input = c.args.input.now in
     let out = c.args.out.now in
-    let begin = started properties bytes_of c.new.result input c.new-2.result out (c.new.ensures.read properties input) c.new-2.ensures.held c.new-2.ensures.written in
+    let begin = started properties bytes_of c.new.result.lines input c.new-2.result out (c.new.ensures.read properties input) c.new-2.ensures.held c.new-2.ensures.written in
     c.end_output.ensures.of_lines (of_lines properties bytes_of input.remaining out.contents c.print_rest-end.new.input c.print_rest-end.new.self.output c.print_rest-end.new.out c.print_rest-end.result
     (c.print_rest-end.ensures.prints input.remaining out.contents [] begin))
 

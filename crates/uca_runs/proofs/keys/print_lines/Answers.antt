@@ -14,7 +14,7 @@ returns-clause-writes g c =
     let by = λ (weighting : Weighting). key_settings_of g.L.Lookup.content c.args.collator.now weighting c.args.depth in
     let input = c.args.input.now in
     let out = c.args.out.now in
-    let begin = started properties (line_as c.args.form (by c.new-2.result.weighting)) c.new.result input c.new-3.result out
+    let begin = started properties (line_as c.args.form (by c.new-2.result.weighting)) c.new.result.lines input c.new-3.result out
     (c.new.ensures.read properties input) c.new-3.ensures.held c.new-3.ensures.written in
     let rest = subst (λ w. WritesRest properties (line_as c.args.form (by w)) input.remaining out.contents c.print_rest-end.new.input c.print_rest-end.new.self.output c.print_rest-end.new.out c.print_rest-end.result)
     c.new-2.ensures.weighting (c.print_rest-end.ensures.prints input.remaining out.contents [] begin) in
@@ -26,7 +26,7 @@ returns-clause-of_lines g c =
     let bytes_of = line_as c.args.form (key_settings_of g.L.Lookup.content c.args.collator.now c.new-2.result.weighting c.args.depth) in
     let input = c.args.input.now in
     let out = c.args.out.now in
-    let begin = started properties bytes_of c.new.result input c.new-3.result out (c.new.ensures.read properties input) c.new-3.ensures.held c.new-3.ensures.written in
+    let begin = started properties bytes_of c.new.result.lines input c.new-3.result out (c.new.ensures.read properties input) c.new-3.ensures.held c.new-3.ensures.written in
     c.end_output.ensures.of_lines (of_lines properties bytes_of input.remaining out.contents c.print_rest-end.new.input c.print_rest-end.new.self.output c.print_rest-end.new.out c.print_rest-end.result
     (c.print_rest-end.ensures.prints input.remaining out.contents [] begin))
 

@@ -24,10 +24,10 @@ returns-in_err-print_text-clause-prints g c = λ start begun before p.
     let i = c.loop-self.invariant.written start begun before p in
     let next = rw c.if-branch.true at c.in_ok-next.ensures in
     let t = next.reads start i.0 i.1.read in
-    let same = ap (λ (text : NfdText). if_affected c.args.rules.now text.points texts.line) t.text in
+    let same = ap (λ (text : NfdText). if_affected c.args.rules.now text.points texts.lines.line) next.text in
     rw (q.1, q.2) (
       i.0,
-      not_written properties bytes_of start begun i.0 texts c.next.new.input t _ same c.loop-self.self.output c.print_text.new.self.output
+      not_written properties bytes_of start begun i.0 texts.lines c.next.new.input t _ same c.loop-self.self.output c.print_text.new.self.output
           c.loop-self.out c.print_text.new.out c.in_err-print_text.field-0.0 i.1.written
           (c.in_err-print_text.ensures.prints begun (flat_map bytes_of i.0) i.1.written),
     )

@@ -9,13 +9,13 @@ abbrev pub invariant-loop-self : goal.invariant-loop-self
 invariant-loop-self g l =
     let bytes_of = affected_line (properties_of l.properties) l.rules in
     record {
-      small : l.self.output.written + length l.self.output.held ≤ l.self.texts.reader.number * 2 ^ 42;
+      small : l.self.output.written + length l.self.output.held ≤ l.self.texts.lines.reader.number * 2 ^ 42;
       written : (start begun : Option (List ℕ)) (before : List (List ℕ)) →
-          HasWritten (properties_of l.properties) bytes_of start begun before l.fn.self.texts l.fn.input l.fn.self.output l.fn.out →
-          (now : List (List ℕ)) × HasWritten (properties_of l.properties) bytes_of start begun now l.self.texts l.input l.self.output l.out;
+          HasWritten (properties_of l.properties) bytes_of start begun before l.fn.self.texts.lines l.fn.input l.fn.self.output l.fn.out →
+          (now : List (List ℕ)) × HasWritten (properties_of l.properties) bytes_of start begun now l.self.texts.lines l.input l.self.output l.out;
       input_failed : l.input.failed ≡ l.fn.input.failed;
       out_failed : l.out.failed ≡ l.fn.out.failed;
     }
 
 abbrev pub decreases-loop-self : goal.decreases-loop-self
-decreases-loop-self g l = 1000000 - l.self.texts.reader.number
+decreases-loop-self g l = 1000000 - l.self.texts.lines.reader.number

@@ -17,11 +17,11 @@ returns-then-untouched-clause-prints g c = λ begun before h.
     let texts = c.args.self.now.texts in
     let none = subst (λ (text : NfdText). IsUntouched c.args.rules.now text.points) c.text.ensures (c.untouched.ensures.0 c.if-untouched.true) in
     subst (λ (text : List ℕ). IsBuffered begun c.args.out.now.contents text c.args.self.now.output)
-    (sym (ap (λ piece. before ++ piece) (nothing_affected c.args.rules.now texts.text.points texts.line none) ∙ append-nil before)) h
+    (sym (ap (λ piece. before ++ piece) (nothing_affected c.args.rules.now texts.text.points texts.lines.line none) ∙ append-nil before)) h
 
 pub write_line-requires : goal.write_line-requires
 write_line-requires g c =
-    let number = c.args.self.now.texts.reader.number in
+    let number = c.args.self.now.texts.lines.reader.number in
     let few : number - 1 < 1000000 = omega (arith, c.requires.few, c.requires.most) in
     small_enough (number - 1) (count_of c.args.self.now.output) (length (ended c.line.result.now)) c.requires.small few
     (affected_is_short c.line.result.now c.line.ensures.within)
@@ -32,7 +32,7 @@ returns-in_err-write_line-clause-prints g c = λ begun before h.
     let texts = c.args.self.now.texts in
     let affected : ¬ (IsUntouched c.args.rules.now texts.text.points) = λ none.
     not_both c.untouched.result c.if-untouched.false (c.untouched.ensures.1 (subst (λ (text : NfdText). IsUntouched c.args.rules.now text.points) (sym c.text.ensures) none)) in
-    let piece = line_affected c.args.rules.now texts.text.points texts.line affected ∙ ap ended (sym c.line.ensures.value) in
+    let piece = line_affected c.args.rules.now texts.text.points texts.lines.line affected ∙ ap ended (sym c.line.ensures.value) in
     rw (p.1, p.2) (subst (λ (text : List ℕ). WentOut begun c.write_line.new.out.contents (before ++ text) c.in_err-write_line.field-0.0.written) (sym piece)
     (c.in_err-write_line.ensures.writes.went_out begun before h))
 
@@ -41,6 +41,6 @@ returns-clause-prints g c = λ begun before h.
     let texts = c.args.self.now.texts in
     let affected : ¬ (IsUntouched c.args.rules.now texts.text.points) = λ none.
     not_both c.untouched.result c.if-untouched.false (c.untouched.ensures.1 (subst (λ (text : NfdText). IsUntouched c.args.rules.now text.points) (sym c.text.ensures) none)) in
-    let piece = line_affected c.args.rules.now texts.text.points texts.line affected ∙ ap ended (sym c.line.ensures.value) in
+    let piece = line_affected c.args.rules.now texts.text.points texts.lines.line affected ∙ ap ended (sym c.line.ensures.value) in
     subst (λ (text : List ℕ). IsBuffered begun c.write_line.new.out.contents (before ++ text) c.write_line.new.output) (sym piece)
     (c.in_ok-write_line.ensures.writes.writes begun before h)

@@ -29,12 +29,12 @@ returns-in_err-print_text-clause-prints g c = λ start begun before p.
     let i = inv.written start begun before p in
     let next = rw c.if-branch.true at c.in_ok-next.ensures in
     let t = next.reads start i.0 i.1.read in
-    let same = ap (λ f. text_as f (by c.loop-self.self.key.weighting c.loop-self.self.depth) texts.text texts.line) inv.form
-    ∙ ap₂ (λ weighting depth. text_as form (by weighting depth) texts.text texts.line) inv.weighting inv.depth
-    ∙ ap (λ text. text_as form settings text texts.line) t.text in
+    let same = ap (λ f. text_as f (by c.loop-self.self.key.weighting c.loop-self.self.depth) texts.text texts.lines.line) inv.form
+    ∙ ap₂ (λ weighting depth. text_as form (by weighting depth) texts.text texts.lines.line) inv.weighting inv.depth
+    ∙ ap (λ text. text_as form settings text texts.lines.line) next.text in
     rw (q.1, q.2) (
       i.0,
-      not_written properties (line_as form settings) start begun i.0 texts c.next.new.input t _ same c.loop-self.self.output c.print_text.new.self.output
+      not_written properties (line_as form settings) start begun i.0 texts.lines c.next.new.input t _ same c.loop-self.self.output c.print_text.new.self.output
           c.loop-self.out c.print_text.new.out c.in_err-print_text.field-0.0 i.1.written
           (c.in_err-print_text.ensures.prints begun (flat_map (line_as form settings) i.0) i.1.written),
     )

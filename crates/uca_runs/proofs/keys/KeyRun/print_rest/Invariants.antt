@@ -14,13 +14,13 @@ invariant-loop-self g l =
       key_depth : l.self.key.depth ≡ depth_as l.fn.self.form l.fn.self.depth;
       form : l.self.form ≡ l.fn.self.form;
       depth : l.self.depth ≡ l.fn.self.depth;
-      small : l.self.output.written + length l.self.output.held ≤ l.self.texts.reader.number * 2 ^ 42;
+      small : l.self.output.written + length l.self.output.held ≤ l.self.texts.lines.reader.number * 2 ^ 42;
       written : (start begun : Option (List ℕ)) (before : List (List ℕ)) →
-          HasWritten (properties_of l.collator.data.now) bytes_of start begun before l.fn.self.texts l.fn.input l.fn.self.output l.fn.out →
-          (now : List (List ℕ)) × HasWritten (properties_of l.collator.data.now) bytes_of start begun now l.self.texts l.input l.self.output l.out;
+          HasWritten (properties_of l.collator.data.now) bytes_of start begun before l.fn.self.texts.lines l.fn.input l.fn.self.output l.fn.out →
+          (now : List (List ℕ)) × HasWritten (properties_of l.collator.data.now) bytes_of start begun now l.self.texts.lines l.input l.self.output l.out;
       input_failed : l.input.failed ≡ l.fn.input.failed;
       out_failed : l.out.failed ≡ l.fn.out.failed;
     }
 
 abbrev pub decreases-loop-self : goal.decreases-loop-self
-decreases-loop-self g l = 1000000 - l.self.texts.reader.number
+decreases-loop-self g l = 1000000 - l.self.texts.lines.reader.number

@@ -9,22 +9,22 @@ use Rattle.uca_runs.proofs.keys.KeyRun.print_text.Goals as goal
 
 pub print_as-requires : goal.print_as-requires
 print_as-requires g c =
-    let number = c.args.self.now.texts.reader.number in
+    let number = c.args.self.now.texts.lines.reader.number in
     let short = at_ok c.write_text.result (length c.write_text.new.self.key < 2 ^ 40) (sym c.is_err.ensures.value ∙ c.if-is_err.false) (c.write_text.ensures.short c.requires.short_rows) in
     let most : number ≤ 1000000 = subst (λ n. n ≤ 1000000) c.number-line.ensures.value c.number-line.ensures.within in
     let few : number - 1 < 1000000 = omega (arith, c.requires.few, most) in
-    let line_short : length c.args.self.now.texts.line ≤ 4194304 = subst (λ l. length l ≤ 4194304) c.line.ensures.value c.line.ensures.within in
+    let line_short : length c.args.self.now.texts.lines.line ≤ 4194304 = subst (λ l. length l ≤ 4194304) c.line.ensures.value c.line.ensures.within in
     rw (c.bytes.ensures, c.chars.ensures.value, c.line.ensures.value)
     (small_enough (number - 1) (count_of c.args.self.now.output) _ c.requires.small few
-    (printed_is_short c.args.self.now.form c.args.self.now.depth c.write_text.new.self.key c.text-text.result.now.points c.args.self.now.texts.line short c.chars.ensures.accepted.few line_short))
+    (printed_is_short c.args.self.now.form c.args.self.now.depth c.write_text.new.self.key c.text-text.result.now.points c.args.self.now.texts.lines.line short c.chars.ensures.accepted.few line_short))
 
 pub returns-clause-small : goal.returns-clause-small
 returns-clause-small g c =
-    let number = c.args.self.now.texts.reader.number in
+    let number = c.args.self.now.texts.lines.reader.number in
     let short = at_ok c.write_text.result (length c.write_text.new.self.key < 2 ^ 40) (sym c.is_err.ensures.value ∙ c.if-is_err.false) (c.write_text.ensures.short c.requires.short_rows) in
     let next : number ≡ number - 1 + 1 = omega (arith, c.requires.few) in
-    let line_short : length c.args.self.now.texts.line ≤ 4194304 = subst (λ l. length l ≤ 4194304) c.line.ensures.value c.line.ensures.within in
+    let line_short : length c.args.self.now.texts.lines.line ≤ 4194304 = subst (λ l. length l ≤ 4194304) c.line.ensures.value c.line.ensures.within in
     let count = rw (c.bytes.ensures, c.chars.ensures.value, c.line.ensures.value) at c.in_ok-print_as.ensures.count in
     still_small (number - 1) number (count_of c.args.self.now.output) (count_of c.print_as.new.buffer)
-    (length (printed_as c.args.self.now.form c.args.self.now.depth c.write_text.new.self.key c.text-text.result.now.points c.args.self.now.texts.line)) c.requires.small next
-    (printed_is_short c.args.self.now.form c.args.self.now.depth c.write_text.new.self.key c.text-text.result.now.points c.args.self.now.texts.line short c.chars.ensures.accepted.few line_short) count
+    (length (printed_as c.args.self.now.form c.args.self.now.depth c.write_text.new.self.key c.text-text.result.now.points c.args.self.now.texts.lines.line)) c.requires.small next
+    (printed_is_short c.args.self.now.form c.args.self.now.depth c.write_text.new.self.key c.text-text.result.now.points c.args.self.now.texts.lines.line short c.chars.ensures.accepted.few line_short) count

@@ -4,19 +4,19 @@ use Rattle.uca_lines.specs.LineReader.{left_of}
 use Rattle.uca_lines.specs.NextLine.{SaysOfBytes}
 use Rattle.uca_runs.specs.Texts.{HasRead}
 use Rattle.uca_runs.proofs.TextsLemmas.{ended_line, cut_line, no_line}
-use Rattle.uca_runs.proofs.input.InputTexts.next_line.Goals as goal
+use Rattle.uca_runs.proofs.input.InputLines.next_line.Goals as goal
 
 pub returns-in-Ok-Terminated-clause-reads : goal.returns-in-Ok-Terminated-clause-reads
 returns-in-Ok-Terminated-clause-reads g c = λ properties start before h.
     let read = subst (λ s. HasRead properties start before s c.args.input.now) (sym c.self.view_is) h in
     let at = rw c.in-Ok-Terminated.field-0-is at c.in-Ok-Terminated.ensures in
-    ended_line properties start before _ c.args.input.now read c.next_line.new.self c.next_line.new.source c.next_line.new.line.items c.if-self.false c.self.inside.text at.bytes at.no_lf at.number
+    ended_line properties start before _ c.args.input.now read c.next_line.new.self c.next_line.new.source c.next_line.new.line.items c.if-self.false at.bytes at.no_lf at.number
 
 pub returns-in-Ok-Unterminated-clause-reads : goal.returns-in-Ok-Unterminated-clause-reads
 returns-in-Ok-Unterminated-clause-reads g c = λ properties start before h.
     let read = subst (λ s. HasRead properties start before s c.args.input.now) (sym c.self.view_is) h in
     let at = rw c.in-Ok-Unterminated.field-0-is at c.in-Ok-Unterminated.ensures in
-    cut_line properties start before _ c.args.input.now read c.next_line.new.self c.next_line.new.source c.next_line.new.line.items c.if-self.false c.self.inside.text at.bytes (at.cut refl) at.no_lf at.number
+    cut_line properties start before _ c.args.input.now read c.next_line.new.self c.next_line.new.source c.next_line.new.line.items c.if-self.false at.bytes (at.cut refl) at.no_lf at.number
 
 pub returns-in-Err-clause-reads : goal.returns-in-Err-clause-reads
 returns-in-Err-clause-reads g c = λ properties start before h.

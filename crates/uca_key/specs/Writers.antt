@@ -1,0 +1,21 @@
+-- What callers see of a value that writes keys of texts.
+use Rattle.std.specs.Prelude.{ℕ, List}
+use Rattle.uca_weights.specs.declared.Depth.{Depth}
+use Rattle.uca_weights.specs.declared.Weighting.{Weighting}
+use Rattle.uca_values.specs.declared.ImplicitRange.{ImplicitRange}
+use Rattle.uca_values.specs.Content.{DataContent, properties_of}
+use Rattle.uca_match.specs.Rows.{Rows}
+use Rattle.uca_match.specs.Collations.{Collation}
+
+-- what it reads texts by, the weighting and the depth of its keys, and the bytes of the key that was written last
+pub record WriterState (L : Type 0) : Type 0 where
+  pub lookup : L
+  pub ranges : List ImplicitRange
+  pub data_file : DataContent
+  pub weighting : Weighting
+  pub depth : Depth
+  pub key : List ℕ
+
+-- what it reads texts by, where `content` is the map that its lookup is
+abbrev pub collation_by : {L : Type 0} → (L → Rows) → WriterState L → Collation
+collation_by content w = record { rows = content w.lookup; ranges = w.ranges; properties = properties_of w.data_file }
