@@ -4,6 +4,7 @@ pub mod Causes
 pub mod LinesSoFar
 pub mod TextsLemmas
 pub mod PrintLemmas
+pub mod KeyLines
 pub mod Printing
 pub mod Writing
 pub mod KeyOrdering

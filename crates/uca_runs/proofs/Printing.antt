@@ -12,10 +12,10 @@ use Rattle.uca_runs.specs.declared.faults.InputKind.TheVariants.{Memory}
 use Rattle.uca_runs.specs.declared.faults.RunFault.{RunFault}
 use Rattle.uca_runs.specs.declared.faults.RunFault.TheVariants.{Input, Write}
 use Rattle.uca_runs.specs.Input.{clean_from, clean_lines}
-use Rattle.uca_runs.specs.EachLineSoFar.{IsStopped, WritesText}
+use Rattle.uca_runs.specs.EachLineSoFar.{HasWritten, IsStopped, WritesText}
 use Rattle.uca_runs.specs.LinesSoFar.{IsAfter, OnKnown}
 use Rattle.uca_runs.specs.Runs.{ended_by_output}
-use Rattle.uca_runs.specs.Texts.{LinesState, HasCleanLine}
+use Rattle.uca_runs.specs.Texts.{LinesState, HasRead, HasCleanLine}
 
 -- ---- Counts
 
@@ -52,6 +52,14 @@ module _ (properties : Properties) (bytes_of : List ℕ → List ℕ) where
     -- the bytes of the lines so far
     written_line : flat_map bytes_of before ++ piece ≡ flat_map bytes_of (before ++ lines.line ∷ [])
     written_line = ap (λ p. flat_map bytes_of before ++ p) is ∙ sym (bytes-push before lines.line)
+
+    -- those of the line were written
+    pub line_written : (now : LinesState) (held : BufferState) (sink : SinkState) → now ≡ lines → IsBuffered begun sink.contents (flat_map bytes_of before ++ piece) held
+        → HasWritten properties bytes_of start begun (before ++ lines.line ∷ []) now input held sink
+    line_written now held sink same written = record {
+      read = subst (λ l. HasRead properties start (before ++ lines.line ∷ []) l input) (sym same) t.read;
+      written = subst (λ output. IsBuffered begun sink.contents output held) written_line written;
+    }
 
     -- those of the line were not written, or not all of them
     pub not_written : (buffer held : BufferState) (out sink : SinkState) (fault : RunFault) → IsBuffered begun out.contents (flat_map bytes_of before) buffer

@@ -246,8 +246,8 @@ pub(crate) fn kind_of_text(fault: TextFault) -> InputKind
     }
 }
 
-// Makes the text that of the line that was read.
-fn take_text<A: Allocator, D: Allocator>(
+/// Makes the text that of the line that was read.
+pub(crate) fn take_text<A: Allocator, D: Allocator>(
     text: &mut Normal,
     lines: &InputLines<A>,
     properties: &Data<D>,

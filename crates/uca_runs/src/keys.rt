@@ -1,28 +1,38 @@
 //! The run that prints the sort key of each line.
 
-ghost use Rattle.std.specs.Prelude.{◌≡◌, ◌∷◌, [], ℕ, ◌+◌, ◌-◌, ◌*◌, ◌^◌, ◌<◌, ◌≤◌, ◌||◌, true, false, List, Option, IfSome, OnOk, length};
+ghost use Rattle.std.specs.Prelude.{◌≡◌, ◌∷◌, [], ℕ, ◌+◌, ◌-◌, ◌*◌, ◌^◌, ◌<◌, ◌≤◌, ◌||◌, true, false, List, Option, IfErr, IfOk, IfSome, OnOk, length, chars};
+ghost use Rattle.std.specs.Bool.{OnTrue};
+ghost use Rattle.uca_values.specs.Content.{properties_of};
 ghost use Rattle.uca_weights.specs.Writes.{WentOut};
 ghost use Rattle.uca_lines.specs.OutputBuffer.{IsBuffered};
 ghost use Rattle.uca_lines.specs.Buffered.{HasRoom, WritesThrough};
+ghost use Rattle.uca_text.specs.Texts.{nfd_text};
 ghost use Rattle.uca_match.specs.Collations.{collation_of};
 ghost use Rattle.uca_key.specs.Lengths.{HasShortRows};
+ghost use Rattle.uca_key.specs.Writers.{collation_by};
 ghost use Rattle.uca_runs.specs.Keys.{key_settings_of};
 ghost use Rattle.uca_runs.specs.Runs.{is_input_read, ended_by_output};
 ghost use Rattle.uca_runs.specs.EachLine.{WritesEach, ended_before_input};
 ghost use Rattle.uca_runs.specs.EachLineSoFar.{HasWritten, WritesText, WritesRest};
 ghost use Rattle.uca_runs.specs.KeysRun.{PrintsKeys, WritesKeys};
-ghost use Rattle.uca_runs.specs.KeyForms.{PrintsAs, depth_as, line_as, printed_as, text_as};
+ghost use Rattle.uca_runs.specs.Input.{cause_of};
+ghost use Rattle.uca_runs.specs.Texts.{HasRead, HasTextCause, ReadsCleanLine, is_read};
+ghost use Rattle.uca_runs.specs.KeyForms;
+ghost use Rattle.uca_runs.specs.KeyForms.{PrintsAs, depth_as, line_as, printed_as, settings_at};
 
 use crate::faults::{InputKind, RunFault};
 use crate::files::read_collation;
-use crate::input::InputTexts;
+use crate::input::{InputLines, take_text};
+use crate::line_keys::write_line_key;
 use crate::output::end_output;
 use crate::print::{KeyDigits, print_key, print_keyed_line};
 use std::alloc::{Allocator, Global};
 use std::io::{Read, Write};
-use uca_key::KeyBuffer;
-use uca_lines::OutputBuffer;
+use uca_key::KeyWriter;
+use uca_lines::{LINE_LIMIT, OutputBuffer};
 use uca_match::{Collator, Lookup};
+use uca_text::Normal;
+use uca_values::Data;
 use uca_weights::{Depth, Sink, Source, Weighting, WriteFault};
 
 /// What the output has of a line of the input.
@@ -64,85 +74,191 @@ fn depth_of(form: KeyForm, depth: Depth) -> Depth
     }
 }
 
-// The lines of the input, and what is used again for each of them.
-#[derive(Drop)]
-struct KeyRun<A: Allocator> {
-    texts: InputTexts<A>,
-    key: KeyBuffer<A>,
+// Whether the code points of a line's text are printed.
+fn shows_points(form: KeyForm, depth: Depth) -> bool
+    ensures { result ≡ KeyForms.shows_points form depth }
+{
+    match form {
+        KeyForm::Alone => match depth {
+            Depth::Weights => false,
+            Depth::Identical => true,
+        },
+        KeyForm::BeforeLine => false,
+    }
+}
+
+// Makes the text that of the line that was read, where its code points are printed.
+fn take_shown_text<A: Allocator, D: Allocator>(
+    text: &mut Normal,
     form: KeyForm,
     depth: Depth,
+    lines: &InputLines<A>,
+    properties: &Data<D>,
+) -> Result<(), InputKind>
+    ensures points { OnOk result (KeyForms.shows_points form depth ≡ true →
+        text.new.points ≡ (nfd_text (properties_of properties.now) (chars lines.now.line)).points) }
+    ensures fault { (before : ℕ) → before < LINE_LIMIT →
+        IfErr result (HasTextCause (properties_of properties.now) before lines.now.line) }
+    ensures not_read { is_read result ≡ false }
+{
+    if shows_points(form, depth) {
+        return take_text(text, lines, properties);
+    }
+    Ok(())
+}
+
+// Makes the key of the line that was read, and its text where its code points are printed.
+fn make_key<'a, L: Lookup, T: Allocator, A: Allocator, D: Allocator>(
+    key: &mut KeyWriter<'a, L, T, A>,
+    text: &mut Normal,
+    form: KeyForm,
+    depth: Depth,
+    lines: &InputLines<A>,
+    properties: &Data<D>,
+) -> Result<(), InputKind>
+    requires key_depth { key.old.depth ≡ depth_as form depth }
+    requires same { properties_of properties.now ≡ (collation_by L.content key.old).properties }
+    requires short_rows { HasShortRows (collation_by L.content key.old).rows }
+    ensures made { OnOk result (printed_as form depth key.new.key text.new.points lines.now.line
+        ≡ line_as form (settings_at L.content key.old depth) lines.now.line) }
+    ensures short { OnOk result (length key.new.key < 2 ^ 40) }
+    ensures clean { (before : ℕ) → before < LINE_LIMIT →
+        OnOk result (cause_of (properties_of properties.now) before lines.now.line ≡ None) }
+    ensures fault { (before : ℕ) → before < LINE_LIMIT →
+        IfErr result (HasTextCause (properties_of properties.now) before lines.now.line) }
+    ensures not_read { is_read result ≡ false }
+    ensures collation { collation_by L.content key.new ≡ collation_by L.content key.old }
+    ensures weighting { key.new.weighting ≡ key.old.weighting }
+    ensures depth { key.new.depth ≡ key.old.depth }
+{
+    match write_line_key(key, lines) {
+        Ok(()) => match take_shown_text(text, form, depth, lines, properties) {
+            Ok(()) => Ok(()),
+            Err(kind) => Err(kind),
+        },
+        Err(kind) => Err(kind),
+    }
+}
+
+// The lines of the input, and what is used again for each of them.
+#[derive(Drop)]
+struct KeyRun<'a, L: Lookup, T: Allocator, A: Allocator> {
+    lines: InputLines<A>,
+    key: KeyWriter<'a, L, T, A>,
+    // the text of the line, where its code points are printed
+    text: Normal,
     output: OutputBuffer,
     // room for the digits of a key
     digits: KeyDigits,
 }
 
-impl<A: Allocator> KeyRun<A> {
-    // Writes what the output has of the line that was read.
-    fn print_text<L: Lookup, T: Allocator, W: Write>(
+impl<'a, L: Lookup, T: Allocator, A: Allocator> KeyRun<'a, L, T, A> {
+    // Reads the next line and makes its key, and returns whether there was a line.
+    fn next<D: Allocator, I: Read>(
         &mut self,
-        collator: &Collator<L, T>,
+        form: KeyForm,
+        depth: Depth,
+        properties: &Data<D>,
+        input: &mut Source<I>,
+    ) -> Result<bool, RunFault>
+        requires key_depth { self.old.key.depth ≡ depth_as form depth }
+        requires same { properties_of properties.now ≡ (collation_by L.content self.old.key).properties }
+        requires short_rows { HasShortRows (collation_by L.content self.old.key).rows }
+        ensures reads { (start : Option (List ℕ)) (before : List (List ℕ)) →
+            HasRead (properties_of properties.now) start before self.old.lines input.old →
+            ReadsCleanLine (properties_of properties.now) start before self.new.lines input.new result }
+        ensures made { IfOk result (λ more. OnTrue more (
+            printed_as form depth self.new.key.key self.new.text.points self.new.lines.line
+            ≡ line_as form (settings_at L.content self.old.key depth) self.new.lines.line)) }
+        ensures short { IfOk result (λ more. OnTrue more (length self.new.key.key < 2 ^ 40)) }
+        ensures count { IfOk result (λ more. OnTrue more ((self.new.lines.reader.number ≡ self.old.lines.reader.number + 1)
+            × (self.old.lines.reader.number < LINE_LIMIT))) }
+        ensures output { self.new.output ≡ self.old.output }
+        ensures collation { collation_by L.content self.new.key ≡ collation_by L.content self.old.key }
+        ensures weighting { self.new.key.weighting ≡ self.old.key.weighting }
+        ensures depth { self.new.key.depth ≡ self.old.key.depth }
+        ensures not_write { ended_by_output result ≡ false }
+        ensures failed { input.new.failed ≡ (input.old.failed || is_input_read result) }
+    {
+        match self.lines.next(input) {
+            Ok(true) => match make_key(
+                &mut self.key,
+                &mut self.text,
+                form,
+                depth,
+                &self.lines,
+                properties,
+            ) {
+                Ok(()) => Ok(true),
+                Err(kind) => Err(RunFault::Input {
+                    line: self.lines.number(),
+                    kind,
+                }),
+            },
+            Ok(false) => Ok(false),
+            Err(fault) => Err(fault),
+        }
+    }
+
+    // Writes what the output has of the line that was read.
+    fn print_line<W: Write>(
+        &mut self,
+        form: KeyForm,
+        depth: Depth,
         out: &mut Sink<W>,
     ) -> Result<(), RunFault>
-        requires key_depth { self.old.key.depth ≡ depth_as self.old.form self.old.depth }
-        requires short_rows { HasShortRows (collation_of L.content collator.now).rows }
-        requires few { 0 < self.old.texts.lines.reader.number }
+        requires short { length self.old.key.key < 2 ^ 40 }
+        requires few { 0 < self.old.lines.reader.number }
+        requires most { self.old.lines.reader.number ≤ LINE_LIMIT }
         requires small { self.old.output.written + length self.old.output.held
-            ≤ (self.old.texts.lines.reader.number - 1) * 2 ^ 42 }
+            ≤ (self.old.lines.reader.number - 1) * 2 ^ 42 }
         ensures prints { (begun : Option (List ℕ)) (before : List ℕ) →
-            let c = key_settings_of L.content collator.now self.old.key.weighting self.old.depth in
             IsBuffered begun out.old.contents before self.old.output →
-            WritesText begun before (text_as self.old.form c self.old.texts.text self.old.texts.lines.line)
-            self.old.texts.lines.reader.number self.old.output out.old self.new.output out.new result }
+            WritesText begun before (printed_as form depth self.old.key.key self.old.text.points self.old.lines.line)
+            self.old.lines.reader.number self.old.output out.old self.new.output out.new result }
         ensures small { OnOk result (self.new.output.written + length self.new.output.held
-            ≤ self.old.texts.lines.reader.number * 2 ^ 42) }
-        ensures texts { self.new.texts ≡ self.old.texts }
-        ensures weighting { self.new.key.weighting ≡ self.old.key.weighting }
-        ensures key_depth { self.new.key.depth ≡ self.old.key.depth }
-        ensures form { self.new.form ≡ self.old.form }
-        ensures depth { self.new.depth ≡ self.old.depth }
+            ≤ self.old.lines.reader.number * 2 ^ 42) }
+        ensures lines { self.new.lines ≡ self.old.lines }
+        ensures key { self.new.key ≡ self.old.key }
         ensures not_read { is_input_read result ≡ false }
         ensures failed { out.new.failed ≡ (out.old.failed || ended_by_output result) }
     {
-        let line = self.texts.number();
-        let text = self.texts.text();
-        if self.key.write_text(collator, text).is_err() {
-            return Err(RunFault::Input {
-                line,
-                kind: InputKind::Memory,
-            });
-        }
         Ok(print_as(
             &mut self.digits,
             &mut self.output,
             out,
-            self.form,
-            self.depth,
+            form,
+            depth,
             self.key.bytes(),
-            text.chars(),
-            self.texts.line(),
+            self.text.chars(),
+            self.lines.line(),
         )?)
     }
 
     // Writes what the output has of all lines that are left.
-    fn print_rest<L: Lookup, T: Allocator, I: Read, W: Write>(
+    fn print_rest<D: Allocator, I: Read, W: Write>(
         &mut self,
-        collator: &Collator<L, T>,
+        form: KeyForm,
+        depth: Depth,
+        properties: &Data<D>,
         input: &mut Source<I>,
         out: &mut Sink<W>,
     ) -> Result<(), RunFault>
-        requires key_depth { self.old.key.depth ≡ depth_as self.old.form self.old.depth }
-        requires short_rows { HasShortRows (collation_of L.content collator.now).rows }
+        requires key_depth { self.old.key.depth ≡ depth_as form depth }
+        requires same { properties_of properties.now ≡ (collation_by L.content self.old.key).properties }
+        requires short_rows { HasShortRows (collation_by L.content self.old.key).rows }
         requires small { self.old.output.written + length self.old.output.held
-            ≤ self.old.texts.lines.reader.number * 2 ^ 42 }
+            ≤ self.old.lines.reader.number * 2 ^ 42 }
         ensures prints { (start begun : Option (List ℕ)) (before : List (List ℕ)) →
-            let c = key_settings_of L.content collator.now self.old.key.weighting self.old.depth in
-            HasWritten c.collation.properties (line_as self.old.form c) start begun before self.old.texts.lines input.old self.old.output out.old →
-            WritesRest c.collation.properties (line_as self.old.form c) start begun input.new self.new.output out.new result }
+            let points = properties_of properties.now in
+            let c = settings_at L.content self.old.key depth in
+            HasWritten points (line_as form c) start begun before self.old.lines input.old self.old.output out.old →
+            WritesRest points (line_as form c) start begun input.new self.new.output out.new result }
         ensures input_failed { input.new.failed ≡ (input.old.failed || is_input_read result) }
         ensures out_failed { out.new.failed ≡ (out.old.failed || ended_by_output result) }
     {
-        while self.texts.next(input, collator.data)? {
-            self.print_text(collator, out)?;
+        while self.next(form, depth, properties, input)? {
+            self.print_line(form, depth, out)?;
         }
         Ok(())
     }
@@ -173,14 +289,13 @@ pub(crate) fn print_lines<L: Lookup, T: Allocator, A: Allocator + Copy, I: Read,
     ensures out_failed { out.new.failed ≡ (out.old.failed || ended_by_output result) }
 {
     let mut run = KeyRun {
-        texts: InputTexts::new(alloc, global),
-        key: KeyBuffer::new(alloc, weighting, depth_of(form, depth)),
-        form,
-        depth,
+        lines: InputLines::new(alloc),
+        key: KeyWriter::new(alloc, global, *collator, weighting, depth_of(form, depth)),
+        text: Normal::new(global),
         output: OutputBuffer::new(),
         digits: KeyDigits::new(),
     };
-    let end = run.print_rest(collator, input, out);
+    let end = run.print_rest(form, depth, collator.data, input, out);
     end_output(&mut run.output, out, end)
 }
 

@@ -1,32 +1,44 @@
 -- What went out, from what was written.
-use Rattle.std.proofs.Common.{◌≡◌, ◌||◌, [], subst, sym}
-use Rattle.uca_weights.specs.declared.Weighting.{Weighting}
+use Rattle.std.proofs.Common.{◌≡◌, ◌||◌, [], length, arith, ap, ap₂, subst, sym, ◌∙◌}
+use Rattle.uca_match.specs.Collations.{Collation}
+use Rattle.uca_key.specs.Lengths.{HasShortRows}
 use Rattle.uca_values.specs.Content.{properties_of}
 use Rattle.uca_runs.specs.Keys.{key_settings_of}
-use Rattle.uca_runs.specs.KeyForms.{line_as}
+use Rattle.uca_runs.specs.KeyForms.{line_as, settings_at}
 use Rattle.uca_runs.specs.EachLineSoFar.{WritesRest}
 use Rattle.uca_runs.proofs.Finishing.{started, of_lines}
+use Rattle.uca_runs.proofs.Running.{key_settings_by}
 use Rattle.uca_runs.proofs.keys.print_lines.Goals as goal
+
+pub print_rest-end-requires : goal.print_rest-end-requires
+print_rest-end-requires g c = record {
+  key_depth = c.new-2.ensures.depth ∙ c.depth_of.ensures;
+  same = ap (λ (collation : Collation). collation.properties) (sym c.new-2.ensures.collation);
+  short_rows = subst (λ (collation : Collation). HasShortRows collation.rows) (sym c.new-2.ensures.collation) c.requires;
+  small = omega (arith, c.new-4.ensures.written, ap length c.new-4.ensures.held);
+}
 
 pub returns-clause-writes : goal.returns-clause-writes
 returns-clause-writes g c =
     let properties = properties_of c.args.collator.now.data.now in
-    let by = λ (weighting : Weighting). key_settings_of g.L.Lookup.content c.args.collator.now weighting c.args.depth in
+    let form = c.args.form in
+    let settings = settings_at g.L.Lookup.content c.new-2.result c.args.depth in
+    let asked = key_settings_of g.L.Lookup.content c.args.collator.now c.args.weighting c.args.depth in
+    let same : settings ≡ asked = ap₂ (λ collation weighting. key_settings_by collation weighting c.args.depth) c.new-2.ensures.collation c.new-2.ensures.weighting in
     let input = c.args.input.now in
     let out = c.args.out.now in
-    let begin = started properties (line_as c.args.form (by c.new-2.result.weighting)) c.new.result.lines input c.new-3.result out
-    (c.new.ensures.read properties input) c.new-3.ensures.held c.new-3.ensures.written in
-    let rest = subst (λ w. WritesRest properties (line_as c.args.form (by w)) input.remaining out.contents c.print_rest-end.new.input c.print_rest-end.new.self.output c.print_rest-end.new.out c.print_rest-end.result)
-    c.new-2.ensures.weighting (c.print_rest-end.ensures.prints input.remaining out.contents [] begin) in
-    c.end_output.ensures.writes properties (line_as c.args.form (by c.args.weighting)) input.remaining out.contents c.print_rest-end.new.input rest
+    let begin = started properties (line_as form settings) c.new.result input c.new-4.result out (c.new.ensures.read properties input) c.new-4.ensures.held c.new-4.ensures.written in
+    let rest = subst (λ s. WritesRest properties (line_as form s) input.remaining out.contents c.print_rest-end.new.input c.print_rest-end.new.self.output c.print_rest-end.new.out c.print_rest-end.result)
+    same (c.print_rest-end.ensures.prints input.remaining out.contents [] begin) in
+    c.end_output.ensures.writes properties (line_as form asked) input.remaining out.contents c.print_rest-end.new.input rest
 
 pub returns-clause-of_lines : goal.returns-clause-of_lines
 returns-clause-of_lines g c =
     let properties = properties_of c.args.collator.now.data.now in
-    let bytes_of = line_as c.args.form (key_settings_of g.L.Lookup.content c.args.collator.now c.new-2.result.weighting c.args.depth) in
+    let bytes_of = line_as c.args.form (settings_at g.L.Lookup.content c.new-2.result c.args.depth) in
     let input = c.args.input.now in
     let out = c.args.out.now in
-    let begin = started properties bytes_of c.new.result.lines input c.new-3.result out (c.new.ensures.read properties input) c.new-3.ensures.held c.new-3.ensures.written in
+    let begin = started properties bytes_of c.new.result input c.new-4.result out (c.new.ensures.read properties input) c.new-4.ensures.held c.new-4.ensures.written in
     c.end_output.ensures.of_lines (of_lines properties bytes_of input.remaining out.contents c.print_rest-end.new.input c.print_rest-end.new.self.output c.print_rest-end.new.out c.print_rest-end.result
     (c.print_rest-end.ensures.prints input.remaining out.contents [] begin))
 

@@ -1,5 +1,5 @@
 -- What is returned for a line has the cause that the definition gives it.
-use Rattle.std.proofs.Common.{◌∙◌, ap, subst, chars}
+use Rattle.std.proofs.Common.{◌≡◌, subst, chars}
 use Rattle.uca_text.specs.Texts.{nfd_text}
 use Rattle.uca_text.specs.Limits.{IsAccepted}
 use Rattle.uca_text.specs.Faults.{IsCause}
@@ -12,7 +12,8 @@ pub returns-in-Ok-write-clause-key : goal.returns-in-Ok-write-clause-key
 returns-in-Ok-write-clause-key g c =
     let key = c.args.writer.now in
     let collation = collation_by g.L.Lookup.content key in
-    c.in-Ok-write.ensures.key ∙ ap (λ l. key_at key.depth key.weighting (read_text collation (nfd_text collation.properties (chars l)))) c.in-Ok.ensures.text.0
+    subst (λ l. c.write.new.self.key ≡ key_at key.depth key.weighting (read_text collation (nfd_text collation.properties (chars l)))) c.in-Ok.ensures.text.0
+    c.in-Ok-write.ensures.key
 
 pub returns-in-Ok-write-clause-clean : goal.returns-in-Ok-write-clause-clean
 returns-in-Ok-write-clause-clean g c = λ before h.

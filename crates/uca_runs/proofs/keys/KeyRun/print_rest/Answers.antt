@@ -1,40 +1,67 @@
--- Where no text was read, or what the output has of its line was not written.
+-- After each line, and where no line was read, or what the output has of it was not written.
 use Rattle.std.specs.Prelude.{⊤}
-use Rattle.std.proofs.Common.{Bool, ap, ap₂, ◌∙◌}
+use Rattle.std.proofs.Common.{Bool, [], ◌∷◌, ◌++◌, ◌+◌, ◌*◌, ◌^◌, ◌≤◌, length, ap, ap₂, subst, sym, ◌∙◌}
+use Rattle.std.proofs.Math.Bool.{or-false}
 use Rattle.std.specs.List.{flat_map}
 use Rattle.std.proofs.lemmas.Result.{err_from_is_err_and}
-use Rattle.uca_weights.specs.declared.Depth.{Depth}
-use Rattle.uca_weights.specs.declared.Weighting.{Weighting}
 use Rattle.uca_values.specs.Content.{properties_of}
-use Rattle.uca_runs.specs.Keys.{key_settings_of}
-use Rattle.uca_runs.specs.KeyForms.{line_as, text_as}
-use Rattle.uca_runs.proofs.Printing.{not_written, no_write}
-use Rattle.uca_runs.proofs.Running.{as_before}
+use Rattle.uca_lines.specs.OutputBuffer.{IsBuffered}
+use Rattle.uca_key.specs.Writers.{collation_by}
+use Rattle.uca_runs.specs.Texts.{LinesState}
+use Rattle.uca_runs.specs.KeyForms.{line_as, settings_at}
+use Rattle.uca_runs.proofs.Printing.{line_written, not_written, no_write}
+use Rattle.uca_runs.proofs.Running.{as_before, key_settings_by}
 use Rattle.uca_runs.proofs.keys.KeyRun.print_rest.Goals as goal
+
+pub loop-self-preserved : goal.loop-self-preserved
+loop-self-preserved g c =
+    let properties = properties_of c.args.properties.now in
+    let form = c.args.form in
+    let content = g.L.Lookup.content in
+    let bytes_of = line_as form (settings_at content c.args.self.now.key c.args.depth) in
+    let lines = c.next.new.self.lines in
+    let inv = c.loop-self.invariant in
+    let next = rw c.if-branch.true at c.in_ok-next.ensures in
+    let now = c.in_ok-print_line.ensures in
+    let same = next.made ∙ ap₂ (λ collation weighting. line_as form (key_settings_by collation weighting c.args.depth) lines.line) inv.collation inv.weighting in
+    record {
+      collation = ap (collation_by content) now.key ∙ next.collation ∙ inv.collation;
+      weighting = ap (λ key. key.weighting) now.key ∙ next.weighting ∙ inv.weighting;
+      key_depth = ap (λ key. key.depth) now.key ∙ next.depth ∙ inv.key_depth;
+      small = subst (λ (l : LinesState). c.print_line.new.self.output.written + length c.print_line.new.self.output.held ≤ l.reader.number * 2 ^ 42) (sym now.lines) now.small;
+      written = λ start begun before p.
+          let i = inv.written start begun before p in
+          let t = next.reads start i.0 i.1.read in
+          let held = subst (λ b. IsBuffered begun c.loop-self.out.contents (flat_map bytes_of i.0) b) (sym next.output) i.1.written in (
+            i.0 ++ lines.line ∷ [],
+            line_written properties bytes_of start begun i.0 lines c.next.new.input t _ same c.print_line.new.self.lines c.print_line.new.self.output c.print_line.new.out
+                now.lines (now.prints begun (flat_map bytes_of i.0) held),
+          );
+      input_failed = next.failed ∙ or-false _ ∙ inv.input_failed;
+      out_failed = now.failed ∙ or-false _ ∙ inv.out_failed;
+    }
 
 pub returns-in_err-next-clause-out_failed : goal.returns-in_err-next-clause-out_failed
 returns-in_err-next-clause-out_failed g c =
     let q = err_from_is_err_and c.from_residual.result c.from_residual.ensures.1 in
     rw (q.1, q.2) (c.loop-self.invariant.out_failed ∙ as_before c.args.out.now.failed _ (no_write Bool ⊤ c.in_err-next.field-0.0 c.in_err-next.ensures.not_write))
 
-pub returns-in_err-print_text-clause-prints : goal.returns-in_err-print_text-clause-prints
-returns-in_err-print_text-clause-prints g c = λ start begun before p.
-    let q = err_from_is_err_and c.from_residual-in_err-print_text.result c.from_residual-in_err-print_text.ensures.1 in
-    let properties = properties_of c.args.collator.now.data.now in
-    let form = c.args.self.now.form in
-    let by = λ (weighting : Weighting) (depth : Depth). key_settings_of g.L.Lookup.content c.args.collator.now weighting depth in
-    let settings = by c.args.self.now.key.weighting c.args.self.now.depth in
-    let texts = c.next.new.self in
+pub returns-in_err-print_line-clause-prints : goal.returns-in_err-print_line-clause-prints
+returns-in_err-print_line-clause-prints g c = λ start begun before p.
+    let q = err_from_is_err_and c.from_residual-in_err-print_line.result c.from_residual-in_err-print_line.ensures.1 in
+    let properties = properties_of c.args.properties.now in
+    let form = c.args.form in
+    let bytes_of = line_as form (settings_at g.L.Lookup.content c.args.self.now.key c.args.depth) in
+    let lines = c.next.new.self.lines in
     let inv = c.loop-self.invariant in
     let i = inv.written start begun before p in
     let next = rw c.if-branch.true at c.in_ok-next.ensures in
     let t = next.reads start i.0 i.1.read in
-    let same = ap (λ f. text_as f (by c.loop-self.self.key.weighting c.loop-self.self.depth) texts.text texts.lines.line) inv.form
-    ∙ ap₂ (λ weighting depth. text_as form (by weighting depth) texts.text texts.lines.line) inv.weighting inv.depth
-    ∙ ap (λ text. text_as form settings text texts.lines.line) next.text in
+    let same = next.made ∙ ap₂ (λ collation weighting. line_as form (key_settings_by collation weighting c.args.depth) lines.line) inv.collation inv.weighting in
+    let held = subst (λ b. IsBuffered begun c.loop-self.out.contents (flat_map bytes_of i.0) b) (sym next.output) i.1.written in
     rw (q.1, q.2) (
       i.0,
-      not_written properties (line_as form settings) start begun i.0 texts.lines c.next.new.input t _ same c.loop-self.self.output c.print_text.new.self.output
-          c.loop-self.out c.print_text.new.out c.in_err-print_text.field-0.0 i.1.written
-          (c.in_err-print_text.ensures.prints begun (flat_map (line_as form settings) i.0) i.1.written),
+      not_written properties bytes_of start begun i.0 lines c.next.new.input t _ same c.next.new.self.output c.print_line.new.self.output
+          c.loop-self.out c.print_line.new.out c.in_err-print_line.field-0.0 held
+          (c.in_err-print_line.ensures.prints begun (flat_map bytes_of i.0) held),
     )
