@@ -18,5 +18,10 @@ pub mod OneOrder
 pub mod RuleBytes
 pub mod FilesLemmas
 pub mod ReadFilesLemmas
+pub mod Prefixes
+pub mod KeyOrders
+pub mod Groups
+pub mod StoredLines
+pub mod GroupKeys
 pub mod WholeRuns
 pub mod AffectedLines

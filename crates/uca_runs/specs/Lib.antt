@@ -11,6 +11,7 @@ pub mod Texts
 pub mod EachLineSoFar
 pub mod KeyForms
 pub mod SortRun
+pub mod KeptLines
 pub mod SortSoFar
 pub mod Verdicts
 pub mod CheckRun

@@ -9,6 +9,8 @@ pub mod compare;
 pub mod faults;
 mod files;
 mod input;
+mod kept_lines;
+mod key_groups;
 pub mod keyed_lines;
 pub mod keys;
 pub mod laws;
