@@ -12,6 +12,9 @@ use uca_values::FaultKind;
 use uca_values::limits::MOST_ELEMENTS;
 use uca_weights::Element;
 
+/// How many bytes the text of an element has: `[.1C47.0020.0002]`.
+const ELEMENT_LENGTH: usize = 17;
+
 /// The elements that a text spells, with or without blanks around them.
 ///
 /// # Errors
@@ -23,7 +26,8 @@ pub fn read_elements<A: Allocator>(alloc: A, text: &[u8]) -> Result<Vec<Element,
     ensures found { IfOk result (λ elements. AreElements text.now elements.items) }
     ensures fault { IfErr result (λ kind. (kind ≡ FaultKind.Memory) ⊎ ElementsCause text.now kind) }
 {
-    let mut elements = Vec::new(alloc);
+    let most = (text.len() / ELEMENT_LENGTH).min(MOST_ELEMENTS);
+    let mut elements = Vec::with_capacity(alloc, most)?;
     let mut rest = skip_blanks(text);
     while !rest.is_empty() {
         if !opens(rest) {
