@@ -22,3 +22,5 @@ mod stored_keys;
 mod sweeps;
 #[cfg(test)]
 mod texts;
+#[cfg(test)]
+mod written_keys;
