@@ -6,7 +6,7 @@ use std::io;
 use std::io::{ErrorKind, Read, Write};
 use std::iter::once;
 use std::test::Fail;
-use test_kit::{Calls, Failure, FakeReader, FakeWriter, Pace};
+use test_kit::{Calls, Failure, FakeReader, FakeWriter, Pace, holds};
 use uca_cli::{MakeFault, OpenFault, Opens, run_command};
 use uca_weights::{Sink, Source};
 
@@ -188,6 +188,17 @@ impl Seen {
         self.ended.set(self.ended.get().saturating_add(1));
     }
 
+    // Whether this many files were opened, all was seen in its order, and a file was made just where this is said. The
+    // input is read only if all files are opened.
+    fn is_in_order(&self, opened: u32, makes: bool, input_calls: u32) -> bool {
+        self.opened.get() == opened
+            && self.early.get() == 0
+            && self.back.get() == 0
+            && self.asked.get() == u32::from(makes)
+            && self.left.get() == 0
+            && (opened == self.wanted || input_calls == 0)
+    }
+
     // A file that is made before all others are read to their end is early too.
     fn see_making(&self) {
         if self.ended.get() < self.wanted {
@@ -353,17 +364,16 @@ fn run(
     let mut out = Sink::new(FakeWriter::new(alloc, taken, &written));
     let mut err = Sink::new(FakeWriter::new(alloc, told, &said));
     let status = run_command(alloc, opener, words, &mut input, &mut out, &mut err);
-    let late = calls
-        .late
-        .get()
-        .max(written.late.get())
-        .max(said.late.get());
-    Ended {
+    drop(input);
+    let ended = Ended {
         status,
         out: out.into_inner().text,
         err: err.into_inner().text,
-        is_late: late > 0,
-    }
+        is_late: calls.late.get() > 0 || written.late.get() > 0 || said.late.get() > 0,
+    };
+    drop(written);
+    drop(said);
+    ended
 }
 
 /// The program's name, and the arguments of a line, one after each comma.
@@ -399,12 +409,11 @@ pub fn check_words(
         disk: &disk,
         makes: false,
     };
-    check_run(alloc, files, words, &around, end)?;
-    if disk.holds("kept.txt", "kept") {
-        Ok(())
-    } else {
-        Err(Fail::new("a file was made"))
-    }
+    let checked = check_run(alloc, files, words, &around, end);
+    let is_kept = disk.holds("kept.txt", "kept");
+    drop(disk);
+    checked?;
+    holds(is_kept, "a file was made")
 }
 
 /// The same for arguments with commas between them, with a disk of its own. A file is to be made on it just where
@@ -434,16 +443,21 @@ fn check_run(
         seen: &seen,
     };
     let ended = run(alloc, &mut opener, words, around, &calls);
+    drop(opener);
+    let is_in_order = seen.is_in_order(end.opened, around.makes, calls.all.get());
+    drop(seen);
+    drop(calls);
+    let checked = check_ended(words, &ended, end, is_in_order);
+    drop(ended);
+    checked
+}
+
+// A command ended so.
+fn check_ended(words: &[&str], ended: &Ended, end: &End, is_in_order: bool) -> Result<(), Fail> {
     let is_written = ended.out.as_slice() == end.out.as_bytes()
         && ended.err.as_slice() == end.err.as_bytes()
         && ended.status == end.status
         && !ended.is_late;
-    let is_in_order = seen.opened.get() == end.opened
-        && seen.early.get() == 0
-        && seen.back.get() == 0
-        && seen.asked.get() == u32::from(around.makes)
-        && seen.left.get() == 0
-        && (end.opened == seen.wanted || calls.all.get() == 0);
     if is_written && is_in_order {
         return Ok(());
     }

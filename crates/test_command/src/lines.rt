@@ -27,22 +27,33 @@ fn status_of<W: Write>(alloc: Global, fault: &RunFault, err: &mut Sink<W>) -> Op
 // The text of the error is this line, without its LF. The error is reported by this line and this status; and if the
 // writer fails before one of the bytes, by those before it and this status.
 fn check(alloc: Global, fault: &RunFault, line: &str, status: u8) -> Result<(), Fail> {
+    check_whole(alloc, fault, (line, status))?;
+    check_text_of(alloc, fault, line)?;
+    for good in 0..line.len() {
+        check_cuts(alloc, fault, (line, status), good)?;
+    }
+    Ok(())
+}
+
+// The error is reported by this line and this status.
+fn check_whole(alloc: Global, fault: &RunFault, (line, status): (&str, u8)) -> Result<(), Fail> {
     let mut err = Sink::new(Vec::new(alloc));
     let found = status_of(alloc, fault, &mut err);
     let is_line = err.into_inner().as_slice() == line.as_bytes();
-    holds(found == Some(status) && is_line, line)?;
-    same(&format!(in alloc; "{fault}\n")?, line, line)?;
+    holds(found == Some(status) && is_line, line)
+}
+
+// The text of the error is this line, without its LF.
+fn check_text_of(alloc: Global, fault: &RunFault, line: &str) -> Result<(), Fail> {
+    let text = format!(in alloc; "{fault}\n")?;
+    same(&text, line, line)
+}
+
+// The writer fails in each way after this many bytes.
+fn check_cuts(alloc: Global, fault: &RunFault, told: (&str, u8), good: usize) -> Result<(), Fail> {
     let error = Failure::Error(ErrorKind::Interrupted);
-    for good in 0..line.len() {
-        check_cut(alloc, fault, (line, status), Pace::failing(4, good, error))?;
-        check_cut(
-            alloc,
-            fault,
-            (line, status),
-            Pace::failing(4, good, Failure::Nothing),
-        )?;
-    }
-    Ok(())
+    check_cut(alloc, fault, told, Pace::failing(4, good, error))?;
+    check_cut(alloc, fault, told, Pace::failing(4, good, Failure::Nothing))
 }
 
 fn check_cut(
@@ -57,6 +68,8 @@ fn check_cut(
     let is_told = err.failed() && calls.late.get() == 0;
     let text = err.into_inner().text;
     let is_begun = Some(text.len()) == pace.good && line.as_bytes().starts_with(text.as_slice());
+    drop(text);
+    drop(calls);
     holds(found == Some(status) && is_told && is_begun, line)
 }
 
@@ -71,38 +84,55 @@ fn check_file(
     check(alloc, &RunFault::File { role, fault }, text, status)
 }
 
-#[test]
-fn refused_files(rt: HostRuntime) -> Result<(), Fail> {
-    let alloc = rt.alloc();
-    let fault = (Role::Table, 1, FaultKind::Line);
-    check_file(alloc, fault, "table line 1: Line\n", 1)?;
-    let fault = (Role::Data, 22, FaultKind::Order);
-    check_file(alloc, fault, "data line 22: Order\n", 1)?;
-    let fault = (Role::Base, 3, FaultKind::CodePoint);
-    check_file(alloc, fault, "base line 3: CodePoint\n", 1)?;
-    let fault = (Role::Tailored, 4, FaultKind::Weight);
-    check_file(alloc, fault, "tailored line 4: Weight\n", 1)?;
-    let fault = (Role::Data, 2, FaultKind::Range);
-    check_file(alloc, fault, "data line 2: Range\n", 1)
-}
-
-#[test]
-fn other_faults_of_files(rt: HostRuntime) -> Result<(), Fail> {
-    let alloc = rt.alloc();
-    let fault = (Role::Table, 1_000_001, FaultKind::Limit);
-    check_file(alloc, fault, "table line 1000001: Limit\n", 1)?;
-    let fault = (Role::Data, 7, FaultKind::Read);
-    check_file(alloc, fault, "data line 7: Read\n", 3)?;
-    let fault = (Role::Table, 8, FaultKind::Memory);
-    check_file(alloc, fault, "table line 8: Memory\n", 4)?;
-    // The longest line of a file.
-    let fault = (Role::Certificate, 4_294_967_295, FaultKind::DuplicateKey);
-    check_file(
-        alloc,
-        fault,
+/// A file, its line, the error, what is said, and the status. The last line is the longest of a file.
+const FILES: [(Role, u32, FaultKind, &str, u8); 9] = [
+    (Role::Table, 1, FaultKind::Line, "table line 1: Line\n", 1),
+    (Role::Data, 22, FaultKind::Order, "data line 22: Order\n", 1),
+    (
+        Role::Base,
+        3,
+        FaultKind::CodePoint,
+        "base line 3: CodePoint\n",
+        1,
+    ),
+    (
+        Role::Tailored,
+        4,
+        FaultKind::Weight,
+        "tailored line 4: Weight\n",
+        1,
+    ),
+    (Role::Data, 2, FaultKind::Range, "data line 2: Range\n", 1),
+    (
+        Role::Table,
+        1_000_001,
+        FaultKind::Limit,
+        "table line 1000001: Limit\n",
+        1,
+    ),
+    (Role::Data, 7, FaultKind::Read, "data line 7: Read\n", 3),
+    (
+        Role::Table,
+        8,
+        FaultKind::Memory,
+        "table line 8: Memory\n",
+        4,
+    ),
+    (
+        Role::Certificate,
+        4_294_967_295,
+        FaultKind::DuplicateKey,
         "certificate line 4294967295: DuplicateKey\n",
         1,
-    )
+    ),
+];
+
+#[test]
+fn faults_of_files(rt: HostRuntime) -> Result<(), Fail> {
+    for (role, line, kind, text, status) in FILES {
+        check_file(rt.alloc(), (role, line, kind), text, status)?;
+    }
+    Ok(())
 }
 
 // An error of rules or of a certificate.
@@ -172,30 +202,39 @@ fn check_plan(
     check(alloc, &fault, text, status)
 }
 
-#[test]
-fn refused_plans(rt: HostRuntime) -> Result<(), Fail> {
-    let alloc = rt.alloc();
-    let anchor = (3, TailorKind::Anchor);
-    check_plan(alloc, anchor, "tailor relation 3: Anchor\n", 1)?;
-    let prefix = (5000, TailorKind::NeedsPrefix);
-    check_plan(alloc, prefix, "tailor relation 5000: NeedsPrefix\n", 1)?;
-    let limit = (1, TailorKind::Limit);
-    check_plan(alloc, limit, "tailor relation 1: Limit\n", 1)?;
-    let base = (0, TailorKind::BaseIllFormed);
-    check_plan(alloc, base, "tailor: BaseIllFormed\n", 1)?;
-    let room = (0, TailorKind::NoRoom(Level::Two));
-    check_plan(alloc, room, "tailor: NoRoom 2\n", 1)?;
-    let variable = (2, TailorKind::ImplicitVariable);
-    check_plan(alloc, variable, "tailor relation 2: ImplicitVariable\n", 1)?;
-    check_plan(alloc, (0, TailorKind::Memory), "memory\n", 4)?;
-    // The longest line of a plan.
-    let longest = (4_294_967_295, TailorKind::ImplicitVariable);
-    check_plan(
-        alloc,
-        longest,
+/// A relation, or 0, the error, what is said, and the status. The last line is the longest of a plan.
+const PLANS: [(u32, TailorKind, &str, u8); 8] = [
+    (3, TailorKind::Anchor, "tailor relation 3: Anchor\n", 1),
+    (
+        5000,
+        TailorKind::NeedsPrefix,
+        "tailor relation 5000: NeedsPrefix\n",
+        1,
+    ),
+    (1, TailorKind::Limit, "tailor relation 1: Limit\n", 1),
+    (0, TailorKind::BaseIllFormed, "tailor: BaseIllFormed\n", 1),
+    (0, TailorKind::NoRoom(Level::Two), "tailor: NoRoom 2\n", 1),
+    (
+        2,
+        TailorKind::ImplicitVariable,
+        "tailor relation 2: ImplicitVariable\n",
+        1,
+    ),
+    (0, TailorKind::Memory, "memory\n", 4),
+    (
+        4_294_967_295,
+        TailorKind::ImplicitVariable,
         "tailor relation 4294967295: ImplicitVariable\n",
         1,
-    )
+    ),
+];
+
+#[test]
+fn refused_plans(rt: HostRuntime) -> Result<(), Fail> {
+    for (relation, kind, text, status) in PLANS {
+        check_plan(rt.alloc(), (relation, kind), text, status)?;
+    }
+    Ok(())
 }
 
 // A file that does not open.
@@ -203,14 +242,21 @@ fn check_open(alloc: Global, role: Role, text: &str) -> Result<(), Fail> {
     check(alloc, &RunFault::Open(role), text, 3)
 }
 
+const UNOPENED: [(Role, &str); 6] = [
+    (Role::Table, "table: Open\n"),
+    (Role::Data, "data: Open\n"),
+    (Role::Rules, "rules: Open\n"),
+    (Role::Certificate, "certificate: Open\n"),
+    (Role::Base, "base: Open\n"),
+    (Role::Tailored, "tailored: Open\n"),
+];
+
 #[test]
 fn files_that_do_not_open(rt: HostRuntime) -> Result<(), Fail> {
-    check_open(rt.alloc(), Role::Table, "table: Open\n")?;
-    check_open(rt.alloc(), Role::Data, "data: Open\n")?;
-    check_open(rt.alloc(), Role::Rules, "rules: Open\n")?;
-    check_open(rt.alloc(), Role::Certificate, "certificate: Open\n")?;
-    check_open(rt.alloc(), Role::Base, "base: Open\n")?;
-    check_open(rt.alloc(), Role::Tailored, "tailored: Open\n")
+    for (role, text) in UNOPENED {
+        check_open(rt.alloc(), role, text)?;
+    }
+    Ok(())
 }
 
 // The certificate would be written over a file that is read.
@@ -235,21 +281,33 @@ fn check_line(
     check(alloc, &RunFault::Input { line, kind }, text, status)
 }
 
+/// A line of the input, its error, what is said, and the status. The last line is the longest of all.
+const LINES: [(u32, InputKind, &str, u8); 7] = [
+    (1, InputKind::Utf8, "input line 1: Utf8\n", 1),
+    (2, InputKind::TooLong, "input line 2: TooLong\n", 1),
+    (3, InputKind::LongRun(0), "input line 3: LongRun at 0\n", 1),
+    (4, InputKind::Read, "input line 4: Read\n", 3),
+    (
+        1_000_001,
+        InputKind::Limit,
+        "input line 1000001: Limit\n",
+        1,
+    ),
+    (6, InputKind::Memory, "input line 6: Memory\n", 4),
+    (
+        4_294_967_295,
+        InputKind::LongRun(4_294_967_295),
+        "input line 4294967295: LongRun at 4294967295\n",
+        1,
+    ),
+];
+
 #[test]
 fn faults_of_lines(rt: HostRuntime) -> Result<(), Fail> {
-    let alloc = rt.alloc();
-    check_line(alloc, (1, InputKind::Utf8), "input line 1: Utf8\n", 1)?;
-    check_line(alloc, (2, InputKind::TooLong), "input line 2: TooLong\n", 1)?;
-    let run = (3, InputKind::LongRun(0));
-    check_line(alloc, run, "input line 3: LongRun at 0\n", 1)?;
-    check_line(alloc, (4, InputKind::Read), "input line 4: Read\n", 3)?;
-    let limit = (1_000_001, InputKind::Limit);
-    check_line(alloc, limit, "input line 1000001: Limit\n", 1)?;
-    check_line(alloc, (6, InputKind::Memory), "input line 6: Memory\n", 4)?;
-    // The longest line of all.
-    let longest = (4_294_967_295, InputKind::LongRun(4_294_967_295));
-    let text = "input line 4294967295: LongRun at 4294967295\n";
-    check_line(alloc, longest, text, 1)
+    for (line, kind, text, status) in LINES {
+        check_line(rt.alloc(), (line, kind), text, status)?;
+    }
+    Ok(())
 }
 
 // An error of a text, which is the right one or the left one.
@@ -262,17 +320,27 @@ fn check_text(
     check(alloc, &RunFault::Text { right, fault }, text, status)
 }
 
+/// Whether the text is the right one, its error, what is said, and the status.
+const TEXTS: [(bool, TextFault, &str, u8); 6] = [
+    (false, TextFault::TooLong, "left: TooLong\n", 1),
+    (false, TextFault::LongRun(1), "left: LongRun at 1\n", 1),
+    (false, TextFault::Memory, "left: Memory\n", 4),
+    (true, TextFault::TooLong, "right: TooLong\n", 1),
+    (
+        true,
+        TextFault::LongRun(1_048_511),
+        "right: LongRun at 1048511\n",
+        1,
+    ),
+    (true, TextFault::Memory, "right: Memory\n", 4),
+];
+
 #[test]
 fn faults_of_texts(rt: HostRuntime) -> Result<(), Fail> {
-    let alloc = rt.alloc();
-    check_text(alloc, (false, TextFault::TooLong), "left: TooLong\n", 1)?;
-    let run = (false, TextFault::LongRun(1));
-    check_text(alloc, run, "left: LongRun at 1\n", 1)?;
-    check_text(alloc, (false, TextFault::Memory), "left: Memory\n", 4)?;
-    check_text(alloc, (true, TextFault::TooLong), "right: TooLong\n", 1)?;
-    let run = (true, TextFault::LongRun(1_048_511));
-    check_text(alloc, run, "right: LongRun at 1048511\n", 1)?;
-    check_text(alloc, (true, TextFault::Memory), "right: Memory\n", 4)
+    for (right, fault, text, status) in TEXTS {
+        check_text(rt.alloc(), (right, fault), text, status)?;
+    }
+    Ok(())
 }
 
 #[test]

@@ -96,6 +96,19 @@ fn check_tailor(
     check_around(alloc, &files, words, &around, end)
 }
 
+// The same. Afterwards the disk has this file.
+fn check_disk(
+    alloc: Global,
+    texts: Texts,
+    how: (&str, Pace),
+    (disk, makes): (&Disk, bool),
+    end: &End,
+    (name, text): (&str, &str),
+) -> Result<(), Fail> {
+    check_tailor(alloc, texts, how, (disk, makes), end)?;
+    holds(disk.holds(name, text), "another certificate")
+}
+
 // Done, with this on standard output.
 fn done(out: &str, opened: u32) -> End<'_> {
     End {
@@ -124,11 +137,16 @@ fn check_outputs(alloc: Global, case: &Case) -> Result<(), Fail> {
     let texts = [Some(case.base), Some(DATA), Some(case.rules)];
     let disk = Disk::holding(alloc, "certificate.txt", OLD)?;
     let end = done(case.tailored, 3);
-    check_tailor(alloc, texts, (WORDS, Pace::steps(7)), (&disk, true), &end)?;
-    holds(
-        disk.holds("certificate.txt", case.certificate),
-        "another certificate",
-    )
+    let checked = check_disk(
+        alloc,
+        texts,
+        (WORDS, Pace::steps(7)),
+        (&disk, true),
+        &end,
+        ("certificate.txt", case.certificate),
+    );
+    drop(disk);
+    checked
 }
 
 /// What was written is accepted by the audit.
@@ -225,14 +243,16 @@ fn check_overwriting(alloc: Global, arguments: &str, role: &str) -> Result<(), F
         err: &err,
         opened: 0,
     };
-    check_tailor(
+    let checked = check_disk(
         alloc,
         texts,
         (&words, Pace::steps(64)),
         (&disk, false),
         &end,
-    )?;
-    holds(disk.holds("rules.txt", "&a < x"), arguments)
+        ("rules.txt", "&a < x"),
+    );
+    drop(disk);
+    checked
 }
 
 #[test]
@@ -254,8 +274,16 @@ fn check_full(alloc: Global, room: usize) -> Result<(), Fail> {
         err: "certificate: Write\n",
         opened: 3,
     };
-    check_tailor(alloc, texts, (WORDS, Pace::steps(64)), (&disk, true), &end)?;
-    holds(disk.holds("certificate.txt", OLD), "another certificate")
+    let checked = check_disk(
+        alloc,
+        texts,
+        (WORDS, Pace::steps(64)),
+        (&disk, true),
+        &end,
+        ("certificate.txt", OLD),
+    );
+    drop(disk);
+    checked
 }
 
 #[test]
@@ -279,8 +307,16 @@ fn check_fault(
         opened,
     };
     let disk = Disk::holding(alloc, "certificate.txt", OLD)?;
-    check_tailor(alloc, texts, (WORDS, Pace::steps(64)), (&disk, false), &end)?;
-    holds(disk.holds("certificate.txt", OLD), err)
+    let checked = check_disk(
+        alloc,
+        texts,
+        (WORDS, Pace::steps(64)),
+        (&disk, false),
+        &end,
+        ("certificate.txt", OLD),
+    );
+    drop(disk);
+    checked
 }
 
 /// The rules, and why no table is tailored by them.
@@ -341,8 +377,16 @@ fn check_unmade(alloc: Global, fails: Fails, (status, err): (u8, &str)) -> Resul
         err,
         opened: 3,
     };
-    check_tailor(alloc, texts, (WORDS, Pace::steps(64)), (&disk, true), &end)?;
-    holds(disk.holds("certificate.txt", OLD), "another certificate")
+    let checked = check_disk(
+        alloc,
+        texts,
+        (WORDS, Pace::steps(64)),
+        (&disk, true),
+        &end,
+        ("certificate.txt", OLD),
+    );
+    drop(disk);
+    checked
 }
 
 #[test]
@@ -366,11 +410,16 @@ fn check_cut(alloc: Global, pace: Pace, out: &str) -> Result<(), Fail> {
         err: "output: Write\n",
         opened: 3,
     };
-    check_tailor(alloc, texts, (WORDS, pace), (&disk, true), &end)?;
-    holds(
-        disk.holds("certificate.txt", UNMOVED),
-        "another certificate",
-    )
+    let checked = check_disk(
+        alloc,
+        texts,
+        (WORDS, pace),
+        (&disk, true),
+        &end,
+        ("certificate.txt", UNMOVED),
+    );
+    drop(disk);
+    checked
 }
 
 #[test]

@@ -89,9 +89,8 @@ fn add_lines(
 ) -> Result<(), LineFault> {
     let mut line = Vec::new(memory.tried);
     for _ in 0..100 {
-        let next = reader.next_line(&mut streams.table, &mut line)?;
-        if next == NextLine::EndOfInput {
-            break;
+        if reader.next_line(&mut streams.table, &mut line)? == NextLine::EndOfInput {
+            return Ok(());
         }
         let _ = lines.extend_from_slice(&line);
     }
@@ -502,34 +501,12 @@ fn makes_tailoring(memory: Memory, streams: &mut Streams, is_plan: bool) -> Resu
     said
 }
 
-fn makes_of_table(
-    memory: Memory,
-    streams: &mut Streams,
-    table: &Table,
-    name: &str,
-) -> Result<String, Fail> {
-    match name {
-        "trie" => makes_trie(memory, streams, table),
-        "key list" => makes_key_positions(memory, streams, table, false),
-        _ => makes_key_positions(memory, streams, table, true),
-    }
-}
-
-fn makes_of_contractions(
-    memory: Memory,
-    streams: &mut Streams,
-    name: &str,
-) -> Result<String, Fail> {
-    let table = contractions(memory.ample)?;
-    let said = makes_of_table(memory, streams, &table, name);
-    drop(table);
-    said
-}
-
 /// A call that makes something of values.
 pub fn makes(memory: Memory, streams: &mut Streams, name: &str) -> Result<String, Fail> {
     match name {
-        "trie" | "key list" | "key map" => makes_of_contractions(memory, streams, name),
+        "trie" => makes_trie(memory, streams, &contractions(memory.ample)?),
+        "key list" => makes_key_positions(memory, streams, &contractions(memory.ample)?, false),
+        "key map" => makes_key_positions(memory, streams, &contractions(memory.ample)?, true),
         "key" | "key in a buffer" | "key of elements" => makes_keys(memory, streams, name),
         "properties" => said(memory.ample, makes_properties(memory, streams)),
         "audit" => makes_tailoring(memory, streams, false),
