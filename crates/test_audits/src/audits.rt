@@ -163,7 +163,9 @@ fn check(alloc: Global, case: &str) -> Result<(), Fail> {
     let (base, rules, rest) = thirds(case)?;
     let (tailored, certificate, wanted) = thirds(rest)?;
     let files = files_of(alloc, [base, rules, tailored, certificate])?;
-    same(&verdict(alloc, &files)?, wanted, case)
+    let found = verdict(alloc, &files);
+    drop(files);
+    same(&found?, wanted, case)
 }
 
 #[test]

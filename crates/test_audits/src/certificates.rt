@@ -85,7 +85,11 @@ fn refused(alloc: Global, fault: CertificateFault) -> Result<String, Fail> {
 /// What is said of the bytes. If they are accepted, they are written again.
 fn said<R: Read>(alloc: Global, source: &mut Source<R>, bytes: &[u8]) -> Result<String, Fail> {
     match read_certificate(alloc, source) {
-        Ok(read) => accepted(alloc, &read, bytes),
+        Ok(read) => {
+            let found = accepted(alloc, &read, bytes);
+            drop(read);
+            found
+        }
         Err(fault) => refused(alloc, fault),
     }
 }

@@ -84,12 +84,29 @@ fn certificate_of(alloc: Global, field: &str) -> Result<Certificate, Fail> {
     Ok(read_certificate(alloc, &mut Source::new(bytes.as_slice()))?)
 }
 
+/// The rules of a case.
+fn rules_of(alloc: Global, rules: &str, data: &Data) -> Result<Rules, Fail> {
+    let rules = if rules == "." { RULES } else { rules };
+    Ok(read_rules(alloc, rules.as_bytes(), data)?)
+}
+
+/// A value and another one, if there is one.
+fn with<A: Drop, B>(one: A, other: Result<B, Fail>) -> Result<(A, B), Fail> {
+    match other {
+        Ok(other) => Ok((one, other)),
+        Err(fail) => {
+            drop(one);
+            Err(fail)
+        }
+    }
+}
+
 /// What a tailoring is made of: the base, the properties and the rules of a case.
 fn given(alloc: Global, base: &str, rules: &str) -> Result<(Table, Data, Rules), Fail> {
-    let rules = if rules == "." { RULES } else { rules };
     let data = data_of(alloc, &mut Source::new(DATA.as_bytes()))?;
-    let rules = read_rules(alloc, rules.as_bytes(), &data)?;
-    let base = table(alloc, TABLE, base)?;
+    let rules = rules_of(alloc, rules, &data);
+    let read = with(data, rules)?;
+    let ((data, rules), base) = with(read, table(alloc, TABLE, base))?;
     Ok((base, data, rules))
 }
 
@@ -97,8 +114,8 @@ fn given(alloc: Global, base: &str, rules: &str) -> Result<(Table, Data, Rules),
 pub fn files_of(alloc: Global, fields: [&str; 4]) -> Result<Files, Fail> {
     let [base, rules, tailored, certificate] = fields;
     let tailored = tailored_table(alloc, tailored)?;
-    let certificate = certificate_of(alloc, certificate)?;
-    let (base, data, rules) = given(alloc, base, rules)?;
+    let made = with(tailored, certificate_of(alloc, certificate))?;
+    let ((tailored, certificate), (base, data, rules)) = with(made, given(alloc, base, rules))?;
     Ok(Files {
         base,
         data,

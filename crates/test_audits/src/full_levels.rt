@@ -50,14 +50,19 @@ fn check_made(alloc: Global, (tailored, certificate): &(Table, Certificate)) -> 
 /// The plan is made as it should be, and the audit accepts it.
 fn check_plan(alloc: Global, base: &Table, data: &Data, rules: &Rules) -> Result<(), Fail> {
     let plan = tailor(alloc, base, data, rules)?;
-    check_made(alloc, &plan)?;
-    Ok(audit(alloc, base, data, rules, &plan.0, &plan.1)?)
+    let checked = check_made(alloc, &plan);
+    let verdict = audit(alloc, base, data, rules, &plan.0, &plan.1);
+    drop(plan);
+    checked?;
+    Ok(verdict?)
 }
 
 /// One position is left: the plan takes it, and is accepted.
 fn check_last_place(alloc: Global, data: &Data, rules: &Rules) -> Result<(), Fail> {
     let base = base(alloc, 0x7FFF)?;
-    check_plan(alloc, &base, data, rules)
+    let checked = check_plan(alloc, &base, data, rules);
+    drop(base);
+    checked
 }
 
 /// The error says that level 1 has no room, and names no relation. If an allocation failed, that is the error.
@@ -72,7 +77,10 @@ fn check_fault(alloc: Global, fault: TailorFault) -> Result<(), Fail> {
 /// There is no plan.
 fn check_no_plan(alloc: Global, base: &Table, data: &Data, rules: &Rules) -> Result<(), Fail> {
     match tailor(alloc, base, data, rules) {
-        Ok(_) => Err(Fail::new("a plan without room")),
+        Ok(plan) => {
+            drop(plan);
+            Err(Fail::new("a plan without room"))
+        }
         Err(fault) => check_fault(alloc, fault),
     }
 }
@@ -80,14 +88,23 @@ fn check_no_plan(alloc: Global, base: &Table, data: &Data, rules: &Rules) -> Res
 /// No position is left.
 fn check_no_place(alloc: Global, data: &Data, rules: &Rules) -> Result<(), Fail> {
     let base = base(alloc, 0x8000)?;
-    check_no_plan(alloc, &base, data, rules)
+    let checked = check_no_plan(alloc, &base, data, rules);
+    drop(base);
+    checked
+}
+
+/// Both bases.
+fn check_places(alloc: Global, data: &Data) -> Result<(), Fail> {
+    let rules = read_rules(alloc, RULES.as_bytes(), data)?;
+    check_no_place(alloc, data, &rules)?;
+    check_last_place(alloc, data, &rules)
 }
 
 #[test]
 fn the_last_place_of_level_1(rt: HostRuntime) -> Result<(), Fail> {
     let alloc = rt.alloc();
     let data = data_of(alloc, &mut Source::new(DATA.as_bytes()))?;
-    let rules = read_rules(alloc, RULES.as_bytes(), &data)?;
-    check_no_place(alloc, &data, &rules)?;
-    check_last_place(alloc, &data, &rules)
+    let checked = check_places(alloc, &data);
+    drop(data);
+    checked
 }

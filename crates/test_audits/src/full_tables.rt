@@ -52,7 +52,11 @@ fn rows(alloc: Global, table: &Table) -> Result<String, Fail> {
 /// How many rows the table of the plan has, or the error. If an allocation failed, that is the error.
 fn planned(alloc: Global, base: &Table, data: &Data, rules: &Rules) -> Result<String, Fail> {
     match tailor(alloc, base, data, rules) {
-        Ok(plan) => rows(alloc, &plan.0),
+        Ok(plan) => {
+            let found = rows(alloc, &plan.0);
+            drop(plan);
+            found
+        }
         Err(fault) => no_plan(alloc, fault),
     }
 }
@@ -60,7 +64,9 @@ fn planned(alloc: Global, base: &Table, data: &Data, rules: &Rules) -> Result<St
 /// The same for rules that are text.
 fn said(alloc: Global, base: &Table, data: &Data, rules: &str) -> Result<String, Fail> {
     let rules = read_rules(alloc, rules.as_bytes(), data)?;
-    planned(alloc, base, data, &rules)
+    let found = planned(alloc, base, data, &rules);
+    drop(rules);
+    found
 }
 
 fn check(alloc: Global, base: &Table, data: &Data, case: &str) -> Result<(), Fail> {
@@ -74,9 +80,16 @@ fn check(alloc: Global, base: &Table, data: &Data, case: &str) -> Result<(), Fai
 /// The cases over a base with this many letters and `a`, `b`, `c`.
 fn check_all(alloc: Global, letters: u32, cases: &str) -> Result<(), Fail> {
     let base = base(alloc, letters)?;
+    let checked = check_over(alloc, &base, cases);
+    drop(base);
+    checked
+}
+
+/// The cases over a base.
+fn check_over(alloc: Global, base: &Table, cases: &str) -> Result<(), Fail> {
     let data = data_of(alloc, &mut Source::new(DATA.as_bytes()))?;
     for case in cases.lines() {
-        check(alloc, &base, &data, case)?;
+        check(alloc, base, &data, case)?;
     }
     Ok(())
 }

@@ -92,7 +92,11 @@ fn check(alloc: Global, case: &str) -> Result<(), Fail> {
     }
     let (words, weights, wanted) = thirds(case)?;
     match map(alloc, words)? {
-        Ok(map) => same(&images(alloc, &map, weights)?, wanted, case),
+        Ok(map) => {
+            let found = images(alloc, &map, weights);
+            drop(map);
+            same(&found?, wanted, case)
+        }
         Err(fault) => same(&fault, wanted, case),
     }
 }

@@ -124,7 +124,11 @@ fn same_plans(
 /// What is planned: nothing different, or the error. If an allocation failed, that is the error.
 fn planned(alloc: Global, files: &Files) -> Result<String, Fail> {
     match tailor(alloc, &files.base, &files.data, &files.rules) {
-        Ok(plan) => same_plans(alloc, &plan, files),
+        Ok(plan) => {
+            let found = same_plans(alloc, &plan, files);
+            drop(plan);
+            found
+        }
         Err(fault) => no_plan(alloc, fault),
     }
 }
@@ -140,8 +144,15 @@ fn check_planned(alloc: Global, case: &str) -> Result<(), Fail> {
 
 fn check_files(alloc: Global, fields: [&str; 4], case: &str) -> Result<(), Fail> {
     let files = files_of(alloc, fields)?;
-    same(&planned(alloc, &files)?, "planned", case)?;
-    same(&verdict(alloc, &files)?, "accepted", case)
+    let checked = check_plan(alloc, &files, case);
+    drop(files);
+    checked
+}
+
+/// The files are planned so, and accepted by the audit.
+fn check_plan(alloc: Global, files: &Files, case: &str) -> Result<(), Fail> {
+    same(&planned(alloc, files)?, "planned", case)?;
+    same(&verdict(alloc, files)?, "accepted", case)
 }
 
 fn check_unmoved(alloc: Global, case: &str) -> Result<(), Fail> {
@@ -160,7 +171,9 @@ fn check_refused(alloc: Global, case: &str) -> Result<(), Fail> {
     let (base, rules, rest) = thirds(case)?;
     let (tailored, certificate, wanted) = thirds(rest)?;
     let files = files_of(alloc, [base, rules, tailored, certificate])?;
-    same(&planned(alloc, &files)?, wanted, case)
+    let found = planned(alloc, &files);
+    drop(files);
+    same(&found?, wanted, case)
 }
 
 #[test]

@@ -9,6 +9,7 @@ use uca_key::{compare, key};
 use uca_match::{Collator, Lookup, Trie};
 use uca_rules::Rules;
 use uca_text::{Normal, normal};
+use uca_values::Data;
 use uca_weights::{Depth, Weighting};
 
 /// The fields of an audit that is accepted, and two texts. Then whether no target occurs in either, how they compare
@@ -120,20 +121,58 @@ fn said_of<L: Lookup>(
     )?)
 }
 
-fn said(alloc: Global, files: &Files, texts: &str) -> Result<String, Fail> {
+/// The two texts of a case.
+fn pair_of(alloc: Global, texts: &str, data: &Data) -> Result<[Normal; 2], Fail> {
     let (left, right) = texts.split_once(" / ").ok_or("two texts")?;
-    let left = normal(alloc, left, &files.data)?;
-    let right = normal(alloc, right, &files.data)?;
-    said_of_pair(alloc, files, &[left, right])
+    let left = normal(alloc, left, data)?;
+    match normal(alloc, right, data) {
+        Ok(right) => Ok([left, right]),
+        Err(fault) => {
+            drop(left);
+            Err(Fail::from(fault))
+        }
+    }
+}
+
+fn said(alloc: Global, files: &Files, texts: &str) -> Result<String, Fail> {
+    let pair = pair_of(alloc, texts, &files.data)?;
+    let said = said_of_pair(alloc, files, &pair);
+    drop(pair);
+    said
 }
 
 /// What is said of two texts under both tables.
 fn said_of_pair(alloc: Global, files: &Files, pair: &[Normal; 2]) -> Result<String, Fail> {
     let base = Trie::new(alloc, &files.base)?;
+    let said = said_over_base(alloc, files, &base, pair);
+    drop(base);
+    said
+}
+
+/// The same where this finds the rows of the base.
+fn said_over_base(
+    alloc: Global,
+    files: &Files,
+    base: &Trie,
+    pair: &[Normal; 2],
+) -> Result<String, Fail> {
     let tailored = Trie::new(alloc, &files.tailored)?;
-    let old = Collator::new(&base, &files.base.header, &files.data);
+    let old = Collator::new(base, &files.base.header, &files.data);
     let new = Collator::new(&tailored, &files.tailored.header, &files.data);
-    said_of(alloc, &files.rules, (&old, &new), pair)
+    let said = said_of(alloc, &files.rules, (&old, &new), pair);
+    drop(tailored);
+    said
+}
+
+/// The files are accepted, and this is said of the texts.
+fn check_texts(
+    alloc: Global,
+    files: &Files,
+    (texts, wanted): (&str, &str),
+    case: &str,
+) -> Result<(), Fail> {
+    same(&verdict(alloc, files)?, "accepted", case)?;
+    same(&said(alloc, files, texts)?, wanted, case)
 }
 
 fn check(alloc: Global, case: &str) -> Result<(), Fail> {
@@ -144,8 +183,9 @@ fn check(alloc: Global, case: &str) -> Result<(), Fail> {
     let (tailored, certificate, rest) = thirds(rest)?;
     let (texts, wanted) = halves(rest)?;
     let files = files_of(alloc, [base, rules, tailored, certificate])?;
-    same(&verdict(alloc, &files)?, "accepted", case)?;
-    same(&said(alloc, &files, texts)?, wanted, case)
+    let checked = check_texts(alloc, &files, (texts, wanted), case);
+    drop(files);
+    checked
 }
 
 #[test]

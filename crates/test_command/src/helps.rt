@@ -238,25 +238,33 @@ fn check_help(alloc: Global, words: &str, out: &'static str) -> Result<(), Fail>
     check(alloc, &NONE, words, b"", &end_of(0, out, ""))
 }
 
+/// Arguments, and the help that they ask for.
+const HELPS: &[(&str, &str)] = &[
+    ("--help", WHOLE),
+    ("-h", WHOLE),
+    ("check,--help", CHECK),
+    ("keys,--help", KEYS),
+    ("sort,--help", SORT),
+    ("compare,--help", COMPARE),
+    ("tailor,--help", TAILOR),
+    ("audit,--help", AUDIT),
+    ("affected,--help", AFFECTED),
+    ("help", WHOLE),
+    ("help,check", CHECK),
+    ("help,keys", KEYS),
+    ("help,affected", AFFECTED),
+];
+
 #[test]
 fn whole_help_texts(rt: HostRuntime) -> Result<(), Fail> {
-    check_help(rt.alloc(), "--help", WHOLE)?;
-    check_help(rt.alloc(), "-h", WHOLE)?;
-    check_help(rt.alloc(), "check,--help", CHECK)?;
-    check_help(rt.alloc(), "keys,--help", KEYS)?;
-    check_help(rt.alloc(), "sort,--help", SORT)?;
-    check_help(rt.alloc(), "compare,--help", COMPARE)?;
-    check_help(rt.alloc(), "tailor,--help", TAILOR)?;
-    check_help(rt.alloc(), "audit,--help", AUDIT)?;
-    check_help(rt.alloc(), "affected,--help", AFFECTED)
+    for (words, text) in HELPS {
+        check_help(rt.alloc(), words, text)?;
+    }
+    Ok(())
 }
 
 #[test]
-fn help_as_a_subcommand(rt: HostRuntime) -> Result<(), Fail> {
-    check_help(rt.alloc(), "help", WHOLE)?;
-    check_help(rt.alloc(), "help,check", CHECK)?;
-    check_help(rt.alloc(), "help,keys", KEYS)?;
-    check_help(rt.alloc(), "help,affected", AFFECTED)?;
+fn help_of_an_unknown_subcommand(rt: HostRuntime) -> Result<(), Fail> {
     check_refused(rt.alloc(), "help,other", OTHER_SUBCOMMAND)
 }
 
