@@ -132,8 +132,12 @@ pub fn run_affected<D: Read, U: Read, I: Read, W: Write>(
     run_affected_in(alloc, alloc, properties, rules, input, out)
 }
 
-/// The same with the allocations of the two files and the lines in memory of any allocator; those of Normalization Form D
-/// are in `global`.
+/// As [`run_affected`], with the two files and the lines in memory of any allocator. Texts in Normalization Form D are in
+/// `global`.
+///
+/// # Errors
+///
+/// Those of [`run_affected`].
 pub fn run_affected_in<A: Allocator + Copy, D: Read, U: Read, I: Read, W: Write>(
     alloc: A,
     global: Global,

@@ -79,12 +79,12 @@ pub fn run_keyed_lines<T: Read, D: Read, I: Read, W: Write>(
     )
 }
 
-/// As [`run_keys`], with the two files, the trie, the lines and the keys in memory of any allocator. Texts in
+/// As [`run_keyed_lines`], with the two files, the trie, the lines and the keys in memory of any allocator. Texts in
 /// Normalization Form D are in `global`.
 ///
 /// # Errors
 ///
-/// Those of [`run_keys`].
+/// Those of [`run_keyed_lines`].
 pub fn run_keyed_lines_in<A: Allocator + Copy, T: Read, D: Read, I: Read, W: Write>(
     alloc: A,
     global: Global,
