@@ -6,10 +6,12 @@ use Rattle.std.proofs.lemmas.Bool.Decides.{nat_tests}
 use Rattle.std.proofs.lemmas.List.{take_more, get_or_past}
 use Rattle.uca_match.specs.Positions.{is_placed}
 use Rattle.uca_match.specs.Cuts.{IsNoFollower}
-use Rattle.uca_match.specs.Tries.{NodeContent, empty_node, target_of, node_at, walk, positions, IsTree, AreFollowers}
+use Rattle.uca_match.specs.Tries.{NodeContent, empty_node, target_of, node_at, walk, positions_in, IsTree, AreFollowers, ListedNode, MapContent, tree_of}
+use Rattle.uca_match.specs.CharMaps.{number_of}
+use Rattle.uca_match.proofs.TrieSteps.{no_listed, length-with_root, below_root}
 use Rattle.uca_match.specs.declared.key_map.Edge.{Edge}
 use Rattle.uca_match.proofs.TrieWalks.{walk-append, walk_root}
-use Rattle.uca_match.proofs.RootIndexLemmas.{target_of_front}
+use Rattle.uca_match.proofs.TrieEdges.{target_of_front}
 
 -- ---- No edges
 
@@ -48,27 +50,29 @@ followers_more edges i d old new within before here others c m leads =
     (cases_eq c e.point)
 
 -- one more node
-pub followers_next : (nodes : List NodeContent) (i : ℕ) (old new : ℕ → ℕ) →
-    ((n c m : ℕ) → 0 < n → n < i → target_of (node_at nodes n).edges c ≡ Some m → 0 < old c) → ((c : ℕ) → 0 < old c → 0 < new c) →
-    ((c m : ℕ) → target_of (node_at nodes i).edges c ≡ Some m → 0 < new c) →
-    (n c m : ℕ) → 0 < n → n < i + 1 → target_of (node_at nodes n).edges c ≡ Some m → 0 < new c
+pub followers_next : (nodes : List ListedNode) (i : ℕ) (old new : ℕ → ℕ) →
+    ((n c m : ℕ) → 0 < n → n < i → target_of (get_or nodes n no_listed).edges c ≡ Some m → 0 < old c) → ((c : ℕ) → 0 < old c → 0 < new c) →
+    ((c m : ℕ) → target_of (get_or nodes i no_listed).edges c ≡ Some m → 0 < new c) →
+    (n c m : ℕ) → 0 < n → n < i + 1 → target_of (get_or nodes n no_listed).edges c ≡ Some m → 0 < new c
 followers_next nodes i old new before kept here n c m later within leads =
     ⊎_elim
-    (λ same. here c m (ap (λ k. target_of (node_at nodes k).edges c) (sym same) ∙ leads))
+    (λ same. here c m (ap (λ k. target_of (get_or nodes k no_listed).edges c) (sym same) ∙ leads))
     (λ other. kept c (before n c m later (omega arith) leads))
     (cases_eq n i)
 
 -- all nodes
-pub followers_all : (nodes : List NodeContent) (i : ℕ) (followers : ℕ → ℕ) → length nodes ≤ i →
-    ((n c m : ℕ) → 0 < n → n < i → target_of (node_at nodes n).edges c ≡ Some m → 0 < followers c) → AreFollowers nodes followers
-followers_all nodes i followers past are n c m later leads =
+pub followers_all : (m : MapContent) (nodes : List ListedNode) → nodes ≡ m.nodes → (i : ℕ) (numbers : ℕ → ℕ) → length nodes ≤ i →
+    ((n c m : ℕ) → 0 < n → n < i → target_of (get_or nodes n no_listed).edges c ≡ Some m → 0 < numbers c) → AreFollowers (tree_of m) numbers
+followers_all m nodes same i numbers past are n c t later leads =
     ⊎_elim
-    (λ within. are n c m later within leads)
+    (λ within.
+    let here = ap (λ (b : NodeContent). b.leads c) (below_root (number_of m.root) m.nodes n no_listed later within) in
+    are n c t later (omega (arith, ap length same)) (ap (λ list. target_of (get_or list n no_listed).edges c) same ∙ sym here ∙ leads))
     (λ beyond.
-    let none : node_at nodes n ≡ empty_node = get_or_past nodes n empty_node (omega arith) in
-    let nowhere : ◌≡◌ {A = Option ℕ} None (Some m) = ap (λ (b : NodeContent). target_of b.edges c) (sym none) ∙ leads in
+    let none : node_at (tree_of m) n ≡ empty_node = get_or_past (tree_of m) n empty_node (omega (arith, length-with_root (number_of m.root) m.nodes)) in
+    let nowhere : ◌≡◌ {A = Option ℕ} None (Some t) = ap (λ (b : NodeContent). b.leads c) (sym none) ∙ leads in
     cc)
-    (cases_lt n i)
+    (cases_lt n (length m.nodes))
 
 module _ (nodes : List NodeContent) (tree : IsTree nodes) (followers : ℕ → ℕ) (are : AreFollowers nodes followers) (c : ℕ) (none : followers c ≡ 0) where
   not_root : (first : ℕ) (before : List ℕ) (n : ℕ) → walk nodes 0 (first ∷ before) ≡ Some n → 0 < n
@@ -78,7 +82,7 @@ module _ (nodes : List NodeContent) (tree : IsTree nodes) (followers : ℕ → �
   not_root first before (suc n) leads = omega arith
 
   -- no code points after the first lead on by it
-  leads_on_by : (after : List ℕ) (n : ℕ) → 0 < n → (o : Option ℕ) → target_of (node_at nodes n).edges c ≡ o →
+  leads_on_by : (after : List ℕ) (n : ℕ) → 0 < n → (o : Option ℕ) → (node_at nodes n).leads c ≡ o →
       is_some (option_and_then (λ m. (node_at nodes m).position) (option_and_then (λ m. walk nodes m after) o)) ≡ true → ⊥
   leads_on_by after n later None leads some = false≢true some
   leads_on_by after n later (Some m) leads some = let above = are n c m later leads in omega (arith, above, none)
@@ -87,10 +91,10 @@ module _ (nodes : List NodeContent) (tree : IsTree nodes) (followers : ℕ → �
       is_some (option_and_then (λ m. (node_at nodes m).position) (option_and_then (λ m. walk nodes m (c ∷ after)) o)) ≡ true → ⊥
   walks_on_by first before after None leads some = false≢true some
   walks_on_by first before after (Some n) leads some =
-      leads_on_by after n (not_root first before n leads) (target_of (node_at nodes n).edges c) refl some
+      leads_on_by after n (not_root first before n leads) ((node_at nodes n).leads c) refl some
 
   -- a code point that leads on from no node but the root follows no key's first code point
-  pub no_follower : IsNoFollower (is_placed (positions nodes)) c
+  pub no_follower : IsNoFollower (is_placed (positions_in nodes)) c
   no_follower first before after key =
       walks_on_by first before after (walk nodes 0 (first ∷ before)) refl
       (subst (λ o. is_some (option_and_then (λ m. (node_at nodes m).position) o) ≡ true) (walk-append nodes 0 (first ∷ before) (c ∷ after)) key)

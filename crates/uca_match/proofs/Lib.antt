@@ -18,7 +18,6 @@ pub mod TrieWalks
 pub mod PlacedKeys
 pub mod TrieKeys
 pub mod TrieLookups
-pub mod RootIndexLemmas
 pub mod CharMapLemmas
 pub mod Leaves
 pub mod Followers

@@ -1,5 +1,5 @@
 -- Keys with their positions.
-use Rattle.std.proofs.Common.{◌≡◌, ℕ, suc, ◌+◌, ◌<◌, List, [], ◌∷◌, ◌++◌, length, map, take, get_or, Bool, true, false, cond, Option, Some, None, Contains, MatchOption}
+use Rattle.std.proofs.Common.{◌≡◌, ℕ, zero, suc, ◌+◌, ◌-◌, ◌<◌, ◌≤◌, List, [], ◌∷◌, ◌++◌, length, map, take, get_or, Bool, true, false, cond, Option, Some, None, Contains, MatchOption}
 use Rattle.std.proofs.Common.{⊎_elim, is_some, option_map, append_assoc, length-take-le, sym, ap, ap₂, subst, refl, ◌∙◌, arith}
 use Rattle.std.proofs.lemmas.Bool.{cond_both, cond-true, cond-false, false_from_ne_true}
 use Rattle.std.proofs.lemmas.List.{get_or_append_left, get_or_push, length_push, length-map, map-append, map_push, map_more, take_more}
@@ -7,7 +7,10 @@ use Rattle.std.specs.Borrow.{Bor}
 use Rattle.uca_weights.specs.declared.Element.{Element}
 use Rattle.uca_values.specs.Content.{Entry, keys_of, AreDistinct}
 use Rattle.uca_match.specs.Rows.{same_key, rows_of}
-use Rattle.uca_match.specs.Positions.{Placed, is_placed, place_at, AreDistinctKeys, placed_from}
+use Rattle.uca_match.specs.Positions.{Placed, is_placed, place_at, AreDistinctKeys, placed_from, AreLongKeys}
+use Rattle.std.specs.List.Sorted.{IsPermutation}
+use Rattle.std.proofs.lemmas.List.Elements.{Contains-push, Contains-push_cases, Contains-append_left}
+use Rattle.std.proofs.lemmas.List.Sorted.{Contains-permutation, IsPermutation-sym}
 use Rattle.uca_match.specs.Lookups.{BeginsKeyIn, BeginsNoKeyIn, BeginsSomeKey, BeginsNoKey}
 use Rattle.uca_match.specs.Tries.{positions}
 use Rattle.uca_match.specs.NumberedKeys.{points_of, placed_of, TrieContent, rows_at}
@@ -75,6 +78,85 @@ placed_within place (k ∷ keys) key p found = go (same_key k key) found (placed
     go true found later = let same : place ≡ p = cc in (0, omega arith, omega (arith, same))
     go false found later = let l = later found in (suc l.0, omega (arith, l.1), omega (arith, l.2))
 
+-- the key at a position
+pub placed_here : (place : ℕ) (keys : List (List ℕ)) (i : ℕ) (key : List ℕ) → i < length keys → key ≡ get_or keys i key →
+    Contains (placed_from place keys) (record { key = key; position = place + i })
+placed_here place [] i key within is = absurd (omega arith)
+placed_here place (k ∷ keys) zero key within is =
+    let here : Placed = record { key = key; position = place + 0 } in
+    let same : place ≡ place + 0 = omega arith in
+    Contains-first (record { key = k; position = place }) here (placed_from (place + 1) keys) (λ j. record { key = sym is j; position = same j })
+placed_here place (k ∷ keys) (suc i) key within is =
+    let same : place + 1 + i ≡ place + suc i = omega arith in
+    let later = subst (λ n. Contains (placed_from (place + 1) keys) (record { key = key; position = n })) same
+    (placed_here (place + 1) keys i key (omega arith) is) in
+    Contains-later (record { key = k; position = place }) (record { key = key; position = place + suc i }) (placed_from (place + 1) keys) later
+
+-- a key with its position is the one there
+pub key_at_position : (place : ℕ) (keys : List (List ℕ)) (placed : Placed) → Contains (placed_from place keys) placed → (d : List ℕ) →
+    (place ≤ placed.position) × (placed.position < place + length keys) × (placed.key ≡ get_or keys (placed.position - place) d)
+key_at_position place [] placed h d = absurd (omega (arith, h.1))
+key_at_position place (k ∷ keys) placed h d =
+    ⊎_elim
+    (λ same.
+    let position : place ≡ placed.position = ap (λ (p : Placed). p.position) same in (
+      omega arith,
+      omega arith,
+      sym (ap (λ (p : Placed). p.key) same) ∙ ap (λ n. get_or (k ∷ keys) n d) (let none : 0 ≡ placed.position - place = omega arith in none),
+    ))
+    (λ later.
+    let it = key_at_position (place + 1) keys placed later d in
+    let before : place + 1 ≤ placed.position = it.0 in (
+      omega arith,
+      omega (arith, it.1),
+      it.2 ∙ ap (λ n. get_or (k ∷ keys) n d) (let next : suc (placed.position - (place + 1)) ≡ placed.position - place = omega arith in next),
+    ))
+    (Contains-cases (record { key = k; position = place }) placed (placed_from (place + 1) keys) h)
+
+-- ---- The keys that are not one code point
+
+-- one more key is one of them
+pub long_more : (keys : List (List ℕ)) (list : List Placed) (key : List ℕ) (position : ℕ) → position ≡ length keys → (length key ≡ 1 → ⊥) →
+    AreLongKeys keys list → AreLongKeys (keys ++ key ∷ []) (list ++ record { key = key; position = position } ∷ [])
+long_more keys list key position its_position long are placed =
+    let new : Placed = record { key = key; position = position } in
+    let all : placed_from 0 (keys ++ key ∷ []) ≡ placed_from 0 keys ++ new ∷ [] = placed_push 0 keys key
+    ∙ ap (λ n. placed_from 0 keys ++ record { key = key; position = n } ∷ []) (let same : 0 + length keys ≡ position = omega arith in same) in (
+      (λ h. ⊎_elim
+          (λ before. let both = (are placed).0 before in
+          (subst (λ l. Contains l placed) (sym all) (Contains-append_left (placed_from 0 keys) (new ∷ []) placed both.0), both.1))
+          (λ here. (
+            subst (λ l. Contains l placed) (sym all)
+                (subst (Contains (placed_from 0 keys ++ new ∷ [])) here (Contains-push (placed_from 0 keys) new)),
+            λ short. long (ap (λ (p : Placed). length p.key) here ∙ short),
+          ))
+          (Contains-push_cases list new placed h)),
+      (λ h. ⊎_elim
+          (λ before. Contains-append_left list (new ∷ []) placed ((are placed).1 (before, h.1)))
+          (λ here. subst (Contains (list ++ new ∷ [])) here (Contains-push list new))
+          (Contains-push_cases (placed_from 0 keys) new placed (subst (λ l. Contains l placed) all h.0))),
+    )
+
+-- one more key is not
+pub long_same : (keys : List (List ℕ)) (list : List Placed) (key : List ℕ) → length key ≡ 1 → AreLongKeys keys list → AreLongKeys (keys ++ key ∷ []) list
+long_same keys list key short are placed =
+    let new : Placed = record { key = key; position = 0 + length keys } in
+    let all = placed_push 0 keys key in (
+      (λ h. let both = (are placed).0 h in
+          (subst (λ l. Contains l placed) (sym all) (Contains-append_left (placed_from 0 keys) (new ∷ []) placed both.0), both.1)),
+      (λ h. ⊎_elim
+          (λ before. (are placed).1 (before, h.1))
+          (λ here. absurd (h.1 (sym (ap (λ (p : Placed). length p.key) here) ∙ short)))
+          (Contains-push_cases (placed_from 0 keys) new placed (subst (λ l. Contains l placed) all h.0))),
+    )
+
+-- their order does not matter
+pub long_moved : (keys : List (List ℕ)) (list moved : List Placed) → IsPermutation list moved → AreLongKeys keys list → AreLongKeys keys moved
+long_moved keys list moved same are placed = (
+  (λ h. (are placed).0 (Contains-permutation moved list placed (IsPermutation-sym list moved same) h)),
+  (λ h. Contains-permutation list moved placed same ((are placed).1 h)),
+)
+
 -- ---- Keys that are borrowed
 
 -- two lists that are the same under two maps stay so when each gets one more item
@@ -86,22 +168,30 @@ mapped_more {X} {Y} {Z} f g before after xs i y x within is same grown so_far =
     ∙ ap₂ (λ (front : List Z) (z : Z). front ++ z ∷ []) so_far (same ∙ ap g is)
     ∙ sym (map_more g xs i x within)
 
--- one more key with its position
-pub numbered_more : (list : List Numbered) (keys : List (Bor (List ℕ))) (p : ℕ) (new : Numbered) → p < length keys → new.key ≡ get_or keys p new.key →
-    new.position ≡ p → map placed_of list ≡ placed_from 0 (points_of (take p keys)) →
-    map placed_of (list ++ new ∷ []) ≡ placed_from 0 (points_of (take (p + 1) keys))
-numbered_more list keys p new within is its_position so_far =
-    let before : List (List ℕ) = points_of (take p keys) in
-    let count : new.position ≡ 0 + length before =
-    omega (arith, its_position, length-map (take p keys) (λ (k : Bor (List ℕ)). k.now), length-take-le p keys (omega arith)) in
-    let more : points_of (take (p + 1) keys) ≡ before ++ new.key.now ∷ [] =
-    ap points_of (take_more keys p new.key within ∙ ap (λ (k : Bor (List ℕ)). take p keys ++ k ∷ []) (sym is))
-    ∙ map-append (λ (k : Bor (List ℕ)). k.now) (take p keys) (new.key ∷ []) in
-    map-append placed_of list (new ∷ [])
-    ∙ ap (λ (front : List Placed). front ++ placed_of new ∷ []) so_far
-    ∙ ap (λ (n : ℕ). placed_from 0 before ++ record { key = new.key.now; position = n } ∷ []) count
-    ∙ sym (placed_push 0 before new.key.now)
-    ∙ ap (placed_from 0) (sym more)
+-- one more key that is borrowed
+points_more : (keys : List (Bor (List ℕ))) (i : ℕ) (key : Bor (List ℕ)) → i < length keys → key ≡ get_or keys i key →
+    points_of (take (i + 1) keys) ≡ points_of (take i keys) ++ key.now ∷ []
+points_more keys i key within is =
+    ap points_of (take_more keys i key within ∙ ap (λ (k : Bor (List ℕ)). take i keys ++ k ∷ []) (sym is))
+    ∙ map-append (λ (k : Bor (List ℕ)). k.now) (take i keys) (key ∷ [])
+
+-- it is not one code point
+pub long_keys_more : (list : List Numbered) (keys : List (Bor (List ℕ))) (i : ℕ) (new : Numbered) → i < length keys → new.key ≡ get_or keys i new.key →
+    new.position ≡ i → (length new.key.now ≡ 1 → ⊥) → AreLongKeys (points_of (take i keys)) (map placed_of list) →
+    AreLongKeys (points_of (take (i + 1) keys)) (map placed_of (list ++ new ∷ []))
+long_keys_more list keys i new within is its_position long so_far =
+    let before : List (List ℕ) = points_of (take i keys) in
+    let count : new.position ≡ length before =
+    omega (arith, its_position, length-map (take i keys) (λ (k : Bor (List ℕ)). k.now), length-take-le i keys (omega arith)) in
+    subst (λ l. AreLongKeys (points_of (take (i + 1) keys)) l) (sym (map-append placed_of list (new ∷ [])))
+    (subst (λ ks. AreLongKeys ks (map placed_of list ++ placed_of new ∷ [])) (sym (points_more keys i new.key within is))
+    (long_more before (map placed_of list) new.key.now new.position count long so_far))
+
+-- it is one
+pub long_keys_same : (list : List Placed) (keys : List (Bor (List ℕ))) (i : ℕ) (key : Bor (List ℕ)) → i < length keys → key ≡ get_or keys i key →
+    length key.now ≡ 1 → AreLongKeys (points_of (take i keys)) list → AreLongKeys (points_of (take (i + 1) keys)) list
+long_keys_same list keys i key within is short so_far =
+    subst (λ ks. AreLongKeys ks list) (sym (points_more keys i key within is)) (long_same (points_of (take i keys)) list key.now short so_far)
 
 -- ---- The rows of a table by the positions of their keys
 

@@ -1,5 +1,5 @@
 -- Edges in rising order: the edge of a code point, and a new edge put between the others.
-use Rattle.std.proofs.Common.{◌≡◌, ℕ, zero, suc, ◌<◌, ◌≤◌, inl, inr, true, false, ltb, eqb, cond, List, [], ◌∷◌, length, get_or, Option, Some, None}
+use Rattle.std.proofs.Common.{◌≡◌, ℕ, zero, suc, ◌<◌, ◌≤◌, inl, inr, true, false, ltb, eqb, cond, List, [], ◌∷◌, ◌++◌, length, get_or, Option, Some, None}
 use Rattle.std.proofs.Common.{refl, ap, subst, sym, ◌∙◌, arith}
 use Rattle.std.proofs.lemmas.Bool.{ltb-true, ltb-false, eq-eqb, ne_eqb, cases_Bool, cases_lt, cases_order, cond-true, cond-false}
 use Rattle.std.proofs.lemmas.List.Recursion.{found_at, found_nowhere}
@@ -107,3 +107,9 @@ rising_with_new (f ∷ edges) rising (suc at) e new = (
     place = (λ k d a b. new.place.0 (suc k) d (omega arith) (omega arith), λ k d a b. new.place.1 (suc k) d (omega arith) (omega arith));
   }),
 )
+
+-- ---- An edge at the end
+
+pub target_of_front : (edges : List Edge) (e : Edge) (c : ℕ) → (e.point ≡ c → ⊥) → target_of (edges ++ e ∷ []) c ≡ target_of edges c
+target_of_front [] e c other = cond-false (eqb e.point c) (Some e.target) None (ne_eqb _ _ other)
+target_of_front (f ∷ edges) e c other = ap (cond (eqb f.point c) (Some f.target)) (target_of_front edges e c other)

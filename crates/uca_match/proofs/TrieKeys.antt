@@ -1,17 +1,17 @@
 -- What keys do to a tree of code points: the position of one key after another.
-use Rattle.std.proofs.Common.{◌≡◌, ℕ, zero, suc, ◌+◌, ◌<◌, List, [], ◌∷◌, ◌++◌, length, set, get_or, take, drop, true, cond, Option, Some, None}
-use Rattle.std.proofs.Common.{option_and_then, Contains, ⊎_elim, sym, ap, subst, refl, ◌∙◌, arith}
-use Rattle.std.specs.List.Sorted.{IsPermutation}
+use Rattle.std.proofs.Common.{◌≡◌, ℕ, zero, suc, ◌+◌, ◌-◌, ◌<◌, ◌≤◌, List, [], ◌∷◌, ◌++◌, length, set, get_or, take, drop, true, cond, Option, Some, None}
+use Rattle.std.proofs.Common.{option_and_then, Contains, ◌⊎◌, inl, inr, ⊎_elim, sym, ap, subst, refl, ◌∙◌, arith}
 use Rattle.std.proofs.lemmas.Bool.{cond_both, cond-true, false≢true, cases_eq}
-use Rattle.std.proofs.lemmas.List.{length-set, get_or-set_same, get_or-set_other, take_more, take-append-drop}
+use Rattle.std.proofs.lemmas.List.{length-set, get_or-set_same, get_or-set_other, take_more, take_all, take-append-drop}
 use Rattle.std.proofs.lemmas.List.Elements.{Contains-push, Contains-push_cases, Contains-append_left}
-use Rattle.std.proofs.lemmas.List.Sorted.{Contains-permutation, IsPermutation-sym}
 use Rattle.std.proofs.lemmas.Option.{same_Some}
 use Rattle.uca_match.specs.Rows.{same_key}
-use Rattle.uca_match.specs.Positions.{Placed, place_at, AreDistinctKeys, placed_from}
-use Rattle.uca_match.specs.Tries.{NodeContent, empty_node, node_at, target_of, walk, positions, AreRisingEdges, AreNodes, IsNoDeadEnd, IsTree, IsAlong, with_position}
+use Rattle.uca_match.specs.Positions.{Placed, place_at, AreDistinctKeys, placed_from, AreLongKeys}
+use Rattle.uca_match.specs.Tries.{NodeContent, empty_node, node_at, walk, positions_in, AreNodes, IsNoDeadEnd, IsTree, IsAlong, with_position, ListedNode, with_root}
+use Rattle.uca_match.specs.declared.key_map.Edge.{Edge}
+use Rattle.uca_match.proofs.TrieSteps.{no_listed, length-with_root, with_position_put, number_within}
 use Rattle.uca_match.proofs.RowsByKey.{same_key-true, same_key-itself}
-use Rattle.uca_match.proofs.PlacedKeys.{placed_of_found, found_of_placed}
+use Rattle.uca_match.proofs.PlacedKeys.{placed_of_found, found_of_placed, placed_here, key_at_position}
 use Rattle.uca_match.proofs.TrieWalks.{walk_root, one_path}
 
 -- ---- Options
@@ -26,18 +26,13 @@ and_then_same : {X Y : Type 0} (f g : X → Option Y) → ((x : X) → f x ≡ g
 and_then_same f g same None = refl
 and_then_same f g same (Some x) = same x
 
--- ---- The same keys in another order
-
-placed_in : (all list : List Placed) → IsPermutation all list → (placed : Placed) → Contains list placed → Contains all placed
-placed_in all list moved placed = Contains-permutation list all placed (IsPermutation-sym all list moved)
-
 -- ---- A root alone
 
 leaf_everywhere : (n : ℕ) → node_at (empty_node ∷ []) n ≡ empty_node
 leaf_everywhere zero = refl
 leaf_everywhere (suc n) = refl
 
-pub positions_of_leaf : (key : List ℕ) → positions (empty_node ∷ []) key ≡ None
+pub positions_of_leaf : (key : List ℕ) → positions_in (empty_node ∷ []) key ≡ None
 positions_of_leaf [] = refl
 positions_of_leaf (c ∷ key) = refl
 
@@ -48,9 +43,8 @@ IsTree-empty_node = record {
     some = omega arith;
     same = refl;
     root = refl;
-    rising = λ n within. subst (λ (b : NodeContent). AreRisingEdges b.edges) (sym (leaf_everywhere n)) tt;
     edges = λ n c m within leads.
-        let none : ◌≡◌ {A = Option ℕ} None (Some m) = ap (λ (b : NodeContent). target_of b.edges c) (sym (leaf_everywhere n)) ∙ leads in
+        let none : ◌≡◌ {A = Option ℕ} None (Some m) = ap (λ (b : NodeContent). b.leads c) (sym (leaf_everywhere n)) ∙ leads in
         cc;
   };
   no_dead_end = λ n later within. absurd (omega arith);
@@ -58,46 +52,45 @@ IsTree-empty_node = record {
 
 -- ---- A position for a node
 
--- the edges stay
-edges_stay : (nodes : List NodeContent) (n : ℕ) (b : NodeContent) → b.edges ≡ (node_at nodes n).edges → (k : ℕ) →
-    (node_at (set nodes n b) k).edges ≡ (node_at nodes k).edges
-edges_stay [] n b same k = refl
-edges_stay (a ∷ nodes) zero b same zero = same
-edges_stay (a ∷ nodes) zero b same (suc k) = refl
-edges_stay (a ∷ nodes) (suc n) b same zero = refl
-edges_stay (a ∷ nodes) (suc n) b same (suc k) = edges_stay nodes n b same k
+-- code points lead where they led
+leads_stay : (nodes : List NodeContent) (n : ℕ) (b : NodeContent) → b.leads ≡ (node_at nodes n).leads → (k : ℕ) →
+    (node_at (set nodes n b) k).leads ≡ (node_at nodes k).leads
+leads_stay [] n b same k = refl
+leads_stay (a ∷ nodes) zero b same zero = same
+leads_stay (a ∷ nodes) zero b same (suc k) = refl
+leads_stay (a ∷ nodes) (suc n) b same zero = refl
+leads_stay (a ∷ nodes) (suc n) b same (suc k) = leads_stay nodes n b same k
 
--- and lead where they led
-walks_stay : (nodes : List NodeContent) (n : ℕ) (b : NodeContent) → b.edges ≡ (node_at nodes n).edges → (k : ℕ) (key : List ℕ) →
+-- and so do lists of them
+walks_stay : (nodes : List NodeContent) (n : ℕ) (b : NodeContent) → b.leads ≡ (node_at nodes n).leads → (k : ℕ) (key : List ℕ) →
     walk (set nodes n b) k key ≡ walk nodes k key
 walks_stay nodes n b same k [] = refl
 walks_stay nodes n b same k (c ∷ key) =
-    ap (λ edges. option_and_then (λ m. walk (set nodes n b) m key) (target_of edges c)) (edges_stay nodes n b same k)
-    ∙ and_then_same (λ m. walk (set nodes n b) m key) (λ m. walk nodes m key) (λ m. walks_stay nodes n b same m key) (target_of (node_at nodes k).edges c)
+    ap (λ (leads : ℕ → Option ℕ). option_and_then (λ m. walk (set nodes n b) m key) (leads c)) (leads_stay nodes n b same k)
+    ∙ and_then_same (λ m. walk (set nodes n b) m key) (λ m. walk nodes m key) (λ m. walks_stay nodes n b same m key) ((node_at nodes k).leads c)
 
 nodes_stay : (nodes : List NodeContent) (texts : List (List ℕ)) → AreNodes nodes texts → (n : ℕ) (b : NodeContent) →
-    b.edges ≡ (node_at nodes n).edges → AreNodes (set nodes n b) texts
+    b.leads ≡ (node_at nodes n).leads → AreNodes (set nodes n b) texts
 nodes_stay nodes texts shape n b same =
     let long = length-set nodes n b in
     record {
       some = subst (λ l. 0 < l) (sym long) shape.some;
       same = shape.same ∙ sym long;
       root = shape.root;
-      rising = λ k within. subst AreRisingEdges (sym (edges_stay nodes n b same k)) (shape.rising k (subst (λ l. k < l) long within));
       edges = λ k c m within leads. shape.edges k c m (subst (λ l. k < l) long within)
-          (ap (λ edges. target_of edges c) (sym (edges_stay nodes n b same k)) ∙ leads);
+          (ap (λ (to : ℕ → Option ℕ). to c) (sym (leads_stay nodes n b same k)) ∙ leads);
     }
 
 -- a key has the position of its node
-placed_there : (nodes : List NodeContent) (n : ℕ) (b : NodeContent) (key : List ℕ) → b.edges ≡ (node_at nodes n).edges → n < length nodes →
-    walk nodes 0 key ≡ Some n → positions (set nodes n b) key ≡ b.position
+placed_there : (nodes : List NodeContent) (n : ℕ) (b : NodeContent) (key : List ℕ) → b.leads ≡ (node_at nodes n).leads → n < length nodes →
+    walk nodes 0 key ≡ Some n → positions_in (set nodes n b) key ≡ b.position
 placed_there nodes n b key same within leads =
     ap (λ o. option_and_then (λ m. (node_at (set nodes n b) m).position) o) (walks_stay nodes n b same 0 key ∙ leads)
     ∙ ap (λ (a : NodeContent). a.position) (get_or-set_same nodes n b empty_node within)
 
 -- and another key those of before
-placed_elsewhere : (nodes : List NodeContent) (n : ℕ) (b : NodeContent) (key : List ℕ) → b.edges ≡ (node_at nodes n).edges →
-    (walk nodes 0 key ≡ Some n → ⊥) → positions (set nodes n b) key ≡ positions nodes key
+placed_elsewhere : (nodes : List NodeContent) (n : ℕ) (b : NodeContent) (key : List ℕ) → b.leads ≡ (node_at nodes n).leads →
+    (walk nodes 0 key ≡ Some n → ⊥) → positions_in (set nodes n b) key ≡ positions_in nodes key
 placed_elsewhere nodes n b key same elsewhere =
     ap (λ o. option_and_then (λ m. (node_at (set nodes n b) m).position) o) (walks_stay nodes n b same 0 key) ∙ go (walk nodes 0 key) elsewhere
   where
@@ -106,10 +99,10 @@ placed_elsewhere nodes n b key same elsewhere =
     go (Some m) other = ap (λ (a : NodeContent). a.position) (get_or-set_other nodes n m b empty_node (λ is. other (ap Some is)))
 
 placed_after : (nodes : List NodeContent) (texts : List (List ℕ)) → AreNodes nodes texts → (n : ℕ) (b : NodeContent) (placed : Placed) →
-    b.edges ≡ (node_at nodes n).edges → b.position ≡ Some placed.position → walk nodes 0 placed.key ≡ Some n → (key : List ℕ) →
-    positions (set nodes n b) key ≡ with_position (positions nodes) placed key
+    b.leads ≡ (node_at nodes n).leads → b.position ≡ Some placed.position → walk nodes 0 placed.key ≡ Some n → (key : List ℕ) →
+    positions_in (set nodes n b) key ≡ with_position (positions_in nodes) placed key
 placed_after nodes texts shape n b placed same position leads key =
-    cond_both (same_key placed.key key) (Some placed.position) (positions nodes key) (λ o. positions (set nodes n b) key ≡ o)
+    cond_both (same_key placed.key key) (Some placed.position) (positions_in nodes key) (λ o. positions_in (set nodes n b) key ≡ o)
     (λ is.
     let there : walk nodes 0 key ≡ Some n = ap (walk nodes 0) (sym (same_key-true placed.key key is)) ∙ leads in
     placed_there nodes n b key same (walk_root nodes texts shape n placed.key leads).0 there ∙ position)
@@ -119,8 +112,8 @@ placed_after nodes texts shape n b placed same position leads key =
 
 -- the position of a key, for the node to which it leads
 pub key_put : (start nodes : List NodeContent) (n : ℕ) (b : NodeContent) (placed : Placed) → IsAlong start nodes placed.key n →
-    b.edges ≡ (node_at nodes n).edges → b.position ≡ Some placed.position →
-    IsTree (set nodes n b) × ((key : List ℕ) → positions (set nodes n b) key ≡ with_position (positions start) placed key)
+    b.leads ≡ (node_at nodes n).leads → b.position ≡ Some placed.position →
+    IsTree (set nodes n b) × ((key : List ℕ) → positions_in (set nodes n b) key ≡ with_position (positions_in start) placed key)
 key_put start nodes n b placed along same position =
     let within = (walk_root nodes along.texts along.shape n placed.key along.leads).0 in
     let no_dead_end : (k : ℕ) → 0 < k → k < length (set nodes n b) → IsNoDeadEnd (node_at (set nodes n b) k) = λ k later inside.
@@ -136,76 +129,166 @@ key_put start nodes n b placed along same position =
           ∙ ap (λ o. cond (same_key placed.key key) (Some placed.position) o) (along.same key),
     )
 
+-- the position of a key goes to a listed node
+pub key_placed : (start : List NodeContent) (root : ℕ → ℕ) (nodes : List ListedNode) (n : ℕ) (edges : List Edge) (placed : Placed) →
+    IsAlong start (with_root root nodes) placed.key n → edges ≡ (get_or nodes n no_listed).edges →
+    IsTree (with_root root (set nodes n (record { edges = edges; position = Some placed.position })))
+    × ((key : List ℕ) → positions_in (with_root root (set nodes n (record { edges = edges; position = Some placed.position }))) key
+    ≡ with_position (positions_in start) placed key)
+key_placed start root nodes n edges placed along same =
+    let within : n < length nodes = omega (arith, number_within along, length-with_root root nodes) in
+    let b : NodeContent = record { leads = (node_at (with_root root nodes) n).leads; position = Some placed.position } in
+    let put = key_put start (with_root root nodes) n b placed along refl refl in
+    let listed : with_root root (set nodes n (record { edges = edges; position = Some placed.position })) ≡ set (with_root root nodes) n b =
+    ap (λ (es : List Edge). with_root root (set nodes n (record { edges = es; position = Some placed.position }))) same
+    ∙ with_position_put root nodes n no_listed (Some placed.position) within in
+    (subst IsTree (sym listed) put.0, λ key. ap (λ list. positions_in list key) listed ∙ put.1 key)
+
 -- ---- One key after another
 
--- the nodes have the positions of these keys
-pub record IsBuilt (list : List Placed) (nodes : List NodeContent) : Type 0 where
+-- the nodes have positions of these keys alone, and those of the keys that are done
+pub record IsBuilt (keys : List (List ℕ)) (Done : Placed → Type 0) (nodes : List NodeContent) : Type 0 where
   pub tree : IsTree nodes
-  pub sound : (key : List ℕ) (position : ℕ) → positions nodes key ≡ Some position → Contains list (record { key = key; position = position })
-  pub complete : (placed : Placed) → Contains list placed → positions nodes placed.key ≡ Some placed.position
+  pub sound : (key : List ℕ) (position : ℕ) → positions_in nodes key ≡ Some position →
+      Contains (placed_from 0 keys) (record { key = key; position = position })
+  pub complete : (placed : Placed) → Contains (placed_from 0 keys) placed → Done placed → positions_in nodes placed.key ≡ Some placed.position
 
--- a root alone has none
-pub IsBuilt-none : IsBuilt [] (empty_node ∷ [])
-IsBuilt-none = record {
-  tree = IsTree-empty_node;
-  sound = λ key position found. let wrong : ◌≡◌ {A = Option ℕ} None (Some position) = sym (positions_of_leaf key) ∙ found in cc;
-  complete = λ placed h. absurd (omega (arith, h.1));
-}
+-- a key of one code point whose position is below i
+abbrev pub IsShortBelow : ℕ → Placed → Type 0
+IsShortBelow i placed = (placed.position < i) × (length placed.key ≡ 1)
+
+-- a key of one code point, or one of the first i of a list
+abbrev pub IsShortOr : List Placed → ℕ → Placed → Type 0
+IsShortOr list i placed = (length placed.key ≡ 1) ⊎ Contains (take i list) placed
 
 module _ (keys : List (List ℕ)) (distinct : AreDistinctKeys keys) where
+  -- a root alone has none
+  pub IsBuilt-none : (Done : Placed → Type 0) → ((placed : Placed) → Contains (placed_from 0 keys) placed → Done placed → ⊥) →
+      IsBuilt keys Done (empty_node ∷ [])
+  IsBuilt-none Done none = record {
+    tree = IsTree-empty_node;
+    sound = λ key position found. let wrong : ◌≡◌ {A = Option ℕ} None (Some position) = sym (positions_of_leaf key) ∙ found in cc;
+    complete = λ placed h done. absurd (none placed h done);
+  }
+
   -- of distinct keys, two that are the same have the same position
   one_position : (r s : Placed) → Contains (placed_from 0 keys) r → Contains (placed_from 0 keys) s → r.key ≡ s.key → r.position ≡ s.position
   one_position r s first second same =
       same_Some r.position s.position
       (sym (found_of_placed 0 keys distinct r first) ∙ ap (place_at 0 keys) same ∙ found_of_placed 0 keys distinct s second)
 
-  -- one more key
-  IsBuilt-push : (list : List Placed) (placed : Placed) → ((r : Placed) → Contains (list ++ placed ∷ []) r → Contains (placed_from 0 keys) r) →
-      (nodes next : List NodeContent) → IsBuilt list nodes → IsTree next →
-      ((key : List ℕ) → positions next key ≡ with_position (positions nodes) placed key) → IsBuilt (list ++ placed ∷ []) next
-  IsBuilt-push list placed from nodes next built tree put =
-      let last = Contains-push list placed in
-      let sound : (key : List ℕ) (position : ℕ) → positions next key ≡ Some position →
-      Contains (list ++ placed ∷ []) (record { key = key; position = position }) = λ key position found.
-      cond_both (same_key placed.key key) (Some placed.position) (positions nodes key)
-      (λ o. o ≡ Some position → Contains (list ++ placed ∷ []) (record { key = key; position = position }))
+  -- one more key is done
+  pub IsBuilt-push : (Done Later : Placed → Type 0) (placed : Placed) → Contains (placed_from 0 keys) placed →
+      ((r : Placed) → Contains (placed_from 0 keys) r → Later r → Done r ⊎ (placed.key ≡ r.key)) → (nodes next : List NodeContent) → IsBuilt keys Done nodes →
+      IsTree next → ((key : List ℕ) → positions_in next key ≡ with_position (positions_in nodes) placed key) → IsBuilt keys Later next
+  IsBuilt-push Done Later placed in_keys later nodes next built tree put =
+      let sound : (key : List ℕ) (position : ℕ) → positions_in next key ≡ Some position →
+      Contains (placed_from 0 keys) (record { key = key; position = position }) = λ key position found.
+      cond_both (same_key placed.key key) (Some placed.position) (positions_in nodes key)
+      (λ o. o ≡ Some position → Contains (placed_from 0 keys) (record { key = key; position = position }))
       (λ is some.
       let same_position = same_Some placed.position position some in
       let same_placed : placed ≡ record { key = key; position = position } =
       λ i. record { key = same_key-true placed.key key is i; position = same_position i } in
-      subst (Contains (list ++ placed ∷ [])) same_placed last)
-      (λ other some. Contains-append_left list (placed ∷ []) (record { key = key; position = position }) (built.sound key position some))
+      subst (Contains (placed_from 0 keys)) same_placed in_keys)
+      (λ other some. built.sound key position some)
       (sym (put key) ∙ found) in
-      let complete : (r : Placed) → Contains (list ++ placed ∷ []) r → positions next r.key ≡ Some r.position = λ r h.
+      let complete : (r : Placed) → Contains (placed_from 0 keys) r → Later r → positions_in next r.key ≡ Some r.position = λ r h done.
       put r.key ∙
       ⊎_elim
       (λ before.
-      cond_both (same_key placed.key r.key) (Some placed.position) (positions nodes r.key) (λ o. o ≡ Some r.position)
-      (λ is. ap Some (one_position placed r (from placed last) (from r h) (same_key-true placed.key r.key is)))
-      (λ other. built.complete r before))
-      (λ here. cond-true (same_key placed.key r.key) (Some placed.position) (positions nodes r.key)
-      (subst (λ (s : Placed). same_key placed.key s.key ≡ true) here (same_key-itself placed.key)) ∙ ap (λ (s : Placed). Some s.position) here)
-      (Contains-push_cases list placed r h) in
+      cond_both (same_key placed.key r.key) (Some placed.position) (positions_in nodes r.key) (λ o. o ≡ Some r.position)
+      (λ is. ap Some (one_position placed r in_keys h (same_key-true placed.key r.key is)))
+      (λ other. built.complete r h before))
+      (λ here. cond-true (same_key placed.key r.key) (Some placed.position) (positions_in nodes r.key)
+      (subst (λ (k : List ℕ). same_key placed.key k ≡ true) here (same_key-itself placed.key)) ∙ ap Some (one_position placed r in_keys h here))
+      (later r h done) in
       record { tree = tree; sound = sound; complete = complete }
 
-  -- the next key of a list
-  pub IsBuilt-more : (list : List Placed) → IsPermutation (placed_from 0 keys) list → (i : ℕ) (placed : Placed) → i < length list →
-      placed ≡ get_or list i placed → (nodes next : List NodeContent) → IsBuilt (take i list) nodes → IsTree next →
-      ((key : List ℕ) → positions next key ≡ with_position (positions nodes) placed key) → IsBuilt (take (i + 1) list) next
-  IsBuilt-more list moved i placed within is nodes next built tree put =
-      let more : take (i + 1) list ≡ take i list ++ placed ∷ [] = take_more list i placed within ∙ ap (λ r. take i list ++ r ∷ []) (sym is) in
-      let from : (r : Placed) → Contains (take i list ++ placed ∷ []) r → Contains (placed_from 0 keys) r = λ r h.
-      let begins : Contains (take (i + 1) list) r = subst (λ front. Contains front r) (sym more) h in
-      placed_in (placed_from 0 keys) list moved r (subst (λ all. Contains all r) (take-append-drop (i + 1) list)
-      (Contains-append_left (take (i + 1) list) (drop (i + 1) list) r begins)) in
-      subst (λ front. IsBuilt front next) (sym more) (IsBuilt-push (take i list) placed from nodes next built tree put)
+  -- the same nodes, where no other key is done
+  pub IsBuilt-same : (Done Later : Placed → Type 0) → ((r : Placed) → Contains (placed_from 0 keys) r → Later r → Done r) → (nodes : List NodeContent) →
+      IsBuilt keys Done nodes → IsBuilt keys Later nodes
+  IsBuilt-same Done Later later nodes built =
+      record { tree = built.tree; sound = built.sound; complete = λ placed h done. built.complete placed h (later placed h done) }
 
-  -- all keys, in any order
-  pub IsBuilt-all : (list : List Placed) → IsPermutation (placed_from 0 keys) list → (nodes : List NodeContent) → IsBuilt list nodes →
-      (key : List ℕ) → positions nodes key ≡ place_at 0 keys key
-  IsBuilt-all list moved nodes built key =
-      same_options (positions nodes key) (place_at 0 keys key)
-      (λ position found. found_of_placed 0 keys distinct (record { key = key; position = position })
-      (placed_in (placed_from 0 keys) list moved (record { key = key; position = position }) (built.sound key position found)))
-      (λ position found. built.complete (record { key = key; position = position })
-      (Contains-permutation (placed_from 0 keys) list (record { key = key; position = position }) moved (placed_of_found 0 keys key position found)))
+  -- all keys are done
+  pub IsBuilt-all : (Done : Placed → Type 0) → ((r : Placed) → Contains (placed_from 0 keys) r → Done r) → (nodes : List NodeContent) → IsBuilt keys Done nodes →
+      (key : List ℕ) → positions_in nodes key ≡ place_at 0 keys key
+  IsBuilt-all Done done nodes built key =
+      same_options (positions_in nodes key) (place_at 0 keys key)
+      (λ position found. found_of_placed 0 keys distinct (record { key = key; position = position }) (built.sound key position found))
+      (λ position found.
+      let placed : Placed = record { key = key; position = position } in
+      let in_keys = placed_of_found 0 keys key position found in
+      built.complete placed in_keys (done placed in_keys))
+
+  -- ---- First the keys of one code point
+
+  -- the key with a position is the one there
+  key_is : (i : ℕ) (key : List ℕ) (r : Placed) → i < length keys → key ≡ get_or keys i key → Contains (placed_from 0 keys) r → r.position ≡ i → key ≡ r.key
+  key_is i key r within is h same =
+      let it = key_at_position 0 keys r h key in
+      is ∙ ap (λ n. get_or keys n key) (let there : i ≡ r.position - 0 = omega arith in there) ∙ sym it.2
+
+  -- the key at i is one
+  pub IsBuilt-short : (i : ℕ) (key : List ℕ) → i < length keys → key ≡ get_or keys i key → (nodes next : List NodeContent) →
+      IsBuilt keys (IsShortBelow i) nodes → IsTree next →
+      ((other : List ℕ) → positions_in next other ≡ with_position (positions_in nodes) (record { key = key; position = i }) other) →
+      IsBuilt keys (IsShortBelow (i + 1)) next
+  IsBuilt-short i key within is nodes next built tree put =
+      let placed : Placed = record { key = key; position = i } in
+      IsBuilt-push (IsShortBelow i) (IsShortBelow (i + 1)) placed
+      (subst (λ n. Contains (placed_from 0 keys) (record { key = key; position = n })) (let same : 0 + i ≡ i = omega arith in same)
+      (placed_here 0 keys i key within is))
+      (λ r h done.
+      ⊎_elim
+      (λ same. inr (key_is i key r within is h same))
+      (λ other. inl (omega arith, done.1))
+      (cases_eq r.position i))
+      nodes next built tree put
+
+  -- the key at i is another
+  pub IsBuilt-other : (i : ℕ) (key : List ℕ) → i < length keys → key ≡ get_or keys i key → (length key ≡ 1 → ⊥) → (nodes : List NodeContent) →
+      IsBuilt keys (IsShortBelow i) nodes → IsBuilt keys (IsShortBelow (i + 1)) nodes
+  IsBuilt-other i key within is long nodes built =
+      IsBuilt-same (IsShortBelow i) (IsShortBelow (i + 1))
+      (λ r h done. ⊎_elim (λ same. absurd (long (ap length (key_is i key r within is h same) ∙ done.1))) (λ other. (omega arith, done.1)) (cases_eq r.position i))
+      nodes built
+
+  -- ---- Then the others
+
+  module _ (list : List Placed) (long : AreLongKeys keys list) where
+    pub IsBuilt-long_none : (i : ℕ) (nodes : List NodeContent) → length keys ≤ i → IsBuilt keys (IsShortBelow i) nodes → IsBuilt keys (IsShortOr list 0) nodes
+    IsBuilt-long_none i nodes past built =
+        IsBuilt-same (IsShortBelow i) (IsShortOr list 0)
+        (λ r h done. ⊎_elim
+        (λ short. let below = (key_at_position 0 keys r h []).1 in (omega (arith, below), short))
+        (λ none. absurd (omega (arith, none.1)))
+        done)
+        nodes built
+
+    pub IsBuilt-long : (i : ℕ) (placed : Placed) → i < length list → placed ≡ get_or list i placed → (nodes next : List NodeContent) →
+        IsBuilt keys (IsShortOr list i) nodes → IsTree next → ((key : List ℕ) → positions_in next key ≡ with_position (positions_in nodes) placed key) →
+        IsBuilt keys (IsShortOr list (i + 1)) next
+    IsBuilt-long i placed within is nodes next built tree put =
+        let more : take (i + 1) list ≡ take i list ++ placed ∷ [] = take_more list i placed within ∙ ap (λ r. take i list ++ r ∷ []) (sym is) in
+        let in_list : Contains list placed = subst (λ all. Contains all placed) (take-append-drop (i + 1) list)
+        (Contains-append_left (take (i + 1) list) (drop (i + 1) list) placed
+        (subst (λ front. Contains front placed) (sym more) (Contains-push (take i list) placed))) in
+        IsBuilt-push (IsShortOr list i) (IsShortOr list (i + 1)) placed ((long placed).0 in_list).0
+        (λ r h done. ⊎_elim
+        (λ short. inl (inl short))
+        (λ inside. ⊎_elim (λ before. inl (inr before)) (λ here. inr (ap (λ (p : Placed). p.key) here))
+        (Contains-push_cases (take i list) placed r (subst (λ front. Contains front r) more inside)))
+        done)
+        nodes next built tree put
+
+    pub IsBuilt-long_all : (i : ℕ) (nodes : List NodeContent) → length list ≤ i → IsBuilt keys (IsShortOr list i) nodes → (key : List ℕ) →
+        positions_in nodes key ≡ place_at 0 keys key
+    IsBuilt-long_all i nodes past built =
+        IsBuilt-all (IsShortOr list i)
+        (λ r h. ⊎_elim
+        (λ short. inl short)
+        (λ other. inr (subst (λ all. Contains all r) (sym (take_all i list past)) ((long r).1 (h, other))))
+        (cases_eq (length r.key) 1))
+        nodes built

@@ -1,29 +1,28 @@
 -- One more code point on the way to a key: the nodes with a new one, to which an edge leads.
-use Rattle.std.proofs.Common.{◌≡◌, ◌≢◌, ◌⊎◌, ℕ, suc, ◌<◌, inl, inr, List, [], ◌∷◌, ◌++◌, length, get_or, set, Option, Some, None, option_and_then}
+use Rattle.std.proofs.Common.{◌≡◌, ◌≢◌, ◌⊎◌, ℕ, zero, suc, ◌<◌, inl, inr, List, [], ◌∷◌, ◌++◌, length, map, get_or, set, Option, Some, None, option_and_then}
 use Rattle.std.proofs.Common.{refl, ap, subst, sym, ◌∙◌, arith, length-append, length-set}
 use Rattle.std.proofs.lemmas.Bool.{cases_eq, cases_order}
-use Rattle.std.proofs.lemmas.List.{get_or_append_left, get_or-set_same, get_or-set_other, get_or_push, get_or_default, length_push}
+use Rattle.std.proofs.lemmas.List.{get_or_append_left, get_or-set_same, get_or-set_other, get_or_push, get_or_default, length_push, length-map, get_or-map, map-set, map-append}
 use Rattle.std.proofs.lemmas.Option.{none-some, same_Some}
 use Rattle.std.specs.List.{insert}
-use Rattle.uca_match.specs.Tries.{NodeContent, empty_node, node_at, target_of, walk, positions, LeadsOn, AreNodes, AreRisingEdges, IsNoDeadEnd, IsNewPlace}
+use Rattle.uca_match.specs.Tries.{NodeContent, empty_node, node_at, walk, positions_in, LeadsOn, AreNodes, IsNoDeadEnd, ListedNode, target_of, numbered_target, by_edges, with_root, IsNewPlace}
 use Rattle.uca_match.specs.Tries.{IsAlong}
 use Rattle.uca_match.specs.declared.key_map.Edge.{Edge}
 use Rattle.uca_match.proofs.TrieWalks.{walk_push, walk_root}
-use Rattle.uca_match.proofs.TrieEdges.{none_at_new_place, target_of_new, target_of_others, rising_with_new}
+use Rattle.uca_match.proofs.TrieEdges.{none_at_new_place, target_of_new, target_of_others}
 
 -- ---- A step that is there
 
 -- something leaves the node
-no_end_of_edge : (b : NodeContent) (c m : ℕ) → target_of b.edges c ≡ Some m → IsNoDeadEnd b
-no_end_of_edge b c m leads none empty =
-    let nothing : target_of b.edges c ≡ None = ap (λ (edges : List Edge). target_of edges c) empty in cc
+no_end_of_edge : (b : NodeContent) (c m : ℕ) → b.leads c ≡ Some m → IsNoDeadEnd b
+no_end_of_edge b c m leads none = (c, m, leads)
 
 walk_on : (nodes : List NodeContent) (n m k : ℕ) (front : List ℕ) (c : ℕ) → walk nodes n front ≡ Some m →
-    target_of (node_at nodes m).edges c ≡ Some k → walk nodes n (front ++ c ∷ []) ≡ Some k
-walk_on nodes n m k front c first last = walk_push nodes n front c ∙ ap (option_and_then (λ i. target_of (node_at nodes i).edges c)) first ∙ last
+    (node_at nodes m).leads c ≡ Some k → walk nodes n (front ++ c ∷ []) ≡ Some k
+walk_on nodes n m k front c first last = walk_push nodes n front c ∙ ap (option_and_then (λ i. (node_at nodes i).leads c)) first ∙ last
 
 pub along_edge : (start nodes : List NodeContent) (front : List ℕ) (number c target : ℕ) → IsAlong start nodes front number →
-    target_of (node_at nodes number).edges c ≡ Some target → IsAlong start nodes (front ++ c ∷ []) target
+    (node_at nodes number).leads c ≡ Some target → IsAlong start nodes (front ++ c ∷ []) target
 along_edge start nodes front number c target along leads =
     record {
       texts = along.texts;
@@ -49,20 +48,19 @@ same_then f g None h = refl
 same_then f g (Some x) h = h x refl
 
 -- the nodes with one more, to which an edge leads from the node `number`
-abbrev with_step : List NodeContent → ℕ → List Edge → List NodeContent
-with_step old number edges = set (old ++ empty_node ∷ []) number (record { edges = edges; position = (node_at old number).position })
+abbrev pub with_step : List NodeContent → ℕ → (ℕ → Option ℕ) → List NodeContent
+with_step old number leads = set (old ++ empty_node ∷ []) number (record { leads = leads; position = (node_at old number).position })
 
--- the edges lead where the old ones do, and the new one to the new node
-record AddsEdge (old : List NodeContent) (number point : ℕ) (edges : List Edge) : Type 0 where
+-- the code points lead where they did, and the new one to the new node
+pub record AddsEdge (old : List NodeContent) (number point : ℕ) (leads : ℕ → Option ℕ) : Type 0 where
   pub within : number < length old
-  pub none : target_of (node_at old number).edges point ≡ None
-  pub new : target_of edges point ≡ Some (length old)
-  pub others : (c : ℕ) → (point ≡ c → ⊥) → target_of edges c ≡ target_of (node_at old number).edges c
-  pub rising : AreRisingEdges edges
+  pub none : (node_at old number).leads point ≡ None
+  pub new : leads point ≡ Some (length old)
+  pub others : (c : ℕ) → (point ≡ c → ⊥) → leads c ≡ (node_at old number).leads c
 
-module _ (old : List NodeContent) (number point : ℕ) (edges : List Edge) (adds : AddsEdge old number point edges) where
+module _ (old : List NodeContent) (number point : ℕ) (leads : ℕ → Option ℕ) (adds : AddsEdge old number point leads) where
   abbrev nodes : List NodeContent
-  nodes = with_step old number edges
+  nodes = with_step old number leads
 
   -- the text of the new node comes last
   abbrev with_text : List (List ℕ) → List (List ℕ)
@@ -73,7 +71,7 @@ module _ (old : List NodeContent) (number point : ℕ) (edges : List Edge) (adds
   length_with : length nodes ≡ suc (length old)
   length_with = length-set (old ++ empty_node ∷ []) number _ ∙ length-append old (empty_node ∷ []) ∙ omega arith
 
-  at_number : node_at nodes number ≡ record { edges = edges; position = (node_at old number).position }
+  at_number : node_at nodes number ≡ record { leads = leads; position = (node_at old number).position }
   at_number = get_or-set_same (old ++ empty_node ∷ []) number _ empty_node (omega (arith, adds.within, length-append old (empty_node ∷ [])))
 
   at_others : (n : ℕ) → n < length old → n ≢ number → node_at nodes n ≡ node_at old n
@@ -92,25 +90,25 @@ module _ (old : List NodeContent) (number point : ℕ) (edges : List Edge) (adds
 
   -- an edge of an old node is an old one, or the new one
   abbrev EdgeCase : ℕ → ℕ → Type 0
-  EdgeCase n c = (target_of (node_at nodes n).edges c ≡ target_of (node_at old n).edges c) ⊎
-      ((n ≡ number) × (c ≡ point) × (target_of (node_at old n).edges c ≡ None) × (target_of (node_at nodes n).edges c ≡ Some (length old)))
+  EdgeCase n c = ((node_at nodes n).leads c ≡ (node_at old n).leads c) ⊎
+      ((n ≡ number) × (c ≡ point) × ((node_at old n).leads c ≡ None) × ((node_at nodes n).leads c ≡ Some (length old)))
 
   number_cases : (c : ℕ) → EdgeCase number c
   number_cases c = elim (cases_eq point c) [
     | inl same ↦ inr (
       refl,
       sym same,
-      ap (target_of (node_at old number).edges) (sym same)
+      ap (node_at old number).leads (sym same)
           ∙ adds.none,
-      ap (λ (b : NodeContent). target_of b.edges c) at_number ∙ ap (target_of edges) (sym same) ∙ adds.new,
+      ap (λ (b : NodeContent). b.leads c) at_number ∙ ap leads (sym same) ∙ adds.new,
     )
-    | inr apart ↦ inl (ap (λ (b : NodeContent). target_of b.edges c) at_number ∙ adds.others c apart)
+    | inr apart ↦ inl (ap (λ (b : NodeContent). b.leads c) at_number ∙ adds.others c apart)
   ]
 
   edge_cases : (n c : ℕ) → n < length old → EdgeCase n c
   edge_cases n c within = elim (cases_eq n number) [
     | inl same ↦ subst (λ i. EdgeCase i c) (sym same) (number_cases c)
-    | inr apart ↦ inl (ap (λ (b : NodeContent). target_of b.edges c) (at_others n within apart))
+    | inr apart ↦ inl (ap (λ (b : NodeContent). b.leads c) (at_others n within apart))
   ]
 
   -- a node is an old one, or the new one
@@ -126,7 +124,7 @@ module _ (old : List NodeContent) (number point : ℕ) (edges : List Edge) (adds
   -- nothing leads on from the new node
   from_new : (key : List ℕ) → (walk nodes (length old) key ≡ None) ⊎ (walk nodes (length old) key ≡ Some (length old))
   from_new [] = inr refl
-  from_new (c ∷ key) = inl (ap (λ (b : NodeContent). option_and_then (λ i. walk nodes i key) (target_of b.edges c)) at_new)
+  from_new (c ∷ key) = inl (ap (λ (b : NodeContent). option_and_then (λ i. walk nodes i key) (b.leads c)) at_new)
 
   module _ (texts : List (List ℕ)) (shape : AreNodes old texts) where
     -- the code points lead where they led, or to the new node and nowhere before
@@ -138,7 +136,7 @@ module _ (old : List NodeContent) (number point : ℕ) (edges : List Edge) (adds
           let P : Option ℕ → Type 0 = λ o. (option_and_then (λ i. walk nodes i key) o ≡ walk old m (c ∷ key)) ⊎
           ((walk old m (c ∷ key) ≡ None) × (option_and_then (λ i. walk nodes i key) o ≡ Some (length old))) in
           subst P (sym same)
-          (onward (λ i. walk nodes i key) (λ i. walk old i key) (target_of (node_at old m).edges c) (length old)
+          (onward (λ i. walk nodes i key) (λ i. walk old i key) ((node_at old m).leads c) (length old)
           (λ i leads. walk_cases i key (subst (λ l. i < l) shape.same (shape.edges m c i within leads).within)))
       | inr step ↦
           let gone : walk old m (c ∷ key) ≡ None = ap (option_and_then (λ i. walk old i key)) step.2 in
@@ -155,7 +153,7 @@ module _ (old : List NodeContent) (number point : ℕ) (edges : List Edge) (adds
       | inr none ↦ absurd (none-some k (sym none.0 ∙ leads))
     ]
 
-    held_same : (key : List ℕ) → positions nodes key ≡ positions old key
+    held_same : (key : List ℕ) → positions_in nodes key ≡ positions_in old key
     held_same key = elim (walk_cases 0 key shape.some) [
       | inl same ↦
           ap (option_and_then (λ n. (node_at nodes n).position)) same ∙
@@ -188,13 +186,7 @@ module _ (old : List NodeContent) (number point : ℕ) (edges : List Edge) (adds
               ∙ ap (λ t. t ++ point ∷ []) (sym (text_within number (omega (arith, adds.within, shape.same))));
         }
 
-    still_rising : (n : ℕ) → n < length old → AreRisingEdges (node_at nodes n).edges
-    still_rising n within = elim (cases_eq n number) [
-      | inl same ↦ subst (λ i. AreRisingEdges (node_at nodes i).edges) (sym same) (subst (λ b. AreRisingEdges b.edges) (sym at_number) adds.rising)
-      | inr apart ↦ subst (λ b. AreRisingEdges b.edges) (sym (at_others n within apart)) (shape.rising n within)
-    ]
-
-    still_edges : (n c m : ℕ) → n < length old → target_of (node_at nodes n).edges c ≡ Some m → LeadsOn (with_text texts) n c m
+    still_edges : (n c m : ℕ) → n < length old → (node_at nodes n).leads c ≡ Some m → LeadsOn (with_text texts) n c m
     still_edges n c m within leads = elim (edge_cases n c within) [
       | inl same ↦ still_leads n c m within (shape.edges n c m within (sym same ∙ leads))
       | inr step ↦
@@ -210,14 +202,10 @@ module _ (old : List NodeContent) (number point : ℕ) (edges : List Edge) (adds
           some = omega (arith, length_with);
           same = length_push texts (get_or texts number [] ++ point ∷ []) ∙ omega (arith, length_with, shape.same);
           root = text_within 0 (omega (arith, shape.some, shape.same)) ∙ shape.root;
-          rising = λ n within. elim (node_cases n within) [
-            | inl old_node ↦ still_rising n old_node
-            | inr new_node ↦ subst (λ i. AreRisingEdges (node_at nodes i).edges) new_node (subst (λ b. AreRisingEdges b.edges) (sym at_new) tt)
-          ];
           edges = λ n c m within leads. elim (node_cases n within) [
             | inl old_node ↦ still_edges n c m old_node leads
-            | inr new_node ↦ absurd (none-some m (ap (λ (b : NodeContent). target_of b.edges c) (sym at_new)
-                ∙ ap (λ i. target_of (node_at nodes i).edges c) new_node ∙ leads))
+            | inr new_node ↦ absurd (none-some m (ap (λ (b : NodeContent). b.leads c) (sym at_new)
+                ∙ ap (λ i. (node_at nodes i).leads c) new_node ∙ leads))
           ];
         }
 
@@ -226,7 +214,7 @@ module _ (old : List NodeContent) (number point : ℕ) (edges : List Edge) (adds
   no_new_end before n above within other = elim (node_cases n within) [
     | inl old_node ↦ elim (cases_eq n number) [
       | inl same ↦ subst (λ i. IsNoDeadEnd (node_at nodes i)) (sym same)
-          (no_end_of_edge (node_at nodes number) point (length old) (ap (λ (b : NodeContent). target_of b.edges point) at_number ∙ adds.new))
+          (no_end_of_edge (node_at nodes number) point (length old) (ap (λ (b : NodeContent). b.leads point) at_number ∙ adds.new))
       | inr apart ↦ subst IsNoDeadEnd (sym (at_others n old_node apart)) (before n above old_node apart)
     ]
     | inr new_node ↦ absurd (other (sym new_node))
@@ -239,61 +227,128 @@ module _ (old : List NodeContent) (number point : ℕ) (edges : List Edge) (adds
         shape = nodes_with along.texts along.shape;
         leads = walk_on nodes 0 number (length old) front point
             (walk_stays along.texts along.shape 0 number front along.shape.some along.leads)
-            (ap (λ (b : NodeContent). target_of b.edges point) at_number ∙ adds.new);
+            (ap (λ (b : NodeContent). b.leads point) at_number ∙ adds.new);
         no_dead_end = no_new_end along.no_dead_end;
         same = λ key. held_same along.texts along.shape key ∙ along.same key;
       }
 
--- ---- What the code reads
+-- ---- What the code does
 
 pub number_within : {start nodes : List NodeContent} {front : List ℕ} {number : ℕ} → IsAlong start nodes front number → number < length nodes
 number_within {nodes = nodes} {front = front} {number = number} along = (walk_root nodes along.texts along.shape number front along.leads).0
 
-pub edges_rise : {start nodes : List NodeContent} {front : List ℕ} {number : ℕ} → IsAlong start nodes front number →
-    AreRisingEdges (node_at nodes number).edges
-edges_rise {number = number} along = along.shape.rising number (number_within along)
+-- nodes as they are listed
+abbrev pub no_listed : ListedNode
+no_listed = record { edges = []; position = None }
 
-pub edges_read : (nodes : List NodeContent) (number : ℕ) (b : NodeContent) (inside edges : List Edge) → number < length nodes →
-    b ≡ get_or nodes number b → inside ≡ b.edges → edges ≡ inside → edges ≡ (node_at nodes number).edges
-edges_read nodes number b inside edges within read view same = same ∙ view
-    ∙ ap (λ (n : NodeContent). n.edges) (read ∙ get_or_default nodes number b empty_node within)
+pub length-with_root : (root : ℕ → ℕ) (nodes : List ListedNode) → length (with_root root nodes) ≡ length nodes
+length-with_root root [] = refl
+length-with_root root (b ∷ nodes) = ap suc (length-map nodes by_edges)
 
-pub pushed_read : (nodes pushed : List NodeContent) (number : ℕ) (b new : NodeContent) → number < length nodes → pushed ≡ nodes ++ new ∷ [] →
-    b ≡ get_or pushed number b → b ≡ node_at nodes number
-pushed_read nodes pushed number b new within push read =
-    read ∙ ap (λ (list : List NodeContent). get_or list number b) push ∙ get_or_append_left nodes (new ∷ []) b number within
-    ∙ get_or_default nodes number b empty_node within
+-- a node other than the root
+pub below_root : (root : ℕ → ℕ) (nodes : List ListedNode) (n : ℕ) (d : ListedNode) → 0 < n → n < length nodes →
+    node_at (with_root root nodes) n ≡ by_edges (get_or nodes n d)
+below_root root [] n d above within = absurd (omega arith)
+below_root root (b ∷ nodes) zero d above within = absurd (omega arith)
+below_root root (b ∷ nodes) (suc n) d above within = get_or-map by_edges nodes n d empty_node (omega arith)
 
-insert_adds : (old : List NodeContent) (number point at : ℕ) → number < length old → AreRisingEdges (node_at old number).edges →
-    IsNewPlace (node_at old number).edges point at →
-    AddsEdge old number point (insert (node_at old number).edges at (record { point = point; target = length old }))
-insert_adds old number point at within rising new =
-    let e : Edge = record { point = point; target = length old } in
-    let none = none_at_new_place (node_at old number).edges point at new in
-    record {
-      within = within;
-      none = none;
-      new = target_of_new (node_at old number).edges at e none;
-      others = target_of_others (node_at old number).edges at e;
-      rising = rising_with_new (node_at old number).edges rising at e new;
-    }
+-- a new position for a node
+pub with_position_put : (root : ℕ → ℕ) (nodes : List ListedNode) (n : ℕ) (d : ListedNode) (position : Option ℕ) → n < length nodes →
+    with_root root (set nodes n (record { edges = (get_or nodes n d).edges; position = position }))
+    ≡ set (with_root root nodes) n (record { leads = (node_at (with_root root nodes) n).leads; position = position })
+with_position_put root [] n d position within = absurd (omega arith)
+with_position_put root (b ∷ nodes) zero d position within = refl
+with_position_put root (b ∷ nodes) (suc n) d position within =
+    let put : NodeContent → NodeContent = λ a. record { leads = a.leads; position = position } in
+    ap (λ rest. record { leads = λ c. numbered_target (root c); position = b.position } ∷ rest)
+    (map-set by_edges nodes n (record { edges = (get_or nodes n d).edges; position = position })
+    ∙ ap (λ (a : NodeContent). set (map by_edges nodes) n (put a)) (sym (get_or-map by_edges nodes n d empty_node (omega arith))))
 
-pub along_insert : (start old pushed : List NodeContent) (front : List ℕ) (number point at target : ℕ) (read inside after : List Edge)
-    (position : Option ℕ) (new : NodeContent) → IsAlong start old front number → IsNewPlace read point at →
-    read ≡ (node_at old number).edges → record { edges = inside; position = position } ≡ node_at old number → pushed ≡ old ++ new ∷ [] → new ≡ empty_node →
-    target ≡ length old → after ≡ insert inside at (record { point = point; target = target }) →
-    IsAlong start (set pushed number (record { edges = after; position = position })) (front ++ point ∷ []) target
-along_insert start old pushed front number point at target read inside after position new along place same_read same_node push is_leaf is_target put =
-    let here : NodeContent = node_at old number in
-    let edges : List Edge = insert here.edges at (record { point = point; target = length old }) in
-    let same_edges : after ≡ edges =
-    put ∙ ap (λ (t : ℕ). insert inside at (record { point = point; target = t })) is_target ∙
-    ap (λ (es : List Edge). insert es at (record { point = point; target = length old })) (ap (λ (b : NodeContent). b.edges) same_node) in
-    let N : List Edge → Option ℕ → NodeContent = λ es r. record { edges = es; position = r } in
-    let same_nodes : set pushed number (N after position) ≡ with_step old number edges =
-    ap (λ (list : List NodeContent). set list number (N after position)) (push ∙ ap (λ (b : NodeContent). old ++ b ∷ []) is_leaf) ∙
-    ap (λ (es : List Edge). set (old ++ empty_node ∷ []) number (N es position)) same_edges ∙
-    ap (λ (r : Option ℕ). set (old ++ empty_node ∷ []) number (N edges r)) (ap (λ (b : NodeContent). b.position) same_node) in
-    let adds = insert_adds old number point at (number_within along) (edges_rise along) (subst (λ es. IsNewPlace es point at) same_read place) in
-    subst (λ t. IsAlong start (set pushed number (N after position)) (front ++ point ∷ []) t) (sym is_target)
-    (subst (λ nodes. IsAlong start nodes (front ++ point ∷ []) (length old)) (sym same_nodes) (along_new old number point edges adds start front along))
+-- a new node to which an edge leads from a node other than the root
+pub with_edge_put : (root : ℕ → ℕ) (nodes : List ListedNode) (n : ℕ) (d : ListedNode) (edges : List Edge) → 0 < n → n < length nodes →
+    with_root root (set (nodes ++ no_listed ∷ []) n (record { edges = edges; position = (get_or nodes n d).position }))
+    ≡ with_step (with_root root nodes) n (target_of edges)
+with_edge_put root [] n d edges above within = absurd (omega arith)
+with_edge_put root (b ∷ nodes) zero d edges above within = absurd (omega arith)
+with_edge_put root (b ∷ nodes) (suc n) d edges above within =
+    let put : List NodeContent → NodeContent → List NodeContent = λ list a. set list n (record { leads = target_of edges; position = a.position }) in
+    ap (λ rest. record { leads = λ c. numbered_target (root c); position = b.position } ∷ rest)
+    (map-set by_edges (nodes ++ no_listed ∷ []) n (record { edges = edges; position = (get_or nodes n d).position })
+    ∙ ap (λ list. set list n (record { leads = target_of edges; position = (get_or nodes n d).position })) (map-append by_edges nodes (no_listed ∷ []))
+    ∙ ap (put (map by_edges nodes ++ empty_node ∷ [])) (sym (get_or-map by_edges nodes n d empty_node (omega arith))))
+
+-- a new node to which a number leads from the root
+pub with_number_put : (old root : ℕ → ℕ) (nodes : List ListedNode) → 0 < length nodes →
+    with_root root (nodes ++ no_listed ∷ []) ≡ with_step (with_root old nodes) 0 (λ c. numbered_target (root c))
+with_number_put old root [] some = absurd (omega arith)
+with_number_put old root (b ∷ nodes) some =
+    ap (λ rest. record { leads = λ c. numbered_target (root c); position = b.position } ∷ rest) (map-append by_edges nodes (no_listed ∷ []))
+
+pub root_leads : (root : ℕ → ℕ) (nodes : List ListedNode) (c : ℕ) → 0 < length nodes → (node_at (with_root root nodes) 0).leads c ≡ numbered_target (root c)
+root_leads root [] c some = absurd (omega arith)
+root_leads root (b ∷ rest) c some = refl
+
+-- a root alone that leads nowhere
+pub root_alone : (root : ℕ → ℕ) → ((c : ℕ) → root c ≡ 0) → with_root root (no_listed ∷ []) ≡ empty_node ∷ []
+root_alone root none = λ i. record { leads = λ c. numbered_target (none c i); position = None } ∷ []
+
+-- a listed node that was read after one more was added
+pub pushed_read : (nodes pushed : List ListedNode) (n : ℕ) (b new : ListedNode) → n < length nodes → pushed ≡ nodes ++ new ∷ [] → b ≡ get_or pushed n b →
+    b ≡ get_or nodes n no_listed
+pushed_read nodes pushed n b new within push read =
+    read ∙ ap (λ (list : List ListedNode). get_or list n b) push ∙ get_or_append_left nodes (new ∷ []) b n within ∙ get_or_default nodes n b no_listed within
+
+-- ---- One more step
+
+-- by a number that is there
+pub target_there : (n : ℕ) → 0 < n → numbered_target n ≡ Some n
+target_there zero above = absurd (omega arith)
+target_there (suc n) above = refl
+
+pub target_none : (n : ℕ) → n ≡ 0 → numbered_target n ≡ None
+target_none n none = ap numbered_target none
+
+-- by a new edge
+pub along_edge_put : (start : List NodeContent) (root : ℕ → ℕ) (nodes : List ListedNode) (front : List ℕ) (n : ℕ) (d : ListedNode) (point at target : ℕ)
+    (after : List Edge) → 0 < n → IsAlong start (with_root root nodes) front n → IsNewPlace (get_or nodes n d).edges point at → target ≡ length nodes →
+    after ≡ insert (get_or nodes n d).edges at (record { point = point; target = target }) →
+    IsAlong start (with_root root (set (nodes ++ no_listed ∷ []) n (record { edges = after; position = (get_or nodes n d).position })))
+    (front ++ point ∷ []) target
+along_edge_put start root nodes front n d point at target after above along new is_target put =
+    let old : List NodeContent = with_root root nodes in
+    let within : n < length nodes = omega (arith, number_within along, length-with_root root nodes) in
+    let last : target ≡ length old = omega (arith, is_target, length-with_root root nodes) in
+    let edges : List Edge = (get_or nodes n d).edges in
+    let e : Edge = record { point = point; target = target } in
+    let here : (node_at old n).leads ≡ target_of edges = ap (λ (b : NodeContent). b.leads) (below_root root nodes n d above within) in
+    let none = none_at_new_place edges point at new in
+    let same = ap target_of put in
+    let adds : AddsEdge old n point (target_of after) = record {
+      within = number_within along;
+      none = ap (λ (leads : ℕ → Option ℕ). leads point) here ∙ none;
+      new = ap (λ (leads : ℕ → Option ℕ). leads point) same ∙ target_of_new edges at e none ∙ ap Some last;
+      others = λ c other. ap (λ (leads : ℕ → Option ℕ). leads c) same ∙ target_of_others edges at e c other
+          ∙ ap (λ (leads : ℕ → Option ℕ). leads c) (sym here);
+    } in
+    subst (λ t. IsAlong start (with_root root (set (nodes ++ no_listed ∷ []) n (record { edges = after; position = (get_or nodes n d).position })))
+    (front ++ point ∷ []) t) (sym last)
+    (subst (λ list. IsAlong start list (front ++ point ∷ []) (length old)) (sym (with_edge_put root nodes n d after above within))
+    (along_new old n point (target_of after) adds start front along))
+
+-- by a new number
+pub along_number_put : (start : List NodeContent) (old root : ℕ → ℕ) (nodes : List ListedNode) (front : List ℕ) (point target : ℕ) →
+    IsAlong start (with_root old nodes) front 0 → old point ≡ 0 → target ≡ length nodes → root point ≡ target → ((c : ℕ) → c ≢ point → root c ≡ old c) →
+    IsAlong start (with_root root (nodes ++ no_listed ∷ [])) (front ++ point ∷ []) target
+along_number_put start old root nodes front point target along none is_target here others =
+    let before : List NodeContent = with_root old nodes in
+    let some : 0 < length nodes = omega (arith, number_within along, length-with_root old nodes) in
+    let last : target ≡ length before = omega (arith, is_target, length-with_root old nodes) in
+    let adds : AddsEdge before 0 point (λ c. numbered_target (root c)) = record {
+      within = number_within along;
+      none = root_leads old nodes point some ∙ target_none (old point) none;
+      new = ap numbered_target here ∙ target_there target (omega (arith, some, is_target)) ∙ ap Some last;
+      others = λ c other. ap numbered_target (others c (λ same. other (sym same))) ∙ sym (root_leads old nodes c some);
+    } in
+    subst (λ t. IsAlong start (with_root root (nodes ++ no_listed ∷ [])) (front ++ point ∷ []) t) (sym last)
+    (subst (λ list. IsAlong start list (front ++ point ∷ []) (length before)) (sym (with_number_put old root nodes some))
+    (along_new before 0 point (λ c. numbered_target (root c)) adds start front along))

@@ -5,7 +5,7 @@ use Rattle.uca_weights.specs.declared.Element.{Element}
 use Rattle.uca_values.specs.Content.{Entry}
 use Rattle.uca_match.specs.Rows.{Rows}
 use Rattle.uca_match.specs.Positions.{Placed}
-use Rattle.uca_match.specs.Tries.{NodeContent, positions}
+use Rattle.uca_match.specs.Tries.{MapContent, positions}
 use Rattle.uca_match.specs.declared.key_map.Numbered.{Numbered}
 
 -- the code points of keys that are borrowed
@@ -22,7 +22,7 @@ elements_of rows = map (λ row. row.elements) rows
 
 -- what a trie has: keys with their positions, and the elements of each row
 pub record TrieContent : Type 0 where
-  pub keys : List NodeContent
+  pub keys : MapContent
   pub rows : List (List Element)
 
 -- its rows: the elements at the position of each key

@@ -1,5 +1,5 @@
 -- The positions of keys in a list of them.
-use Rattle.std.specs.Prelude.{ℕ, ◌+◌, ⊤, List, [], ◌∷◌, Option, Some, None, is_some, Contains, if◌then◌else◌}
+use Rattle.std.specs.Prelude.{◌≢◌, ◌↔◌, length, ℕ, ◌+◌, ⊤, List, [], ◌∷◌, Option, Some, None, is_some, Contains, if◌then◌else◌}
 use Rattle.uca_match.specs.Rows.{Keys, same_key}
 
 -- the position of each key
@@ -29,3 +29,7 @@ pub record Placed : Type 0 where
 abbrev pub placed_from : ℕ → List (List ℕ) → List Placed
 placed_from place [] = []
 placed_from place (key ∷ keys) = record { key = key; position = place } ∷ placed_from (place + 1) keys
+
+-- the keys that are not one code point, each with its position
+abbrev pub AreLongKeys : List (List ℕ) → List Placed → Type 0
+AreLongKeys keys list = (placed : Placed) → Contains list placed ↔ (Contains (placed_from 0 keys) placed × (length placed.key ≢ 1))

@@ -1,8 +1,8 @@
 //! `KeyMap`: keys and their positions in a list, as a tree of code points.
 ghost use Rattle.std.specs.Prelude.{◌≡◌, ◌≢◌, ℕ, false, ◌<◌, ◌∷◌, ◌++◌, List, [], length, map, IfOk, OnOk, MatchResult, Some, None, ◌≤◌};
-ghost use Rattle.std.specs.List.Sorted.{IsPartitionPoint, IsPermutation};
-ghost use Rattle.uca_match.specs.Positions.{is_placed, place_at, AreDistinctKeys, placed_from};
-ghost use Rattle.uca_match.specs.Tries.{NodeContent, target_of, positions, node_at, walk, with_position, AreRisingEdges, IsNewPlace, IsTree, IsAlong, IsRootIndex, AreFollowers};
+ghost use Rattle.std.specs.List.Sorted.{IsPartitionPoint};
+ghost use Rattle.uca_match.specs.Positions.{is_placed, place_at, AreDistinctKeys, AreLongKeys};
+ghost use Rattle.uca_match.specs.Tries.{NodeContent, empty_node as leaf, target_of, tree_of, with_root, positions, walk, with_position, AreRisingEdges, IsNewPlace, IsTree, IsAlong, AreFollowers};
 ghost use Rattle.uca_match.specs.Cuts.{IsNoFollower};
 ghost use Rattle.uca_match.specs.CharMaps.{number_of};
 ghost use Rattle.uca_match.specs.NumberedKeys.{points_of, placed_of};
@@ -13,39 +13,45 @@ use std::alloc::{AllocError, Allocator, Global};
 use std::cmp::Ordering;
 use std::marker::Model;
 
-/// How many code points, from U+0000 on, the list of first steps may have: those before CJK Unified
-/// Ideographs Extension A, which has the letters of most scripts.
-const ROOT_INDEX_LIMIT: usize = 0x3400;
-
-/// How many code points that list may have for each edge of the root.
-const ROOT_INDEX_PER_EDGE: usize = 16;
-
 /// Keys, which are lists of code points, and the position of each in a list of them, as a tree. From its root,
 /// the code points of a key lead from node to node, and the last of these nodes has the position of the key.
 ///
-/// A step takes time in proportion to the logarithm of the number of code points that may follow. The
-/// first step of a code point below U+3400 takes the same time for every large list. Building takes about n log n steps
-/// for n keys in any order, and memory in proportion to the code points of all keys.
+/// The first step takes the same time for every list. A later one takes time in proportion to the logarithm of the number of
+/// code points that may follow. Building takes about n log n steps for n keys of more than one code point, in any order. It takes
+/// memory in proportion to the code points of all keys.
 #[derive(Drop)]
 pub struct KeyMap<A: Allocator = Global> {
-    // the first is the root
-    nodes: Vec<Node<A>, A>,
-    // where each of the first code points leads from the root, or 0 if it leads nowhere
-    root_index: Vec<usize, A>,
+    tree: Tree<A>,
     // 1 for each code point that some key has after its first one
     followers: CharMap<A>,
 }
 
 impl<A: Allocator> Model for KeyMap<A> {
-    ghost use Rattle.std.specs.Prelude.{List};
     ghost use Rattle.uca_match.specs.CharMaps.{number_of};
-    ghost use Rattle.uca_match.specs.Tries.{NodeContent, IsTrie};
+    ghost use Rattle.uca_match.specs.Tries.{MapContent, tree_of, IsTrie};
 
-    ghost Value = { List NodeContent };
+    ghost Value = { MapContent };
 
-    ghost view = { λ t. t.nodes.items };
+    ghost view = { λ t. t.tree };
 
-    ghost invariant = { λ t. IsTrie t.nodes.items t.root_index.items (number_of t.followers) };
+    ghost invariant = { λ t. IsTrie (tree_of t.tree) (number_of t.followers) };
+}
+
+/// The nodes of the tree.
+#[derive(Drop)]
+pub(crate) struct Tree<A: Allocator> {
+    // where each code point leads from the root, or 0 if it leads nowhere
+    root: CharMap<A>,
+    // the first is the root, which has no edges here
+    nodes: Vec<Node<A>, A>,
+}
+
+impl<A: Allocator> Model for Tree<A> {
+    ghost use Rattle.uca_match.specs.Tries.{MapContent};
+
+    ghost Value = { MapContent };
+
+    ghost view = { λ t. record { root = t.root; nodes = t.nodes.items } };
 }
 
 /// What follows some code points with which a key begins.
@@ -58,11 +64,13 @@ pub(crate) struct Node<A: Allocator> {
 }
 
 impl<A: Allocator> Model for Node<A> {
-    ghost use Rattle.uca_match.specs.Tries.{NodeContent};
+    ghost use Rattle.uca_match.specs.Tries.{ListedNode, AreRisingEdges};
 
-    ghost Value = { NodeContent };
+    ghost Value = { ListedNode };
 
     ghost view = { λ n. record { edges = n.edges.items; position = n.position } };
+
+    ghost invariant = { λ n. AreRisingEdges n.edges.items };
 }
 
 /// A code point that may follow, and the number of the node to which it leads.
@@ -88,14 +96,9 @@ impl<A: Allocator + Copy> KeyMap<A> {
         requires { AreDistinctKeys (points_of keys.now) }
         ensures { IfOk result (λ keymap. (key : List ℕ) → positions keymap key ≡ place_at 0 (points_of keys.now) key) }
     {
-        let nodes = nodes_of(alloc, keys)?;
-        let root_index = root_index_of(alloc, &nodes)?;
-        let followers = followers_of(alloc, &nodes)?;
-        Ok(KeyMap {
-            nodes,
-            root_index,
-            followers,
-        })
+        let tree = key_tree(alloc, keys)?;
+        let followers = followers_of(alloc, &tree)?;
+        Ok(KeyMap { tree, followers })
     }
 }
 
@@ -113,10 +116,11 @@ impl<A: Allocator> KeyMap<A> {
 
     /// The position of the key that a node stands for, if it stands for one.
     pub(crate) fn position_at(&self, node: TrieNode) -> Option<usize>
-        requires { (key : List ℕ) × (walk self.now 0 key ≡ Some node.number) }
-        ensures { (key : List ℕ) → walk self.now 0 key ≡ Some node.number → result ≡ positions self.now key }
+        requires { (key : List ℕ) × (walk (tree_of self.now) 0 key ≡ Some node.number) }
+        ensures { (key : List ℕ) → walk (tree_of self.now) 0 key ≡ Some node.number → result ≡ positions self.now key }
     {
-        self.nodes[node.number].position
+        let tree = &self.tree;
+        tree.nodes[node.number].position
     }
 
     /// Whether some key may have `c` after its first code point.
@@ -127,31 +131,39 @@ impl<A: Allocator> KeyMap<A> {
     }
 }
 
-/// The nodes of all keys.
-fn nodes_of<A: Allocator + Copy>(alloc: A, keys: &[&[char]]) -> Result<Vec<Node<A>, A>, AllocError>
+/// The tree of all keys. Those of one code point need no search.
+fn key_tree<A: Allocator + Copy>(alloc: A, keys: &[&[char]]) -> Result<Tree<A>, AllocError>
     requires { AreDistinctKeys (points_of keys.now) }
-    ensures tree { IfOk result (λ nodes. IsTree nodes.items) }
-    ensures positions { IfOk result (λ nodes. (key : List ℕ) → positions nodes.items key ≡ place_at 0 (points_of keys.now) key) }
+    ensures tree { IfOk result (λ tree. IsTree (tree_of tree)) }
+    ensures positions { IfOk result (λ tree. (key : List ℕ) → positions tree key ≡ place_at 0 (points_of keys.now) key) }
 {
-    let mut nodes = Vec::new(alloc);
-    nodes.push(empty_node(alloc))?;
-    for numbered in &sorted(alloc, keys)? {
-        add_key(alloc, &mut nodes, numbered)?;
+    let mut tree = empty_tree(alloc)?;
+    for position in 0..keys.len() {
+        let key = keys[position];
+        if key.len() == 1 {
+            add_key(alloc, &mut tree, key, position)?;
+        }
     }
-    Ok(nodes)
+    for numbered in &long_keys(alloc, keys)? {
+        add_key(alloc, &mut tree, numbered.key, numbered.position)?;
+    }
+    Ok(tree)
 }
 
-/// The keys with their positions in the order of the keys, in which the edges of each node are met in rising
-/// order. That order only saves time: the nodes are the same for the keys in any order.
-fn sorted<'a, A: Allocator>(
+/// The keys that are not one code point, with their positions, in the order of the keys, in which the edges of each node are
+/// met in rising order. That order only saves time: the nodes are the same for the keys in any order.
+fn long_keys<'a, A: Allocator>(
     alloc: A,
     keys: &[&'a [char]],
 ) -> Result<Vec<Numbered<'a>, A>, AllocError>
-    ensures { IfOk result (λ list. IsPermutation (placed_from 0 (points_of keys.now)) (map placed_of list.items)) }
+    ensures { IfOk result (λ list. AreLongKeys (points_of keys.now) (map placed_of list.items)) }
 {
-    let mut list = Vec::with_capacity(alloc, keys.len())?;
+    let mut list = Vec::new(alloc);
     for position in 0..keys.len() {
         let key = keys[position];
+        if key.len() == 1 {
+            continue;
+        }
         let head = key.first().copied();
         list.push(Numbered {
             head,
@@ -191,35 +203,84 @@ fn empty_node<A: Allocator>(alloc: A) -> Node<A>
     }
 }
 
+/// A tree of a root alone, which is not a key.
+fn empty_tree<A: Allocator + Copy>(alloc: A) -> Result<Tree<A>, AllocError>
+    ensures { IfOk result (λ tree. tree_of tree ≡ leaf ∷ []) }
+{
+    let root = CharMap::new(alloc)?;
+    let mut nodes = Vec::new(alloc);
+    nodes.push(empty_node(alloc))?;
+    Ok(Tree { root, nodes })
+}
+
 /// Adds the nodes of a key, as far as they are not there, and its position.
 fn add_key<A: Allocator + Copy>(
     alloc: A,
-    nodes: &mut Vec<Node<A>, A>,
-    numbered: &Numbered,
+    tree: &mut Tree<A>,
+    key: &[char],
+    position: usize,
 ) -> Result<(), AllocError>
-    requires { IsTree nodes.old.items }
-    ensures tree { OnOk result (IsTree nodes.new.items) }
-    ensures key { OnOk result ((other : List ℕ) → positions nodes.new.items other
-        ≡ with_position (positions nodes.old.items) (placed_of numbered.now) other) }
+    requires { IsTree (tree_of tree.old) }
+    ensures tree { OnOk result (IsTree (tree_of tree.new)) }
+    ensures key { OnOk result ((other : List ℕ) → positions tree.new other
+        ≡ with_position (positions tree.old) (record { key = key.now; position = position }) other) }
 {
     let mut number = 0;
-    for point in numbered.key {
-        number = add_step(alloc, nodes, number, *point)?;
+    for point in key {
+        number = next_node(alloc, tree, number, *point)?;
     }
-    nodes[number].position = Some(numbered.position);
+    tree.nodes[number].position = Some(position);
     Ok(())
 }
 
 /// The node to which a code point leads from another node. It is added if it is not there.
+fn next_node<A: Allocator + Copy>(
+    alloc: A,
+    tree: &mut Tree<A>,
+    number: usize,
+    point: char,
+) -> Result<usize, AllocError>
+    requires { (start : List NodeContent) × (front : List ℕ) × IsAlong start (tree_of tree.old) front number }
+    ensures { (start : List NodeContent) (front : List ℕ) → IsAlong start (tree_of tree.old) front number →
+        IfOk result (λ target. IsAlong start (tree_of tree.new) (front ++ point ∷ []) target) }
+{
+    if number == 0 {
+        return first_node(alloc, tree, point);
+    }
+    add_step(alloc, &mut tree.nodes, number, point)
+}
+
+/// The node to which a code point leads from the root. It is added if it is not there.
+fn first_node<A: Allocator + Copy>(
+    alloc: A,
+    tree: &mut Tree<A>,
+    point: char,
+) -> Result<usize, AllocError>
+    requires { (start : List NodeContent) × (front : List ℕ) × IsAlong start (tree_of tree.old) front 0 }
+    ensures { (start : List NodeContent) (front : List ℕ) → IsAlong start (tree_of tree.old) front 0 →
+        IfOk result (λ target. IsAlong start (tree_of tree.new) (front ++ point ∷ []) target) }
+{
+    let known = tree.root.get(point);
+    if known > 0 {
+        return Ok(known);
+    }
+    let target = tree.nodes.len();
+    tree.nodes.push(empty_node(alloc))?;
+    tree.root.set(point, target)?;
+    Ok(target)
+}
+
+/// The node to which a code point leads from a node other than the root. It is added if it is not there.
 fn add_step<A: Allocator + Copy>(
     alloc: A,
     nodes: &mut Vec<Node<A>, A>,
     number: usize,
     point: char,
 ) -> Result<usize, AllocError>
-    requires { (start : List NodeContent) × (front : List ℕ) × IsAlong start nodes.old.items front number }
-    ensures { (start : List NodeContent) (front : List ℕ) → IsAlong start nodes.old.items front number →
-        IfOk result (λ target. IsAlong start nodes.new.items (front ++ point ∷ []) target) }
+    requires later { 0 < number }
+    requires within { number < length nodes.old.items }
+    ensures { (root : ℕ → ℕ) (start : List NodeContent) (front : List ℕ) → IsAlong start (with_root root nodes.old.items) front number →
+        IfOk result (λ target. IsAlong start (with_root root nodes.new.items) (front ++ point ∷ []) target) }
 {
     let at = match find(&nodes[number].edges, point) {
         Ok(target) => return Ok(target),
@@ -253,31 +314,11 @@ fn place(edges: &[Edge], point: char) -> usize
     edges.partition_point(|edge| edge.point < point)
 }
 
-/// Where the first code points lead from the root.
-fn root_index_of<A: Allocator>(alloc: A, nodes: &[Node<A>]) -> Result<Vec<usize, A>, AllocError>
-    requires { IsTree nodes.now }
-    ensures { IfOk result (λ root_index. IsRootIndex (node_at nodes.now 0).edges root_index.items) }
-{
-    let root = &nodes[0];
-    let edges = &root.edges;
-    let len = edges
-        .len()
-        .saturating_mul(ROOT_INDEX_PER_EDGE)
-        .min(ROOT_INDEX_LIMIT);
-    let mut root_index = Vec::from_elem(alloc, 0, len)?;
-    for edge in edges {
-        let code = edge.point as usize;
-        if code < root_index.len() {
-            root_index[code] = edge.target;
-        }
-    }
-    Ok(root_index)
-}
-
 /// 1 for each code point that leads from a node other than the root.
-fn followers_of<A: Allocator + Copy>(alloc: A, nodes: &[Node<A>]) -> Result<CharMap<A>, AllocError>
-    ensures { IfOk result (λ followers. AreFollowers nodes.now (number_of followers)) }
+fn followers_of<A: Allocator + Copy>(alloc: A, tree: &Tree<A>) -> Result<CharMap<A>, AllocError>
+    ensures { IfOk result (λ followers. AreFollowers (tree_of tree.now) (number_of followers)) }
 {
+    let nodes = tree.nodes.as_slice();
     let mut followers = CharMap::new(alloc)?;
     for i in 1..nodes.len() {
         let node = &nodes[i];
@@ -302,22 +343,22 @@ impl<A: Allocator> KeySet for KeyMap<A> {
 
     ghost keys = { λ keymap. is_placed (positions keymap) };
 
-    ghost stands_for = { λ keymap node key. walk keymap 0 key ≡ Some node.number };
+    ghost stands_for = { λ keymap node key. walk (tree_of keymap) 0 key ≡ Some node.number };
 
     fn root(&self) -> TrieNode {
         TrieNode { number: 0 }
     }
 
     fn step(&self, node: TrieNode, c: char) -> Option<TrieNode> {
-        let code = c as usize;
-        if node.number == 0 && code < self.root_index.len() {
-            let number = self.root_index[code];
+        let tree = &self.tree;
+        if node.number == 0 {
+            let number = tree.root.get(c);
             if number == 0 {
                 return None;
             }
             return Some(TrieNode { number });
         }
-        match find(&self.nodes[node.number].edges, c) {
+        match find(&tree.nodes[node.number].edges, c) {
             Ok(number) => Some(TrieNode { number }),
             Err(_) => None,
         }
@@ -328,6 +369,10 @@ impl<A: Allocator> KeySet for KeyMap<A> {
     }
 
     fn may_go_on(&self, node: TrieNode) -> bool {
-        !self.nodes[node.number].edges.is_empty()
+        if node.number == 0 {
+            return true;
+        }
+        let tree = &self.tree;
+        !tree.nodes[node.number].edges.is_empty()
     }
 }

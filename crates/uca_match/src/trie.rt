@@ -2,7 +2,7 @@
 ghost use Rattle.std.specs.Prelude.{◌≡◌, ℕ, List, option_map, slice_index_or, [], Some, IfOk};
 ghost use Rattle.uca_values.specs.Content.{keys_of};
 ghost use Rattle.uca_match.specs.Rows.{rows_of};
-ghost use Rattle.uca_match.specs.Tries.{walk};
+ghost use Rattle.uca_match.specs.Tries.{tree_of, walk};
 ghost use Rattle.uca_match.specs.NumberedKeys.{points_of, rows_at};
 
 use crate::element_lists::ElementLists;
@@ -73,7 +73,7 @@ impl<A: Allocator> Lookup for Trie<A> {
 
     ghost content = { λ trie. rows_at trie };
 
-    ghost stands_for = { λ trie node key. walk trie.keys 0 key ≡ Some node.number };
+    ghost stands_for = { λ trie node key. walk (tree_of trie.keys) 0 key ≡ Some node.number };
 
     fn root(&self) -> TrieNode {
         self.keys.root()

@@ -13,7 +13,7 @@ use uca_values::limits::MOST_ELEMENTS;
 use uca_weights::Element;
 
 /// How many bytes the text of an element has: `[.1C47.0020.0002]`.
-const ELEMENT_LENGTH: usize = 18;
+const ELEMENT_LENGTH: usize = 17;
 
 /// The elements that a text spells, with or without blanks around them.
 ///

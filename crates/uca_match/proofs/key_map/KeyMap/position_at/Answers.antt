@@ -1,16 +1,22 @@
 use Rattle.std.proofs.Common.{ap, subst, sym, ◌∙◌, length, arith}
-use Rattle.uca_match.specs.Tries.{IsTree}
-use Rattle.uca_match.proofs.TrieLookups.{is_node, branch_read, placed_there}
+use Rattle.uca_match.specs.CharMaps.{number_of}
+use Rattle.uca_match.specs.Tries.{MapContent, ListedNode, tree_of, IsTree}
+use Rattle.uca_match.proofs.TrieSteps.{no_listed}
+use Rattle.uca_match.proofs.TrieLookups.{listed_within, listed_read, position_listed, placed_there}
 use Rattle.uca_match.proofs.key_map.KeyMap.position_at.Goals as goal
 
 pub index-requires : goal.index-requires
 index-requires g c =
-    let within = is_node c.args.self.now (subst (λ t. IsTree t) c.self.view_is c.self.invariant.tree) c.args.node.number c.requires in
-    omega (arith, c.self.inside.nodes.ok.0, ap length c.self.view_is)
+    let m = c.args.self.now in
+    let nodes = ap (λ (t : MapContent). t.nodes) (c.tree.view_is ∙ c.self.view_is) in
+    let within = listed_within m (subst (λ t. IsTree (tree_of t)) c.self.view_is c.self.invariant.tree) c.args.node.number c.requires in
+    omega (arith, c.tree.inside.nodes.ok.0, ap length nodes)
 
 pub returns : goal.returns
 returns g c = λ key is.
-    let nodes = c.args.self.now in
-    let within = is_node nodes (subst (λ t. IsTree t) c.self.view_is c.self.invariant.tree) c.args.node.number c.requires in
-    let node = branch_read c.self.inside.nodes.items nodes c.args.node.number c.index.result.now c.self.view_is within c.index.ensures in
-    sym (placed_there nodes c.args.node.number key _ is (ap (λ b. b.position) (sym (c.behind-self.view_is ∙ node))))
+    let m = c.args.self.now in
+    let nodes = ap (λ (t : MapContent). t.nodes) (c.tree.view_is ∙ c.self.view_is) in
+    let within = listed_within m (subst (λ t. IsTree (tree_of t)) c.self.view_is c.self.invariant.tree) c.args.node.number c.requires in
+    let node = listed_read m c.tree.inside.nodes.items c.args.node.number c.index.result.now nodes within c.index.ensures in
+    sym (placed_there (tree_of m) c.args.node.number key _ is
+    (position_listed (number_of m.root) m.nodes c.args.node.number no_listed within ∙ ap (λ (b : ListedNode). b.position) (sym (c.behind-tree.view_is ∙ node))))
