@@ -285,11 +285,12 @@ fn makes_key_list(memory: Memory, streams: &mut Streams, table: &Table) -> Resul
     Ok(())
 }
 
-// A map of the keys of a table to their positions. For the seven keys of `contractions` it asks for 13 allocations.
-// These are the nine nodes (for 4, 8 and 16), and the sorted list of the keys. Then the edges of the root (for 4 and 8),
-// those of three other nodes, and the first steps. The last three are for what follows a first code point: the numbers
-// of the pages, the page of all others, and that of U+0300 and U+0301. A trie of that table asks for the list of the
-// keys, for all of these, for where each row has its elements, and for the elements.
+// A map of the keys of a table to their positions. For the seven keys of `contractions` it asks for 14 allocations.
+// First come the pages of the root, with the page of all others, and that of U+0000 and that of U+0301. The nine nodes
+// take three (for 4, 8 and 16). Then there are the list of the keys of more than one code point, and the edges of three
+// nodes. The last three are for what follows a first code point: the pages, the page of all others, and that of U+0301.
+// A trie of that table asks for the list of the keys, for all of these, for where each row has its elements, and for the
+// elements.
 fn map_of<'a>(memory: Memory<'a>, table: &Table) -> Result<KeyMap<&'a Refusing>, AllocError> {
     let keys = key_list(memory.ample, &table.rows)?;
     KeyMap::new(memory.tried, &keys)
