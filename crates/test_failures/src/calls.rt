@@ -10,7 +10,7 @@ printed @version 1\n@implicitweights 17000..18AFF; FB00\n0020 ; [*0209.0020.0002
 printed 0061 ; [.1C47.0020.0002]\n0061 0301 ; [.1C50.0020.0002][.0000.0024.0002]\n
 printed 0301 ; [.0000.0024.0002]\n
 end done
-asks 19
+asks 18
 memory line @ 1 2 3 4 5 6
 
 read table
@@ -28,14 +28,14 @@ printed 0069 ; [.1C47.0020.0002]\n006A ; [.1C47.0020.0002]\n006B ; [.1C47.0020.0
 printed 006D ; [.1C47.0020.0002]\n006E ; [.1C47.0020.0002]\n006F ; [.1C47.0020.0002]\n0070 ; [.1C47.0020.0002]\n
 printed 0071 ; [.1C47.0020.0002]\n
 end done
-asks 61
+asks 42
 memory line @ 1 2 3 4 5 6 7 8 9 10 11 12 13 14 15 16 17 18
 
 read table
 reads table
 table @version 1\n0061 ; [.1C47.0020.0002]\n0061 ; [.1C47.0020.0002]\n
 end line 3: DuplicateKey
-asks 10
+asks 9
 memory line @ 1 2 3
 
 read data
@@ -44,7 +44,7 @@ data @data 1\nccc 0300..0314 230\nccc 0323..0323 220\n
 data core 4E00..9FFF\nother 20000..20FFF\n
 printed \xE6\xDC\x01\x01
 end done
-asks 5
+asks 6
 memory line @ 1 2 4 5
 
 read certificate
@@ -82,7 +82,7 @@ asks 0
 make properties
 printed \xE6\xDC\x01\x01
 end done
-asks 3
+asks 4
 memory out of memory
 
 make key list
@@ -94,14 +94,14 @@ memory memory
 make key map
 printed \x00\x01\x02\x03\x04\x05\x06\xFF
 end done
-asks 10
+asks 14
 memory memory
 
 make trie
 printed \x1C\x58\x1C\x90\x1C\x50\x1C\x60\x00\x00\x00\x20\x00\x20\x00\x20\x00\x20
 printed \x00\x00\x00\x02\x00\x02\x00\x02\x00\x02
 end done
-asks 19
+asks 17
 memory memory
 
 make key
@@ -109,7 +109,7 @@ printed \x1C\x47\x1C\x60\x00\x00\x00\x20\x00\x20\x00\x24\x00\x00\x00\x02\x00\x02
 printed \x00\x00\xFF\xFF\x02\x09\xFF\xFF\xFF\xFF
 printed \x00\x00\x00\x00\x61\x00\x00\x20\x00\x00\x62\x00\x03\x01
 end done
-asks 7
+asks 8
 memory memory
 
 make key in a buffer
@@ -117,19 +117,26 @@ printed \x1C\x47\x1C\x60\x00\x00\x00\x20\x00\x20\x00\x24\x00\x00\x00\x02\x00\x02
 printed \x00\x00\xFF\xFF\x02\x09\xFF\xFF\xFF\xFF
 printed \x00\x00\x00\x00\x61\x00\x00\x20\x00\x00\x62\x00\x03\x01
 end done
-asks 7
+asks 8
 memory memory
 
 make key of elements
 printed \x1C\x47\x1C\x60\x00\x00\x00\x20\x00\x20\x00\x24\x00\x00\x00\x02\x00\x02\x00\x02
 printed \x00\x00\xFF\xFF\x02\x09\xFF\xFF\xFF\xFF
 end done
-asks 6
+asks 7
 memory memory
+
+make key by a writer
+printed \x1C\x47\x1C\x60\x00\x00\x00\x20\x00\x20\x00\x24\x00\x00\x00\x02\x00\x02\x00\x02
+printed \x00\x00\xFF\xFF\x02\x09\xFF\xFF\xFF\xFF
+end done
+asks 10
+memory Memory
 
 make audit
 end done
-asks 34
+asks 37
 memory refused 12 Memory
 
 make plan
@@ -137,7 +144,7 @@ file 1 1C47 1C47 0001\n2 0020 0020 0001\n2 0024 0024 0001\n3 0002 0002 0001\n
 printed @version 1\n0061 ; [.1C47.0020.0002]\n0301 ; [.0000.0024.0002]\n
 printed 0078 ; [.1C48.0020.0002]\n
 end done
-asks 42
+asks 48
 memory Memory; done; Memory; done; Memory; done; Memory";
 
 /// The calls after the commands.
@@ -154,7 +161,7 @@ table @version 1\n0061 ; [.1C47.0020.0002]\n0301 ; [.0000.0024.0002]\n
 table 0061 0300 0301 ; [.1C58.0020.0002]\n
 printed WF5 row 3\n
 end false
-asks 18
+asks 19
 memory table line @ 1 2 3 4; data line @ 1 2
 
 run keys
@@ -166,7 +173,7 @@ printed 0000 0000\n
 printed 1C47 0000 0020 0024 0000 0002 0002\n
 printed 1C47 0000 0020 0000 0002\n
 end done
-asks 31
+asks 37
 memory table line @ 1 2 3; data line @ 1 2; memory; input line @ 1 2
 
 run keys
@@ -174,7 +181,7 @@ reads table data input
 input a\n\xFF\n
 printed 1C47 0000 0020 0000 0002\n
 end input line 2: Utf8, status 1
-asks 27
+asks 32
 memory table line @ 1 2 3; data line @ 1 2; memory; input line @ 1
 
 run identical keys
@@ -182,7 +189,7 @@ reads table data input
 input a\n
 printed 1C47 0000 0020 0000 0002 0000 000061\n
 end done
-asks 27
+asks 32
 memory table line @ 1 2 3; data line @ 1 2; memory; input line @ 1
 
 run keyed lines
@@ -194,7 +201,7 @@ printed 00000000\t\n
 printed 1C47000000200024000000020002\t\xC3\xA1\n
 printed 1C470000002000000002\ta\n
 end done
-asks 31
+asks 37
 memory table line @ 1 2 3; data line @ 1 2; memory; input line @ 1 2
 
 run keyed lines
@@ -202,7 +209,7 @@ reads table data input
 input a\n\xFF\n
 printed 1C470000002000000002\ta\n
 end input line 2: Utf8, status 1
-asks 27
+asks 32
 memory table line @ 1 2 3; data line @ 1 2; memory; input line @ 1
 
 run identical keyed lines
@@ -210,7 +217,7 @@ reads table data input
 input a\n
 printed 1C4700000020000000020000000061\ta\n
 end done
-asks 27
+asks 30
 memory table line @ 1 2 3; data line @ 1 2; memory; input line @ 1
 
 run affected
@@ -218,7 +225,7 @@ reads data rules input
 input x\nxaaaaaaaaaaaaaaaaaa\na\na
 printed x\nxaaaaaaaaaaaaaaaaaa\n
 end done
-asks 13
+asks 14
 memory data line @ 1 2; rules: Memory; rules byte @ 0 4 1 6; input line @ 1 2
 
 run affected
@@ -226,7 +233,7 @@ reads data rules input
 input x\n\xFF\n
 printed x\n
 end input line 2: Utf8, status 1
-asks 12
+asks 13
 memory data line @ 1 2; rules: Memory; rules byte @ 0 4 1 6; input line @ 1
 
 run sort
@@ -234,23 +241,31 @@ reads table data input
 input b\na\n\xC3\xA1\n\na
 printed \na\na\n\xC3\xA1\nb\n
 end done
-asks 38
-memory table line @ 1 2 3; data line @ 1 2; memory; input line @ 1; memory; input line @ 2 3 4 5; memory
+asks 36
+memory table line @ 1 2 3; data line @ 1 2; memory; input line @ 1; memory; input line @ 5; memory
 
 run sort
 reads table data input
 input u\na\nb\nc\nd\ne\nf\ng\nh\ni\nj\nk\nl\nm\nn\no\np\nq\nr\ns\nt\n
 printed a\nb\nc\nd\ne\nf\ng\nh\ni\nj\nk\nl\nm\nn\no\np\nq\nr\ns\nt\nu\n
 end done
-asks 74
-memory table line @ 1 2 3; data line @ 1 2; memory; input line @ 1; memory; input line @ 2 3 4 5; memory
-memory input line @ 6 7 8 9; memory; input line @ 10 11 12 13 14 15 16 17; memory; input line @ 18 19 20 21; memory
+asks 41
+memory table line @ 1 2 3; data line @ 1 2; memory; input line @ 1; memory; input line @ 5; memory
+memory input line @ 9; memory; input line @ 17; memory
+
+run sort
+reads table data input
+input aaaaaaaa\xC3\xA1\naaaaaaaaa\n
+printed aaaaaaaaa\naaaaaaaa\xC3\xA1\n
+end done
+asks 46
+memory table line @ 1 2 3; data line @ 1 2; memory; input line @ 1; memory; input line @ 2; memory
 
 run compare
 reads table data
 printed < 1\n
 end done
-asks 22
+asks 24
 memory table line @ 1 2 3; data line @ 1 2; memory
 
 run tailor
@@ -259,7 +274,7 @@ file 1 1C47 1C47 0001\n2 0020 0020 0001\n2 0024 0024 0001\n3 0002 0002 0001\n
 printed @version 1\n0061 ; [.1C47.0020.0002]\n0301 ; [.0000.0024.0002]\n
 printed 0078 ; [.1C48.0020.0002]\n
 end done
-asks 64
+asks 70
 memory table line @ 1 2 3; data line @ 1 2; rules: Memory; rules byte @ 0 4 1 6; memory; done
 memory memory; done; memory; done; memory
 
@@ -271,7 +286,7 @@ printed @version 1\n0061 ; [.1C47.0020.0002]\n0301 ; [.0000.0024.0002]\n
 printed 0062 ; [.1C48.0020.0002]\n0063 ; [.1C49.0020.0002]\n0064 ; [.1C4A.0020.0002]\n
 printed 0065 ; [.1C4B.0020.0002]\n0066 ; [.1C4C.0020.0002]\n0067 ; [.1C4D.0020.0002]\n
 end done
-asks 91
+asks 96
 memory table line @ 1 2 3; data line @ 1 2; rules: Memory; rules byte @ 0 4 8 1 6 9; memory; done
 memory memory; done; memory; done; memory; done; memory; done; memory; done; memory; done; memory; done; memory
 
@@ -279,14 +294,14 @@ run tailor
 reads table data rules
 rules &\\u0301 < x
 end tailor relation 1: Anchor, status 1
-asks 35
+asks 41
 memory table line @ 1 2 3; data line @ 1 2; rules: Memory; rules byte @ 0 4 8 1 11; memory
 
 run audit
 reads base data rules tailored certificate
 printed accepted\n
 end true
-asks 74
+asks 75
 memory base line @ 1 2 3; data line @ 1 2; rules: Memory; rules byte @ 0 4 1 6
 memory tailored line @ 1 2 3 4; certificate line @ 1 2 4; memory
 
@@ -301,7 +316,7 @@ tailored 006E ; [.1C54.0020.0002]\n006F ; [.1C55.0020.0002]\n0070 ; [.1C56.0020.
 tailored 0072 ; [.1C58.0020.0002]\n
 printed accepted\n
 end true
-asks 175
+asks 139
 memory base line @ 1 2 3; data line @ 1 2; rules: Memory; rules byte @ 0 4 8 1 6 9
 memory tailored line @ 1 2 3 4 5 6 7 8 9 10 11 12 13 14 15 16 17 18 19 20
 memory certificate line @ 1 2 4; memory
@@ -311,7 +326,7 @@ reads base data rules tailored certificate
 rules &a <<< x
 printed refused 9 NotPlaced relation 1\n
 end false
-asks 64
+asks 65
 memory base line @ 1 2 3; data line @ 1 2; rules: Memory; rules byte @ 0 4 1 8
 memory tailored line @ 1 2 3 4; certificate line @ 1 2 4; memory";
 
@@ -327,7 +342,7 @@ refused after input line 1: Memory, status 4
 
 run sort
 reads table data input
-input b\na\n
+input b\naaaaa\n
 end input line 2: Memory, status 4
 refused after input line 1: Memory, status 4
 
@@ -339,7 +354,7 @@ refused after input line 1: Memory, status 4
 
 run sort
 reads table data input
-input u\na\nb\nc\nd\ne\nf\ng\nh\ni\nj\nk\nl\nm\nn\no\np\nq\nr\ns\nt\n
+input u\na\nb\nc\nd\ne\nf\ng\nh\ni\nj\nk\nl\nm\nn\no\np\nq\nr\ns\nttttttttt\n
 end memory, status 4
 refused after input line 21: Memory, status 4
 

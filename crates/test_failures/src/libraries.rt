@@ -3,8 +3,8 @@
 use crate::answers::Memory;
 use crate::streams::Streams;
 use crate::values::{
-    accented_text, base, certificate, classes, contractions, key_of_contractions, properties,
-    rules, tailored, worked_certificate,
+    ACCENTED, accented_text, base, certificate, classes, contractions, key_of_contractions,
+    properties, rules, tailored, worked_certificate,
 };
 use std::alloc::{AllocError, Allocator, Global};
 use std::fmt::Display;
@@ -12,15 +12,15 @@ use std::test::Fail;
 use test_kit_allocator::Refusing;
 use uca_audit::audit;
 use uca_certificates::{Certificate, CertificateFault, read_certificate, write_certificate};
-use uca_key::{KeyBuffer, key, key_of};
+use uca_key::{KeyBuffer, KeyWriter, key, key_of};
 use uca_lines::{LineFault, LineReader, NextLine};
 use uca_match::{Collator, KeyMap, Lookup, RowList, Trie, key_list};
 use uca_rules::{Relation, RuleFault, Rules, read_rules_in};
 use uca_table::{read_data, read_table, write_table};
 use uca_tailor::{TailorFault, tailor};
-use uca_text::Normal;
+use uca_text::{Normal, TextFault};
 use uca_values::{ClassRange, CodePointRange, Data, RangeFault, Table, TableFault};
-use uca_weights::Depth::Identical;
+use uca_weights::Depth::{Identical, Weights};
 use uca_weights::Weighting::Shifted;
 
 // What is said of a result.
@@ -284,10 +284,12 @@ fn makes_key_list(memory: Memory, streams: &mut Streams, table: &Table) -> Resul
     Ok(())
 }
 
-// A map of the keys of a table to their positions. For the seven keys of `contractions` it asks for 10 allocations.
-// These are their sorted list, the nine nodes (for 4, 8 and 16), and the first steps. Then the edges of the root (for 4
-// and 8), and those of three other nodes. A trie of that table asks for the list of the keys, that of the rows, and
-// each of these too.
+// A map of the keys of a table to their positions. For the seven keys of `contractions` it asks for 14 allocations.
+// First come the pages of the root, with the page of all others, and that of U+0000 and that of U+0301. The nine nodes
+// take three (for 4, 8 and 16). Then there are the list of the keys of more than one code point, and the edges of three
+// nodes. The last three are for what follows a first code point: the pages, the page of all others, and that of U+0301.
+// A trie of that table asks for the list of the keys, for all of these, for where each row has its elements, and for the
+// elements.
 fn map_of<'a>(memory: Memory<'a>, table: &Table) -> Result<KeyMap<&'a Refusing>, AllocError> {
     let keys = key_list(memory.ample, &table.rows)?;
     KeyMap::new(memory.tried, &keys)
@@ -326,7 +328,8 @@ fn makes_key_positions(
     said_of_memory(memory.ample, answer)
 }
 
-// A key as it is made at once.
+// A key as it is made at once. For `accented_text` it asks for 8 allocations: one for each of the four levels, and for
+// the key one of 8 bytes, of 16, of 32, and of 64 for the code points. A key of its elements alone needs no 64.
 fn makes_key(
     memory: Memory,
     streams: &mut Streams,
@@ -361,6 +364,42 @@ fn write_twice<A: Allocator>(
 ) -> Result<(), AllocError> {
     buffer.write_text(collator, text)?;
     buffer.write_text(collator, text)
+}
+
+// A writer that writes a key twice. It asks for 10 allocations: the numbers of the pages, the page of U+0000, that of
+// U+0300, one for each of the four levels, and for the key one of 8 bytes, of 16 and of 32.
+fn writes_by_writer(
+    memory: Memory,
+    streams: &mut Streams,
+    collator: &Collator<Trie>,
+) -> Result<(), TextFault> {
+    let mut writer = KeyWriter::new(memory.tried, memory.ample, *collator, Shifted, Weights);
+    let written = write_by_writer_twice(&mut writer);
+    if written.is_ok() {
+        show(streams, writer.bytes());
+    }
+    drop(writer);
+    written
+}
+
+fn write_by_writer_twice<'a, A: Allocator>(
+    writer: &mut KeyWriter<'a, Trie, Global, A>,
+) -> Result<(), TextFault> {
+    writer.write(ACCENTED)?;
+    writer.write(ACCENTED)
+}
+
+// A key that a writer writes, with all rows of a table in a trie.
+fn makes_key_by_writer(
+    memory: Memory,
+    streams: &mut Streams,
+    (table, data): (&Table, &Data),
+) -> Result<String, Fail> {
+    let rows = Trie::new(memory.ample, table)?;
+    let collator = Collator::new(&rows, &table.header, data);
+    let answer = writes_by_writer(memory, streams, &collator);
+    drop(rows);
+    said(memory.ample, answer)
 }
 
 // A key of elements alone.
@@ -410,7 +449,10 @@ fn makes_key_under(
     name: &str,
 ) -> Result<String, Fail> {
     let data = classes(memory.ample)?;
-    let said = makes_key_with(memory, streams, (table, &data), name);
+    let said = match name {
+        "key by a writer" => makes_key_by_writer(memory, streams, (table, &data)),
+        _ => makes_key_with(memory, streams, (table, &data), name),
+    };
     drop(data);
     said
 }
@@ -507,7 +549,9 @@ pub fn makes(memory: Memory, streams: &mut Streams, name: &str) -> Result<String
         "trie" => makes_trie(memory, streams, &contractions(memory.ample)?),
         "key list" => makes_key_positions(memory, streams, &contractions(memory.ample)?, false),
         "key map" => makes_key_positions(memory, streams, &contractions(memory.ample)?, true),
-        "key" | "key in a buffer" | "key of elements" => makes_keys(memory, streams, name),
+        "key" | "key in a buffer" | "key of elements" | "key by a writer" => {
+            makes_keys(memory, streams, name)
+        }
         "properties" => said(memory.ample, makes_properties(memory, streams)),
         "audit" => makes_tailoring(memory, streams, false),
         "plan" => makes_tailoring(memory, streams, true),

@@ -11,7 +11,7 @@ fn calls_in_which_a_read_fails(rt: HostRuntime) -> Result<(), Fail> {
 
 #[test]
 fn runs_in_which_a_read_fails(rt: HostRuntime) -> Result<(), Fail> {
-    check_cases(rt.alloc(), COMMANDS, Failing::Reads, 5366)
+    check_cases(rt.alloc(), COMMANDS, Failing::Reads, 5590)
 }
 
 #[test]

@@ -11,5 +11,5 @@ fn calls_in_which_a_write_fails(rt: HostRuntime) -> Result<(), Fail> {
 
 #[test]
 fn runs_in_which_a_write_fails(rt: HostRuntime) -> Result<(), Fail> {
-    check_cases(rt.alloc(), COMMANDS, Failing::Writes, 3135)
+    check_cases(rt.alloc(), COMMANDS, Failing::Writes, 3198)
 }
