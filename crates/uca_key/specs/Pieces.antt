@@ -25,8 +25,8 @@ abbrev pub IsTrueAlone : Collation → Option Known → Type 0
 IsTrueAlone c (Some known) = (known.count ≤ 3) × IsTrueEntry c known
 IsTrueAlone c None = ⊤
 
--- the text so far: what comes before the piece has given its elements to the levels, and the piece begins with a plain code
--- point or at the begin of the text
+-- The text so far. What comes before the piece has given its elements to the levels. The piece begins with a plain code
+-- point, or where the text begins.
 pub record ReadsTo (c : Collation) (weighting : Weighting) (xs : List ℕ) (levels : LevelState) (piece : Piece) : Type 0 where
   pub before : List ℕ
   pub split : xs ≡ before ++ piece_points piece

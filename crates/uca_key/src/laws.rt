@@ -86,8 +86,8 @@ pub fn worked_texts()
 {}
 
 /// A text may be cut before each plain code point: its collation elements are those of the piece before it, and then those
-/// of the piece from it on. A code point is plain for a table and a data file if it decomposes into a starter and what
-/// follows it, and no key of the table has the starter after its first code point.
+/// of the piece from it on. A plain code point decomposes into a starter and what follows it. By the data file it is a
+/// starter too, and no key of the table has it after its first code point.
 pub fn plain_points_cut_texts()
     ensures { PlainPointsCutTexts }
 {}
