@@ -110,7 +110,8 @@ def contents():
     files["anchor.txt"] = "&b < bh &\u4e00 < x".encode()
     files["late.txt"] = b"&ab < c &a < b"
     files["lines.txt"] += "\u1e69\u0323a\u0301\n\uac01\n\U00020000 \ufdfa".encode()
-    files["unsorted.txt"] = b"".join(b"%d\n" % (number * 11 % 30) for number in range(30))
+    # The last line is long, so allocations for it come just before those for sorting.
+    files["unsorted.txt"] = b"".join(b"%d\n" % (number * 11 % 30) for number in range(29)) + b"9" * 500 + b"\n"
     files["many.txt"] = b"".join(b"%d ch-a d\n" % number for number in range(1500))
     files["wrong.txt"] = files["lines.txt"] + b"\nx" + b"\xcc\x81" * 65 + b"\n"
     files["affected.txt"] = b"bh\nx\nbach\nhb\nBh"
