@@ -13,6 +13,8 @@ mod key_maps;
 #[cfg(test)]
 mod keys;
 #[cfg(test)]
+mod long_texts;
+#[cfg(test)]
 mod lookups;
 #[cfg(test)]
 mod samples;

@@ -1,0 +1,80 @@
+//! Keys of texts around the length up to which a `KeyWriter` goes piece by piece: 524,288 bytes.
+
+use crate::cases::holds;
+use crate::samples::{DATA, TABLE, data_of, table_of};
+use std::alloc::{AllocError, Global};
+use std::test::Fail;
+use uca_key::KeyWriter;
+use uca_match::{Collator, Lookup, Trie};
+use uca_values::{Data, Table};
+use uca_weights::{Depth, Weighting};
+
+fn letters(alloc: Global, count: usize) -> Result<String, AllocError> {
+    let mut text = String::new(alloc);
+    for _ in 0..count {
+        text.push('a')?;
+    }
+    Ok(text)
+}
+
+/// The group at a position of the key of so many letters `a`: their primary weights, then 0000, and so on.
+fn group_at(count: usize, position: usize) -> [u8; 2] {
+    if position < count {
+        [0x1C, 0x47]
+    } else if position == count {
+        [0, 0]
+    } else if position <= 2 * count {
+        [0, 0x20]
+    } else if position == 2 * count + 1 {
+        [0, 0]
+    } else {
+        [0, 2]
+    }
+}
+
+fn is_key_of_letters(key: &[u8], count: usize) -> bool {
+    for (position, group) in key.chunks(2).enumerate() {
+        if group != group_at(count, position).as_slice() {
+            return false;
+        }
+    }
+    key.len() == 6 * count + 4
+}
+
+fn check_length<L: Lookup>(
+    alloc: Global,
+    writer: &mut KeyWriter<L>,
+    count: usize,
+) -> Result<(), Fail> {
+    let text = letters(alloc, count)?;
+    writer.write(&text)?;
+    holds(
+        is_key_of_letters(writer.bytes(), count),
+        "the key of many letters",
+    )
+}
+
+/// Both sides of the length, by the rows of a table in a trie.
+fn check_lengths(alloc: Global, table: &Table, data: &Data) -> Result<(), Fail> {
+    let rows = Trie::new(alloc, table)?;
+    let collator = Collator::new(&rows, &table.header, data);
+    let mut writer = KeyWriter::new(
+        alloc,
+        alloc,
+        collator,
+        Weighting::NonIgnorable,
+        Depth::Weights,
+    );
+    for count in [524_288, 524_289] {
+        check_length(alloc, &mut writer, count)?;
+    }
+    Ok(())
+}
+
+#[test]
+fn texts_around_the_length(rt: HostRuntime) -> Result<(), Fail> {
+    let alloc = rt.alloc();
+    let table = table_of(alloc, TABLE)?;
+    let data = data_of(alloc, DATA)?;
+    check_lengths(alloc, &table, &data)
+}
