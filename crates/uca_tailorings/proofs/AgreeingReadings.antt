@@ -8,7 +8,7 @@ use Rattle.uca_tailorings.specs.Meaning.{IsFaithful}
 use Rattle.uca_tailorings.specs.Laws.{ReadsAs, UntouchedTextsStay, FaithfulTailoringsKeepUntouchedTexts}
 
 -- what agrees in all rows, the ranges and the properties is the same
-same_reading : (given reading : Collation) → ReadsAs given reading → given ≡ reading
+pub same_reading : (given reading : Collation) → ReadsAs given reading → given ≡ reading
 same_reading given reading reads i = record { rows = λ key. reads.rows key i; ranges = reads.ranges i; properties = reads.properties i }
 
 -- the law for the lookups of the tables themselves

@@ -3,8 +3,10 @@ pub mod RowConditions
 pub mod Images
 pub mod RisingMaps
 pub mod WeightedImages
+pub mod Moves
 pub mod UntouchedTexts
 pub mod AgreeingReadings
+pub mod MovedKeys
 pub mod Parts
 pub mod ReadingEach
 pub mod Sound

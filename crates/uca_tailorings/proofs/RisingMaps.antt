@@ -2,23 +2,16 @@
 use Rattle.std.proofs.Common.{◌≡◌, ℕ, zero, suc, List, [], ◌∷◌, Bool, true, false, cond, not, nat_eq, filter, Some, refl, sym, ap, ap₂}
 use Rattle.std.proofs.Common.{◌∙◌, arith}
 use Rattle.std.proofs.lemmas.Bool.Decides.{nat_tests}
-use Rattle.std.specs.Prelude.{⊤}
 use Rattle.std.specs.Ordering.{nat_cmp, ordering_then}
 use Rattle.uca_weights.specs.declared.Level.{Level}
 use Rattle.uca_weights.specs.Maps.{WeightImages, Sends, IsRisingMap}
 use Rattle.uca_key.specs.Levels.{lexicographic}
 use Rattle.uca_key.proofs.KeyOrder.{same_cmp}
-
--- the second list has the images of the first
-abbrev pub AreSent : WeightImages → List ℕ → List ℕ → Type 0
-AreSent images [] [] = ⊤
-AreSent images [] (x ∷ xs) = ⊥
-AreSent images (w ∷ ws) [] = ⊥
-AreSent images (w ∷ ws) (x ∷ xs) = Sends images w x × AreSent images ws xs
+use Rattle.uca_tailorings.specs.Moves.{AreSent}
 
 module _ (level : Level) (images : WeightImages) (rising : IsRisingMap level images) where
   -- a weight has one image
-  one_image : (w x y : ℕ) → Sends images w x → Sends images w y → x ≡ y
+  pub one_image : (w x y : ℕ) → Sends images w x → Sends images w y → x ≡ y
   one_image w x y first second = let same : Some x ≡ Some y = sym first ∙ second in cc
 
   -- weights compare as their images

@@ -1,6 +1,5 @@
 -- Texts in which no target occurs in order compare as before, and keep their keys where no weight is changed.
-use Rattle.std.proofs.Common.{◌≡◌, ℕ, zero, suc, ◌<◌, List, [], ◌∷◌, ◌++◌, inl, ⊎_elim, refl, sym, ap, ap₂, subst, arith}
-use Rattle.std.proofs.lemmas.Bool.Decides.{nat_tests}
+use Rattle.std.proofs.Common.{◌≡◌, ℕ, zero, suc, List, [], ◌∷◌, ◌++◌, inl, ⊎_elim, refl, sym, ap, ap₂, subst}
 use Rattle.std.specs.Char.{IsScalar}
 use Rattle.uca_weights.specs.declared.Depth.{Depth}
 use Rattle.uca_weights.specs.declared.Depth.TheVariants.{Weights, Identical}

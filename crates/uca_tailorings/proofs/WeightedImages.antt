@@ -1,5 +1,5 @@
 -- The weights of images at each level are the images of the weights, under either weighting.
-use Rattle.std.proofs.Common.{◌≡◌, ℕ, zero, suc, List, [], ◌∷◌, Bool, true, false, cond, not, nat_eq, ◌&&◌, map, filter, refl, sym, ap₂}
+use Rattle.std.proofs.Common.{◌≡◌, ℕ, zero, suc, List, [], ◌∷◌, Bool, true, false, cond, ◌&&◌, map, refl, sym, ap₂}
 use Rattle.std.proofs.Common.{subst, arith}
 use Rattle.std.specs.Prelude.{⊤}
 use Rattle.uca_weights.specs.declared.Element.{Element}
@@ -7,19 +7,12 @@ use Rattle.uca_weights.specs.declared.Level.{Level}
 use Rattle.uca_weights.specs.declared.Level.TheVariants.{One, Two, Three}
 use Rattle.uca_weights.specs.declared.Weighting.{Weighting}
 use Rattle.uca_weights.specs.declared.Weighting.TheVariants.{NonIgnorable, Shifted}
-use Rattle.uca_weights.specs.Maps.{WeightImages, Sends, IsRisingMap}
+use Rattle.uca_weights.specs.Maps.{Sends, IsRisingMap}
 use Rattle.uca_key.specs.Levels.{Weights, is_ignorable, is_completely_ignorable, follows_variable, weights_of, weighted_following, weighted}
 use Rattle.uca_key.specs.Levels.{weight_at, level_list, lexicographic}
 use Rattle.uca_tailorings.specs.Images.{Maps, AreRisingMaps, IsImage, AreImages}
-use Rattle.uca_tailorings.proofs.RisingMaps.{AreSent, sent_zero, sent_order, sent_filter}
-
--- the map of each level; that of level 1 serves the fourth level, whose weights are primaries, the greatest weight, and 0
-abbrev pub level_images : Maps → ℕ → WeightImages
-level_images maps zero = maps.primary
-level_images maps (suc zero) = maps.primary
-level_images maps (suc (suc zero)) = maps.secondary
-level_images maps (suc (suc (suc zero))) = maps.tertiary
-level_images maps (suc (suc (suc (suc level)))) = maps.primary
+use Rattle.uca_tailorings.specs.Moves.{level_images, AreSent}
+use Rattle.uca_tailorings.proofs.RisingMaps.{sent_zero, sent_order, sent_filter}
 
 -- each weight is put through the map of its level
 abbrev pub AreSentWeights : Maps → Weights → Weights → Type 0
@@ -37,18 +30,6 @@ abbrev shifted_by : Bool → Bool → Bool → ℕ → ℕ → ℕ → Weights
 shifted_by variable ignorable empty primary secondary tertiary =
     cond variable (0 ∷ 0 ∷ 0 ∷ primary ∷ [])
     (cond ignorable (0 ∷ 0 ∷ 0 ∷ 0 ∷ []) (primary ∷ secondary ∷ tertiary ∷ cond empty 0 0xFFFF ∷ []))
-
--- the weights other than 0
-abbrev non_zero : List ℕ → List ℕ
-non_zero = filter (λ w. not (nat_eq w 0))
-
--- a rising map keeps the order of two lists, without the weights 0
-kept_order : (level : Level) (images : WeightImages) → IsRisingMap level images → (vs ws xs ys : List ℕ) → AreSent images vs xs →
-    AreSent images ws ys →
-    lexicographic (non_zero xs) (non_zero ys) ≡ lexicographic (non_zero vs) (non_zero ws)
-kept_order level images rising vs ws xs ys left right =
-    sent_order level images rising (non_zero vs) (non_zero ws) (non_zero xs) (non_zero ys)
-    (sent_filter level images rising vs xs left) (sent_filter level images rising ws ys right)
 
 module _ (maps : Maps) (rising : AreRisingMaps maps) where
   -- three weights
@@ -136,26 +117,28 @@ module _ (maps : Maps) (rising : AreRisingMaps maps) where
   weights_at_sent level (w ∷ ws) [] sent = absurd sent
   weights_at_sent level (w ∷ ws) (x ∷ xs) sent = (sent.0 level, weights_at_sent level ws xs sent.1)
 
-  -- lists of weights put through the map of a level keep their order, without the weights 0
-  non_zero_order : (level : ℕ) (vs ws xs ys : List ℕ) → AreSent (level_images maps level) vs xs → AreSent (level_images maps level) ws ys →
-      lexicographic (non_zero xs) (non_zero ys) ≡ lexicographic (non_zero vs) (non_zero ws)
-  non_zero_order zero vs ws xs ys left right = kept_order One maps.primary rising.primary vs ws xs ys left right
-  non_zero_order (suc zero) vs ws xs ys left right = kept_order One maps.primary rising.primary vs ws xs ys left right
-  non_zero_order (suc (suc zero)) vs ws xs ys left right = kept_order Two maps.secondary rising.secondary vs ws xs ys left right
-  non_zero_order (suc (suc (suc zero))) vs ws xs ys left right = kept_order Three maps.tertiary rising.tertiary vs ws xs ys left right
-  non_zero_order (suc (suc (suc (suc level)))) vs ws xs ys left right = kept_order One maps.primary rising.primary vs ws xs ys left right
+  -- the map of each level rises
+  rising_at : (level : ℕ) → (l : Level) × IsRisingMap l (level_images maps level)
+  rising_at zero = (One, rising.primary)
+  rising_at (suc zero) = (One, rising.primary)
+  rising_at (suc (suc zero)) = (Two, rising.secondary)
+  rising_at (suc (suc (suc zero))) = (Three, rising.tertiary)
+  rising_at (suc (suc (suc (suc level)))) = (One, rising.primary)
 
-  -- lists of a level keep their order
-  list_order : (level : ℕ) (ls rs xs ys : List Weights) → AreAllSent maps ls xs → AreAllSent maps rs ys →
-      lexicographic (level_list level xs) (level_list level ys) ≡ lexicographic (level_list level ls) (level_list level rs)
-  list_order level ls rs xs ys left right =
-      non_zero_order level (map (weight_at level) ls) (map (weight_at level) rs) (map (weight_at level) xs) (map (weight_at level) ys)
-      (weights_at_sent level ls xs left) (weights_at_sent level rs ys right)
+  -- so the level lists of images have the images of the weights
+  pub lists_sent : (weighting : Weighting) (es fs : List Element) → AreImages maps es fs → (level : ℕ) →
+      AreSent (level_images maps level) (level_list level (weighted weighting es)) (level_list level (weighted weighting fs))
+  lists_sent weighting es fs images level =
+      let at = rising_at level in
+      sent_filter at.0 (level_images maps level) at.1 (map (weight_at level) (weighted weighting es)) (map (weight_at level) (weighted weighting fs))
+      (weights_at_sent level (weighted weighting es) (weighted weighting fs) (following_sent weighting [] [] es fs tt images))
 
-  -- so the level lists of images compare as those of the elements
+  -- and compare as those of the elements
   pub images_order : (weighting : Weighting) (ls rs xs ys : List Element) → AreImages maps ls xs → AreImages maps rs ys → (level : ℕ) →
       lexicographic (level_list level (weighted weighting xs)) (level_list level (weighted weighting ys))
       ≡ lexicographic (level_list level (weighted weighting ls)) (level_list level (weighted weighting rs))
   images_order weighting ls rs xs ys left right level =
-      list_order level (weighted weighting ls) (weighted weighting rs) (weighted weighting xs) (weighted weighting ys)
-      (following_sent weighting [] [] ls xs tt left) (following_sent weighting [] [] rs ys tt right)
+      let at = rising_at level in
+      sent_order at.0 (level_images maps level) at.1 (level_list level (weighted weighting ls)) (level_list level (weighted weighting rs))
+      (level_list level (weighted weighting xs)) (level_list level (weighted weighting ys)) (lists_sent weighting ls xs left level)
+      (lists_sent weighting rs ys right level)

@@ -1,5 +1,5 @@
 -- Laws of tailorings, as statements.
-use Rattle.std.specs.Prelude.{◌≡◌, ℕ, List}
+use Rattle.std.specs.Prelude.{◌≡◌, ◌⊎◌, ℕ, List}
 use Rattle.uca_weights.specs.declared.Depth.{Depth}
 use Rattle.uca_weights.specs.declared.Weighting.{Weighting}
 use Rattle.uca_text.specs.Texts.{NfdText}
@@ -10,6 +10,7 @@ use Rattle.uca_key.specs.Levels.{lexicographic}
 use Rattle.uca_key.specs.Depths.{read_text, levels_at, compared_at, key_at}
 use Rattle.uca_key.specs.StoredKeys.{stored_level}
 use Rattle.uca_tailorings.specs.Images.{KeepAllWeights}
+use Rattle.uca_tailorings.specs.Moves.{KeyMoves, IsKeptKey}
 use Rattle.uca_tailorings.specs.Tailorings.{Tailoring, IsTailoring, base_reading, tailored_reading, IsAccepted}
 use Rattle.uca_tailorings.specs.Meaning.{IsFaithful}
 
@@ -45,3 +46,27 @@ pub record UntouchedTextsStay (tailoring : Tailoring) (old new : Collation) : Ty
 abbrev pub FaithfulTailoringsKeepUntouchedTexts : Type 0
 FaithfulTailoringsKeepUntouchedTexts = (tailoring : Tailoring) (old new : Collation) → IsFaithful tailoring →
     ReadsAs old (base_reading tailoring) → ReadsAs new (tailored_reading tailoring) → UntouchedTextsStay tailoring old new
+
+-- A key that a store has for a text. It was made under the new reading. Or no target touches the text, and the key was kept
+-- from the old reading.
+abbrev pub IsStoredKey : Tailoring → Collation → Collation → Depth → Weighting → NfdText → List ℕ → Type 0
+IsStoredKey tailoring old new depth weighting text key =
+    (key ≡ key_at depth weighting (read_text new text))
+    ⊎ (IsNormal text × IsUntouched tailoring.relations text.points × IsKeptKey tailoring.maps depth weighting (read_text old text) key)
+
+-- What an accepted tailoring means for stored keys, by lookups `old` of the base and `new` of the tailored table.
+pub record KeysMove (tailoring : Tailoring) (old new : Collation) : Type 0 where
+  -- the key of a text that no target touches is put through the maps
+  pub moves : (text : NfdText) → IsNormal text → IsUntouched tailoring.relations text.points →
+      KeyMoves tailoring.maps (read_text old text) (read_text new text)
+  -- the keys of a store compare as their texts do under the new reading, by order and level
+  pub ordered : (depth : Depth) (weighting : Weighting) (left right : NfdText) (left_key right_key : List ℕ) →
+      IsStoredKey tailoring old new depth weighting left left_key → IsStoredKey tailoring old new depth weighting right right_key →
+      lexicographic left_key right_key ≡ (compared_at depth weighting (read_text new left) (read_text new right)).order
+  pub levels : (depth : Depth) (weighting : Weighting) (left right : NfdText) (left_key right_key : List ℕ) →
+      IsStoredKey tailoring old new depth weighting left left_key → IsStoredKey tailoring old new depth weighting right right_key →
+      stored_level (levels_at depth weighting) left_key right_key ≡ (compared_at depth weighting (read_text new left) (read_text new right)).level
+
+abbrev pub KeysMoveByMaps : Type 0
+KeysMoveByMaps = (tailoring : Tailoring) (old new : Collation) → IsTailoring tailoring → IsAccepted tailoring →
+    ReadsAs old (base_reading tailoring) → ReadsAs new (tailored_reading tailoring) → KeysMove tailoring old new

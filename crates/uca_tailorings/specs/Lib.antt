@@ -1,7 +1,9 @@
 pub mod Images
+pub mod Moves
 pub mod Placing
 pub mod Tailorings
 pub mod Inputs
 pub mod Meaning
 pub mod Laws
 pub mod Worked
+pub mod WorkedKeys

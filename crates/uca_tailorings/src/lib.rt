@@ -7,5 +7,6 @@ mod laws;
 
 pub use conditions::Condition;
 pub use laws::{
-    accepted_tailorings_are_faithful, faithful_tailorings_keep_untouched_texts, worked_tailorings,
+    accepted_tailorings_are_faithful, faithful_tailorings_keep_untouched_texts, keys_move_by_maps,
+    worked_moved_keys, worked_tailorings,
 };
