@@ -38,11 +38,11 @@ chars_pushed old new x utf8 whole is =
     sym (chars_from_encodes (chars old ++ x ∷ []) new whole bytes)
 
 -- a piece begins with a plain code point, or at the begin of the text
-abbrev Begins : Collation → List ℕ → List ℕ → Type 0
+abbrev pub Begins : Collation → List ℕ → List ℕ → Type 0
 Begins c before ps = (before ≡ []) ⊎ ((y : ℕ) × (ys : List ℕ) × (ps ≡ y ∷ ys) × IsPlain c y)
 
 -- the text before a piece, and the piece
-elements_joined : (c : Collation) (before ps : List ℕ) → Begins c before ps →
+pub elements_joined : (c : Collation) (before ps : List ℕ) → Begins c before ps →
     elements_of c (nfd_text c.properties before) ++ elements_of c (nfd_text c.properties ps) ≡ elements_of c (nfd_text c.properties (before ++ ps))
 elements_joined c before ps (inl none) =
     ap (λ l. elements_of c (nfd_text c.properties l) ++ elements_of c (nfd_text c.properties ps)) none

@@ -1,28 +1,47 @@
 -- What is kept of code points stays true.
-use Rattle.std.proofs.Common.{◌≡◌, ℕ, zero, suc, ◌+◌, ◌<◌, ◌≤◌, List, ◌∷◌, [], ◌++◌, length, take, replicate, sym, ap, subst, ◌∙◌, arith}
+use Rattle.std.proofs.Common.{◌≡◌, ℕ, false, zero, suc, ◌+◌, ◌<◌, ◌≤◌, List, ◌∷◌, [], ◌++◌, length, take, replicate, sym, ap, subst, ◌∙◌, arith}
 use Rattle.std.specs.Char.{encode_utf8}
 use Rattle.std.specs.Str.{chars, IsUtf8}
 use Rattle.std.proofs.Math.ListN.{set}
 use Rattle.std.proofs.lemmas.List.{append-nil, take_all, take_more_set}
 use Rattle.std.proofs.lemmas.Str.{chars-nil, chars_past_char}
+use Rattle.unicode_normalization.specs.Forms.{Nfd}
+use Rattle.unicode_normalization.specs.Decompose.{decompose}
 use Rattle.uca_weights.specs.declared.Element.{Element}
 use Rattle.uca_weights.proofs.Lists.{each_append}
 use Rattle.uca_text.specs.Texts.{NfdText, nfd_text}
+use Rattle.uca_text.proofs.NfdLength.{decompose_length}
 use Rattle.uca_match.specs.Collations.{Collation, elements_of}
 use Rattle.uca_key.specs.declared.plain.Known.{Known}
 use Rattle.uca_key.specs.Plain.{IsPlain}
-use Rattle.uca_key.specs.PlainPoints.{IsTrueEntry, AreTrueEntries}
+use Rattle.uca_key.specs.PlainPoints.{IsTrueEntry, BeginsWithStarter, HasTrueDecomposition, AreTrueEntries}
 
-replicate_true : (c : Collation) (known : Known) → 3 < known.count → (n : ℕ) → AreTrueEntries c (replicate n known)
-replicate_true c known none zero = tt
-replicate_true c known none (suc n) = ((λ few. absurd (omega arith)), replicate_true c known none n)
+-- of an entry that says nothing of a decomposition all is true
+pub nothing_said : (c : Collation) (known : Known) → 4 ≤ known.len → known.starts ≡ false → HasTrueDecomposition c known
+nothing_said c known most none = record {
+  few = omega (arith, decompose_length known.point, most);
+  starts = λ starts. cc;
+}
+
+replicate_true : (c : Collation) (known : Known) → 3 < known.count → HasTrueDecomposition c known → (n : ℕ) → AreTrueEntries c (replicate n known)
+replicate_true c known none said zero = tt
+replicate_true c known none said (suc n) = (((λ few. absurd (omega arith)), said), replicate_true c known none said n)
 
 -- more entries that have nothing to give
-pub more_entries : (c : Collation) (entries new : List Known) (n k : ℕ) (known : Known) → 3 < known.count → length entries ≤ n
+pub more_entries : (c : Collation) (entries new : List Known) (n k : ℕ) (known : Known) → 3 < known.count → 4 ≤ known.len → known.starts ≡ false → length entries ≤ n
     → new ≡ take n entries ++ replicate k known → AreTrueEntries c entries → AreTrueEntries c new
-more_entries c entries new n k known none all are true =
+more_entries c entries new n k known none most not_said all are true =
     subst (AreTrueEntries c) (sym (are ∙ ap (λ l. l ++ replicate k known) (take_all n entries all)))
-    (each_append (IsTrueEntry c) entries (replicate k known) true (replicate_true c known none k))
+    (each_append (λ e. IsTrueEntry c e × HasTrueDecomposition c e) entries (replicate k known) true
+    (replicate_true c known none (nothing_said c known most not_said) k))
+
+-- an entry that says the same of the decomposition of the same code point
+pub same_decomposition : (c : Collation) (bound known : Known) → known.point ≡ bound.point → known.len ≡ bound.len → known.starts ≡ bound.starts
+    → HasTrueDecomposition c bound → HasTrueDecomposition c known
+same_decomposition c bound known point len starts said = record {
+  few = subst (λ x. length (decompose Nfd x) ≤ known.len) (sym point) (omega (arith, said.few, len));
+  starts = λ is. subst (BeginsWithStarter c) (sym point) (said.starts (sym starts ∙ is));
+}
 
 -- an entry gets one more element
 pub element_kept : (elements so_far : List Element) (count at : ℕ) (e : Element) → at ≡ count → count < length elements → take count elements ≡ so_far

@@ -9,6 +9,7 @@ pub mod Plain
 pub mod PlainPoints
 pub mod Pieces
 pub mod LevelBuffers
+pub mod Beginnings
 pub mod Comparisons
 pub mod Fronts
 pub mod Walks

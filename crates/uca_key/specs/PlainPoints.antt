@@ -1,6 +1,9 @@
 -- What is kept of code points that were met. Only private contracts cite this file.
-use Rattle.std.specs.Prelude.{◌≡◌, ◌≤◌, List, take}
+use Rattle.std.specs.Prelude.{◌≡◌, ℕ, ◌+◌, ◌≤◌, List, ◌∷◌, true, length, take, if◌then◌else◌}
 use Rattle.std.specs.List.{AllByRecursion}
+use Rattle.ucd_normal.specs.CanonicalCombiningClass.{canonical_combining_class}
+use Rattle.unicode_normalization.specs.Forms.{Nfd}
+use Rattle.unicode_normalization.specs.Decompose.{decompose}
 use Rattle.uca_match.specs.Collations.{Collation}
 use Rattle.uca_key.specs.declared.plain.Known.{Known}
 use Rattle.uca_key.specs.Plain.{IsPlain, elements_alone}
@@ -9,5 +12,23 @@ use Rattle.uca_key.specs.Plain.{IsPlain, elements_alone}
 abbrev pub IsTrueEntry : Collation → Known → Type 0
 IsTrueEntry c known = known.count ≤ 3 → IsPlain c known.point × (take known.count known.elements ≡ elements_alone c known.point)
 
+-- the code point decomposes into a starter, under Unicode and under the data file, and what follows it
+pub record BeginsWithStarter (c : Collation) (x : ℕ) : Type 0 where
+  pub first : ℕ
+  pub more : List ℕ
+  pub split : decompose Nfd x ≡ first ∷ more
+  pub starter : canonical_combining_class first ≡ 0
+  pub class : c.properties.class first ≡ 0
+
+-- What an entry says of the decomposition of its code point: the code points are at most so many, and whether the first is
+-- a starter.
+pub record HasTrueDecomposition (c : Collation) (known : Known) : Type 0 where
+  pub few : length (decompose Nfd known.point) ≤ known.len
+  pub starts : known.starts ≡ true → BeginsWithStarter c known.point
+
 abbrev pub AreTrueEntries : Collation → List Known → Type 0
-AreTrueEntries c entries = AllByRecursion (IsTrueEntry c) entries
+AreTrueEntries c entries = AllByRecursion (λ known. IsTrueEntry c known × HasTrueDecomposition c known) entries
+
+-- how many code points a text decomposes to from its last starter on, at most, with one more code point
+abbrev pub counted_on : Known → ℕ → ℕ
+counted_on known count = (if known.starts then 0 else count) + known.len

@@ -1,6 +1,6 @@
 //! `KeyBuffer`: memory that is used for one key after another.
 
-ghost use Rattle.std.specs.Prelude.{◌≡◌, [], ◌<◌, ◌^◌, length, chars, OnOk, IfOk};
+ghost use Rattle.std.specs.Prelude.{◌≡◌, [], ◌<◌, ◌^◌, length, take, chars, OnOk, IfOk};
 ghost use Rattle.std.specs.Bool.{OnTrue};
 ghost use Rattle.uca_text.specs.Texts.{nfd_text};
 ghost use Rattle.uca_text.specs.Limits.{IsAccepted};
@@ -11,6 +11,7 @@ ghost use Rattle.uca_key.specs.LevelBuffers.{HoldsLevels};
 ghost use Rattle.uca_key.specs.Pieces.{HasRead};
 ghost use Rattle.uca_key.specs.PlainPoints.{AreTrueEntries};
 
+use crate::beginnings::{has_short_runs, push_beginning};
 use crate::level_buffers::LevelBuffers;
 use crate::pieces::Piece;
 use crate::plain::PlainPoints;
@@ -124,6 +125,56 @@ impl<A: Allocator> KeyBuffer<A> {
                 )?;
                 self.levels.join(self.weighting)?;
                 Ok(accepted)
+            }
+        }
+    }
+
+    /// Writes at least the first sixteen bytes of the key of a text, over the key that was there, and returns `true`. A shorter
+    /// key is written whole. If the text is not judged by its pieces, it returns `false`, and the bytes are unspecified.
+    ///
+    /// # Errors
+    ///
+    /// An allocation failed. The bytes are then unspecified until the next successful write.
+    pub(crate) fn write_beginning<L: Lookup, T: Allocator>(
+        &mut self,
+        collator: &Collator<L, T>,
+        points: &mut PlainPoints<A>,
+        piece: &mut Piece,
+        text: &str,
+    ) -> Result<bool, AllocError>
+        requires { AreTrueEntries (collation_of L.content collator.now) points.old.entries.items }
+        ensures entries { AreTrueEntries (collation_of L.content collator.now) points.new.entries.items }
+        ensures beginning { let c = collation_of L.content collator.now in
+            IfOk result (λ accepted. OnTrue accepted (take 16 self.new.key ≡ take 16 (key_at self.old.depth self.old.weighting
+            (read_text c (nfd_text c.properties (chars text.now)))))) }
+        ensures accepted { let c = collation_of L.content collator.now in
+            IfOk result (λ accepted. OnTrue accepted (IsAccepted (nfd_text c.properties (chars text.now)))) }
+        ensures weighting { self.new.weighting ≡ self.old.weighting }
+        ensures depth { self.new.depth ≡ self.old.depth }
+    {
+        if text.len() > SHORT_TEXT {
+            return Ok(false);
+        }
+        self.levels.clear();
+        if !push_beginning(
+            &mut self.levels,
+            self.weighting,
+            collator,
+            points,
+            piece,
+            text,
+        )? {
+            return Ok(false);
+        }
+        if self.levels.has_beginning() {
+            self.levels.join_beginning()?;
+            return has_short_runs(collator, points, text);
+        }
+        match self.depth {
+            Depth::Identical => Ok(false),
+            Depth::Weights => {
+                self.levels.join(self.weighting)?;
+                Ok(true)
             }
         }
     }

@@ -1,6 +1,6 @@
 //! `KeyWriter`: writes the keys of texts, one after another.
 
-ghost use Rattle.std.specs.Prelude.{◌≡◌, [], ◌<◌, ◌^◌, length, chars, OnOk, IfErr};
+ghost use Rattle.std.specs.Prelude.{◌≡◌, [], ◌<◌, ◌^◌, length, take, chars, OnOk, IfErr};
 ghost use Rattle.uca_text.specs.Texts.{nfd_text};
 ghost use Rattle.uca_text.specs.Limits.{IsAccepted};
 ghost use Rattle.uca_text.specs.Faults.{IsCause};
@@ -101,6 +101,32 @@ impl<'a, L: Lookup, T: Allocator, A: Allocator> KeyWriter<'a, L, T, A> {
         self.text.renew(text, self.collator.data)?;
         self.buffer.write_text(&self.collator, &self.text)?;
         Ok(())
+    }
+
+    /// Writes at least the first sixteen bytes of the key of a text, over the key that was there. A shorter key is written
+    /// whole. So keys are compared by their beginnings before any is written whole: this takes less time for a long text,
+    /// which is read no further than these bytes need. The rest is only judged.
+    ///
+    /// # Errors
+    ///
+    /// Those of [`write`](KeyWriter::write).
+    pub fn write_beginning(&mut self, text: &str) -> Result<(), TextFault>
+        ensures beginning { OnOk result (take 16 self.new.key ≡ take 16 (key_at self.old.depth self.old.weighting
+            (read_text (collation_by L.content self.old) (nfd_text (collation_by L.content self.old).properties (chars text.now))))) }
+        ensures accepted { OnOk result (IsAccepted (nfd_text (collation_by L.content self.old).properties (chars text.now))) }
+        ensures fault { IfErr result (IsCause (nfd_text (collation_by L.content self.old).properties (chars text.now))) }
+
+        ensures collation { collation_by L.content self.new ≡ collation_by L.content self.old }
+        ensures weighting { self.new.weighting ≡ self.old.weighting }
+        ensures depth { self.new.depth ≡ self.old.depth }
+    {
+        let accepted = self
+            .buffer
+            .write_beginning(&self.collator, &mut self.points, &mut self.piece, text)?;
+        if accepted {
+            return Ok(());
+        }
+        self.write(text)
     }
 
     /// The key that was written last, as [`KeyBuffer::bytes`] describes it.

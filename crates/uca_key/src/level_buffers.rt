@@ -1,6 +1,7 @@
 //! The levels of a key in the making: a buffer for each level, and one for the key.
 
-ghost use Rattle.std.specs.Prelude.{◌≡◌, ◌++◌, ◌∷◌, [], ◌==◌, List, OnOk, if◌then◌else◌};
+ghost use Rattle.std.specs.Prelude.{◌≡◌, ◌<◌, ◌≤◌, ◌++◌, ◌∷◌, [], ◌==◌, List, length, OnOk, if◌then◌else◌};
+ghost use Rattle.std.specs.Bool.{MatchBool};
 ghost use Rattle.std.specs.Iterator.{IsFinite};
 ghost use Rattle.std.specs.Iterator.Runs.{WholeRun};
 ghost use Rattle.uca_weights.specs.declared.Element.{Element};
@@ -16,6 +17,9 @@ use uca_weights::{Element, Weighting};
 
 /// What is between two levels of a key.
 pub(crate) const SEPARATOR: [u8; 2] = [0, 0];
+
+/// How many bytes are the beginning of a key.
+const BEGINNING: usize = 16;
 
 /// The levels of the elements that were pushed, and the key that they make.
 #[derive(Drop)]
@@ -183,6 +187,22 @@ impl<A: Allocator> LevelBuffers<A> {
             Weighting::NonIgnorable => Ok(()),
             Weighting::Shifted => push_level(&mut self.key, &self.quaternary),
         }
+    }
+
+    /// Whether there are sixteen bytes at level 1, where a key begins.
+    #[inline]
+    pub(crate) fn has_beginning(&self) -> bool
+        ensures { MatchBool result (BEGINNING ≤ length self.now.primary) (length self.now.primary < BEGINNING) }
+    {
+        self.primary.as_flattened().len() >= BEGINNING
+    }
+
+    /// Writes level 1 of the elements that were pushed, over the key that was there.
+    pub(crate) fn join_beginning(&mut self) -> Result<(), AllocError>
+        ensures { OnOk result (self.new.key ≡ self.old.primary) }
+    {
+        self.key.clear();
+        self.key.extend_from_slice(self.primary.as_flattened())
     }
 
     /// Appends the identical level to the key: the code points, three bytes each with the high byte first.

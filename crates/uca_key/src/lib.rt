@@ -3,6 +3,7 @@
 //! Two texts also compare without keys.
 #![tactic(auto)]
 
+mod beginnings;
 pub mod comparison;
 mod front;
 pub mod key_buffer;

@@ -4,7 +4,8 @@ ghost use Rattle.std.specs.Prelude.{◌≡◌, ◌<◌, ◌≤◌, take, IfOk, I
 ghost use Rattle.std.specs.Bool.{OnTrue, MatchBool};
 ghost use Rattle.uca_match.specs.Collations.{Collation, collation_of, elements_of};
 ghost use Rattle.uca_key.specs.Plain.{IsPlain, elements_alone};
-ghost use Rattle.uca_key.specs.PlainPoints.{IsTrueEntry, AreTrueEntries};
+ghost use Rattle.uca_key.specs.PlainPoints.{IsTrueEntry, HasTrueDecomposition, AreTrueEntries, counted_on};
+ghost use Rattle.uca_key.specs.declared.plain.Known.{Known};
 
 use std::alloc::{AllocError, Allocator, Global};
 use uca_match::{Collator, Lookup};
@@ -28,6 +29,9 @@ const ROOM: usize = 3;
 /// The number of elements in an entry that has none to give.
 const BOUND: u8 = 4;
 
+/// How many code points one decomposes to at most, in Normalization Form D.
+const LONGEST_DECOMPOSITION: u8 = 4;
+
 const NO_ELEMENT: Element = Element {
     primary: 0,
     secondary: 0,
@@ -39,6 +43,8 @@ const NO_ELEMENT: Element = Element {
 const NOT_MET: Known = Known {
     point: '\u{10FFFF}',
     count: BOUND,
+    len: LONGEST_DECOMPOSITION,
+    starts: false,
     elements: [NO_ELEMENT; ROOM],
 };
 
@@ -48,17 +54,40 @@ pub(crate) struct Known {
     pub(crate) point: char,
     // How many elements it has, if it is plain and has at most three. Otherwise 4.
     count: u8,
+    // how many code points it decomposes to, or more
+    len: u8,
+    // that it decomposes into a starter first; `false` says nothing
+    starts: bool,
     elements: [Element; ROOM],
 }
 
 impl Known {
-    // A code point that is not plain, or has too many elements.
-    fn bound(point: char) -> Known
+    // What a code point decomposes to. It has no elements to give.
+    fn bound<L: Lookup, T: Allocator>(collator: &Collator<L, T>, point: char) -> Known
         ensures point { result.point ≡ point }
         ensures count { result.count ≡ 4 }
         ensures entry { (c : Collation) → IsTrueEntry c result }
+        ensures decomposition { HasTrueDecomposition (collation_of L.content collator.now) result }
     {
-        Known { point, ..NOT_MET }
+        let mut room = [point; 3];
+        let points = decomposition(point, Form::Nfd, &mut room);
+        let first = points[0];
+        Known {
+            point,
+            len: points.len() as u8,
+            starts: canonical_combining_class(first) == 0 && collator.data.class(first) == 0,
+            ..NOT_MET
+        }
+    }
+
+    // How many code points a text decomposes to from its last starter on, at most, with this one more. Without it they are
+    // `count`.
+    fn count_on(&self, count: usize) -> usize
+        requires { count ≤ 64 }
+        ensures { result ≡ counted_on self.now count }
+    {
+        let before = if self.starts { 0 } else { count };
+        before + usize::from(self.len)
     }
 
     /// Whether it has no elements to give.
@@ -116,19 +145,41 @@ impl<A: Allocator> PlainPoints<A> {
         ensures known { IfOk result (λ known. (known.point ≡ point) × IsTrueEntry (collation_of L.content collator.now) known) }
     {
         match self.find(point) {
-            Some(known) => Ok(known),
+            Some(known) => Ok(*known),
             None => self.learn(collator, point),
         }
     }
 
+    /// How many code points a text decomposes to from its last starter on, at most, with one more code point. Without it they
+    /// are `count`.
+    #[inline]
+    pub(crate) fn count_on<L: Lookup, T: Allocator>(
+        &mut self,
+        collator: &Collator<L, T>,
+        count: usize,
+        point: char,
+    ) -> Result<usize, AllocError>
+        requires entries { AreTrueEntries (collation_of L.content collator.now) self.old.entries.items }
+        requires few { count ≤ 64 }
+        ensures entries { AreTrueEntries (collation_of L.content collator.now) self.new.entries.items }
+        ensures counted { IfOk result (λ more. (known : Known) × (known.point ≡ point)
+            × HasTrueDecomposition (collation_of L.content collator.now) known × (more ≡ counted_on known count)) }
+    {
+        match self.find(point) {
+            Some(known) => Ok(known.count_on(count)),
+            None => Ok(self.learn(collator, point)?.count_on(count)),
+        }
+    }
+
     // What is known of a code point that was met.
-    fn find(&self, point: char) -> Option<Known>
+    #[inline]
+    fn find(&self, point: char) -> Option<&Known>
         ensures { (c : Collation) → AreTrueEntries c self.now.entries.items →
-            IfSome result (λ known. (known.point ≡ point) × IsTrueEntry c known) }
+            IfSome result (λ known. (known.now.point ≡ point) × IsTrueEntry c known.now × HasTrueDecomposition c known.now) }
     {
         let code = u32::from(point) as usize;
         let page = usize::from(*self.pages.get(code / PAGE)?);
-        let known = *self.entries.get(page * PAGE + code % PAGE)?;
+        let known = self.entries.get(page * PAGE + code % PAGE)?;
         if known.point == point {
             Some(known)
         } else {
@@ -137,6 +188,7 @@ impl<A: Allocator> PlainPoints<A> {
     }
 
     // Finds out about a code point, and keeps it.
+    #[cold]
     fn learn<L: Lookup, T: Allocator>(
         &mut self,
         collator: &Collator<L, T>,
@@ -144,7 +196,8 @@ impl<A: Allocator> PlainPoints<A> {
     ) -> Result<Known, AllocError>
         requires { AreTrueEntries (collation_of L.content collator.now) self.old.entries.items }
         ensures entries { AreTrueEntries (collation_of L.content collator.now) self.new.entries.items }
-        ensures known { IfOk result (λ known. (known.point ≡ point) × IsTrueEntry (collation_of L.content collator.now) known) }
+        ensures known { let c = collation_of L.content collator.now in
+            IfOk result (λ known. (known.point ≡ point) × IsTrueEntry c known × HasTrueDecomposition c known) }
     {
         let known = read_point(collator, &mut self.text, point)?;
         self.open_page(u32::from(point) as usize / PAGE)?;
@@ -167,7 +220,8 @@ impl<A: Allocator> PlainPoints<A> {
 
     // Keeps what is known of a code point in its page.
     fn keep(&mut self, known: Known)
-        ensures { (c : Collation) → AreTrueEntries c self.old.entries.items → IsTrueEntry c known → AreTrueEntries c self.new.entries.items }
+        ensures { (c : Collation) → AreTrueEntries c self.old.entries.items → IsTrueEntry c known × HasTrueDecomposition c known →
+            AreTrueEntries c self.new.entries.items }
     {
         let code = u32::from(known.point) as usize;
         let Some(page) = self.pages.get(code / PAGE) else {
@@ -194,16 +248,18 @@ fn read_point<L: Lookup, T: Allocator>(
     text: &mut Normal,
     point: char,
 ) -> Result<Known, AllocError>
-    ensures { IfOk result (λ known. (known.point ≡ point) × IsTrueEntry (collation_of L.content collator.now) known) }
+    ensures { let c = collation_of L.content collator.now in
+        IfOk result (λ known. (known.point ≡ point) × IsTrueEntry c known × HasTrueDecomposition c known) }
 {
+    let bound = Known::bound(collator, point);
     if !is_plain(collator, point) {
-        return Ok(Known::bound(point));
+        return Ok(bound);
     }
     let mut room = [0; 4];
     match text.renew(point.encode_utf8(&mut room), collator.data) {
-        Ok(()) => Ok(first_elements(collator, text, point)),
+        Ok(()) => Ok(first_elements(collator, text, bound)),
         Err(TextFault::Memory) => Err(AllocError),
-        Err(_) => Ok(Known::bound(point)),
+        Err(_) => Ok(bound),
     }
 }
 
@@ -218,23 +274,22 @@ fn is_plain<L: Lookup, T: Allocator>(collator: &Collator<L, T>, point: char) -> 
         && !collator.lookup.may_follow(first)
 }
 
-// The entry of a plain code point with this text.
+// The entry of a plain code point with this text, where `bound` is without its elements.
 fn first_elements<L: Lookup, T: Allocator>(
     collator: &Collator<L, T>,
     text: &Normal,
-    point: char,
+    bound: Known,
 ) -> Known
-    ensures point { result.point ≡ point }
+    requires { bound.count ≡ 4 }
+    ensures point { result.point ≡ bound.point }
+    ensures len { result.len ≡ bound.len }
+    ensures starts { result.starts ≡ bound.starts }
     ensures elements { result.count ≤ 3 → take result.count result.elements ≡ elements_of (collation_of L.content collator.now) text.now }
 {
-    let mut known = Known {
-        point,
-        count: 0,
-        elements: [NO_ELEMENT; ROOM],
-    };
+    let mut known = Known { count: 0, ..bound };
     for element in collator.elements(text) {
         if usize::from(known.count) >= ROOM {
-            return Known::bound(point);
+            return bound;
         }
         known.elements[usize::from(known.count)] = element;
         known.count += 1;

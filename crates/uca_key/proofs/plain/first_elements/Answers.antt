@@ -12,6 +12,8 @@ loop-element-preserved g c =
     let so_far = c.loop-element.invariant in
     record {
       point = so_far.point;
+      len = so_far.len;
+      starts = so_far.starts;
       few = omega arith;
       room = length-set c.loop-element.known.elements c.from-in-loop-element.result c.in-Some.element ∙ so_far.room;
       elements = element_kept c.loop-element.known.elements c.loop-element.yielded c.loop-element.known.count _ _
@@ -21,6 +23,8 @@ loop-element-preserved g c =
 pub returns : goal.returns
 returns g c = record {
   point = c.loop-element.invariant.point;
+  len = c.loop-element.invariant.len;
+  starts = c.loop-element.invariant.starts;
   elements = λ few.
       c.loop-element.invariant.elements ∙ shown _ c.loop-element.yielded _ _ c.loop-element.yielded_by c.in-None.ensures.steps
       ∙ c.into_iter-element-iterator.ensures.into_iter_gives ∙ c.elements-element-items.ensures;

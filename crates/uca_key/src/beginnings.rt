@@ -1,0 +1,72 @@
+//! Beginnings of keys: the weights of level 1 come first in a key, so its first bytes need the first pieces of the text. The
+//! rest is only judged.
+
+ghost use Rattle.std.specs.Prelude.{◌≡◌, ◌<◌, ◌≤◌, [], chars, map, length, IfOk};
+ghost use Rattle.std.specs.Bool.{OnTrue};
+ghost use Rattle.unicode_normalization.specs.Forms.{nfd};
+ghost use Rattle.uca_text.specs.Limits.{HasNoLongRun};
+ghost use Rattle.uca_match.specs.Collations.{collation_of};
+ghost use Rattle.uca_key.specs.LevelBuffers.{HoldsLevels};
+ghost use Rattle.uca_key.specs.PlainPoints.{AreTrueEntries};
+ghost use Rattle.uca_key.specs.Beginnings.{HasBegun};
+
+use crate::level_buffers::LevelBuffers;
+use crate::pieces::Piece;
+use crate::plain::PlainPoints;
+use std::alloc::{AllocError, Allocator};
+use uca_match::{Collator, Lookup};
+use uca_weights::Weighting;
+
+/// How many non-starters may come in a row. So many code points are no run that is longer.
+const LONGEST_RUN: usize = 64;
+
+/// Adds the weights of a text to empty levels, piece by piece, until there are sixteen bytes at level 1 or the text ends.
+/// Returns whether each of these pieces is accepted.
+pub(crate) fn push_beginning<L: Lookup, T: Allocator, A: Allocator>(
+    levels: &mut LevelBuffers<A>,
+    weighting: Weighting,
+    collator: &Collator<L, T>,
+    points: &mut PlainPoints<A>,
+    piece: &mut Piece,
+    text: &str,
+) -> Result<bool, AllocError>
+    requires empty { HoldsLevels weighting [] levels.old }
+    requires entries { AreTrueEntries (collation_of L.content collator.now) points.old.entries.items }
+    ensures entries { AreTrueEntries (collation_of L.content collator.now) points.new.entries.items }
+    ensures begun { let c = collation_of L.content collator.now in
+        IfOk result (λ accepted. OnTrue accepted (HasBegun c weighting (chars text.now) levels.new)) }
+{
+    piece.clear();
+    for point in text.chars() {
+        let known = points.get(collator, point)?;
+        if !piece.go_on(levels, weighting, collator, known)? {
+            return Ok(false);
+        }
+        if levels.has_beginning() {
+            return Ok(true);
+        }
+    }
+    piece.end(levels, weighting, collator)
+}
+
+/// Whether a text has no long run of non-starters. `false` says nothing: more than 64 code points of its Normalization Form D
+/// come in a row without one that begins with a starter, and they were only counted.
+pub(crate) fn has_short_runs<L: Lookup, T: Allocator, A: Allocator>(
+    collator: &Collator<L, T>,
+    points: &mut PlainPoints<A>,
+    text: &str,
+) -> Result<bool, AllocError>
+    requires { AreTrueEntries (collation_of L.content collator.now) points.old.entries.items }
+    ensures entries { AreTrueEntries (collation_of L.content collator.now) points.new.entries.items }
+    ensures runs { let c = collation_of L.content collator.now in
+        IfOk result (λ short. OnTrue short (HasNoLongRun (map c.properties.class (nfd (chars text.now))))) }
+{
+    let mut count = 0;
+    for point in text.chars() {
+        count = points.count_on(collator, count, point)?;
+        if count > LONGEST_RUN {
+            return Ok(false);
+        }
+    }
+    Ok(true)
+}
