@@ -13,3 +13,6 @@ pub mod DepthOrder
 pub mod PlainTexts
 pub mod PlainEntries
 pub mod PieceSteps
+pub mod SharedSteps
+pub mod PlainComparisons
+pub mod ComparisonLemmas
