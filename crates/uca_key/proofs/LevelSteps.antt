@@ -78,7 +78,7 @@ all_equal weighting es fs first (suc n) equal =
     ∙ all_equal weighting es fs (suc first) n (λ level low high. equal level (omega (arith, low)) (omega (arith, high)))
 
 -- a level that differs decides
-decided_here : (order : Ordering) (level : ℕ) (later : Comparison) → order ≢ Equal
+pub decided_here : (order : Ordering) (level : ℕ) (later : Comparison) → order ≢ Equal
     → decided order level later ≡ record { order = order; level = level }
 decided_here Less level later differ = refl
 decided_here Equal level later differ = absurd (differ refl)

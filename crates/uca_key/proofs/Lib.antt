@@ -14,3 +14,6 @@ pub mod PlainTexts
 pub mod PlainEntries
 pub mod PieceSteps
 pub mod BeginningSteps
+pub mod SharedSteps
+pub mod PlainComparisons
+pub mod ComparisonLemmas

@@ -1,6 +1,9 @@
 -- How two texts compare at all levels of a weighting, and after them. Only private contracts cite this file.
-use Rattle.std.specs.Prelude.{◌≡◌, ℕ, suc, List}
+use Rattle.std.specs.Prelude.{◌≡◌, ℕ, suc, List, ⊤}
 use Rattle.std.specs.declared.cmp.Ordering.TheVariants.{Equal}
+use Rattle.std.specs.declared.cmp.Ordering.{Ordering}
+use Rattle.uca_weights.specs.declared.Depth.{Depth}
+use Rattle.uca_weights.specs.declared.Depth.TheVariants.{Identical}
 use Rattle.uca_weights.specs.declared.Element.{Element}
 use Rattle.uca_weights.specs.declared.Weighting.{Weighting}
 use Rattle.uca_key.specs.declared.walk.Walked.{Walked}
@@ -16,3 +19,8 @@ pub record ComparesLevels (weighting : Weighting) (es fs : List Element) (w : Wa
 -- code points come after all levels of the weights
 abbrev pub compared_points : Weighting → List ℕ → List ℕ → Comparison
 compared_points weighting left right = decided (lexicographic left right) (suc (level_count weighting)) (record { order = Equal; level = 0 })
+
+-- after this order at the levels of the weights nothing else decides
+abbrev pub NothingElseDecides : Ordering → Depth → List ℕ → List ℕ → Type 0
+NothingElseDecides Equal Identical left right = left ≡ right
+NothingElseDecides order depth left right = ⊤

@@ -13,6 +13,8 @@ pub mod Beginnings
 pub mod Comparisons
 pub mod Fronts
 pub mod Walks
+pub mod Shared
+pub mod Comparers
 pub mod StoredKeys
 pub mod Lengths
 pub mod WorkedKeys

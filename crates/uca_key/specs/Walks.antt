@@ -102,6 +102,10 @@ pub record Stands (weighting : Weighting) (es fs : List Element) (left right : F
   pub counts : levels.through < levels.first
       → (fetched left ≡ fetched_left_at weighting es fs levels.first) × (fetched right ≡ fetched_right_at weighting es fs levels.first)
 
+-- no level of these is decided yet
+abbrev pub none_decided : ℕ → ℕ → LevelsSoFar
+none_decided first last = record { first = first; through = last; last = last; order = Equal }
+
 abbrev pub decided_level : ℕ → ℕ → ℕ
 decided_level through last = if nat_lt through last then suc through else 0
 

@@ -2,53 +2,58 @@
 
 ghost use Rattle.std.specs.Prelude.{◌≡◌};
 ghost use Rattle.std.specs.Bool.{OnTrue};
-ghost use Rattle.uca_match.specs.Collations.{collation_of, elements_of};
 ghost use Rattle.uca_key.specs.Fronts;
 ghost use Rattle.uca_key.specs.Fronts.{Agree, advanced, begun, front_weights};
 
+use crate::source::Source;
 use crate::weighting::{is_after_variable, weights_of};
-use std::alloc::Allocator;
 use std::marker::Model;
-use uca_match::{Collator, Elements, Lookup};
-use uca_text::Normal;
 use uca_weights::{Element, Weighting};
 
 /// The collation elements of a text from the front on.
 #[derive(Drop)]
-pub(crate) struct Front<'a, L: Lookup, A: Allocator> {
+pub(crate) struct Front<S: Source> {
     // the element at the front, or none after the last
     element: Option<Element>,
     // the elements after it
-    elements: Elements<'a, L, A>,
+    elements: S,
     // whether the nearest element with a primary weight before them is variable
     after_variable: bool,
     // how many elements come before them
     passed: u64,
 }
 
-impl<'a, L: Lookup, A: Allocator> Model for Front<'a, L, A> {
+impl<S: Source> Model for Front<S> {
     ghost use Rattle.uca_key.specs.Fronts.{FrontState, from_front};
 
     ghost Value = { FrontState };
 
     ghost view = { λ f. record {
-      elements = from_front f.element f.elements;
+      elements = from_front f.element (S.left f.elements);
       after_variable = f.after_variable;
       passed = f.passed;
     } };
 }
 
-impl<'a, L: Lookup, A: Allocator> Front<'a, L, A> {
+impl<S: Source> Front<S> {
     /// At the first element of a text.
-    pub(crate) fn new(collator: &'a Collator<'a, L, A>, text: &'a Normal) -> Front<'a, L, A>
-        ensures { result ≡ begun (elements_of (collation_of L.content collator.now) text.now) }
+    pub(crate) fn new(elements: S) -> Front<S>
+        ensures { result ≡ begun (S.left elements) }
     {
-        let mut elements = collator.elements(text);
+        Front::after(elements, false, 0)
+    }
+
+    /// At the first of these elements, after others. `after_variable` says whether the nearest of those with a primary
+    /// weight is variable, and `passed` how many there are.
+    pub(crate) fn after(elements: S, after_variable: bool, passed: u64) -> Front<S>
+        ensures { result ≡ record { elements = S.left elements; after_variable = after_variable; passed = passed } }
+    {
+        let mut elements = elements;
         Front {
-            element: elements.next(),
+            element: elements.take_next(),
             elements,
-            after_variable: false,
-            passed: 0,
+            after_variable,
+            passed,
         }
     }
 
@@ -61,7 +66,7 @@ impl<'a, L: Lookup, A: Allocator> Front<'a, L, A> {
         };
         self.after_variable = is_after_variable(self.after_variable, element);
         self.passed = self.passed.saturating_add(1);
-        self.element = self.elements.next();
+        self.element = self.elements.take_next();
     }
 
     /// Whether it is after the last element.
@@ -83,7 +88,7 @@ impl<'a, L: Lookup, A: Allocator> Front<'a, L, A> {
 
     /// Whether two fronts have the same element with the same weights, or both have none. It is only a test for speed:
     /// `false` says nothing.
-    pub(crate) fn agrees(&self, other: &Front<'a, L, A>) -> bool
+    pub(crate) fn agrees(&self, other: &Front<S>) -> bool
         ensures { OnTrue result (Agree self.now other.now) }
     {
         self.element == other.element && self.after_variable == other.after_variable

@@ -13,7 +13,11 @@ pub mod laws;
 mod level_buffers;
 mod pieces;
 mod plain;
+mod plain_comparison;
+mod shared;
+mod source;
 pub mod stored;
+pub mod text_comparer;
 mod walk;
 pub mod weighting;
 
@@ -22,4 +26,5 @@ pub use key_buffer::KeyBuffer;
 pub use key_writer::KeyWriter;
 pub use keys::{key, key_of};
 pub use stored::{compare_keys, level_count};
+pub use text_comparer::TextComparer;
 pub use weighting::{is_after_variable, weights_of};

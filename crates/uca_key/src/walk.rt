@@ -4,9 +4,10 @@ ghost use Rattle.std.specs.Prelude.{◌≡◌, ◌≤◌, ◌<◌, ℕ, List, fa
 ghost use Rattle.uca_match.specs.Collations.{collation_of, elements_of};
 ghost use Rattle.uca_weights.specs.declared.Element.{Element};
 ghost use Rattle.uca_key.specs.Walks;
-ghost use Rattle.uca_key.specs.Walks.{Says, Allows, IsTaken, Stands, Walks, together};
+ghost use Rattle.uca_key.specs.Walks.{Says, Allows, IsTaken, Stands, Walks, none_decided, together};
 
 use crate::front::Front;
+use crate::source::Source;
 use std::alloc::Allocator;
 use std::cmp::Ordering;
 use uca_match::{Collator, Lookup};
@@ -15,7 +16,7 @@ use uca_weights::Weighting;
 
 // Which of two texts may go on, so that the lists of some levels compare from there on as before.
 #[derive(Clone, Copy)]
-enum Step {
+pub(crate) enum Step {
     // either, for neither has a weight at the levels
     Either,
     // both together, for their weights are equal
@@ -41,11 +42,7 @@ impl Step {
     }
 
     // Takes the step: one text goes on, or both do.
-    fn take<'a, L: Lookup, A: Allocator>(
-        self,
-        left: &mut Front<'a, L, A>,
-        right: &mut Front<'a, L, A>,
-    )
+    fn take<S: Source>(self, left: &mut Front<S>, right: &mut Front<S>)
         ensures { IsTaken self left.old right.old left.new right.new }
     {
         match self {
@@ -61,13 +58,13 @@ impl Step {
 
 // What the weights at one level say.
 #[derive(Drop)]
-enum LevelStep {
+pub(crate) enum LevelStep {
     May(Step),
     // the lists of the level differ here, and this is their order
     Differ(Ordering),
 }
 
-fn look_at(left: u16, right: u16, left_ended: bool, right_ended: bool) -> LevelStep
+pub(crate) fn look_at(left: u16, right: u16, left_ended: bool, right_ended: bool) -> LevelStep
     ensures { Says left right left_ended right_ended result }
 {
     if left == right {
@@ -94,18 +91,14 @@ struct LevelsSoFar {
 impl LevelsSoFar {
     // How the texts may go on from their fronts. A level that differs here decides, and the levels after it no longer
     // matter. Where two levels allow no step together, the second and those after it are left for another walk.
-    fn step<'a, L: Lookup, A: Allocator>(
-        &mut self,
-        weighting: Weighting,
-        left: &Front<'a, L, A>,
-        right: &Front<'a, L, A>,
-    ) -> Step
+    fn step<S: Source>(&mut self, weighting: Weighting, left: &Front<S>, right: &Front<S>) -> Step
         requires first { 1 ≤ self.old.first }
         requires through { self.old.through ≤ self.old.last }
         requires last { self.old.last ≤ 4 }
         ensures stands { (es fs : List Element) → Stands weighting es fs left.now right.now self.old → Stands weighting es fs left.now right.now self.new }
         ensures first { self.new.first ≡ self.old.first }
         ensures last { self.new.last ≤ self.old.last }
+        ensures within { self.new.through ≤ self.new.last }
         ensures step { (level : ℕ) → self.new.first ≤ level → level ≤ self.new.through → Allows weighting result level left.now right.now }
     {
         let (first, second) = (left.weights(weighting), right.weights(weighting));
@@ -177,8 +170,24 @@ pub(crate) fn walk<'a, L: Lookup, A: Allocator>(
     ensures { let c = collation_of L.content collator.now in
         Walks weighting first last (elements_of c left.now) (elements_of c right.now) result }
 {
-    let mut left = Front::new(collator, left);
-    let mut right = Front::new(collator, right);
+    let left = Front::new(collator.elements(left));
+    let right = Front::new(collator.elements(right));
+    walk_fronts(weighting, first, last, left, right)
+}
+
+/// The same for two texts from the same fronts on, before which they do not differ at any of the levels.
+pub(crate) fn walk_fronts<S: Source>(
+    weighting: Weighting,
+    first: u8,
+    last: u8,
+    mut left: Front<S>,
+    mut right: Front<S>,
+) -> Walked
+    requires first { 1 ≤ first }
+    requires some { first ≤ last }
+    requires last { last ≤ 4 }
+    ensures { (es fs : List Element) → Stands weighting es fs left right (none_decided first last) → Walks weighting first last es fs result }
+{
     let mut levels = LevelsSoFar {
         first,
         through: last,

@@ -1,0 +1,65 @@
+-- What the levels of the weights decide of two texts at either depth.
+use Rattle.std.proofs.Common.{◌≡◌, ℕ, ◌+◌, List, [], ◌∷◌, length, refl, sym, ap, ◌∙◌}
+use Rattle.std.specs.declared.cmp.Ordering.{Ordering}
+use Rattle.std.specs.declared.cmp.Ordering.TheVariants.{Less, Equal, Greater}
+use Rattle.uca_weights.specs.declared.Depth.{Depth}
+use Rattle.uca_weights.specs.declared.Depth.TheVariants.{Weights, Identical}
+use Rattle.uca_weights.specs.declared.Weighting.{Weighting}
+use Rattle.uca_key.specs.declared.walk.Walked.{Walked}
+use Rattle.uca_key.specs.Levels.{Comparison, level_lists, level_count, weighted, decided, compare_from, compared}
+use Rattle.uca_key.specs.Depths.{ReadText, compared_at}
+use Rattle.uca_key.specs.Comparisons.{ComparesLevels, NothingElseDecides}
+use Rattle.uca_key.proofs.KeyOrder.{level_zero, lexicographic_itself}
+use Rattle.uca_key.proofs.LevelSteps.{then_levels, compare_append, length_levels, decided_here}
+
+-- the levels of the weights, and then the code points
+identical_is : (weighting : Weighting) (left right : ReadText)
+    → compared_at Identical weighting left right
+    ≡ then_levels (compared weighting left.elements right.elements)
+    (compare_from (1 + length (level_lists weighting left.elements)) (left.points ∷ []) (right.points ∷ []))
+identical_is weighting left right =
+    let count = level_count weighting in
+    compare_append 1 (level_lists weighting left.elements) (level_lists weighting right.elements) (left.points ∷ []) (right.points ∷ [])
+    (length_levels 1 count (weighted weighting left.elements) ∙ sym (length_levels 1 count (weighted weighting right.elements)))
+
+-- equal code points decide nothing
+same_points : (level : ℕ) (ps qs : List ℕ) → ps ≡ qs → compare_from level (ps ∷ []) (qs ∷ []) ≡ record { order = Equal; level = 0 }
+same_points level ps qs same =
+    ap (λ l. compare_from level (ps ∷ []) (l ∷ [])) (sym same) ∙ ap (λ o. decided o level (record { order = Equal; level = 0 })) (lexicographic_itself ps)
+
+then_nothing : (order : Ordering) (level : ℕ) → (order ≡ Equal → level ≡ 0)
+    → decided order level (record { order = Equal; level = 0 }) ≡ record { order = order; level = level }
+then_nothing Less level zero = refl
+then_nothing Equal level zero = ap (λ n. record { order = Equal; level = n }) (sym (zero refl))
+then_nothing Greater level zero = refl
+
+-- so the levels of the weights decide
+levels_decide : (weighting : Weighting) (order : Ordering) (left right : ReadText) (more : Comparison)
+    → (compared weighting left.elements right.elements).order ≡ order
+    → (order ≡ Equal → more ≡ record { order = Equal; level = 0 })
+    → then_levels (compared weighting left.elements right.elements) more ≡ compared weighting left.elements right.elements
+levels_decide weighting Less left right more is none =
+    decided_here _ _ more (λ e. let no : Less ≡ Equal = sym is ∙ e in absurd cc)
+levels_decide weighting Equal left right more is none =
+    let some = compared weighting left.elements right.elements in
+    ap (then_levels some) (none refl)
+    ∙ then_nothing some.order some.level (level_zero 0 (level_lists weighting left.elements) (level_lists weighting right.elements))
+levels_decide weighting Greater left right more is none =
+    decided_here _ _ more (λ e. let no : Greater ≡ Equal = sym is ∙ e in absurd cc)
+
+none_more : (order : Ordering) (left right : List ℕ) → NothingElseDecides order Identical left right → order ≡ Equal → left ≡ right
+none_more Less left right same is = absurd cc
+none_more Equal left right same is = same
+none_more Greater left right same is = absurd cc
+
+pub compares_at : (depth : Depth) (weighting : Weighting) (left right : ReadText) (xs ys : List ℕ) (w : Walked)
+    → ComparesLevels weighting left.elements right.elements w → NothingElseDecides w.order depth xs ys → (xs ≡ ys → left.points ≡ right.points)
+    → (w.order ≡ (compared_at depth weighting left right).order) × (w.level ≡ (compared_at depth weighting left right).level)
+compares_at Weights weighting left right xs ys w levels none same = (levels.order_is, levels.level_is)
+compares_at Identical weighting left right xs ys w levels none same =
+    let n = 1 + length (level_lists weighting left.elements) in
+    let all : compared_at Identical weighting left right ≡ compared weighting left.elements right.elements =
+    identical_is weighting left right
+    ∙ levels_decide weighting w.order left right (compare_from n (left.points ∷ []) (right.points ∷ [])) (sym levels.order_is)
+    (λ equal. same_points n left.points right.points (same (none_more w.order xs ys none equal))) in
+    (levels.order_is ∙ ap (λ (a : Comparison). a.order) (sym all), levels.level_is ∙ ap (λ (a : Comparison). a.level) (sym all))

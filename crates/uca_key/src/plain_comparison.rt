@@ -1,0 +1,280 @@
+//! `PlainComparison`: compares texts of plain code points, which are not normalized.
+
+ghost use Rattle.std.specs.Prelude.{◌≡◌, ℕ, List, chars, flat_map, IfOk, IfSome};
+ghost use Rattle.std.specs.Bool.{OnTrue};
+ghost use Rattle.uca_weights.specs.declared.Element.{Element};
+ghost use Rattle.uca_match.specs.Collations.{Collation, collation_of};
+ghost use Rattle.uca_key.specs.Levels;
+ghost use Rattle.uca_key.specs.Fronts;
+ghost use Rattle.uca_key.specs.Fronts.{weight_here};
+ghost use Rattle.uca_key.specs.Comparisons.{ComparesLevels};
+ghost use Rattle.uca_key.specs.Walks.{Stands, none_decided};
+ghost use Rattle.uca_key.specs.Plain.{ArePlain, elements_alone};
+ghost use Rattle.uca_key.specs.PlainPoints.{AreTrueEntries};
+ghost use Rattle.uca_key.specs.Shared.{IsRest, IsFirst, BeginsPlain, HasFirst, ComparesTexts, ComparesAccepted};
+
+use crate::front::Front;
+use crate::plain::PlainPoints;
+use crate::shared::{Rest, skip_shared, split_first};
+use crate::source::Listed;
+use crate::stored::level_count;
+use crate::walk::{LevelStep, Walked, look_at, walk_fronts};
+use crate::weighting::weights_of;
+use std::alloc::{AllocError, Allocator, Global};
+use std::cmp::Ordering;
+use uca_match::{Collator, Lookup};
+use uca_weights::{Depth, Element, Weighting};
+
+/// A text of so many bytes has at most 1,048,576 code points in Normalization Form D, two for each byte.
+const SHORT_TEXT: usize = 524_288;
+
+/// A text of so many bytes has at most 64 code points in Normalization Form D.
+const SHORT_REST: usize = 32;
+
+/// Memory for comparing texts of plain code points.
+#[derive(Drop)]
+pub(crate) struct PlainComparison<A: Allocator> {
+    // what is known of the code points that were met
+    points: PlainPoints<A>,
+    // elements of the two texts
+    left: Vec<Element, A>,
+    right: Vec<Element, A>,
+}
+
+impl<A: Allocator + Copy> PlainComparison<A> {
+    /// It takes no memory yet.
+    pub(crate) fn new(alloc: A, global: Global) -> PlainComparison<A>
+        ensures { (c : Collation) → AreTrueEntries c result.points.entries.items }
+    {
+        PlainComparison {
+            points: PlainPoints::new(alloc, global),
+            left: Vec::new(alloc),
+            right: Vec::new(alloc),
+        }
+    }
+}
+
+impl<A: Allocator> PlainComparison<A> {
+    /// How two texts compare at all levels of the weighting. There is no result if a text has more than 524,288 bytes
+    /// or a code point that is not plain, or if one walk over both does not decide.
+    pub(crate) fn compare<L: Lookup, T: Allocator>(
+        &mut self,
+        collator: &Collator<L, T>,
+        weighting: Weighting,
+        left: &str,
+        right: &str,
+    ) -> Result<Option<Walked>, AllocError>
+        requires { AreTrueEntries (collation_of L.content collator.now) self.old.points.entries.items }
+        ensures entries { AreTrueEntries (collation_of L.content collator.now) self.new.points.entries.items }
+        ensures compared { let c = collation_of L.content collator.now in
+            IfOk result (λ found. IfSome found (ComparesAccepted c weighting (chars left.now) (chars right.now))) }
+    {
+        if left.len() > SHORT_TEXT || right.len() > SHORT_TEXT {
+            return Ok(None);
+        }
+        let Some(rest) = skip_shared(collator, &mut self.points, left, right)? else {
+            return Ok(None);
+        };
+        match compare_first(collator, &mut self.points, weighting, &rest)? {
+            Some(walked) => Ok(Some(walked)),
+            None => self.compare_rest(collator, weighting, &rest),
+        }
+    }
+
+    // How two texts compare by all elements that follow what they share.
+    fn compare_rest<L: Lookup, T: Allocator>(
+        &mut self,
+        collator: &Collator<L, T>,
+        weighting: Weighting,
+        rest: &Rest,
+    ) -> Result<Option<Walked>, AllocError>
+        requires { AreTrueEntries (collation_of L.content collator.now) self.old.points.entries.items }
+        ensures entries { AreTrueEntries (collation_of L.content collator.now) self.new.points.entries.items }
+        ensures compared { let c = collation_of L.content collator.now in (xs ys : List ℕ) →
+            IsRest c xs ys (chars rest.now.left.now) (chars rest.now.right.now) rest.now.after_variable rest.now.passed →
+            IfOk result (λ found. IfSome found (ComparesTexts c weighting xs ys)) }
+    {
+        if !read_plain(collator, &mut self.points, &mut self.left, rest.left)? {
+            return Ok(None);
+        }
+        if !read_plain(collator, &mut self.points, &mut self.right, rest.right)? {
+            return Ok(None);
+        }
+        Ok(compare_elements(
+            weighting,
+            rest.after_variable,
+            rest.passed,
+            &self.left,
+            &self.right,
+        ))
+    }
+}
+
+// Replaces the elements by those of a text, and returns whether its code points are plain.
+fn read_plain<L: Lookup, T: Allocator, A: Allocator>(
+    collator: &Collator<L, T>,
+    points: &mut PlainPoints<A>,
+    elements: &mut Vec<Element, A>,
+    text: &str,
+) -> Result<bool, AllocError>
+    requires { AreTrueEntries (collation_of L.content collator.now) points.old.entries.items }
+    ensures entries { AreTrueEntries (collation_of L.content collator.now) points.new.entries.items }
+    ensures plain { let c = collation_of L.content collator.now in
+        IfOk result (λ plain. OnTrue plain (ArePlain c (chars text.now))) }
+    ensures elements { let c = collation_of L.content collator.now in
+        IfOk result (λ plain. OnTrue plain (elements.new.items ≡ flat_map (elements_alone c) (chars text.now))) }
+{
+    elements.clear();
+    for point in text.chars() {
+        let known = points.get(collator, point)?;
+        let Some(more) = known.elements() else {
+            return Ok(false);
+        };
+        elements.extend_from_slice(more)?;
+    }
+    Ok(true)
+}
+
+// How two texts compare by the elements that follow what they share, unless one walk over both does not decide.
+fn compare_elements(
+    weighting: Weighting,
+    after_variable: bool,
+    passed: u64,
+    left: &[Element],
+    right: &[Element],
+) -> Option<Walked>
+    ensures { (es fs : List Element) →
+        Stands weighting es fs (record { elements = left.now; after_variable = after_variable; passed = passed })
+        (record { elements = right.now; after_variable = after_variable; passed = passed }) (none_decided 1 (Levels.level_count weighting)) →
+        IfSome result (ComparesLevels weighting es fs) }
+{
+    let count = level_count(weighting, Depth::Weights);
+    let left = Front::after(Listed { elements: left }, after_variable, passed);
+    let right = Front::after(Listed { elements: right }, after_variable, passed);
+    let walked = walk_fronts(weighting, 1, count, left, right);
+    if walked.order == Ordering::Equal && walked.last < count {
+        return None;
+    }
+    Some(walked)
+}
+
+// How two texts compare if the first elements that follow what they share differ at level 1.
+fn compare_first<L: Lookup, T: Allocator, A: Allocator>(
+    collator: &Collator<L, T>,
+    points: &mut PlainPoints<A>,
+    weighting: Weighting,
+    rest: &Rest,
+) -> Result<Option<Walked>, AllocError>
+    requires { AreTrueEntries (collation_of L.content collator.now) points.old.entries.items }
+    ensures entries { AreTrueEntries (collation_of L.content collator.now) points.new.entries.items }
+    ensures compared { let c = collation_of L.content collator.now in (xs ys : List ℕ) →
+        IsRest c xs ys (chars rest.now.left.now) (chars rest.now.right.now) rest.now.after_variable rest.now.passed →
+        IfOk result (λ found. IfSome found (ComparesTexts c weighting xs ys)) }
+{
+    let Some(left) = first_element(collator, points, rest.left)? else {
+        return Ok(None);
+    };
+    let Some(right) = first_element(collator, points, rest.right)? else {
+        return Ok(None);
+    };
+    Ok(compare_two(weighting, rest.after_variable, rest.passed, left, right))
+}
+
+// The first element of a text, or none if it has no code point. There is no result if the text has more than 32 bytes,
+// if its first two code points are not plain, or if the first has no element.
+fn first_element<L: Lookup, T: Allocator, A: Allocator>(
+    collator: &Collator<L, T>,
+    points: &mut PlainPoints<A>,
+    text: &str,
+) -> Result<Option<Option<Element>>, AllocError>
+    requires { AreTrueEntries (collation_of L.content collator.now) points.old.entries.items }
+    ensures entries { AreTrueEntries (collation_of L.content collator.now) points.new.entries.items }
+    ensures first { let c = collation_of L.content collator.now in IfOk result (λ found. IfSome found (HasFirst c (chars text.now))) }
+{
+    if text.len() > SHORT_REST {
+        return Ok(None);
+    }
+    let Some((point, rest)) = split_first(text) else {
+        return Ok(Some(None));
+    };
+    let known = points.get(collator, point)?;
+    let Some([first, ..]) = known.elements() else {
+        return Ok(None);
+    };
+    if begins_plain(collator, points, rest)? {
+        Ok(Some(Some(*first)))
+    } else {
+        Ok(None)
+    }
+}
+
+// Whether a text has no code point or begins with a plain one.
+fn begins_plain<L: Lookup, T: Allocator, A: Allocator>(
+    collator: &Collator<L, T>,
+    points: &mut PlainPoints<A>,
+    text: &str,
+) -> Result<bool, AllocError>
+    requires { AreTrueEntries (collation_of L.content collator.now) points.old.entries.items }
+    ensures entries { AreTrueEntries (collation_of L.content collator.now) points.new.entries.items }
+    ensures plain { let c = collation_of L.content collator.now in
+        IfOk result (λ plain. OnTrue plain (BeginsPlain c (chars text.now))) }
+{
+    match split_first(text) {
+        Some((point, _)) => {
+            let known = points.get(collator, point)?;
+            Ok(!known.is_bound())
+        }
+        None => Ok(true),
+    }
+}
+
+// How two texts compare if the first elements that follow what they share differ at level 1.
+fn compare_two(
+    weighting: Weighting,
+    after_variable: bool,
+    passed: u64,
+    left: Option<Element>,
+    right: Option<Element>,
+) -> Option<Walked>
+    ensures { (es fs ls rs : List Element) → IsFirst left ls → IsFirst right rs →
+        Stands weighting es fs (record { elements = ls; after_variable = after_variable; passed = passed })
+        (record { elements = rs; after_variable = after_variable; passed = passed }) (none_decided 1 (Levels.level_count weighting)) →
+        IfSome result (ComparesLevels weighting es fs) }
+{
+    let first = primary_of(weighting, after_variable, left);
+    let second = primary_of(weighting, after_variable, right);
+    let LevelStep::Differ(order) = look_at(first, second, left.is_none(), right.is_none()) else {
+        return None;
+    };
+    Some(Walked {
+        order,
+        level: 1,
+        last: level_count(weighting, Depth::Weights),
+        fetched_left: count_with(passed, left),
+        fetched_right: count_with(passed, right),
+    })
+}
+
+// The weight at level 1 of the first element, or 0 if there is none.
+fn primary_of(weighting: Weighting, after_variable: bool, first: Option<Element>) -> u16
+    ensures { (elements : List Element) (passed : ℕ) → IsFirst first elements →
+        result ≡ weight_here weighting 1 (record { elements = elements; after_variable = after_variable; passed = passed }) }
+{
+    match first {
+        Some(element) => {
+            let weights = weights_of(weighting, after_variable, element);
+            weights[0]
+        }
+        None => 0,
+    }
+}
+
+// A count with the first element, if there is one.
+fn count_with(passed: u64, first: Option<Element>) -> u64
+    ensures { (elements : List Element) → IsFirst first elements → result ≡ Fronts.count_with passed elements }
+{
+    match first {
+        Some(_) => passed.saturating_add(1),
+        None => passed,
+    }
+}

@@ -1,0 +1,140 @@
+//! `TextComparer`: compares texts, pair after pair.
+
+ghost use Rattle.std.specs.Prelude.{◌≡◌, ◌⊎◌, ◌-◌, ◌^◌, chars, min, IfOk, OnOk, IfErr};
+ghost use Rattle.std.specs.Bool.{OnTrue};
+ghost use Rattle.uca_text.specs.Texts.{nfd_text};
+ghost use Rattle.uca_text.specs.Limits.{IsAccepted};
+ghost use Rattle.uca_text.specs.Faults.{IsCause};
+ghost use Rattle.uca_match.specs.Collations.{collation_of, elements_of};
+ghost use Rattle.uca_key.specs.Depths.{read_text, compared_at};
+ghost use Rattle.uca_key.specs.Fetched.{fetched_left, fetched_right};
+ghost use Rattle.uca_key.specs.Comparisons.{NothingElseDecides};
+ghost use Rattle.uca_key.specs.Comparers.{collation_by};
+
+use crate::comparison::{Compared, compare};
+use crate::plain_comparison::PlainComparison;
+use std::alloc::{Allocator, Global};
+use std::cmp::Ordering;
+use std::marker::Model;
+use uca_match::{Collator, Lookup};
+use uca_text::{Normal, TextFault};
+use uca_weights::{Depth, Weighting};
+
+/// Compares texts (UTS #10, section 1.1), pair after pair, by one collator, under one weighting and at one depth. The
+/// memory is used again.
+#[derive(Drop)]
+pub struct TextComparer<'a, L: Lookup, T: Allocator = Global, A: Allocator = Global> {
+    collator: Collator<'a, L, T>,
+    weighting: Weighting,
+    depth: Depth,
+    plain: PlainComparison<A>,
+    // the texts of a pair that has to be normalized
+    left: Normal,
+    right: Normal,
+}
+
+impl<'a, L: Lookup, T: Allocator, A: Allocator> Model for TextComparer<'a, L, T, A> {
+    ghost use Rattle.uca_match.specs.Collations.{collation_of};
+    ghost use Rattle.uca_key.specs.PlainPoints.{AreTrueEntries};
+    ghost use Rattle.uca_key.specs.Comparers.{ComparerState};
+
+    ghost Value = { ComparerState L };
+
+    ghost view = { λ c. record {
+      lookup = c.collator.lookup.now;
+      ranges = c.collator.header.now.ranges;
+      data_file = c.collator.data.now;
+      weighting = c.weighting;
+      depth = c.depth;
+    } };
+
+    ghost invariant = { λ c. AreTrueEntries (collation_of L.content c.collator) c.plain.points.entries.items };
+}
+
+impl<'a, L: Lookup, T: Allocator, A: Allocator + Copy> TextComparer<'a, L, T, A> {
+    /// It compares under the weighting and at the depth, and takes no memory yet.
+    pub fn new(
+        alloc: A,
+        global: Global,
+        collator: Collator<'a, L, T>,
+        weighting: Weighting,
+        depth: Depth,
+    ) -> Self
+        ensures collation { collation_by L.content result ≡ collation_of L.content collator.entry }
+        ensures weighting { result.weighting ≡ weighting }
+        ensures depth { result.depth ≡ depth }
+    {
+        TextComparer {
+            collator,
+            weighting,
+            depth,
+            plain: PlainComparison::new(alloc, global),
+            left: Normal::new(global),
+            right: Normal::new(global),
+        }
+    }
+}
+
+impl<'a, L: Lookup, T: Allocator, A: Allocator> TextComparer<'a, L, T, A> {
+    /// How two texts compare, as [`compare`] says of the same texts in Normalization Form D.
+    ///
+    /// # Errors
+    ///
+    /// Those of [`normal`](uca_text::normal) for the left text, or else for the right one. `Memory` also if another
+    /// allocation failed.
+    pub fn compare(&mut self, left: &str, right: &str) -> Result<Compared, TextFault>
+        ensures compared { let c = collation_by L.content self.old in IfOk result (λ compared.
+            let answer = compared_at self.old.depth self.old.weighting
+            (read_text c (nfd_text c.properties (chars left.now))) (read_text c (nfd_text c.properties (chars right.now))) in
+            (compared.order ≡ answer.order) × (compared.level ≡ answer.level)) }
+        ensures fetched { let c = collation_by L.content self.old in IfOk result (λ compared.
+            let es = elements_of c (nfd_text c.properties (chars left.now)) in
+            let fs = elements_of c (nfd_text c.properties (chars right.now)) in
+            (compared.fetched_left ≡ min (2 ^ 64 - 1) (fetched_left self.old.weighting es fs))
+            × (compared.fetched_right ≡ min (2 ^ 64 - 1) (fetched_right self.old.weighting es fs))) }
+        ensures accepted { let c = collation_by L.content self.old in
+            OnOk result (IsAccepted (nfd_text c.properties (chars left.now)) × IsAccepted (nfd_text c.properties (chars right.now))) }
+        ensures fault { let c = collation_by L.content self.old in IfErr result (λ fault.
+            IsCause (nfd_text c.properties (chars left.now)) fault
+            ⊎ (IsAccepted (nfd_text c.properties (chars left.now)) × IsCause (nfd_text c.properties (chars right.now)) fault)) }
+        ensures collation { collation_by L.content self.new ≡ collation_by L.content self.old }
+        ensures weighting { self.new.weighting ≡ self.old.weighting }
+        ensures depth { self.new.depth ≡ self.old.depth }
+    {
+        let found = self
+            .plain
+            .compare(&self.collator, self.weighting, left, right)?;
+        if let Some(walked) = found
+            && is_decided(walked.order, self.depth, left, right)
+        {
+            return Ok(Compared {
+                order: walked.order,
+                level: walked.level,
+                fetched_left: walked.fetched_left,
+                fetched_right: walked.fetched_right,
+            });
+        }
+        self.left.renew(left, self.collator.data)?;
+        self.right.renew(right, self.collator.data)?;
+        Ok(compare(
+            &self.collator,
+            self.weighting,
+            self.depth,
+            &self.left,
+            &self.right,
+        ))
+    }
+}
+
+// Whether nothing else decides after this order at the levels of the weights.
+fn is_decided(order: Ordering, depth: Depth, left: &str, right: &str) -> bool
+    ensures { OnTrue result (NothingElseDecides order depth left.now right.now) }
+{
+    match order {
+        Ordering::Less | Ordering::Greater => true,
+        Ordering::Equal => match depth {
+            Depth::Weights => true,
+            Depth::Identical => left == right,
+        },
+    }
+}
