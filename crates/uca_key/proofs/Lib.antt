@@ -13,3 +13,4 @@ pub mod DepthOrder
 pub mod PlainTexts
 pub mod PlainEntries
 pub mod PieceSteps
+pub mod RunSteps

@@ -38,11 +38,11 @@ chars_pushed old new x utf8 whole is =
     sym (chars_from_encodes (chars old ++ x ∷ []) new whole bytes)
 
 -- a piece begins with a plain code point, or at the begin of the text
-abbrev Begins : Collation → List ℕ → List ℕ → Type 0
+abbrev pub Begins : Collation → List ℕ → List ℕ → Type 0
 Begins c before ps = (before ≡ []) ⊎ ((y : ℕ) × (ys : List ℕ) × (ps ≡ y ∷ ys) × IsPlain c y)
 
 -- the text before a piece, and the piece
-elements_joined : (c : Collation) (before ps : List ℕ) → Begins c before ps →
+pub elements_joined : (c : Collation) (before ps : List ℕ) → Begins c before ps →
     elements_of c (nfd_text c.properties before) ++ elements_of c (nfd_text c.properties ps) ≡ elements_of c (nfd_text c.properties (before ++ ps))
 elements_joined c before ps (inl none) =
     ap (λ l. elements_of c (nfd_text c.properties l) ++ elements_of c (nfd_text c.properties ps)) none
@@ -53,7 +53,7 @@ elements_joined c before ps (inr (y, ys, is, plain)) =
     ∙ sym (read_before c before y ys plain)
     ∙ ap (λ l. elements_of c (nfd_text c.properties (before ++ l))) (sym is)
 
-runs_joined : (c : Collation) (before ps : List ℕ) → Begins c before ps → HasNoLongRun (map c.properties.class (nfd before))
+pub runs_joined : (c : Collation) (before ps : List ℕ) → Begins c before ps → HasNoLongRun (map c.properties.class (nfd before))
     → HasNoLongRun (map c.properties.class (nfd ps)) → HasNoLongRun (map c.properties.class (nfd (before ++ ps)))
 runs_joined c before ps (inl none) first second = subst (λ l. HasNoLongRun (map c.properties.class (nfd (l ++ ps)))) (sym none) second
 runs_joined c before ps (inr (y, ys, is, plain)) first second =
