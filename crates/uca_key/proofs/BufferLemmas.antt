@@ -1,6 +1,6 @@
 -- What one more element adds to the levels of a key in the making, and what the levels make when they are joined.
 use Rattle.std.proofs.Common.{Option, None, Result, Ok, Err, OnOk, ◌≡◌, ℕ, List, [], ◌∷◌, ◌++◌, Bool, true, false}
-use Rattle.std.proofs.Common.{cond, not, nat_eq, filter, map, refl, sym, ap, ◌∙◌, subst, get_or, ◌+◌, ◌<◌, ◌≤◌, length, take}
+use Rattle.std.proofs.Common.{arith, cond, not, nat_eq, filter, map, refl, sym, ap, ◌∙◌, subst, get_or, ◌+◌, ◌<◌, ◌≤◌, length, take}
 use Rattle.std.specs.Prelude.{reverse, if◌then◌else◌}
 use Rattle.std.proofs.lemmas.List.{reverse-append, map-append}
 use Rattle.std.proofs.lemmas.List.Elements.{filter-append}
@@ -16,7 +16,8 @@ use Rattle.uca_weights.specs.declared.Weighting.TheVariants.{NonIgnorable, Shift
 use Rattle.uca_key.specs.Levels.{weight_at, level_list, weighted, weight_bytes, level_bytes, weighted_following}
 use Rattle.uca_key.specs.Levels.{weights_of, follows_variable, key_bytes}
 use Rattle.uca_key.specs.StreamedWeights.{at_four_levels, is_after_variable}
-use Rattle.uca_key.specs.LevelBuffers.{LevelState, HoldsLevels, bytes_of_level, flattened}
+use Rattle.uca_key.specs.declared.places.Counts.{Counts}
+use Rattle.uca_key.specs.LevelBuffers.{LevelState, HoldsLevels, HasRoom, IsNextFlag, bytes_of_level, flattened, held, levels_of}
 
 -- the bytes of a weight, none of the weight 0
 abbrev pub added : ℕ → List ℕ
@@ -75,37 +76,44 @@ nothing_held NonIgnorable b after primary secondary tertiary quaternary =
 nothing_held Shifted b after primary secondary tertiary quaternary =
     record { after_variable = after; primary = primary; secondary = secondary; tertiary = tertiary; quaternary = quaternary }
 
--- buffers that have got one more element at the levels of `NonIgnorable`
-pub pushed_three : (inside old new : LevelState) (es : List Element) (e : Element) → inside ≡ old → HoldsLevels NonIgnorable es old
-    → new.primary ≡ inside.primary ++ added e.primary → new.secondary ≡ inside.secondary ++ added e.secondary
-    → new.tertiary ≡ inside.tertiary ++ added e.tertiary → new.quaternary ≡ inside.quaternary → HoldsLevels NonIgnorable (es ++ e ∷ []) new
-pushed_three inside old new es e same holds primary secondary tertiary quaternary =
-    let h = subst (HoldsLevels NonIgnorable es) (sym same) holds in
-    record {
-      after_variable = tt;
-      primary = level_pushed 1 NonIgnorable es e e.primary inside.primary new.primary h.primary refl primary;
-      secondary = level_pushed 2 NonIgnorable es e e.secondary inside.secondary new.secondary h.secondary refl secondary;
-      tertiary = level_pushed 3 NonIgnorable es e e.tertiary inside.tertiary new.tertiary h.tertiary refl tertiary;
-      quaternary = level_pushed 4 NonIgnorable es e 0 inside.quaternary new.quaternary h.quaternary refl (quaternary ∙ sym (append-nil inside.quaternary));
-    }
-
--- the same at those of `Shifted`
-pub pushed_four : (inside old new : LevelState) (es : List Element) (e : Element) (ws : List ℕ)
-    → inside ≡ old → HoldsLevels Shifted es old → ws ≡ at_four_levels (weights_of Shifted inside.after_variable e)
-    → new.after_variable ≡ is_after_variable inside.after_variable e
-    → new.primary ≡ inside.primary ++ added (get_or ws 0 0) → new.secondary ≡ inside.secondary ++ added (get_or ws 1 0)
-    → new.tertiary ≡ inside.tertiary ++ added (get_or ws 2 0) → new.quaternary ≡ inside.quaternary ++ added (get_or ws 3 0)
-    → HoldsLevels Shifted (es ++ e ∷ []) new
-pushed_four inside old new es e ws same holds weighs after primary secondary tertiary quaternary =
-    let h = subst (HoldsLevels Shifted es) (sym same) holds in
+-- levels that have got the weights of one more element
+pub pushed : (weighting : Weighting) (old new : LevelState) (es : List Element) (e : Element) (ws : List ℕ)
+    → HoldsLevels weighting es old → ws ≡ at_four_levels (weights_of weighting old.after_variable e)
+    → IsNextFlag weighting old.after_variable e new.after_variable
+    → new.primary ≡ old.primary ++ added (get_or ws 0 0) → new.secondary ≡ old.secondary ++ added (get_or ws 1 0)
+    → new.tertiary ≡ old.tertiary ++ added (get_or ws 2 0) → new.quaternary ≡ old.quaternary ++ added (get_or ws 3 0)
+    → HoldsLevels weighting (es ++ e ∷ []) new
+pushed NonIgnorable old new es e ws h weighs next primary secondary tertiary quaternary = record {
+  after_variable = tt;
+  primary = level_pushed 1 NonIgnorable es e (get_or ws 0 0) old.primary new.primary h.primary (ap (λ l. get_or l 0 0) weighs) primary;
+  secondary = level_pushed 2 NonIgnorable es e (get_or ws 1 0) old.secondary new.secondary h.secondary (ap (λ l. get_or l 1 0) weighs) secondary;
+  tertiary = level_pushed 3 NonIgnorable es e (get_or ws 2 0) old.tertiary new.tertiary h.tertiary (ap (λ l. get_or l 2 0) weighs) tertiary;
+  quaternary = level_pushed 4 NonIgnorable es e (get_or ws 3 0) old.quaternary new.quaternary h.quaternary (ap (λ l. get_or l 3 0) weighs) quaternary;
+}
+pushed Shifted old new es e ws h weighs next primary secondary tertiary quaternary =
     let four = weighs ∙ ap (λ flag. at_four_levels (weights_of Shifted flag e)) h.after_variable in
     record {
-      after_variable = after ∙ ap (λ flag. is_after_variable flag e) h.after_variable ∙ sym (follows-push es e);
-      primary = level_pushed 1 Shifted es e (get_or ws 0 0) inside.primary new.primary h.primary (ap (λ l. get_or l 0 0) four) primary;
-      secondary = level_pushed 2 Shifted es e (get_or ws 1 0) inside.secondary new.secondary h.secondary (ap (λ l. get_or l 1 0) four) secondary;
-      tertiary = level_pushed 3 Shifted es e (get_or ws 2 0) inside.tertiary new.tertiary h.tertiary (ap (λ l. get_or l 2 0) four) tertiary;
-      quaternary = level_pushed 4 Shifted es e (get_or ws 3 0) inside.quaternary new.quaternary h.quaternary (ap (λ l. get_or l 3 0) four) quaternary;
+      after_variable = next ∙ ap (λ flag. is_after_variable flag e) h.after_variable ∙ sym (follows-push es e);
+      primary = level_pushed 1 Shifted es e (get_or ws 0 0) old.primary new.primary h.primary (ap (λ l. get_or l 0 0) four) primary;
+      secondary = level_pushed 2 Shifted es e (get_or ws 1 0) old.secondary new.secondary h.secondary (ap (λ l. get_or l 1 0) four) secondary;
+      tertiary = level_pushed 3 Shifted es e (get_or ws 2 0) old.tertiary new.tertiary h.tertiary (ap (λ l. get_or l 2 0) four) tertiary;
+      quaternary = level_pushed 4 Shifted es e (get_or ws 3 0) old.quaternary new.quaternary h.quaternary (ap (λ l. get_or l 3 0) four) quaternary;
     }
+
+-- ---- Places
+
+-- room for fewer
+pub less_room : (more less : ℕ) (counts : Counts) (primary secondary tertiary quaternary : List (List ℕ)) → less ≤ more
+    → HasRoom more counts primary secondary tertiary quaternary → HasRoom less counts primary secondary tertiary quaternary
+less_room more less counts primary secondary tertiary quaternary fewer room =
+    record { primary = omega arith; secondary = omega arith; tertiary = omega arith; quaternary = omega arith }
+
+-- the levels do not change where only places are added
+pub same_levels : (counts : Counts) (p s t q primary secondary tertiary quaternary : List (List ℕ)) (key : List ℕ)
+    → held primary counts.primary ≡ held p counts.primary → held secondary counts.secondary ≡ held s counts.secondary
+    → held tertiary counts.tertiary ≡ held t counts.tertiary → held quaternary counts.quaternary ≡ held q counts.quaternary
+    → levels_of counts p s t q key ≡ levels_of counts primary secondary tertiary quaternary key
+same_levels counts p s t q primary secondary tertiary quaternary key same_primary same_secondary same_tertiary same_quaternary = cc
 
 -- ---- Elements in turn
 

@@ -17,3 +17,4 @@ pub mod BeginningSteps
 pub mod SharedSteps
 pub mod PlainComparisons
 pub mod ComparisonLemmas
+pub mod RunSteps

@@ -53,7 +53,7 @@ elements_joined c before ps (inr (y, ys, is, plain)) =
     ∙ sym (read_before c before y ys plain)
     ∙ ap (λ l. elements_of c (nfd_text c.properties (before ++ l))) (sym is)
 
-runs_joined : (c : Collation) (before ps : List ℕ) → Begins c before ps → HasNoLongRun (map c.properties.class (nfd before))
+pub runs_joined : (c : Collation) (before ps : List ℕ) → Begins c before ps → HasNoLongRun (map c.properties.class (nfd before))
     → HasNoLongRun (map c.properties.class (nfd ps)) → HasNoLongRun (map c.properties.class (nfd (before ++ ps)))
 runs_joined c before ps (inl none) first second = subst (λ l. HasNoLongRun (map c.properties.class (nfd (l ++ ps)))) (sym none) second
 runs_joined c before ps (inr (y, ys, is, plain)) first second =

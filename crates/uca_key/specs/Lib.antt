@@ -8,6 +8,7 @@ pub mod Writers
 pub mod Plain
 pub mod PlainPoints
 pub mod Pieces
+pub mod Runs
 pub mod LevelBuffers
 pub mod Beginnings
 pub mod Comparisons

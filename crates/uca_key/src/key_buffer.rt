@@ -15,6 +15,7 @@ use crate::beginnings::{has_short_runs, push_beginning};
 use crate::level_buffers::LevelBuffers;
 use crate::pieces::Piece;
 use crate::plain::PlainPoints;
+use crate::runs::split_first;
 use std::alloc::{AllocError, Allocator, Global};
 use std::marker::Model;
 use uca_match::{Collator, Lookup};
@@ -213,11 +214,16 @@ fn push_pieces<L: Lookup, T: Allocator, A: Allocator>(
         IfOk result (λ accepted. OnTrue accepted (HasRead c weighting (chars text.now) levels.new)) }
 {
     piece.clear();
-    for point in text.chars() {
+    let mut rest = text;
+    while let Some((point, more)) = split_first(rest) {
         let known = points.get(collator, point)?;
         if !piece.go_on(levels, weighting, collator, known)? {
             return Ok(false);
         }
+        let Some(after) = piece.run_on(levels, weighting, points, more)? else {
+            return Ok(true);
+        };
+        rest = after;
     }
     piece.end(levels, weighting, collator)
 }

@@ -1,16 +1,21 @@
 //! The levels of a key in the making: a buffer for each level, and one for the key.
 
-ghost use Rattle.std.specs.Prelude.{◌≡◌, ◌<◌, ◌≤◌, ◌++◌, ◌∷◌, [], ◌==◌, List, length, OnOk, if◌then◌else◌};
+ghost use Rattle.std.specs.Prelude.{◌≡◌, ℕ, ◌<◌, ◌≤◌, ◌++◌, ◌∷◌, [], List, length, IfOk, OnOk};
 ghost use Rattle.std.specs.Bool.{MatchBool};
 ghost use Rattle.std.specs.Iterator.{IsFinite};
 ghost use Rattle.std.specs.Iterator.Runs.{WholeRun};
 ghost use Rattle.uca_weights.specs.declared.Element.{Element};
-ghost use Rattle.uca_key.specs.Levels.{weight_bytes, key_bytes};
+ghost use Rattle.uca_match.specs.Collations.{Collation};
+ghost use Rattle.uca_key.specs.Levels.{key_bytes};
 ghost use Rattle.uca_key.specs.Depths;
 ghost use Rattle.uca_key.specs.Depths.{points_bytes};
 ghost use Rattle.uca_key.specs.LevelBuffers.{HoldsLevels, flattened};
+ghost use Rattle.uca_key.specs.PlainPoints.{AreTrueEntries};
+ghost use Rattle.uca_key.specs.Runs.{ReadsUpTo, RunReads};
 
-use crate::weighting::{is_after_variable, weights_of};
+use crate::places::{Counts, NO_WEIGHTS, make_room, put_elements};
+use crate::plain::{Known, PlainPoints};
+use crate::runs::{RUN_PLACES, Run, put_run};
 use std::alloc::{AllocError, Allocator};
 use std::marker::Model;
 use uca_weights::{Element, Weighting};
@@ -24,9 +29,8 @@ const BEGINNING: usize = 16;
 /// The levels of the elements that were pushed, and the key that they make.
 #[derive(Drop)]
 pub(crate) struct LevelBuffers<A: Allocator> {
-    // under `Shifted`, whether the nearest element with a primary weight is variable
-    after_variable: bool,
-    // the weights of each level, two bytes each
+    counts: Counts,
+    // the weights of each level, two bytes each, and after them places for more
     primary: Vec<[u8; 2], A>,
     secondary: Vec<[u8; 2], A>,
     tertiary: Vec<[u8; 2], A>,
@@ -36,18 +40,13 @@ pub(crate) struct LevelBuffers<A: Allocator> {
 }
 
 impl<A: Allocator> Model for LevelBuffers<A> {
-    ghost use Rattle.uca_key.specs.LevelBuffers.{LevelState, flattened};
+    ghost use Rattle.uca_key.specs.LevelBuffers.{LevelState, levels_of, HasRoom};
 
     ghost Value = { LevelState };
 
-    ghost view = { λ b. record {
-      after_variable = b.after_variable;
-      primary = flattened b.primary.items;
-      secondary = flattened b.secondary.items;
-      tertiary = flattened b.tertiary.items;
-      quaternary = flattened b.quaternary.items;
-      key = b.key.items;
-    } };
+    ghost view = { λ b. levels_of b.counts b.primary.items b.secondary.items b.tertiary.items b.quaternary.items b.key.items };
+
+    ghost invariant = { λ b. HasRoom 0 b.counts b.primary.items b.secondary.items b.tertiary.items b.quaternary.items };
 }
 
 impl<A: Allocator + Copy> LevelBuffers<A> {
@@ -56,7 +55,7 @@ impl<A: Allocator + Copy> LevelBuffers<A> {
         ensures { result.key ≡ [] }
     {
         LevelBuffers {
-            after_variable: false,
+            counts: NO_WEIGHTS,
             primary: Vec::new(alloc),
             secondary: Vec::new(alloc),
             tertiary: Vec::new(alloc),
@@ -92,11 +91,7 @@ impl<A: Allocator> LevelBuffers<A> {
     pub(crate) fn clear(&mut self)
         ensures { (weighting : Weighting) → HoldsLevels weighting [] self.new }
     {
-        self.after_variable = false;
-        self.primary.clear();
-        self.secondary.clear();
-        self.tertiary.clear();
-        self.quaternary.clear();
+        self.counts = NO_WEIGHTS;
     }
 
     /// Adds the weights of the next element.
@@ -104,10 +99,7 @@ impl<A: Allocator> LevelBuffers<A> {
         ensures { (es : List Element) → HoldsLevels weighting es self.old →
             OnOk result (HoldsLevels weighting (es ++ element ∷ []) self.new) }
     {
-        match weighting {
-            Weighting::NonIgnorable => self.push_three(element),
-            Weighting::Shifted => self.push_four(element),
-        }
+        self.push_all(weighting, &[element])
     }
 
     /// Adds the weights of the next elements.
@@ -119,59 +111,78 @@ impl<A: Allocator> LevelBuffers<A> {
         ensures { (es : List Element) → HoldsLevels weighting es self.old →
             OnOk result (HoldsLevels weighting (es ++ elements.now) self.new) }
     {
-        match weighting {
-            Weighting::NonIgnorable => self.push_each_three(elements),
-            Weighting::Shifted => self.push_each_four(elements),
-        }
-    }
-
-    fn push_each_three(&mut self, elements: &[Element]) -> Result<(), AllocError>
-        ensures { (es : List Element) → HoldsLevels Weighting.NonIgnorable es self.old →
-            OnOk result (HoldsLevels Weighting.NonIgnorable (es ++ elements.now) self.new) }
-    {
-        for element in elements {
-            self.push_three(*element)?;
-        }
-        Ok(())
-    }
-
-    fn push_each_four(&mut self, elements: &[Element]) -> Result<(), AllocError>
-        ensures { (es : List Element) → HoldsLevels Weighting.Shifted es self.old →
-            OnOk result (HoldsLevels Weighting.Shifted (es ++ elements.now) self.new) }
-    {
-        for element in elements {
-            self.push_four(*element)?;
-        }
-        Ok(())
-    }
-
-    // Adds the weights of the next element under `NonIgnorable`: those of its three levels.
-    fn push_three(&mut self, element: Element) -> Result<(), AllocError>
-        ensures { (es : List Element) → HoldsLevels Weighting.NonIgnorable es self.old →
-            OnOk result (HoldsLevels Weighting.NonIgnorable (es ++ element ∷ []) self.new) }
-    {
-        push_weight(&mut self.primary, element.primary)?;
-        push_weight(&mut self.secondary, element.secondary)?;
-        push_weight(&mut self.tertiary, element.tertiary)?;
-        Ok(())
-    }
-
-    // Adds the weights of the next element under `Shifted`, at four levels.
-    fn push_four(&mut self, element: Element) -> Result<(), AllocError>
-        ensures { (es : List Element) → HoldsLevels Weighting.Shifted es self.old →
-            OnOk result (HoldsLevels Weighting.Shifted (es ++ element ∷ []) self.new) }
-    {
-        let [primary, secondary, tertiary, quaternary] = weights_of(
-            Weighting::Shifted,
-            self.after_variable,
-            element,
+        let more = elements.len();
+        make_room(&mut self.primary, self.counts.primary, more)?;
+        make_room(&mut self.secondary, self.counts.secondary, more)?;
+        make_room(&mut self.tertiary, self.counts.tertiary, more)?;
+        make_room(&mut self.quaternary, self.counts.quaternary, more)?;
+        self.counts = put_elements(
+            weighting,
+            elements,
+            self.counts,
+            self.primary.as_mut_slice(),
+            self.secondary.as_mut_slice(),
+            self.tertiary.as_mut_slice(),
+            self.quaternary.as_mut_slice(),
         );
-        push_weight(&mut self.primary, primary)?;
-        push_weight(&mut self.secondary, secondary)?;
-        push_weight(&mut self.tertiary, tertiary)?;
-        push_weight(&mut self.quaternary, quaternary)?;
-        self.after_variable = is_after_variable(self.after_variable, element);
         Ok(())
+    }
+
+    /// Adds the weights of a plain code point and of those that follow it in a text, as [`put_run`] puts them.
+    pub(crate) fn push_run<'t>(
+        &mut self,
+        weighting: Weighting,
+        points: &PlainPoints<A>,
+        first: Known,
+        text: &'t str,
+    ) -> Result<Run<'t>, AllocError>
+        ensures { (c : Collation) (xs : List ℕ) → AreTrueEntries c points.now.entries.items → ReadsUpTo c weighting xs self.old first →
+            IfOk result (λ run. RunReads c weighting xs text.now self.new run) }
+    {
+        if first.is_bound() {
+            return Ok(Run::Stopped(first, text));
+        }
+        match weighting {
+            Weighting::NonIgnorable => self.push_run_by(
+                Weighting::NonIgnorable,
+                points,
+                &first,
+                text,
+            ),
+            Weighting::Shifted => self.push_run_by(Weighting::Shifted, points, &first, text),
+        }
+    }
+
+    // It stands apart so that it is compiled for each weighting.
+    #[inline(always)]
+    fn push_run_by<'p, 't>(
+        &mut self,
+        weighting: Weighting,
+        points: &'p PlainPoints<A>,
+        first: &'p Known,
+        text: &'t str,
+    ) -> Result<Run<'t>, AllocError>
+        requires { first.now.count ≤ 3 }
+        ensures { (c : Collation) (xs : List ℕ) → AreTrueEntries c points.now.entries.items → ReadsUpTo c weighting xs self.old first.now →
+            IfOk result (λ run. RunReads c weighting xs text.now self.new run) }
+    {
+        make_room(&mut self.primary, self.counts.primary, RUN_PLACES)?;
+        make_room(&mut self.secondary, self.counts.secondary, RUN_PLACES)?;
+        make_room(&mut self.tertiary, self.counts.tertiary, RUN_PLACES)?;
+        make_room(&mut self.quaternary, self.counts.quaternary, RUN_PLACES)?;
+        let (run, counts) = put_run(
+            weighting,
+            points,
+            first,
+            text,
+            self.counts,
+            self.primary.as_mut_slice(),
+            self.secondary.as_mut_slice(),
+            self.tertiary.as_mut_slice(),
+            self.quaternary.as_mut_slice(),
+        );
+        self.counts = counts;
+        Ok(run)
     }
 
     /// Writes the key of the elements that were pushed, over the key that was there.
@@ -180,12 +191,15 @@ impl<A: Allocator> LevelBuffers<A> {
             OnOk result (self.new.key ≡ key_bytes weighting es) }
     {
         self.key.clear();
-        self.key.extend_from_slice(self.primary.as_flattened())?;
-        push_level(&mut self.key, &self.secondary)?;
-        push_level(&mut self.key, &self.tertiary)?;
+        self.key
+            .extend_from_slice(self.primary[..self.counts.primary].as_flattened())?;
+        push_level(&mut self.key, &self.secondary[..self.counts.secondary])?;
+        push_level(&mut self.key, &self.tertiary[..self.counts.tertiary])?;
         match weighting {
             Weighting::NonIgnorable => Ok(()),
-            Weighting::Shifted => push_level(&mut self.key, &self.quaternary),
+            Weighting::Shifted => {
+                push_level(&mut self.key, &self.quaternary[..self.counts.quaternary])
+            }
         }
     }
 
@@ -194,7 +208,7 @@ impl<A: Allocator> LevelBuffers<A> {
     pub(crate) fn has_beginning(&self) -> bool
         ensures { MatchBool result (BEGINNING ≤ length self.now.primary) (length self.now.primary < BEGINNING) }
     {
-        self.primary.as_flattened().len() >= BEGINNING
+        self.primary[..self.counts.primary].as_flattened().len() >= BEGINNING
     }
 
     /// Writes level 1 of the elements that were pushed, over the key that was there.
@@ -202,7 +216,8 @@ impl<A: Allocator> LevelBuffers<A> {
         ensures { OnOk result (self.new.key ≡ self.old.primary) }
     {
         self.key.clear();
-        self.key.extend_from_slice(self.primary.as_flattened())
+        self.key
+            .extend_from_slice(self.primary[..self.counts.primary].as_flattened())
     }
 
     /// Appends the identical level to the key: the code points, three bytes each with the high byte first.
@@ -232,20 +247,9 @@ impl<A: Allocator> LevelBuffers<A> {
     }
 }
 
-// Adds a weight to its level, where 0 says that there is none.
-fn push_weight<A: Allocator>(level: &mut Vec<[u8; 2], A>, weight: u16) -> Result<(), AllocError>
-    ensures { OnOk result (flattened level.new.items ≡ flattened level.old.items ++ (if weight == 0 then [] else weight_bytes weight)) }
-{
-    if weight == 0 {
-        return Ok(());
-    }
-    level.push(weight.to_be_bytes())?;
-    Ok(())
-}
-
 // Adds a level to a key, after a separator.
-fn push_level<A: Allocator>(key: &mut Vec<u8, A>, level: &Vec<[u8; 2], A>) -> Result<(), AllocError>
-    ensures { OnOk result (key.new.items ≡ key.old.items ++ (0 ∷ 0 ∷ flattened level.now.items)) }
+fn push_level<A: Allocator>(key: &mut Vec<u8, A>, level: &[[u8; 2]]) -> Result<(), AllocError>
+    ensures { OnOk result (key.new.items ≡ key.old.items ++ (0 ∷ 0 ∷ flattened level.now)) }
 {
     key.extend_from_slice(&SEPARATOR)?;
     key.extend_from_slice(level.as_flattened())

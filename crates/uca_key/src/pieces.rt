@@ -1,6 +1,6 @@
 //! `Piece`: a piece of a text, which is cut before each plain code point.
 
-ghost use Rattle.std.specs.Prelude.{◌≡◌, ℕ, [], ◌∷◌, ◌++◌, List, chars, map, IfOk, OnOk};
+ghost use Rattle.std.specs.Prelude.{◌≡◌, ℕ, [], ◌∷◌, ◌++◌, List, chars, map, IfOk, OnOk, MatchOption};
 ghost use Rattle.std.specs.Bool.{OnTrue};
 ghost use Rattle.unicode_normalization.specs.Forms.{nfd};
 ghost use Rattle.uca_weights.specs.declared.Element.{Element};
@@ -10,10 +10,12 @@ ghost use Rattle.uca_match.specs.Collations.{Collation, collation_of, elements_o
 ghost use Rattle.uca_key.specs.LevelBuffers.{HoldsLevels};
 ghost use Rattle.uca_key.specs.Pieces.{piece_points, ReadsTo, HasRead};
 ghost use Rattle.uca_key.specs.Plain.{elements_alone};
-ghost use Rattle.uca_key.specs.PlainPoints.{IsTrueEntry};
+ghost use Rattle.uca_key.specs.PlainPoints.{IsTrueEntry, AreTrueEntries};
+ghost use Rattle.uca_key.specs.Runs.{ReadsMore};
 
 use crate::level_buffers::LevelBuffers;
-use crate::plain::Known;
+use crate::plain::{Known, PlainPoints};
+use crate::runs::Run;
 use std::alloc::{AllocError, Allocator, Global};
 use uca_match::{Collator, Lookup};
 use uca_text::{Normal, TextFault};
@@ -95,6 +97,33 @@ impl Piece {
         Ok(accepted)
     }
 
+    /// Goes on by the plain code points that come next in the text and were met. Their weights are added to the levels, but
+    /// not those of the last, which is the piece then. Returns what comes after them, or none if they end the text: all
+    /// weights are added then.
+    #[inline]
+    pub(crate) fn run_on<'t, A: Allocator>(
+        &mut self,
+        levels: &mut LevelBuffers<A>,
+        weighting: Weighting,
+        points: &PlainPoints<A>,
+        text: &'t str,
+    ) -> Result<Option<&'t str>, AllocError>
+        ensures { (c : Collation) (xs : List ℕ) → AreTrueEntries c points.now.entries.items → ReadsTo c weighting xs levels.old self.old →
+            IfOk result (λ rest. MatchOption rest (HasRead c weighting (xs ++ chars text.now) levels.new)
+            (λ rest. ReadsMore c weighting xs text.now rest.now levels.new self.new)) }
+    {
+        let Some(first) = self.alone else {
+            return Ok(Some(text));
+        };
+        match levels.push_run(weighting, points, first, text)? {
+            Run::Ended => Ok(None),
+            Run::Stopped(last, rest) => {
+                self.alone = Some(last);
+                Ok(Some(rest))
+            }
+        }
+    }
+
     /// Adds the weights of the piece to the levels, and returns whether it is accepted.
     pub(crate) fn end<L: Lookup, T: Allocator, A: Allocator>(
         &mut self,
@@ -107,6 +136,7 @@ impl Piece {
     {
         match &self.alone {
             Some(known) => push_known(levels, weighting, known),
+            None if self.text.is_empty() => Ok(true),
             None => push_text(
                 levels,
                 weighting,

@@ -1,6 +1,6 @@
 //! `PlainPoints`: the elements of code points that read alone, kept for one text after another.
 
-ghost use Rattle.std.specs.Prelude.{◌≡◌, ◌<◌, ◌≤◌, take, IfOk, IfSome};
+ghost use Rattle.std.specs.Prelude.{◌≡◌, ◌<◌, ◌≤◌, length, take, IfOk, IfSome};
 ghost use Rattle.std.specs.Bool.{OnTrue, MatchBool};
 ghost use Rattle.uca_match.specs.Collations.{Collation, collation_of, elements_of};
 ghost use Rattle.uca_key.specs.Plain.{IsPlain, elements_alone};
@@ -97,6 +97,16 @@ impl Known {
         self.count >= BOUND
     }
 
+    /// All elements, if it is plain.
+    #[inline(always)]
+    pub(crate) fn all_elements(&self) -> &[Element]
+        requires { self.now.count ≤ 3 }
+        ensures value { result.now ≡ take self.now.count self.now.elements }
+        ensures few { length result.now ≤ 3 }
+    {
+        &self.elements[..usize::from(self.count)]
+    }
+
     /// The elements of the code point, if it is plain.
     pub(crate) fn elements(&self) -> Option<&[Element]>
         ensures { (c : Collation) → IsTrueEntry c self.now →
@@ -171,15 +181,22 @@ impl<A: Allocator> PlainPoints<A> {
         }
     }
 
-    // What is known of a code point that was met.
-    #[inline]
-    fn find(&self, point: char) -> Option<&Known>
-        ensures { (c : Collation) → AreTrueEntries c self.now.entries.items →
-            IfSome result (λ known. (known.now.point ≡ point) × IsTrueEntry c known.now × HasTrueDecomposition c known.now) }
+    /// What is known of a code point that was met.
+    #[inline(always)]
+    pub(crate) fn find(&self, point: char) -> Option<&Known>
+        ensures point { IfSome result (λ known. known.now.point ≡ point) }
+        ensures entry { (c : Collation) → AreTrueEntries c self.now.entries.items → IfSome result (λ known. IsTrueEntry c known.now) }
+        ensures decomposition { (c : Collation) → AreTrueEntries c self.now.entries.items →
+            IfSome result (λ known. HasTrueDecomposition c known.now) }
     {
         let code = u32::from(point) as usize;
-        let page = usize::from(*self.pages.get(code / PAGE)?);
-        let known = self.entries.get(page * PAGE + code % PAGE)?;
+        // the first page is that of the first code points
+        let place = if code < PAGE {
+            code
+        } else {
+            usize::from(*self.pages.get(code / PAGE)?) * PAGE + code % PAGE
+        };
+        let known = self.entries.get(place)?;
         if known.point == point {
             Some(known)
         } else {
@@ -205,11 +222,19 @@ impl<A: Allocator> PlainPoints<A> {
         Ok(known)
     }
 
-    // Makes the page with this number, if there is none.
+    // Makes the page with this number, if there is none. The page of the first code points is made before all others.
     fn open_page(&mut self, number: usize) -> Result<(), AllocError>
         ensures { (c : Collation) → AreTrueEntries c self.old.entries.items → AreTrueEntries c self.new.entries.items }
     {
         fill_pages(&mut self.pages)?;
+        self.add_page(0)?;
+        self.add_page(number)
+    }
+
+    // Makes the page with this number after the last one, if there is none.
+    fn add_page(&mut self, number: usize) -> Result<(), AllocError>
+        ensures { (c : Collation) → AreTrueEntries c self.old.entries.items → AreTrueEntries c self.new.entries.items }
+    {
         if number < self.pages.len() && self.pages[number] == NO_PAGE {
             let begin = self.entries.len();
             self.entries.resize(begin + PAGE, NOT_MET)?;

@@ -15,7 +15,8 @@ ghost use Rattle.uca_key.specs.Shared.{IsRest, IsFirst, BeginsPlain, HasFirst, C
 
 use crate::front::Front;
 use crate::plain::PlainPoints;
-use crate::shared::{Rest, skip_shared, split_first};
+use crate::runs::split_first;
+use crate::shared::{Rest, skip_shared};
 use crate::source::Listed;
 use crate::stored::level_count;
 use crate::walk::{LevelStep, Walked, look_at, walk_fronts};

@@ -1,11 +1,12 @@
 //! `Rest`: what follows the code points with which two texts begin.
 
-ghost use Rattle.std.specs.Prelude.{◌≡◌, ◌∷◌, [], chars, MatchOption, IfOk, IfSome};
+ghost use Rattle.std.specs.Prelude.{◌≡◌, ◌∷◌, chars, IfOk, IfSome};
 ghost use Rattle.uca_match.specs.Collations.{collation_of};
 ghost use Rattle.uca_key.specs.PlainPoints.{AreTrueEntries};
 ghost use Rattle.uca_key.specs.Shared.{IsRest, flag_after};
 
 use crate::plain::PlainPoints;
+use crate::runs::split_first;
 use crate::weighting::is_after_variable;
 use std::alloc::{AllocError, Allocator};
 use uca_match::{Collator, Lookup};
@@ -20,15 +21,6 @@ pub(crate) struct Rest<'t> {
     pub(crate) after_variable: bool,
     /// How many elements come before it.
     pub(crate) passed: u64,
-}
-
-/// The first code point of a text, and what follows it.
-pub(crate) fn split_first(text: &str) -> Option<(char, &str)>
-    ensures { MatchOption result (chars text.now ≡ []) (λ parts. chars text.now ≡ parts.0 ∷ chars parts.1.now) }
-{
-    let mut points = text.chars();
-    let point = points.next()?;
-    Some((point, points.as_str()))
 }
 
 // The code point with which two texts begin, and what follows it in each.

@@ -1,44 +1,51 @@
-use Rattle.std.proofs.Common.{◌≡◌, [], ◌∷◌, ◌++◌, sym, ◌∙◌, subst}
+use Rattle.std.proofs.Common.{[], ◌∷◌, ◌++◌, List, ℕ, Option, Bor, rules, subst}
 use Rattle.std.specs.Bool.{OnTrue}
+use Rattle.std.specs.Option.{MatchOption}
 use Rattle.std.specs.Str.{chars}
-use Rattle.std.specs.Prelude.{IfOk}
-use Rattle.std.proofs.lemmas.Iterator.{YieldsList-from_chars}
-use Rattle.std.proofs.lemmas.Iterator.Consumers.{YieldsList-end}
-use Rattle.std.proofs.lemmas.List.{map-id}
 use Rattle.uca_match.specs.Collations.{collation_of}
 use Rattle.uca_key.specs.Pieces.{ReadsTo, HasRead}
+use Rattle.uca_key.specs.Runs.{ReadsMore}
 use Rattle.uca_key.proofs.PieceSteps.{begin_text}
+use Rattle.uca_key.proofs.RunSteps.{piece_goes_on, piece_waits, text_ends}
 use Rattle.uca_key.proofs.key_buffer.push_pieces.Goals as goal
 
 pub loop-point-init : goal.loop-point-init
-loop-point-init g c = record {
+loop-point-init g c = let collation = collation_of g.L.Lookup.content c.args.collator.now in record {
+  utf8 = search rules;
   entries = c.requires.entries;
-  reads = begin_text (collation_of g.L.Lookup.content c.args.collator.now) c.args.weighting c.args.levels.now c.clear.new.self
-      c.requires.empty c.clear.ensures.points c.clear.ensures.alone;
+  reads = piece_waits collation c.args.weighting [] c.args.text.now c.args.levels.now c.clear.new.self
+      (begin_text collation c.args.weighting c.args.levels.now c.clear.new.self c.requires.empty c.clear.ensures.points c.clear.ensures.alone);
 }
 
 pub loop-point-preserved : goal.loop-point-preserved
 loop-point-preserved g c =
     let collation = collation_of g.L.Lookup.content c.args.collator.now in
-    let so_far = c.loop-point.invariant in
+    let so_far = c.loop-point.invariant.reads in
+    let point = c.in-Some.point in
+    let went = subst (λ x. ReadsTo collation c.args.weighting (so_far.more ++ x ∷ []) c.go_on.new.levels c.go_on.new.self) c.in_ok-known.ensures.known.0
+    (subst (λ accepted. OnTrue accepted (ReadsTo collation c.args.weighting (so_far.more ++ c.in_ok-known.known.point ∷ []) c.go_on.new.levels c.go_on.new.self))
+    c.if-not-branch.false (c.in_ok-go_on.ensures so_far.more so_far.reads)) in
+    let ran = subst
+    (λ (rest : Option (Bor (List ℕ))). MatchOption rest (HasRead collation c.args.weighting ((so_far.more ++ point ∷ []) ++ chars c.in-Some.more.now) c.run_on.new.levels)
+    (λ rest. ReadsMore collation c.args.weighting (so_far.more ++ point ∷ []) c.in-Some.more.now rest.now c.run_on.new.levels c.run_on.new.self))
+    c.in-Some-2.is (c.in_ok-after.ensures collation (so_far.more ++ point ∷ []) c.get.ensures.entries went) in
     record {
+      utf8 = search rules;
       entries = c.get.ensures.entries;
-      reads = subst (λ x. ReadsTo collation c.args.weighting (c.loop-point.yielded ++ x ∷ []) c.go_on.new.levels c.go_on.new.self)
-          c.in_ok-known.ensures.known.0
-          (subst
-          (λ accepted. OnTrue accepted (ReadsTo collation c.args.weighting (c.loop-point.yielded ++ c.in_ok-known.known.point ∷ []) c.go_on.new.levels c.go_on.new.self))
-          c.if-not-branch.false (c.in_ok-go_on.ensures c.loop-point.yielded so_far.reads));
+      reads = piece_goes_on collation c.args.weighting c.args.text.now c.loop-point.rest.now c.in-Some.more.now _ point _ _ c.loop-point.piece _
+          so_far c.in-Some.ensures ran;
     }
 
-pub returns : goal.returns
-returns g c =
+pub returns-in_default-2-clause-read : goal.returns-in_default-2-clause-read
+returns-in_default-2-clause-read g c =
     let collation = collation_of g.L.Lookup.content c.args.collator.now in
-    let so_far = c.loop-point.invariant in
-    let end = YieldsList-end (YieldsList-from_chars c.args.text.now c.utf8.text cc) c.loop-point.yielded _ c.loop-point.yielded_by _ _ c.in-None.is
-    c.next.ensures.steps in
-    let all : c.loop-point.yielded ≡ chars c.args.text.now = sym (map-id c.loop-point.yielded) ∙ end.0 in
-    record {
-      entries = so_far.entries;
-      read = subst (λ xs. IfOk c.end.result (λ accepted. OnTrue accepted (HasRead collation c.args.weighting xs c.end.new.levels))) all
-          (c.end.ensures c.loop-point.yielded so_far.reads);
-    }
+    let so_far = c.loop-point.invariant.reads in
+    let point = c.in-Some.point in
+    let went = subst (λ x. ReadsTo collation c.args.weighting (so_far.more ++ x ∷ []) c.go_on.new.levels c.go_on.new.self) c.in_ok-known.ensures.known.0
+    (subst (λ accepted. OnTrue accepted (ReadsTo collation c.args.weighting (so_far.more ++ c.in_ok-known.known.point ∷ []) c.go_on.new.levels c.go_on.new.self))
+    c.if-not-branch.false (c.in_ok-go_on.ensures so_far.more so_far.reads)) in
+    let ran = subst
+    (λ (rest : Option (Bor (List ℕ))). MatchOption rest (HasRead collation c.args.weighting ((so_far.more ++ point ∷ []) ++ chars c.in-Some.more.now) c.run_on.new.levels)
+    (λ rest. ReadsMore collation c.args.weighting (so_far.more ++ point ∷ []) c.in-Some.more.now rest.now c.run_on.new.levels c.run_on.new.self))
+    c.in_default-2.is (c.in_ok-after.ensures collation (so_far.more ++ point ∷ []) c.get.ensures.entries went) in
+    text_ends collation c.args.weighting c.args.text.now c.loop-point.rest.now c.in-Some.more.now point _ _ c.loop-point.piece so_far c.in-Some.ensures ran

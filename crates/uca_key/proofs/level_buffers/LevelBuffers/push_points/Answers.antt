@@ -4,4 +4,4 @@ use Rattle.std.proofs.lemmas.Grind.{common_steps}
 use Rattle.uca_key.proofs.level_buffers.LevelBuffers.push_points.Goals as goal
 
 pub loop-point-preserved : goal.loop-point-preserved
-loop-point-preserved g c = grind (arith, common_steps)
+loop-point-preserved g c = record { bytes = grind (arith, common_steps); room = c.loop-point.invariant.room }

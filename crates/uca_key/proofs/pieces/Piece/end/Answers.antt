@@ -6,6 +6,7 @@ use Rattle.uca_match.specs.Collations.{collation_of, elements_of}
 use Rattle.uca_key.specs.Pieces.{points_by, IsTrueAlone}
 use Rattle.uca_key.proofs.PlainTexts.{alone_no_long_run}
 use Rattle.uca_key.proofs.PieceSteps.{on_any, end_piece}
+use Rattle.uca_key.proofs.RunSteps.{no_chars, piece_is_empty}
 use Rattle.uca_key.proofs.pieces.Piece.end.Goals as goal
 
 pub returns-in-Some : goal.returns-in-Some
@@ -20,6 +21,12 @@ returns-in-Some g c = λ xs reads.
 
 pub returns-in-None : goal.returns-in-None
 returns-in-None g c = λ xs reads.
+    piece_is_empty (collation_of g.L.Lookup.content c.args.collator.now) c.args.weighting xs _ c.args.self.now
+    (ap (λ o. points_by o (chars (string_bytes c.args.self.now.text))) c.in-None.is
+    ∙ no_chars (string_bytes c.args.self.now.text) _ _ c.is_empty.ensures c.if-is_empty.true c.args.self.now.text.bytes.ok.0) reads
+
+pub returns-in-None-2 : goal.returns-in-None-2
+returns-in-None-2 g c = λ xs reads.
     let collation = collation_of g.L.Lookup.content c.args.collator.now in
     end_piece collation c.args.weighting xs (chars c.as_str.result.now) _ _ c.args.self.now c.push_text.result reads
     (ap (λ o. points_by o (chars (string_bytes c.args.self.now.text))) c.in-None.is ∙ ap chars (sym c.as_str.ensures.value))

@@ -1,0 +1,142 @@
+//! Places for the weights of four levels, which are filled from the front.
+
+ghost use Rattle.std.specs.Prelude.{◌≡◌, ℕ, ◌++◌, ◌∷◌, [], ◌+◌, ◌<◌, ◌≤◌, ◌==◌, List, length, OnOk, vec_len, if◌then◌else◌};
+ghost use Rattle.uca_weights.specs.declared.Element.{Element};
+ghost use Rattle.uca_key.specs.Levels.{weight_bytes};
+ghost use Rattle.uca_key.specs.LevelBuffers.{held, levels_of, HasRoom, IsNextFlag, HoldsLevels};
+
+use crate::weighting::{is_after_variable, weights_of};
+use std::alloc::{AllocError, Allocator};
+use uca_weights::{Element, Weighting};
+
+/// How many weights each level has.
+#[derive(Clone, Copy)]
+pub(crate) struct Counts {
+    // under `Shifted`, whether the nearest element with a primary weight is variable
+    after_variable: bool,
+    pub(crate) primary: usize,
+    pub(crate) secondary: usize,
+    pub(crate) tertiary: usize,
+    pub(crate) quaternary: usize,
+}
+
+/// No level has a weight.
+pub(crate) const NO_WEIGHTS: Counts = Counts {
+    after_variable: false,
+    primary: 0,
+    secondary: 0,
+    tertiary: 0,
+    quaternary: 0,
+};
+
+/// Makes room for more weights after the first `count`.
+#[inline]
+pub(crate) fn make_room<A: Allocator>(
+    places: &mut Vec<[u8; 2], A>,
+    count: usize,
+    more: usize,
+) -> Result<(), AllocError>
+    requires { count ≤ vec_len places.old }
+    ensures held { held places.new.items count ≡ held places.old.items count }
+    ensures count { count ≤ vec_len places.new }
+    ensures room { OnOk result (count + more ≤ vec_len places.new) }
+{
+    if places.len() - count < more {
+        lengthen(places, more)?;
+    }
+    Ok(())
+}
+
+// Adds so many places, and at least as many as there are. It stands apart, so that what `make_room` inlines stays small.
+#[cold]
+#[inline(never)]
+fn lengthen<A: Allocator>(places: &mut Vec<[u8; 2], A>, more: usize) -> Result<(), AllocError>
+    ensures held { (count : ℕ) → count ≤ vec_len places.old → held places.new.items count ≡ held places.old.items count }
+    ensures len { vec_len places.old ≤ vec_len places.new }
+    ensures room { OnOk result (vec_len places.old + more ≤ vec_len places.new) }
+{
+    let len = places.len();
+    let Some(wanted) = len.checked_add(more.max(len)) else {
+        return Err(AllocError);
+    };
+    places.resize(wanted, [0; 2])
+}
+
+// Puts a weight after the first `count`, where 0 says that there is none. Returns how many weights there are then.
+#[inline(always)]
+fn put(places: &mut [[u8; 2]], count: usize, weight: u16) -> usize
+    requires { count < length places.old }
+    ensures held { held places.new result ≡ held places.old count ++ (if weight == 0 then [] else weight_bytes weight) }
+    ensures count { result ≤ count + 1 }
+{
+    if weight == 0 {
+        return count;
+    }
+    places[count] = weight.to_be_bytes();
+    count + 1
+}
+
+// Whether the nearest element with a primary weight is variable, which only `Shifted` asks.
+#[inline(always)]
+fn next_flag(weighting: Weighting, after_variable: bool, element: Element) -> bool
+    ensures { IsNextFlag weighting after_variable element result }
+{
+    match weighting {
+        Weighting::NonIgnorable => after_variable,
+        Weighting::Shifted => is_after_variable(after_variable, element),
+    }
+}
+
+// Puts the weights of the next element.
+#[inline(always)]
+fn put_element(
+    weighting: Weighting,
+    element: Element,
+    counts: Counts,
+    primary: &mut [[u8; 2]],
+    secondary: &mut [[u8; 2]],
+    tertiary: &mut [[u8; 2]],
+    quaternary: &mut [[u8; 2]],
+) -> Counts
+    requires { HasRoom 1 counts primary.old secondary.old tertiary.old quaternary.old }
+    ensures room { (n : ℕ) → HasRoom (n + 1) counts primary.old secondary.old tertiary.old quaternary.old →
+        HasRoom n result primary.new secondary.new tertiary.new quaternary.new }
+    ensures holds { (key : List ℕ) (es : List Element) →
+        HoldsLevels weighting es (levels_of counts primary.old secondary.old tertiary.old quaternary.old key) →
+        HoldsLevels weighting (es ++ element ∷ []) (levels_of result primary.new secondary.new tertiary.new quaternary.new key) }
+{
+    let [first, second, third, fourth] = weights_of(weighting, counts.after_variable, element);
+    Counts {
+        after_variable: next_flag(weighting, counts.after_variable, element),
+        primary: put(primary, counts.primary, first),
+        secondary: put(secondary, counts.secondary, second),
+        tertiary: put(tertiary, counts.tertiary, third),
+        quaternary: put(quaternary, counts.quaternary, fourth),
+    }
+}
+
+/// Puts the weights of the next elements, for which there is room.
+#[inline(always)]
+pub(crate) fn put_elements(
+    weighting: Weighting,
+    elements: &[Element],
+    mut counts: Counts,
+    primary: &mut [[u8; 2]],
+    secondary: &mut [[u8; 2]],
+    tertiary: &mut [[u8; 2]],
+    quaternary: &mut [[u8; 2]],
+) -> Counts
+    requires { HasRoom (length elements.now) counts primary.old secondary.old tertiary.old quaternary.old }
+    ensures room { (n : ℕ) → HasRoom (n + length elements.now) counts primary.old secondary.old tertiary.old quaternary.old →
+        HasRoom n result primary.new secondary.new tertiary.new quaternary.new }
+    ensures holds { (key : List ℕ) (es : List Element) →
+        HoldsLevels weighting es (levels_of counts primary.old secondary.old tertiary.old quaternary.old key) →
+        HoldsLevels weighting (es ++ elements.now) (levels_of result primary.new secondary.new tertiary.new quaternary.new key) }
+{
+    for element in elements {
+        counts = put_element(
+            weighting, *element, counts, primary, secondary, tertiary, quaternary,
+        );
+    }
+    counts
+}

@@ -1,0 +1,109 @@
+//! Runs of plain code points that were met, whose weights are put in one loop.
+
+ghost use Rattle.std.specs.Prelude.{◌≡◌, ℕ, ◌∷◌, [], ◌<◌, ◌≤◌, List, length, chars, IfSome, MatchOption};
+ghost use Rattle.uca_match.specs.Collations.{Collation};
+ghost use Rattle.uca_key.specs.LevelBuffers.{levels_of, HasRoom};
+ghost use Rattle.uca_key.specs.PlainPoints.{IsTrueEntry, AreTrueEntries};
+ghost use Rattle.uca_key.specs.Runs.{ReadsUpTo, RunReads};
+
+use crate::places::{Counts, put_elements};
+use crate::plain::{Known, PlainPoints};
+use std::alloc::Allocator;
+use uca_weights::Weighting;
+
+/// How many code points of a run are put at most.
+const RUN: usize = 64;
+
+/// How many places of each level a run may fill.
+pub(crate) const RUN_PLACES: usize = 192;
+
+/// How a run ended.
+#[derive(Drop)]
+pub(crate) enum Run<'t> {
+    /// With the text, and all weights are put.
+    Ended,
+    /// After a plain code point whose weights are not put yet. The rest of the text follows.
+    Stopped(Known, &'t str),
+}
+
+/// The first code point of a text, and what comes after it.
+#[inline(always)]
+pub(crate) fn split_first(text: &str) -> Option<(char, &str)>
+    ensures { MatchOption result (chars text.now ≡ []) (λ split. chars text.now ≡ split.0 ∷ chars split.1.now) }
+{
+    let mut rest = text.chars();
+    let point = rest.next()?;
+    Some((point, rest.as_str()))
+}
+
+// What is known of the first code point of a text, if it was met and is plain, and what comes after it.
+#[inline(always)]
+fn split_plain<'p, 't, A: Allocator>(
+    points: &'p PlainPoints<A>,
+    text: &'t str,
+) -> Option<(&'p Known, &'t str)>
+    ensures text { IfSome result (λ split. chars text.now ≡ split.0.now.point ∷ chars split.1.now) }
+    ensures few { IfSome result (λ split. split.0.now.count ≤ 3) }
+    ensures entry { (c : Collation) → AreTrueEntries c points.now.entries.items → IfSome result (λ split. IsTrueEntry c split.0.now) }
+{
+    let (point, rest) = split_first(text)?;
+    let known = points.find(point)?;
+    if known.is_bound() {
+        return None;
+    }
+    Some((known, rest))
+}
+
+/// Puts the weights of a plain code point and of those that follow it in a text, as long as they were met and are plain.
+/// The last one waits, unless it ends the text, for what follows may change its elements.
+#[inline(always)]
+pub(crate) fn put_run<'p, 't, A: Allocator>(
+    weighting: Weighting,
+    points: &'p PlainPoints<A>,
+    first: &'p Known,
+    text: &'t str,
+    mut counts: Counts,
+    primary: &mut [[u8; 2]],
+    secondary: &mut [[u8; 2]],
+    tertiary: &mut [[u8; 2]],
+    quaternary: &mut [[u8; 2]],
+) -> (Run<'t>, Counts)
+    requires few { first.now.count ≤ 3 }
+    requires room { HasRoom RUN_PLACES counts primary.old secondary.old tertiary.old quaternary.old }
+    ensures room { HasRoom 0 result.1 primary.new secondary.new tertiary.new quaternary.new }
+    ensures reads { (c : Collation) (key xs : List ℕ) → AreTrueEntries c points.now.entries.items →
+        ReadsUpTo c weighting xs (levels_of counts primary.old secondary.old tertiary.old quaternary.old key) first.now →
+        RunReads c weighting xs text.now (levels_of result.1 primary.new secondary.new tertiary.new quaternary.new key) result.0 }
+{
+    let mut last = first;
+    let mut rest = text;
+    for _turn in 1..RUN {
+        let Some((next, after)) = split_plain(points, rest) else {
+            break;
+        };
+        counts = put_elements(
+            weighting,
+            last.all_elements(),
+            counts,
+            primary,
+            secondary,
+            tertiary,
+            quaternary,
+        );
+        last = next;
+        rest = after;
+    }
+    if !rest.is_empty() {
+        return (Run::Stopped(*last, rest), counts);
+    }
+    counts = put_elements(
+        weighting,
+        last.all_elements(),
+        counts,
+        primary,
+        secondary,
+        tertiary,
+        quaternary,
+    );
+    (Run::Ended, counts)
+}
