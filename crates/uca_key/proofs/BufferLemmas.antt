@@ -17,7 +17,7 @@ use Rattle.uca_key.specs.Levels.{weight_at, level_list, weighted, weight_bytes, 
 use Rattle.uca_key.specs.Levels.{weights_of, follows_variable, key_bytes}
 use Rattle.uca_key.specs.StreamedWeights.{at_four_levels, is_after_variable}
 use Rattle.uca_key.specs.declared.places.Counts.{Counts}
-use Rattle.uca_key.specs.LevelBuffers.{LevelState, HoldsLevels, HasRoom, IsNextFlag, bytes_of_level, flattened, held, levels_of}
+use Rattle.uca_key.specs.LevelBuffers.{LevelState, HoldsLevels, HasRoom, IsNextFlag, bytes_of_level, held, levels_of}
 
 -- the bytes of a weight, none of the weight 0
 abbrev pub added : ℕ → List ℕ
@@ -64,18 +64,6 @@ pub follows-push : (es : List Element) (e : Element)
     → follows_variable (reverse (es ++ e ∷ [])) ≡ is_after_variable (follows_variable (reverse es)) e
 follows-push es e = ap follows_variable (reverse-append es (e ∷ []))
 
--- the bytes of one more weight
-pub flattened-push : (pairs : List (List ℕ)) (pair : List ℕ) → flattened (pairs ++ pair ∷ []) ≡ flattened pairs ++ pair
-flattened-push pairs pair = flat_map-append (λ (l : List ℕ). l) pairs (pair ∷ []) ∙ ap (λ l. flattened pairs ++ l) (append-nil pair)
-
--- empty buffers
-pub nothing_held : (weighting : Weighting) (b : LevelState) → b.after_variable ≡ false → b.primary ≡ [] → b.secondary ≡ [] → b.tertiary ≡ []
-    → b.quaternary ≡ [] → HoldsLevels weighting [] b
-nothing_held NonIgnorable b after primary secondary tertiary quaternary =
-    record { after_variable = tt; primary = primary; secondary = secondary; tertiary = tertiary; quaternary = quaternary }
-nothing_held Shifted b after primary secondary tertiary quaternary =
-    record { after_variable = after; primary = primary; secondary = secondary; tertiary = tertiary; quaternary = quaternary }
-
 -- levels that have got the weights of one more element
 pub pushed : (weighting : Weighting) (old new : LevelState) (es : List Element) (e : Element) (ws : List ℕ)
     → HoldsLevels weighting es old → ws ≡ at_four_levels (weights_of weighting old.after_variable e)
@@ -109,11 +97,11 @@ less_room more less counts primary secondary tertiary quaternary fewer room =
     record { primary = omega arith; secondary = omega arith; tertiary = omega arith; quaternary = omega arith }
 
 -- the levels do not change where only places are added
-pub same_levels : (counts : Counts) (p s t q primary secondary tertiary quaternary : List (List ℕ)) (key : List ℕ)
+pub same_levels : (flag : Bool) (counts : Counts) (p s t q primary secondary tertiary quaternary : List (List ℕ)) (key : List ℕ)
     → held primary counts.primary ≡ held p counts.primary → held secondary counts.secondary ≡ held s counts.secondary
     → held tertiary counts.tertiary ≡ held t counts.tertiary → held quaternary counts.quaternary ≡ held q counts.quaternary
-    → levels_of counts p s t q key ≡ levels_of counts primary secondary tertiary quaternary key
-same_levels counts p s t q primary secondary tertiary quaternary key same_primary same_secondary same_tertiary same_quaternary = cc
+    → levels_of flag counts p s t q key ≡ levels_of flag counts primary secondary tertiary quaternary key
+same_levels flag counts p s t q primary secondary tertiary quaternary key same_primary same_secondary same_tertiary same_quaternary = cc
 
 -- ---- Elements in turn
 

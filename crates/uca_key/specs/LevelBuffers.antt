@@ -25,9 +25,9 @@ abbrev pub held : List (List ℕ) → ℕ → List ℕ
 held places count = flattened (take count places)
 
 -- the levels that have so many weights in their places
-abbrev pub levels_of : Counts → List (List ℕ) → List (List ℕ) → List (List ℕ) → List (List ℕ) → List ℕ → LevelState
-levels_of counts primary secondary tertiary quaternary key = record {
-  after_variable = counts.after_variable;
+abbrev pub levels_of : Bool → Counts → List (List ℕ) → List (List ℕ) → List (List ℕ) → List (List ℕ) → List ℕ → LevelState
+levels_of after_variable counts primary secondary tertiary quaternary key = record {
+  after_variable = after_variable;
   primary = held primary counts.primary;
   secondary = held secondary counts.secondary;
   tertiary = held tertiary counts.tertiary;

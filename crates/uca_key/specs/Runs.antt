@@ -1,15 +1,12 @@
 -- Reading plain code points in a row. Only private contracts cite this file.
-use Rattle.std.specs.Prelude.{◌≡◌, ℕ, ◌≤◌, List, [], ◌∷◌, ◌++◌, map, chars}
-use Rattle.unicode_normalization.specs.Forms.{nfd}
+use Rattle.std.specs.Prelude.{◌≡◌, ℕ, ◌≤◌, List, [], ◌∷◌, ◌++◌, chars}
 use Rattle.uca_weights.specs.declared.Weighting.{Weighting}
-use Rattle.uca_text.specs.Texts.{nfd_text}
-use Rattle.uca_text.specs.Limits.{HasNoLongRun}
-use Rattle.uca_match.specs.Collations.{Collation, elements_of}
+use Rattle.uca_match.specs.Collations.{Collation}
 use Rattle.uca_key.specs.declared.plain.Known.{Known}
 use Rattle.uca_key.specs.declared.pieces.Piece.{Piece}
 use Rattle.uca_key.specs.declared.runs.Run.{Run}
 use Rattle.uca_key.specs.declared.runs.Run.TheVariants.{Ended, Stopped}
-use Rattle.uca_key.specs.LevelBuffers.{LevelState, HoldsLevels}
+use Rattle.uca_key.specs.LevelBuffers.{LevelState}
 use Rattle.uca_key.specs.Pieces.{ReadsTo, HasRead}
 use Rattle.uca_key.specs.PlainPoints.{IsTrueEntry}
 

@@ -29,6 +29,8 @@ const BEGINNING: usize = 16;
 /// The levels of the elements that were pushed, and the key that they make.
 #[derive(Drop)]
 pub(crate) struct LevelBuffers<A: Allocator> {
+    // under `Shifted`, whether the nearest element with a primary weight is variable
+    after_variable: bool,
     counts: Counts,
     // the weights of each level, two bytes each, and after them places for more
     primary: Vec<[u8; 2], A>,
@@ -44,7 +46,7 @@ impl<A: Allocator> Model for LevelBuffers<A> {
 
     ghost Value = { LevelState };
 
-    ghost view = { λ b. levels_of b.counts b.primary.items b.secondary.items b.tertiary.items b.quaternary.items b.key.items };
+    ghost view = { λ b. levels_of b.after_variable b.counts b.primary.items b.secondary.items b.tertiary.items b.quaternary.items b.key.items };
 
     ghost invariant = { λ b. HasRoom 0 b.counts b.primary.items b.secondary.items b.tertiary.items b.quaternary.items };
 }
@@ -55,6 +57,7 @@ impl<A: Allocator + Copy> LevelBuffers<A> {
         ensures { result.key ≡ [] }
     {
         LevelBuffers {
+            after_variable: false,
             counts: NO_WEIGHTS,
             primary: Vec::new(alloc),
             secondary: Vec::new(alloc),
@@ -91,6 +94,7 @@ impl<A: Allocator> LevelBuffers<A> {
     pub(crate) fn clear(&mut self)
         ensures { (weighting : Weighting) → HoldsLevels weighting [] self.new }
     {
+        self.after_variable = false;
         self.counts = NO_WEIGHTS;
     }
 
@@ -116,15 +120,18 @@ impl<A: Allocator> LevelBuffers<A> {
         make_room(&mut self.secondary, self.counts.secondary, more)?;
         make_room(&mut self.tertiary, self.counts.tertiary, more)?;
         make_room(&mut self.quaternary, self.counts.quaternary, more)?;
+        let mut after_variable = self.after_variable;
         self.counts = put_elements(
             weighting,
             elements,
+            &mut after_variable,
             self.counts,
             self.primary.as_mut_slice(),
             self.secondary.as_mut_slice(),
             self.tertiary.as_mut_slice(),
             self.quaternary.as_mut_slice(),
         );
+        self.after_variable = after_variable;
         Ok(())
     }
 
@@ -170,17 +177,20 @@ impl<A: Allocator> LevelBuffers<A> {
         make_room(&mut self.secondary, self.counts.secondary, RUN_PLACES)?;
         make_room(&mut self.tertiary, self.counts.tertiary, RUN_PLACES)?;
         make_room(&mut self.quaternary, self.counts.quaternary, RUN_PLACES)?;
+        let mut after_variable = self.after_variable;
         let (run, counts) = put_run(
             weighting,
             points,
             first,
             text,
+            &mut after_variable,
             self.counts,
             self.primary.as_mut_slice(),
             self.secondary.as_mut_slice(),
             self.tertiary.as_mut_slice(),
             self.quaternary.as_mut_slice(),
         );
+        self.after_variable = after_variable;
         self.counts = counts;
         Ok(run)
     }

@@ -12,8 +12,6 @@ use uca_weights::{Element, Weighting};
 /// How many weights each level has.
 #[derive(Clone, Copy)]
 pub(crate) struct Counts {
-    // under `Shifted`, whether the nearest element with a primary weight is variable
-    after_variable: bool,
     pub(crate) primary: usize,
     pub(crate) secondary: usize,
     pub(crate) tertiary: usize,
@@ -22,7 +20,6 @@ pub(crate) struct Counts {
 
 /// No level has a weight.
 pub(crate) const NO_WEIGHTS: Counts = Counts {
-    after_variable: false,
     primary: 0,
     secondary: 0,
     tertiary: 0,
@@ -91,7 +88,8 @@ fn next_flag(weighting: Weighting, after_variable: bool, element: Element) -> bo
 #[inline(always)]
 fn put_element(
     weighting: Weighting,
-    element: Element,
+    element: &Element,
+    after_variable: &mut bool,
     counts: Counts,
     primary: &mut [[u8; 2]],
     secondary: &mut [[u8; 2]],
@@ -102,12 +100,20 @@ fn put_element(
     ensures room { (n : ℕ) → HasRoom (n + 1) counts primary.old secondary.old tertiary.old quaternary.old →
         HasRoom n result primary.new secondary.new tertiary.new quaternary.new }
     ensures holds { (key : List ℕ) (es : List Element) →
-        HoldsLevels weighting es (levels_of counts primary.old secondary.old tertiary.old quaternary.old key) →
-        HoldsLevels weighting (es ++ element ∷ []) (levels_of result primary.new secondary.new tertiary.new quaternary.new key) }
+        HoldsLevels weighting es (levels_of after_variable.old counts primary.old secondary.old tertiary.old quaternary.old key) →
+        HoldsLevels weighting (es ++ element.now ∷ []) (levels_of after_variable.new result primary.new secondary.new tertiary.new quaternary.new key) }
 {
-    let [first, second, third, fourth] = weights_of(weighting, counts.after_variable, element);
+    // Each weight is read alone, for a copy of the whole element takes longer to part.
+    let element = Element {
+        primary: element.primary,
+        secondary: element.secondary,
+        tertiary: element.tertiary,
+        mark: element.mark,
+    };
+    let flag = *after_variable;
+    let [first, second, third, fourth] = weights_of(weighting, flag, element);
+    *after_variable = next_flag(weighting, flag, element);
     Counts {
-        after_variable: next_flag(weighting, counts.after_variable, element),
         primary: put(primary, counts.primary, first),
         secondary: put(secondary, counts.secondary, second),
         tertiary: put(tertiary, counts.tertiary, third),
@@ -120,6 +126,7 @@ fn put_element(
 pub(crate) fn put_elements(
     weighting: Weighting,
     elements: &[Element],
+    after_variable: &mut bool,
     mut counts: Counts,
     primary: &mut [[u8; 2]],
     secondary: &mut [[u8; 2]],
@@ -130,12 +137,19 @@ pub(crate) fn put_elements(
     ensures room { (n : ℕ) → HasRoom (n + length elements.now) counts primary.old secondary.old tertiary.old quaternary.old →
         HasRoom n result primary.new secondary.new tertiary.new quaternary.new }
     ensures holds { (key : List ℕ) (es : List Element) →
-        HoldsLevels weighting es (levels_of counts primary.old secondary.old tertiary.old quaternary.old key) →
-        HoldsLevels weighting (es ++ elements.now) (levels_of result primary.new secondary.new tertiary.new quaternary.new key) }
+        HoldsLevels weighting es (levels_of after_variable.old counts primary.old secondary.old tertiary.old quaternary.old key) →
+        HoldsLevels weighting (es ++ elements.now) (levels_of after_variable.new result primary.new secondary.new tertiary.new quaternary.new key) }
 {
     for element in elements {
         counts = put_element(
-            weighting, *element, counts, primary, secondary, tertiary, quaternary,
+            weighting,
+            element,
+            after_variable,
+            counts,
+            primary,
+            secondary,
+            tertiary,
+            quaternary,
         );
     }
     counts

@@ -62,6 +62,7 @@ pub(crate) fn put_run<'p, 't, A: Allocator>(
     points: &'p PlainPoints<A>,
     first: &'p Known,
     text: &'t str,
+    after_variable: &mut bool,
     mut counts: Counts,
     primary: &mut [[u8; 2]],
     secondary: &mut [[u8; 2]],
@@ -72,8 +73,8 @@ pub(crate) fn put_run<'p, 't, A: Allocator>(
     requires room { HasRoom RUN_PLACES counts primary.old secondary.old tertiary.old quaternary.old }
     ensures room { HasRoom 0 result.1 primary.new secondary.new tertiary.new quaternary.new }
     ensures reads { (c : Collation) (key xs : List ℕ) → AreTrueEntries c points.now.entries.items →
-        ReadsUpTo c weighting xs (levels_of counts primary.old secondary.old tertiary.old quaternary.old key) first.now →
-        RunReads c weighting xs text.now (levels_of result.1 primary.new secondary.new tertiary.new quaternary.new key) result.0 }
+        ReadsUpTo c weighting xs (levels_of after_variable.old counts primary.old secondary.old tertiary.old quaternary.old key) first.now →
+        RunReads c weighting xs text.now (levels_of after_variable.new result.1 primary.new secondary.new tertiary.new quaternary.new key) result.0 }
 {
     let mut last = first;
     let mut rest = text;
@@ -84,6 +85,7 @@ pub(crate) fn put_run<'p, 't, A: Allocator>(
         counts = put_elements(
             weighting,
             last.all_elements(),
+            after_variable,
             counts,
             primary,
             secondary,
@@ -99,6 +101,7 @@ pub(crate) fn put_run<'p, 't, A: Allocator>(
     counts = put_elements(
         weighting,
         last.all_elements(),
+        after_variable,
         counts,
         primary,
         secondary,

@@ -10,6 +10,6 @@ invariant-loop-element l = record {
   room : (n : ℕ) → HasRoom (n + length l.elements) l.initial.counts l.initial.primary l.initial.secondary l.initial.tertiary l.initial.quaternary →
       HasRoom (n + (length l.elements - l.element-index)) l.counts l.primary l.secondary l.tertiary l.quaternary;
   holds : (key : List ℕ) (es : List Element) →
-      HoldsLevels l.weighting es (levels_of l.initial.counts l.initial.primary l.initial.secondary l.initial.tertiary l.initial.quaternary key) →
-      HoldsLevels l.weighting (es ++ take l.element-index l.elements) (levels_of l.counts l.primary l.secondary l.tertiary l.quaternary key);
+      HoldsLevels l.weighting es (levels_of l.initial.after_variable l.initial.counts l.initial.primary l.initial.secondary l.initial.tertiary l.initial.quaternary key) →
+      HoldsLevels l.weighting (es ++ take l.element-index l.elements) (levels_of l.after_variable l.counts l.primary l.secondary l.tertiary l.quaternary key);
 }

@@ -24,7 +24,7 @@ loop-turn-preserved g c =
           let some = so_far.reads collation key xs entries begins in
           let before = elements_of collation (nfd_text collation.properties some.reads.before) in
           read_next collation c.args.weighting xs c.args.text.now _ _ _ _ c.loop-turn.last.now c.in-Some.next.now some
-          (subst (λ es. HoldsLevels c.args.weighting (before ++ es) (levels_of c.put_elements-counts.result new.primary new.secondary new.tertiary new.quaternary key))
+          (subst (λ es. HoldsLevels c.args.weighting (before ++ es) (levels_of new.after_variable c.put_elements-counts.result new.primary new.secondary new.tertiary new.quaternary key))
           c.all_elements.ensures.value (c.put_elements-counts.ensures.holds key before some.reads.read.0))
           c.in-Some.ensures.text c.in-Some.ensures.few (c.in-Some.ensures.entry collation entries);
     }
@@ -36,5 +36,5 @@ returns-clause-reads g c = λ collation key xs entries begins.
     let new = c.put_elements-counts-2.new in
     let none = ap chars (nil_from_length c.loop-turn.rest.now (grind (arith, nat_tests, c.is_empty.ensures, c.if-not-is_empty.ensures, c.if-not-is_empty.false))) ∙ chars-nil in
     run_ends collation c.args.weighting xs c.args.text.now _ _ _ c.loop-turn.last.now some none
-    (subst (λ es. HoldsLevels c.args.weighting (before ++ es) (levels_of c.put_elements-counts-2.result new.primary new.secondary new.tertiary new.quaternary key))
+    (subst (λ es. HoldsLevels c.args.weighting (before ++ es) (levels_of new.after_variable c.put_elements-counts-2.result new.primary new.secondary new.tertiary new.quaternary key))
     c.all_elements-2.ensures.value (c.put_elements-counts-2.ensures.holds key before some.reads.read.0))

@@ -14,6 +14,6 @@ invariant-loop-turn g l = record {
   few : l.last.count ≤ 3;
   room : HasRoom (3 * (65 - l._turn)) l.counts l.primary l.secondary l.tertiary l.quaternary;
   reads : (c : Collation) (key xs : List ℕ) → AreTrueEntries c l.points.entries.items →
-      ReadsUpTo c l.weighting xs (levels_of l.fn.counts l.initial.primary l.initial.secondary l.initial.tertiary l.initial.quaternary key) l.first →
-      ReadsSome c l.weighting xs l.text l.rest (levels_of l.counts l.primary l.secondary l.tertiary l.quaternary key) l.last;
+      ReadsUpTo c l.weighting xs (levels_of l.initial.after_variable l.fn.counts l.initial.primary l.initial.secondary l.initial.tertiary l.initial.quaternary key) l.first →
+      ReadsSome c l.weighting xs l.text l.rest (levels_of l.after_variable l.counts l.primary l.secondary l.tertiary l.quaternary key) l.last;
 }
