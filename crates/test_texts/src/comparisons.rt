@@ -105,7 +105,8 @@ fn check_case<L: Lookup>(
     checked
 }
 
-const PLAINLY: &str = r"0041 0061 | 0061 0062 | Less 1 | Less 1 | 2 2
+/// Pairs under `NonIgnorable`, and what is returned.
+pub const PLAINLY: &str = r"0041 0061 | 0061 0062 | Less 1 | Less 1 | 2 2
 0062 0061 | 0061 0062 | Greater 1 | Greater 1 | 1 1
  | 0061 | Less 1 | Less 1 | 0 1
 00E1 | 0061 | Greater 2 | Greater 2 | 2 1
@@ -118,7 +119,8 @@ const PLAINLY: &str = r"0041 0061 | 0061 0062 | Less 1 | Less 1 | 2 2
 00E1 | 0061 0301 | Equal 0 | Equal 0 | 2 2
  |  | Equal 0 | Equal 0 | 0 0";
 
-const SHIFTED: &str = r"0061 0020 0062 | 0061 0062 | Less 4 | Less 4 | 3 2
+/// The same under `Shifted`.
+pub const SHIFTED: &str = r"0061 0020 0062 | 0061 0062 | Less 4 | Less 4 | 3 2
 0020 0061 | 0062 | Less 1 | Less 1 | 2 1
 0020 0301 | 0020 | Equal 0 | Greater 5 | 2 1
 0061 0020 0062 | 0061 0020 0062 | Equal 0 | Equal 0 | 3 3";
@@ -140,7 +142,7 @@ impl Check for Pairs {
 }
 
 /// A code point that is completely ignorable, and two that have no weight at a level at which the other has one.
-const MORE: &str = r"0001 ; [.0000.0000.0000]
+pub const MORE: &str = r"0001 ; [.0000.0000.0000]
 0002 ; [.1000.0000.0000]
 0003 ; [.0000.0021.0003]
 ";

@@ -5,6 +5,8 @@
 #[cfg(test)]
 mod cases;
 #[cfg(test)]
+mod compared_texts;
+#[cfg(test)]
 mod comparisons;
 #[cfg(test)]
 mod elements;
