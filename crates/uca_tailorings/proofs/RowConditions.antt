@@ -6,11 +6,13 @@ use Rattle.uca_weights.specs.declared.Element.{Element}
 use Rattle.uca_values.specs.Content.{Entry}
 use Rattle.uca_rules.specs.declared.relations.Relation.{Relation}
 use Rattle.uca_rules.specs.Relations.{IsTarget}
-use Rattle.uca_match.specs.Rows.{same_key, rows_of}
+use Rattle.uca_match.specs.Rows.{IsKey, same_key, rows_of}
 use Rattle.uca_match.specs.Laws.{AreRelatedRows}
 use Rattle.uca_match.proofs.RowsByKey.{same_key-true, same_key-itself}
-use Rattle.uca_tailorings.specs.Images.{AreImages}
-use Rattle.uca_tailorings.specs.Tailorings.{Tailoring, IsAccepted, IsExpectedRow, IsPresentRow, IsUnchangedRow}
+use Rattle.uca_weights.proofs.Lists.{each_weaker}
+use Rattle.uca_tailorings.specs.Images.{Maps, AreImages}
+use Rattle.uca_tailorings.specs.KeptRows.{IsKeptRow, IsKnownRow}
+use Rattle.uca_tailorings.specs.Tailorings.{Tailoring, IsAccepted, IsPresentRow}
 use Rattle.uca_tailorings.specs.declared.conditions.Condition.TheVariants.{RowChanged, RowMissing, RowExtra}
 
 -- what is true of each row is true of the one that is found at a key
@@ -43,23 +45,33 @@ target_or_not (r ∷ relations) text =
     (target_or_not relations text))
     (same_or_not r.target.points text (same_key r.target.points text) refl)
 
--- the rows of a key that is no target are images
-pub row_kept : (tailoring : Tailoring) → IsAccepted tailoring → (key : List ℕ) → ¬ (IsTarget tailoring.relations key) →
-    AreRelatedRows (AreImages tailoring.maps) (rows_of tailoring.base.rows key) (rows_of tailoring.tailored.rows key)
-row_kept tailoring accepted key other = kept (rows_of tailoring.base.rows key) (rows_of tailoring.tailored.rows key) refl refl
+-- the rows of a key that is not changed are images
+pub kept_at_key : (maps : Maps) (IsChanged : List ℕ → Type 0) (old_rows new_rows : List Entry) →
+    AllByRecursion (IsKeptRow maps IsChanged (rows_of new_rows)) old_rows →
+    AllByRecursion (λ row. ¬ (IsChanged row.key) → IsKey (rows_of new_rows) row.key) old_rows →
+    AllByRecursion (IsKnownRow IsChanged (rows_of old_rows)) new_rows → (key : List ℕ) → ¬ (IsChanged key) →
+    AreRelatedRows (AreImages maps) (rows_of old_rows key) (rows_of new_rows key)
+kept_at_key maps IsChanged old_rows new_rows kept present known key other = by_rows (rows_of old_rows key) (rows_of new_rows key) refl refl
   where
     -- by whether each table has a row
-    kept : (old new : Option (List Element)) → rows_of tailoring.base.rows key ≡ old → rows_of tailoring.tailored.rows key ≡ new →
-        AreRelatedRows (AreImages tailoring.maps) old new
-    kept None None at_base at_tailored = tt
-    kept None (Some new) at_base at_tailored =
+    by_rows : (old new : Option (List Element)) → rows_of old_rows key ≡ old → rows_of new_rows key ≡ new → AreRelatedRows (AreImages maps) old new
+    by_rows None None at_old at_new = tt
+    by_rows None (Some new) at_old at_new =
         ⊎_elim
-        (λ is_key. let no : false ≡ true = sym (ap is_some at_base) ∙ is_key in absurd cc)
-        (λ target. absurd (other target))
-        (at_row (IsExpectedRow tailoring) tailoring.tailored.rows key new (accepted RowExtra) at_tailored)
-    kept (Some old) None at_base at_tailored =
-        let is_key = at_row (IsPresentRow tailoring) tailoring.base.rows key old (accepted RowMissing).0 at_base in
-        let no : false ≡ true = sym (ap is_some at_tailored) ∙ is_key in
+        (λ is_key. let no : false ≡ true = sym (ap is_some at_old) ∙ is_key in absurd cc)
+        (λ changed. absurd (other changed))
+        (at_row (IsKnownRow IsChanged (rows_of old_rows)) new_rows key new known at_new)
+    by_rows (Some old) None at_old at_new =
+        let is_key = at_row (λ row. ¬ (IsChanged row.key) → IsKey (rows_of new_rows) row.key) old_rows key old present at_old other in
+        let no : false ≡ true = sym (ap is_some at_new) ∙ is_key in
         absurd cc
-    kept (Some old) (Some new) at_base at_tailored =
-        at_row (IsUnchangedRow tailoring) tailoring.base.rows key old (accepted RowChanged) at_base other new at_tailored
+    by_rows (Some old) (Some new) at_old at_new = at_row (IsKeptRow maps IsChanged (rows_of new_rows)) old_rows key old kept at_old other new at_new
+
+-- so are those of a key that is no target
+pub row_kept : (tailoring : Tailoring) → IsAccepted tailoring → (key : List ℕ) → ¬ (IsTarget tailoring.relations key) →
+    AreRelatedRows (AreImages tailoring.maps) (rows_of tailoring.base.rows key) (rows_of tailoring.tailored.rows key)
+row_kept tailoring accepted =
+    kept_at_key tailoring.maps (IsTarget tailoring.relations) tailoring.base.rows tailoring.tailored.rows (accepted RowChanged)
+    (each_weaker (IsPresentRow tailoring) (λ row. ¬ (IsTarget tailoring.relations row.key) → IsKey (rows_of tailoring.tailored.rows) row.key)
+    (λ row present other. present) tailoring.base.rows (accepted RowMissing).0)
+    (accepted RowExtra)

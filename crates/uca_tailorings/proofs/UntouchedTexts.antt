@@ -42,7 +42,7 @@ no_target (r ∷ relations) key text untouched occurs target =
     target
 
 -- the code points of a text's letters
-letters_occur : (points classes : List ℕ) → OccursInOrder (code_points (letters points classes)) points
+pub letters_occur : (points classes : List ℕ) → OccursInOrder (code_points (letters points classes)) points
 letters_occur [] classes = tt
 letters_occur (c ∷ points) [] = tt
 letters_occur (c ∷ points) (k ∷ classes) = inl (refl, letters_occur points classes)
@@ -93,7 +93,7 @@ levels_alike (suc n) from ls rs xs ys left right same =
     ap₂ (λ order later. decided order from later) (same from) (levels_alike n (suc from) ls rs xs ys left right same)
 
 -- images compare as the elements, at either depth
-images_compare : (maps : Maps) → AreRisingMaps maps → (depth : Depth) (weighting : Weighting) (left right : List ℕ) (ls rs xs ys : List Element) →
+pub images_compare : (maps : Maps) → AreRisingMaps maps → (depth : Depth) (weighting : Weighting) (left right : List ℕ) (ls rs xs ys : List Element) →
     AreImages maps ls xs → AreImages maps rs ys →
     compared_at depth weighting (record { elements = xs; points = left }) (record { elements = ys; points = right })
     ≡ compared_at depth weighting (record { elements = ls; points = left }) (record { elements = rs; points = right })

@@ -1,5 +1,6 @@
 pub mod Images
 pub mod Moves
+pub mod KeptRows
 pub mod Placing
 pub mod Tailorings
 pub mod Inputs

@@ -14,7 +14,8 @@ use Rattle.uca_rules.specs.Relations.{IsTarget, AreRules}
 use Rattle.uca_match.specs.Rows.{IsKey, rows_of}
 use Rattle.uca_match.specs.Collations.{Collation, elements_of}
 use Rattle.uca_weights.specs.PerLevel.{at_level}
-use Rattle.uca_tailorings.specs.Images.{Maps, AreRisingMaps, AreImages}
+use Rattle.uca_tailorings.specs.Images.{Maps, AreRisingMaps}
+use Rattle.uca_tailorings.specs.KeptRows.{IsKeptRow, IsKnownRow}
 use Rattle.uca_tailorings.specs.Placing.{IsLow, IsAnchor, placed, IsOnSide}
 use Rattle.uca_tailorings.specs.declared.conditions.Condition.{Condition}
 use Rattle.uca_tailorings.specs.declared.conditions.Condition.TheVariants.{BaseIllFormed, TailoredIllFormed, Header, Uncovered, RowChanged, RowMissing, RowExtra, Anchor, NotPlaced, NotFresh, NotNearest}
@@ -76,7 +77,7 @@ IsCoveredRow tailoring row = AllByRecursion (IsCovered tailoring.maps) row.eleme
 
 -- where the key is no target, its tailored row, if there is one, is the image of the base row
 abbrev pub IsUnchangedRow : Tailoring → Entry → Type 0
-IsUnchangedRow tailoring row = ¬ (IsTarget tailoring.relations row.key) → (new : List Element) → rows_of tailoring.tailored.rows row.key ≡ Some new → AreImages tailoring.maps row.elements new
+IsUnchangedRow tailoring row = IsKeptRow tailoring.maps (IsTarget tailoring.relations) (rows_of tailoring.tailored.rows) row
 
 -- the key of the row has a tailored row, and so has the target of the relation
 abbrev pub IsPresentRow : Tailoring → Entry → Type 0
@@ -87,7 +88,7 @@ IsPresentTarget tailoring r = IsKey (rows_of tailoring.tailored.rows) r.target.p
 
 -- the key of the tailored row is a base key or a target
 abbrev pub IsExpectedRow : Tailoring → Entry → Type 0
-IsExpectedRow tailoring row = IsKey (rows_of tailoring.base.rows) row.key ⊎ IsTarget tailoring.relations row.key
+IsExpectedRow tailoring row = IsKnownRow (IsTarget tailoring.relations) (rows_of tailoring.base.rows) row
 
 -- ---- Conditions on relations alone
 

@@ -1,0 +1,136 @@
+-- Unaffected texts read as the images of what they read as before an accepted change.
+use Rattle.std.proofs.Common.{◌≡◌, ℕ, List, ⊎_elim, map, sym, ap, ap₂, subst, subst₂, ◌∙◌}
+use Rattle.std.specs.Char.{IsScalar}
+use Rattle.std.specs.List.{AllByRecursion}
+use Rattle.unicode_normalization.specs.Forms.{nfd}
+use Rattle.uca_weights.specs.declared.Depth.{Depth}
+use Rattle.uca_weights.specs.declared.Weighting.{Weighting}
+use Rattle.uca_weights.proofs.Lists.{each_weaker, each_contained}
+use Rattle.uca_values.specs.Implicit.{implicit}
+use Rattle.uca_text.specs.Texts.{Text, nfd_text, letters, code_points}
+use Rattle.uca_text.specs.Occurring.{OccursInOrder}
+use Rattle.uca_text.proofs.Occurring.{occurs_trans, each_occurring}
+use Rattle.uca_match.specs.Rows.{rows_of}
+use Rattle.uca_match.specs.Reading.{read}
+use Rattle.uca_match.specs.Collations.{elements_of}
+use Rattle.uca_match.proofs.RelatedReading.{read_related}
+use Rattle.uca_key.specs.Levels.{lexicographic}
+use Rattle.uca_key.specs.Depths.{read_text, levels_at}
+use Rattle.uca_key.specs.StoredKeys.{stored_level}
+use Rattle.uca_key.specs.Laws.{text_key}
+use Rattle.uca_key.proofs.DepthOrder.{depth_order, depth_level}
+use Rattle.uca_tailorings.specs.Images.{AreImages}
+use Rattle.uca_tailorings.specs.Moves.{KeyMoves}
+use Rattle.uca_tailorings.proofs.Images.{images-append}
+use Rattle.uca_tailorings.proofs.ImplicitImages.{own_implicit}
+use Rattle.uca_tailorings.proofs.RowConditions.{kept_at_key}
+use Rattle.uca_tailorings.proofs.Parts.{each_of_both}
+use Rattle.uca_tailorings.proofs.UntouchedTexts.{letters_occur, images_compare}
+use Rattle.uca_tailorings.proofs.AgreeingReadings.{same_reading}
+use Rattle.uca_tailorings.proofs.Moves.{images_move, kept_is_new}
+use Rattle.uca_changes.specs.Changes.{Change, IsChange, old_reading, new_reading, IsChangedText, IsChangedPoint, IsSamePoint, IsAcceptedChange}
+use Rattle.uca_changes.specs.Laws.{IsUnaffectedText, IsStoredKey, UnaffectedTextsStay, ChangesKeepUnaffectedTexts}
+use Rattle.uca_changes.specs.declared.conditions.ChangeCondition.TheVariants.{RangeChanged, RowChanged, RowMissing, RowExtra, PointChanged}
+use Rattle.uca_changes.proofs.Points.{same_classes, implicit_same}
+use borrow.Table.Char.{scalar_below}
+
+module _ (change : Change) (is : IsChange change) (accepted : IsAcceptedChange change) where
+  -- what both data files say of the code points of an unaffected text
+  same_points : (text : List ℕ) → IsUnaffectedText change text → AllByRecursion (IsSamePoint change.old_properties change.new_properties) (nfd text)
+  same_points text stays =
+      each_of_both IsScalar (λ c. ¬ (IsChangedPoint change c)) (IsSamePoint change.old_properties change.new_properties) (accepted PointChanged)
+      (nfd text) stays.scalars stays.unaffected.outside
+
+  -- so the text has one reading in letters
+  same_letters : (text : List ℕ) → IsUnaffectedText change text →
+      letters (nfd text) (map change.old_properties.class (nfd text)) ≡ letters (nfd text) (map change.new_properties.class (nfd text))
+  same_letters text stays =
+      ap (letters (nfd text))
+      (same_classes change.old_properties change.new_properties (nfd text)
+      (each_weaker (IsSamePoint change.old_properties change.new_properties) (λ c. change.old_properties.class c ≡ change.new_properties.class c)
+      (λ c same. same.class) (nfd text) (same_points text stays)))
+
+  -- the implicit weights of its code points are images
+  implicit_images : (text : List ℕ) → IsUnaffectedText change text →
+      AllByRecursion (λ c. AreImages change.maps (implicit change.old.header.ranges change.old_properties c)
+      (implicit change.new.header.ranges change.new_properties c)) (nfd text)
+  implicit_images text stays =
+      each_of_both IsScalar (λ c. ¬ (IsChangedPoint change c))
+      (λ c. AreImages change.maps (implicit change.old.header.ranges change.old_properties c) (implicit change.new.header.ranges change.new_properties c))
+      (λ c scalar outside.
+      subst (AreImages change.maps (implicit change.old.header.ranges change.old_properties c))
+      (implicit_same change.old.header.ranges change.new.header.ranges change.old_properties change.new_properties c (accepted RangeChanged c scalar outside)
+      (accepted PointChanged c scalar outside))
+      (own_implicit change.maps is.maps change.old.header.ranges change.old_properties is.old.header.ranges c (scalar_below c scalar)))
+      (nfd text) stays.scalars stays.unaffected.outside
+
+  -- the letters of a text by the old data file
+  abbrev old_letters : List ℕ → Text
+  old_letters text = letters (nfd text) (map change.old_properties.class (nfd text))
+
+  -- their code points occur in the text
+  points_occur : (text : List ℕ) → OccursInOrder (code_points (old_letters text)) (nfd text)
+  points_occur text = letters_occur (nfd text) (map change.old_properties.class (nfd text))
+
+  -- an unaffected text reads as the images of what it read as before
+  images_read : (text : List ℕ) → IsUnaffectedText change text →
+      AreImages change.maps (elements_of (old_reading change) (nfd_text change.old_properties text)) (elements_of (new_reading change) (nfd_text change.new_properties text))
+  images_read text stays =
+      subst (λ t. AreImages change.maps (elements_of (old_reading change) (nfd_text change.old_properties text))
+      (read (implicit change.new.header.ranges change.new_properties) (rows_of change.new.rows) t))
+      (same_letters text stays)
+      (read_related (AreImages change.maps) tt (images-append change.maps) (implicit change.old.header.ranges change.old_properties)
+      (implicit change.new.header.ranges change.new_properties) (rows_of change.old.rows) (rows_of change.new.rows) (old_letters text)
+      (record {
+        at_keys = λ key occurs.
+            kept_at_key change.maps (IsChangedText change) change.old.rows change.new.rows (accepted RowChanged) (accepted RowMissing) (accepted RowExtra) key
+            (λ changed. each_contained (λ t. ¬ (OccursInOrder t (nfd text))) change.texts key stays.unaffected.texts changed
+            (occurs_trans key (code_points (old_letters text)) (nfd text) occurs (points_occur text)));
+        at_points =
+            each_occurring (λ c. AreImages change.maps (implicit change.old.header.ranges change.old_properties c)
+            (implicit change.new.header.ranges change.new_properties c)) (code_points (old_letters text)) (nfd text) (points_occur text) (implicit_images text stays);
+      }))
+
+  -- the key of an unaffected text
+  moves : (text : List ℕ) → IsUnaffectedText change text →
+      KeyMoves change.maps (read_text (old_reading change) (nfd_text change.old_properties text)) (read_text (new_reading change) (nfd_text change.new_properties text))
+  moves text stays =
+      images_move change.maps is.maps (elements_of (old_reading change) (nfd_text change.old_properties text))
+      (elements_of (new_reading change) (nfd_text change.new_properties text)) (nfd text) (images_read text stays)
+
+  -- so the keys of a store are those under the new reading
+  stored_is_new : (depth : Depth) (weighting : Weighting) (text key : List ℕ) →
+      IsStoredKey change (old_reading change) (new_reading change) depth weighting text key → key ≡ text_key (new_reading change) depth weighting text
+  stored_is_new depth weighting text key stored =
+      ⊎_elim
+      (λ made. made)
+      (λ kept. kept_is_new change.maps (read_text (old_reading change) (nfd_text change.old_properties text))
+      (read_text (new_reading change) (nfd_text change.new_properties text)) (moves text kept.0) depth weighting key kept.1)
+      stored
+
+  -- the law for the lookups of the tables themselves
+  pub own_texts : UnaffectedTextsStay change (old_reading change) (new_reading change)
+  own_texts =
+      record {
+        moves = moves;
+        compared = λ depth weighting left right first second.
+            images_compare change.maps is.maps depth weighting (nfd left) (nfd right)
+            (elements_of (old_reading change) (nfd_text change.old_properties left)) (elements_of (old_reading change) (nfd_text change.old_properties right))
+            (elements_of (new_reading change) (nfd_text change.new_properties left)) (elements_of (new_reading change) (nfd_text change.new_properties right))
+            (images_read left first) (images_read right second);
+        ordered = λ depth weighting left right left_key right_key first second.
+            ap₂ lexicographic (stored_is_new depth weighting left left_key first) (stored_is_new depth weighting right right_key second)
+            ∙ depth_order depth weighting (read_text (new_reading change) (nfd_text change.new_properties left))
+            (read_text (new_reading change) (nfd_text change.new_properties right));
+        levels = λ depth weighting left right left_key right_key first second.
+            ap₂ (stored_level (levels_at depth weighting)) (stored_is_new depth weighting left left_key first)
+            (stored_is_new depth weighting right right_key second)
+            ∙ depth_level depth weighting (read_text (new_reading change) (nfd_text change.new_properties left))
+            (read_text (new_reading change) (nfd_text change.new_properties right));
+      }
+
+-- and for others that find the same
+pub unaffected_stay : ChangesKeepUnaffectedTexts
+unaffected_stay change old new is accepted old_reads new_reads =
+    subst₂ (UnaffectedTextsStay change) (sym (same_reading old (old_reading change) old_reads))
+    (sym (same_reading new (new_reading change) new_reads)) (own_texts change is accepted)

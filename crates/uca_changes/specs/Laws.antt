@@ -1,0 +1,65 @@
+-- Laws of changes, as statements. A text is given as its code points before normalization.
+use Rattle.std.specs.Prelude.{◌≡◌, ◌⊎◌, ℕ, List, [], map}
+use Rattle.std.specs.Char.{IsScalar}
+use Rattle.std.specs.List.{AllByRecursion}
+use Rattle.unicode_normalization.specs.Forms.{nfd}
+use Rattle.uca_weights.specs.declared.Depth.{Depth}
+use Rattle.uca_weights.specs.declared.Weighting.{Weighting}
+use Rattle.uca_text.specs.Texts.{nfd_text}
+use Rattle.uca_match.specs.Collations.{Collation}
+use Rattle.uca_key.specs.Levels.{lexicographic}
+use Rattle.uca_key.specs.Depths.{read_text, levels_at}
+use Rattle.uca_key.specs.StoredKeys.{stored_level}
+use Rattle.uca_key.specs.Laws.{text_key, texts_compared}
+use Rattle.uca_tailorings.specs.Moves.{KeyMoves, IsKeptKey}
+use Rattle.uca_tailorings.specs.Tailorings.{Tailoring, IsTailoring, IsAccepted}
+use Rattle.uca_tailorings.specs.Laws.{ReadsAs}
+use Rattle.uca_changes.specs.Changes.{Change, IsChange, old_reading, new_reading, IsUnaffected, IsAcceptedChange}
+
+-- in Normalization Form D the text has Unicode scalar values alone, and the change leaves it as it is
+pub record IsUnaffectedText (change : Change) (text : List ℕ) : Type 0 where
+  pub scalars : AllByRecursion IsScalar (nfd text)
+  pub unaffected : IsUnaffected change (nfd text)
+
+-- A key that a store has for a text. It was made under the new reading. Or the text is unaffected, and the key was kept from
+-- the old reading.
+abbrev pub IsStoredKey : Change → Collation → Collation → Depth → Weighting → List ℕ → List ℕ → Type 0
+IsStoredKey change old new depth weighting text key =
+    (key ≡ text_key new depth weighting text)
+    ⊎ (IsUnaffectedText change text × IsKeptKey change.maps depth weighting (read_text old (nfd_text old.properties text)) key)
+
+-- What an accepted change means, by lookups `old` of the old table and `new` of the new one.
+pub record UnaffectedTextsStay (change : Change) (old new : Collation) : Type 0 where
+  -- the elements of an unaffected text are the images of the old ones, and its key is put through the maps
+  pub moves : (text : List ℕ) → IsUnaffectedText change text →
+      KeyMoves change.maps (read_text old (nfd_text old.properties text)) (read_text new (nfd_text new.properties text))
+  -- two such texts compare as before, by order and level
+  pub compared : (depth : Depth) (weighting : Weighting) (left right : List ℕ) → IsUnaffectedText change left → IsUnaffectedText change right →
+      texts_compared new depth weighting left right ≡ texts_compared old depth weighting left right
+  -- the keys of a store compare as their texts do under the new reading
+  pub ordered : (depth : Depth) (weighting : Weighting) (left right left_key right_key : List ℕ) →
+      IsStoredKey change old new depth weighting left left_key → IsStoredKey change old new depth weighting right right_key →
+      lexicographic left_key right_key ≡ (texts_compared new depth weighting left right).order
+  pub levels : (depth : Depth) (weighting : Weighting) (left right left_key right_key : List ℕ) →
+      IsStoredKey change old new depth weighting left left_key → IsStoredKey change old new depth weighting right right_key →
+      stored_level (levels_at depth weighting) left_key right_key ≡ (texts_compared new depth weighting left right).level
+
+abbrev pub ChangesKeepUnaffectedTexts : Type 0
+ChangesKeepUnaffectedTexts = (change : Change) (old new : Collation) → IsChange change → IsAcceptedChange change →
+    ReadsAs old (old_reading change) → ReadsAs new (new_reading change) → UnaffectedTextsStay change old new
+
+-- a tailoring as a change of its base: its targets are the changed texts
+abbrev pub change_of : Tailoring → Change
+change_of tailoring = record {
+  old = tailoring.base;
+  old_properties = tailoring.properties;
+  new = tailoring.tailored;
+  new_properties = tailoring.properties;
+  texts = map (λ r. r.target.points) tailoring.relations;
+  ranges = [];
+  maps = tailoring.maps;
+}
+
+abbrev pub TailoringsAreChanges : Type 0
+TailoringsAreChanges = (tailoring : Tailoring) → IsTailoring tailoring → IsAccepted tailoring →
+    IsChange (change_of tailoring) × IsAcceptedChange (change_of tailoring)

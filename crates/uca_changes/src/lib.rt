@@ -1,0 +1,9 @@
+//! Changes from one table to another, such as an edition of Unicode to the next: when one is accepted, and what that means
+//! for texts and for stored keys. These are definitions and laws.
+#![tactic(auto)]
+
+mod conditions;
+mod laws;
+
+pub use conditions::ChangeCondition;
+pub use laws::{changes_keep_unaffected_texts, tailorings_are_changes};
