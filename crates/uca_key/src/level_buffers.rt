@@ -99,6 +99,7 @@ impl<A: Allocator> LevelBuffers<A> {
     }
 
     /// Adds the weights of the next element.
+    #[inline]
     pub(crate) fn push(&mut self, weighting: Weighting, element: Element) -> Result<(), AllocError>
         ensures { (es : List Element) → HoldsLevels weighting es self.old →
             OnOk result (HoldsLevels weighting (es ++ element ∷ []) self.new) }
@@ -107,11 +108,24 @@ impl<A: Allocator> LevelBuffers<A> {
     }
 
     /// Adds the weights of the next elements.
+    #[inline]
     pub(crate) fn push_all(
         &mut self,
         weighting: Weighting,
         elements: &[Element],
     ) -> Result<(), AllocError>
+        ensures { (es : List Element) → HoldsLevels weighting es self.old →
+            OnOk result (HoldsLevels weighting (es ++ elements.now) self.new) }
+    {
+        match weighting {
+            Weighting::NonIgnorable => self.push_all_by(Weighting::NonIgnorable, elements),
+            Weighting::Shifted => self.push_all_by(Weighting::Shifted, elements),
+        }
+    }
+
+    // It stands apart so that it is compiled for each weighting.
+    #[inline(always)]
+    fn push_all_by(&mut self, weighting: Weighting, elements: &[Element]) -> Result<(), AllocError>
         ensures { (es : List Element) → HoldsLevels weighting es self.old →
             OnOk result (HoldsLevels weighting (es ++ elements.now) self.new) }
     {

@@ -100,7 +100,7 @@ impl Piece {
     /// Goes on by the plain code points that come next in the text and were met. Their weights are added to the levels, but
     /// not those of the last, which is the piece then. Returns what comes after them, or none if they end the text: all
     /// weights are added then.
-    #[inline]
+    #[inline(always)]
     pub(crate) fn run_on<'t, A: Allocator>(
         &mut self,
         levels: &mut LevelBuffers<A>,

@@ -2,7 +2,7 @@ use Rattle.std.proofs.Common.{◌++◌, ap, sym, subst, ◌∙◌, arith}
 use Rattle.std.proofs.lemmas.List.{with_items_is}
 use Rattle.uca_key.specs.LevelBuffers.{HoldsLevels, held}
 use Rattle.uca_key.proofs.BufferLemmas.{same_levels}
-use Rattle.uca_key.proofs.level_buffers.LevelBuffers.push_all.Goals as goal
+use Rattle.uca_key.proofs.level_buffers.LevelBuffers.push_all_by.Goals as goal
 
 pub returns : goal.returns
 returns g c = λ es h.
