@@ -11,7 +11,7 @@ use uca_weights::Weighting::{NonIgnorable, Shifted};
 use uca_weights::{Depth, Weighting};
 
 /// `ab` and `c` with an acute accent are contractions.
-const TABLE: &str = "@version 1\n\
+pub const TABLE: &str = "@version 1\n\
     0020 ; [*0209.0020.0002]\n\
     0061 ; [.1C47.0020.0002]\n\
     0062 ; [.1C60.0020.0002]\n\
@@ -22,7 +22,7 @@ const TABLE: &str = "@version 1\n\
     0301 ; [.0000.0024.0002]\n";
 
 /// The letter `d` has a class.
-const DATA: &str = "@data 1\n\
+pub const DATA: &str = "@data 1\n\
     ccc 0064..0064 220\n\
     ccc 0300..0314 230\n";
 
