@@ -11,6 +11,8 @@ mod comparisons;
 #[cfg(test)]
 mod elements;
 #[cfg(test)]
+mod key_beginnings;
+#[cfg(test)]
 mod key_maps;
 #[cfg(test)]
 mod keys;

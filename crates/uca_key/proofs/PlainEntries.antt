@@ -35,7 +35,7 @@ more_entries c entries new n k known none most not_said all are true =
     (each_append (λ e. IsTrueEntry c e × HasTrueDecomposition c e) entries (replicate k known) true
     (replicate_true c known none (nothing_said c known most not_said) k))
 
--- an entry that says the same of the decomposition of the same code point
+-- what an entry says of a decomposition is true of another entry that says it
 pub same_decomposition : (c : Collation) (bound known : Known) → known.point ≡ bound.point → known.len ≡ bound.len → known.starts ≡ bound.starts
     → HasTrueDecomposition c bound → HasTrueDecomposition c known
 same_decomposition c bound known point len starts said = record {

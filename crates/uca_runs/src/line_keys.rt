@@ -1,6 +1,6 @@
 //! The sort key of a line of the input.
 
-ghost use Rattle.std.specs.Prelude.{◌≡◌, ℕ, ◌<◌, ◌^◌, false, IfErr, OnOk, length};
+ghost use Rattle.std.specs.Prelude.{◌≡◌, ℕ, ◌<◌, ◌^◌, false, IfErr, OnOk, length, take};
 ghost use Rattle.uca_key.specs.Lengths.{HasShortRows};
 ghost use Rattle.uca_key.specs.Writers.{collation_by};
 ghost use Rattle.uca_runs.specs.Input.{cause_of};
@@ -37,6 +37,36 @@ pub(crate) fn write_line_key<'a, L: Lookup, T: Allocator, A: Allocator>(
 {
     match lines.text() {
         Ok(line) => match writer.write(line) {
+            Ok(()) => Ok(()),
+            Err(fault) => Err(kind_of_text(fault)),
+        },
+        Err(kind) => Err(kind),
+    }
+}
+
+/// Writes at least the first sixteen bytes of the key of the line that was read, over the key that was there. A shorter key is
+/// written whole.
+///
+/// # Errors
+///
+/// Why the line gives no text, or `Memory`.
+pub(crate) fn write_line_beginning<'a, L: Lookup, T: Allocator, A: Allocator>(
+    writer: &mut KeyWriter<'a, L, T, A>,
+    lines: &InputLines<A>,
+) -> Result<(), InputKind>
+    ensures beginning { OnOk result (take 16 writer.new.key ≡
+        take 16 (line_key (settings_at L.content writer.old writer.old.depth) lines.now.line)) }
+    ensures clean { (before : ℕ) → before < LINE_LIMIT →
+        OnOk result (cause_of (collation_by L.content writer.old).properties before lines.now.line ≡ None) }
+    ensures fault { (before : ℕ) → before < LINE_LIMIT →
+        IfErr result (HasTextCause (collation_by L.content writer.old).properties before lines.now.line) }
+    ensures not_read { is_read result ≡ false }
+    ensures collation { collation_by L.content writer.new ≡ collation_by L.content writer.old }
+    ensures weighting { writer.new.weighting ≡ writer.old.weighting }
+    ensures depth { writer.new.depth ≡ writer.old.depth }
+{
+    match lines.text() {
+        Ok(line) => match writer.write_beginning(line) {
             Ok(()) => Ok(()),
             Err(fault) => Err(kind_of_text(fault)),
         },
