@@ -106,7 +106,9 @@ pub fn print_affected<D: Allocator, R: Allocator, A: Allocator, I: Read, W: Writ
         output: OutputBuffer::new(),
     };
     let end = run.print_rest(properties, rules, input, out);
-    end_output(&mut run.output, out, end)
+    let end = end_output(&mut run.output, out, end);
+    drop(run);
+    end
 }
 
 /// Prints the lines of `input` in which a target of the rules occurs in order, each with LF. The data file and the rules are
@@ -150,5 +152,7 @@ pub fn run_affected_in<A: Allocator + Copy, D: Read, U: Read, I: Read, W: Write>
         input.old input.new out.old out.new result }
 {
     let files = read_data_and_rules(alloc, global, properties, rules)?;
-    print_affected(alloc, global, &files.properties, &files.rules, input, out)
+    let end = print_affected(alloc, global, &files.properties, &files.rules, input, out);
+    drop(files);
+    end
 }

@@ -1,14 +1,15 @@
 //! The five files that an audit uses.
 
-ghost use Rattle.std.specs.Prelude.{◌∷◌, []};
+ghost use Rattle.std.specs.Prelude.{◌≡◌, ◌∷◌, []};
 ghost use Rattle.uca_tailorings.specs.Inputs.{tailoring_of};
-ghost use Rattle.uca_runs.specs.Files.{audit_files, audit_roles};
+ghost use Rattle.uca_runs.specs.Files.{audit_files, audit_roles, data_and_rules_roles, rules_over, tailor_content};
 ghost use Rattle.uca_runs.specs.ReadFiles.{ReadsFiles, certificate_file, outcome_files, outcome_of, outcome_roles};
 ghost use Rattle.uca_values.specs.Content.{properties_of};
 
 use crate::faults::{FileFault, Role, RunFault};
 use crate::files::read_table_file;
 use crate::rule_file::read_data_and_rules;
+use crate::tailor_files::TailorFiles;
 use std::alloc::{Allocator, Global};
 use std::io::Read;
 use uca_certificates::{Certificate, read_certificate};
@@ -49,16 +50,59 @@ pub fn read_audit_files<A: Allocator + Copy, B: Read, D: Read, U: Read, T: Read,
         (base.new ∷ properties.new ∷ rules.new ∷ tailored.new ∷ certificate.new ∷ [])
         (λ files. tailoring_of files.base (properties_of files.properties) files.rules files.tailored files.certificate) result }
 {
-    let base = read_table_file(alloc, Role::Base, base)?;
-    let given = read_data_and_rules(alloc, global, properties, rules)?;
-    let outcome = read_outcome(alloc, tailored, certificate)?;
-    Ok(AuditFiles {
-        base,
+    let given = read_given(alloc, global, base, properties, rules)?;
+    match read_outcome(alloc, tailored, certificate) {
+        Ok(outcome) => Ok(files_of(given, outcome)),
+        Err(fault) => {
+            drop(given);
+            Err(fault)
+        }
+    }
+}
+
+// The files of an audit, by what the tailoring was made by and what it gave.
+fn files_of<A: Allocator>(given: TailorFiles<A>, outcome: Outcome<A>) -> AuditFiles<A>
+    ensures { result ≡ record {
+      base = given.base;
+      properties = given.properties;
+      rules = given.rules;
+      tailored = outcome.tailored;
+      certificate = outcome.certificate;
+    } }
+{
+    AuditFiles {
+        base: given.base,
         properties: given.properties,
         rules: given.rules,
         tailored: outcome.tailored,
         certificate: outcome.certificate,
-    })
+    }
+}
+
+// Reads what the tailoring was made by.
+fn read_given<A: Allocator + Copy, B: Read, D: Read, U: Read>(
+    alloc: A,
+    global: Global,
+    base: &mut Source<B>,
+    properties: &mut Source<D>,
+    rules: &mut Source<U>,
+) -> Result<TailorFiles<A>, RunFault>
+    ensures { ReadsFiles (rules_over Role.Base) (Role.Base ∷ data_and_rules_roles) (base.old ∷ properties.old ∷ rules.old ∷ [])
+        (base.new ∷ properties.new ∷ rules.new ∷ [])
+        (λ files. tailor_content files.base (properties_of files.properties) files.rules) result }
+{
+    let base = read_table_file(alloc, Role::Base, base)?;
+    match read_data_and_rules(alloc, global, properties, rules) {
+        Ok(given) => Ok(TailorFiles {
+            base,
+            properties: given.properties,
+            rules: given.rules,
+        }),
+        Err(fault) => {
+            drop(base);
+            Err(fault)
+        }
+    }
 }
 
 // What a tailoring gave.
@@ -78,11 +122,16 @@ fn read_outcome<A: Allocator + Copy, T: Read, C: Read>(
         (tailored.new ∷ certificate.new ∷ []) (λ files. outcome_of files.tailored files.certificate) result }
 {
     let tailored = read_table_file(alloc, Role::Tailored, tailored)?;
-    let certificate = read_certificate_file(alloc, certificate)?;
-    Ok(Outcome {
-        tailored,
-        certificate,
-    })
+    match read_certificate_file(alloc, certificate) {
+        Ok(certificate) => Ok(Outcome {
+            tailored,
+            certificate,
+        }),
+        Err(fault) => {
+            drop(tailored);
+            Err(fault)
+        }
+    }
 }
 
 // Reads the certificate, to its end or its first error.

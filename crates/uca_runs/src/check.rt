@@ -33,7 +33,9 @@ pub fn run_check<A: Allocator + Copy, T: Read, D: Read, W: Write>(
     ensures { Checks (table.old ∷ properties.old ∷ []) (table.new ∷ properties.new ∷ []) out.old out.new result }
 {
     let files = read_files(alloc, table, properties)?;
-    write_verdict(&files, out)
+    let verdict = write_verdict(&files, out);
+    drop(files);
+    verdict
 }
 
 // Checks whether the table is well-formed, and writes the verdict.

@@ -101,7 +101,9 @@ pub fn run_compare_in<A: Allocator + Copy, T: Read, D: Read, W: Write>(
 {
     let read = read_collation(alloc, table, properties, weighting)?;
     let collator = read.collator();
-    compare_words(global, &collator, read.weighting, depth, left, right, out)
+    let end = compare_words(global, &collator, read.weighting, depth, left, right, out);
+    drop(read);
+    end
 }
 
 // The text of an argument, which is the right one of the two or the left one.

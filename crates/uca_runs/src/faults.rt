@@ -2,7 +2,7 @@
 
 ghost use Rattle.std.specs.Prelude.{◌≡◌, ◌≤◌, length, Some};
 ghost use Rattle.uca_runs.specs.RoleText.{role_text};
-ghost use Rattle.uca_runs.specs.FaultText.{input_kind_text, file_fault_text, tailor_text, fault_text};
+ghost use Rattle.uca_runs.specs.FaultText.{input_kind_text, file_fault_text, side_text, tailor_text, fault_text};
 ghost use Rattle.uca_runs.specs.PlanFaults.{refused_plan};
 ghost use Rattle.uca_runs.specs.declared.faults.RunFault.TheVariants.{Write};
 
@@ -198,7 +198,7 @@ impl RunFault {
                 .text(kind.message().as_str()),
             RunFault::Write { .. } => Message::of("output: Write"),
             RunFault::Memory => Message::of("memory"),
-            RunFault::Text { right, fault } => Message::of(if *right { "right" } else { "left" })
+            RunFault::Text { right, fault } => Message::of(side_name(*right))
                 .text(": ")
                 .text(fault.message().as_str()),
             RunFault::Tailor(fault) => tailor_message(*fault),
@@ -210,6 +210,13 @@ impl RunFault {
             RunFault::Words(WordFault::Refused(_)) => Message::of(""),
         }
     }
+}
+
+// Which of the two arguments it is.
+fn side_name(right: bool) -> &'static str
+    ensures { result.now ≡ side_text right }
+{
+    if right { "right" } else { "left" }
 }
 
 // The line of an error of the planner.

@@ -42,8 +42,13 @@ pub fn read_files<A: Allocator + Copy, T: Read, D: Read>(
         (λ files. table_with files.table (properties_of files.properties)) result }
 {
     let table = read_table_file(alloc, Role::Table, table)?;
-    let properties = read_data_file(alloc, properties)?;
-    Ok(Files { table, properties })
+    match read_data_file(alloc, properties) {
+        Ok(properties) => Ok(Files { table, properties }),
+        Err(fault) => {
+            drop(table);
+            Err(fault)
+        }
+    }
 }
 
 /// Reads a table that has this role, to its end or its first error.
@@ -132,13 +137,17 @@ pub fn read_collation<A: Allocator + Copy, T: Read, D: Read>(
         (table.new ∷ properties.new ∷ []) result }
 {
     let files = read_files(alloc, table, properties)?;
-    let rows = rows_of_table(alloc, &files.table)?;
-    let weighting = chosen_weighting(weighting, &files.table.header);
-    Ok(ReadCollation {
-        files,
-        rows,
-        weighting,
-    })
+    match rows_of_table(alloc, &files.table) {
+        Ok(rows) => Ok(ReadCollation {
+            weighting: chosen_weighting(weighting, &files.table.header),
+            files,
+            rows,
+        }),
+        Err(fault) => {
+            drop(files);
+            Err(fault)
+        }
+    }
 }
 
 // The rows of a table, ready to be looked up.

@@ -296,7 +296,9 @@ pub(crate) fn print_lines<L: Lookup, T: Allocator, A: Allocator + Copy, I: Read,
         digits: KeyDigits::new(),
     };
     let end = run.print_rest(form, depth, collator.data, input, out);
-    end_output(&mut run.output, out, end)
+    let end = end_output(&mut run.output, out, end);
+    drop(run);
+    end
 }
 
 /// Prints the sort key of each line of the input, until its end or its first line with an error.
@@ -410,7 +412,7 @@ pub(crate) fn run_lines_in<A: Allocator + Copy, T: Read, D: Read, I: Read, W: Wr
 {
     let read = read_collation(alloc, table, properties, weighting)?;
     let collator = read.collator();
-    print_lines(
+    let end = print_lines(
         alloc,
         global,
         &collator,
@@ -419,5 +421,7 @@ pub(crate) fn run_lines_in<A: Allocator + Copy, T: Read, D: Read, I: Read, W: Wr
         form,
         input,
         out,
-    )
+    );
+    drop(read);
+    end
 }

@@ -45,8 +45,13 @@ pub fn read_data_and_rules<A: Allocator + Copy, D: Read, U: Read>(
         (λ files. data_with (properties_of files.properties) files.rules) result }
 {
     let properties = read_data_file(alloc, properties)?;
-    let rules = read_rule_file(alloc, global, rules, &properties)?;
-    Ok(DataAndRules { properties, rules })
+    match read_rule_file(alloc, global, rules, &properties) {
+        Ok(rules) => Ok(DataAndRules { properties, rules }),
+        Err(fault) => {
+            drop(properties);
+            Err(fault)
+        }
+    }
 }
 
 /// Reads the rules, whose texts have the classes of `properties`, to their end or their first error. It reads at most

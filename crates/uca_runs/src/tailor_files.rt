@@ -42,10 +42,15 @@ pub fn read_tailor_files<A: Allocator + Copy, B: Read, D: Read, U: Read>(
         (λ files. tailor_content files.base (properties_of files.properties) files.rules) result }
 {
     let base = read_table_file(alloc, Role::Table, base)?;
-    let given = read_data_and_rules(alloc, global, properties, rules)?;
-    Ok(TailorFiles {
-        base,
-        properties: given.properties,
-        rules: given.rules,
-    })
+    match read_data_and_rules(alloc, global, properties, rules) {
+        Ok(given) => Ok(TailorFiles {
+            base,
+            properties: given.properties,
+            rules: given.rules,
+        }),
+        Err(fault) => {
+            drop(base);
+            Err(fault)
+        }
+    }
 }

@@ -12,7 +12,7 @@ returns-clause-writes g c =
     let input = c.args.input.now in
     let out = c.args.out.now in
     let begin = started properties bytes_of c.new.result.lines input c.new-2.result out (c.new.ensures.read properties input) c.new-2.ensures.held c.new-2.ensures.written in
-    c.end_output.ensures.writes properties bytes_of input.remaining out.contents c.print_rest-end.new.input (c.print_rest-end.ensures.prints input.remaining out.contents [] begin)
+    c.end_output-end.ensures.writes properties bytes_of input.remaining out.contents c.print_rest-end.new.input (c.print_rest-end.ensures.prints input.remaining out.contents [] begin)
 
 pub returns-clause-of_lines : goal.returns-clause-of_lines
 returns-clause-of_lines g c =
@@ -21,11 +21,11 @@ returns-clause-of_lines g c =
     let input = c.args.input.now in
     let out = c.args.out.now in
     let begin = started properties bytes_of c.new.result.lines input c.new-2.result out (c.new.ensures.read properties input) c.new-2.ensures.held c.new-2.ensures.written in
-    c.end_output.ensures.of_lines (of_lines properties bytes_of input.remaining out.contents c.print_rest-end.new.input c.print_rest-end.new.self.output c.print_rest-end.new.out c.print_rest-end.result
+    c.end_output-end.ensures.of_lines (of_lines properties bytes_of input.remaining out.contents c.print_rest-end.new.input c.print_rest-end.new.self.output c.print_rest-end.new.out c.print_rest-end.result
     (c.print_rest-end.ensures.prints input.remaining out.contents [] begin))
 
 pub returns-clause-input_failed : goal.returns-clause-input_failed
-returns-clause-input_failed g c = λ none. subst (λ b. c.print_rest-end.new.input.failed ≡ (c.args.input.now.failed || b)) (sym (c.end_output.ensures.not_read none)) c.print_rest-end.ensures.input_failed
+returns-clause-input_failed g c = λ none. subst (λ b. c.print_rest-end.new.input.failed ≡ (c.args.input.now.failed || b)) (sym (c.end_output-end.ensures.not_read none)) c.print_rest-end.ensures.input_failed
 
 pub returns-clause-out_failed : goal.returns-clause-out_failed
-returns-clause-out_failed g c = c.end_output.ensures.failed c.args.out.now.failed c.print_rest-end.ensures.out_failed
+returns-clause-out_failed g c = c.end_output-end.ensures.failed c.args.out.now.failed c.print_rest-end.ensures.out_failed

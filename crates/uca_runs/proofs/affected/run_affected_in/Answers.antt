@@ -22,9 +22,9 @@ returns-in_err-files g c =
 pub returns : goal.returns
 returns g c =
     let read = data_with (properties_of c.in_ok-files.files.properties) c.in_ok-files.files.rules in
-    let runs = RunsAffected c.args.input.now c.print_affected.new.input c.args.out.now c.print_affected.new.out c.print_affected.result in
+    let runs = RunsAffected c.args.input.now c.print_affected-end.new.input c.args.out.now c.print_affected-end.new.out c.print_affected-end.result in
     ended_by_lines data_and_rules data_and_rules_roles (λ content. read ≡ content) runs
     (c.args.properties.now ∷ c.args.rules.now ∷ []) (c.read_data_and_rules.new.properties ∷ c.read_data_and_rules.new.rules ∷ []) {B = ⊤}
-    c.args.input.now c.print_affected.new.input c.args.out.now c.print_affected.new.out tt c.print_affected.result c.print_affected.ensures.of_lines
-    (λ content same. subst runs same (c.print_affected.ensures.of_lines, c.print_affected.ensures.writes))
-    c.in_ok-files.ensures.read c.in_ok-files.ensures.failed c.print_affected.ensures.input_failed c.print_affected.ensures.out_failed
+    c.args.input.now c.print_affected-end.new.input c.args.out.now c.print_affected-end.new.out tt c.print_affected-end.result c.print_affected-end.ensures.of_lines
+    (λ content same. subst runs same (c.print_affected-end.ensures.of_lines, c.print_affected-end.ensures.writes))
+    c.in_ok-files.ensures.read c.in_ok-files.ensures.failed c.print_affected-end.ensures.input_failed c.print_affected-end.ensures.out_failed

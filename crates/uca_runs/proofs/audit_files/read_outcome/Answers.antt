@@ -15,17 +15,16 @@ returns-in_err-tailored g c =
     (c.args.tailored.now ∷ []) (c.read_table_file.new.source ∷ []) (unread ∷ []) (unread ∷ []) (λ table. table) _ (refl, λ table. tt)
     c.in_err-tailored.field-0.0 refl (stays unread.failed, tt) c.in_err-tailored.ensures)
 
-pub returns-in_err-certificate : goal.returns-in_err-certificate
-returns-in_err-certificate g c =
-    let p = err_from_is_err_and c.from_residual-in_err-certificate.result c.from_residual-in_err-certificate.ensures.1 in
-    rw (p.1, p.2) (second_rejected (table_file roles.Tailored) (λ table. certificate_file) outcome_of (roles.Tailored ∷ []) (roles.Certificate ∷ [])
+pub returns-in-Err : goal.returns-in-Err
+returns-in-Err g c =
+    (second_rejected (table_file roles.Tailored) (λ table. certificate_file) outcome_of (roles.Tailored ∷ []) (roles.Certificate ∷ [])
     (c.args.tailored.now ∷ []) (c.read_table_file.new.source ∷ []) (c.args.certificate.now ∷ []) (c.read_certificate_file.new.source ∷ [])
     (λ table. table) _ (refl, λ table. tt) (λ certificate. certificate) c.in_ok-tailored.tailored (λ table. (refl, λ certificate. tt)) c.in_ok-tailored.ensures
-    c.in_err-certificate.field-0.0 refl c.in_err-certificate.ensures)
+    c.in-Err.fault refl c.in-Err.ensures)
 
-pub returns : goal.returns
-returns g c =
+pub returns-in-Ok : goal.returns-in-Ok
+returns-in-Ok g c =
     both_read (table_file roles.Tailored) (λ table. certificate_file) outcome_of (roles.Tailored ∷ []) (roles.Certificate ∷ [])
     (c.args.tailored.now ∷ []) (c.read_table_file.new.source ∷ []) (c.args.certificate.now ∷ []) (c.read_certificate_file.new.source ∷ [])
     (λ table. table) _ (refl, λ table. tt) (λ certificate. certificate) c.in_ok-tailored.tailored (λ table. (refl, λ certificate. tt)) c.in_ok-tailored.ensures
-    c.in_ok-certificate.certificate _ refl c.in_ok-certificate.ensures
+    c.in-Ok.certificate _ refl c.in-Ok.ensures

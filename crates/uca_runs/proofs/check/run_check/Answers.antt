@@ -30,10 +30,10 @@ returns g c =
     let news = c.read_files.new.table ∷ c.read_files.new.properties ∷ [] in
     record {
       runs = runs_over_all {B = ⊤} table_and_data olds news (λ content. read ≡ content)
-          (RunsCheck c.args.out.now c.write_verdict.new.out c.write_verdict.result) tt c.write_verdict.result c.write_verdict.ensures.no_file
-          (λ content same. subst (RunsCheck c.args.out.now c.write_verdict.new.out c.write_verdict.result) same c.write_verdict.ensures.verdict)
+          (RunsCheck c.args.out.now c.write_verdict-verdict.new.out c.write_verdict-verdict.result) tt c.write_verdict-verdict.result c.write_verdict-verdict.ensures.no_file
+          (λ content same. subst (RunsCheck c.args.out.now c.write_verdict-verdict.new.out c.write_verdict-verdict.result) same c.write_verdict-verdict.ensures.verdict)
           c.in_ok-files.ensures.read;
       nothing_written = λ before. let never : ⊥ = cc in absurd never;
-      failed = failed_by_no_file {B = ⊤} table_and_data_roles olds news tt c.write_verdict.result c.in_ok-files.ensures.failed c.write_verdict.ensures.no_file;
-      out_failed = c.write_verdict.ensures.failed;
+      failed = failed_by_no_file {B = ⊤} table_and_data_roles olds news tt c.write_verdict-verdict.result c.in_ok-files.ensures.failed c.write_verdict-verdict.ensures.no_file;
+      out_failed = c.write_verdict-verdict.ensures.failed;
     }

@@ -38,13 +38,13 @@ returns g c =
     let news = c.read_collation.new.table ∷ c.read_collation.new.properties ∷ [] in
     record {
       runs = runs_over_all {B = ⊤} table_and_data olds news
-          (λ content. IsCollation c.args.weighting (collation_in (rows_at read.rows) files) read.weighting content) _ tt c.compare_words.result c.compare_words.ensures.of_texts
-          (λ content is. run_compares c.args.weighting c.args.depth c.args.left.now c.args.right.now c.args.out.now c.compare_words.new.out content c.compare_words.result
-          (subst (λ d. WritesComparison d c.args.left.now c.args.right.now c.args.out.now.contents c.compare_words.new.out.contents c.compare_words.result)
+          (λ content. IsCollation c.args.weighting (collation_in (rows_at read.rows) files) read.weighting content) _ tt c.compare_words-end.result c.compare_words-end.ensures.of_texts
+          (λ content is. run_compares c.args.weighting c.args.depth c.args.left.now c.args.right.now c.args.out.now c.compare_words-end.new.out content c.compare_words-end.result
+          (subst (λ d. WritesComparison d c.args.left.now c.args.right.now c.args.out.now.contents c.compare_words-end.new.out.contents c.compare_words-end.result)
           (same_keying c.args.weighting c.args.depth (collation_of rows_at c.collator-collator.result) (collation_in (rows_at read.rows) files) read.weighting content c.collator-collator.ensures is)
-          c.compare_words.ensures.writes))
+          c.compare_words-end.ensures.writes))
           c.in_ok-read.ensures.read;
-      nothing_written = c.compare_words.ensures.nothing_written;
-      failed = failed_by_no_file {B = ⊤} table_and_data_roles olds news tt c.compare_words.result c.in_ok-read.ensures.failed c.compare_words.ensures.of_texts;
-      out_failed = c.compare_words.ensures.out_failed;
+      nothing_written = c.compare_words-end.ensures.nothing_written;
+      failed = failed_by_no_file {B = ⊤} table_and_data_roles olds news tt c.compare_words-end.result c.in_ok-read.ensures.failed c.compare_words-end.ensures.of_texts;
+      out_failed = c.compare_words-end.ensures.out_failed;
     }

@@ -17,17 +17,16 @@ returns-in_err-table g c =
     (c.args.table.now ∷ []) (c.read_table_file.new.source ∷ []) (unread ∷ []) (unread ∷ []) (λ table. table) _ (refl, λ table. tt)
     c.in_err-table.field-0.0 refl (stays unread.failed, tt) c.in_err-table.ensures)
 
-pub returns-in_err-properties : goal.returns-in_err-properties
-returns-in_err-properties g c =
-    let p = err_from_is_err_and c.from_residual-in_err-properties.result c.from_residual-in_err-properties.ensures.1 in
-    rw (p.1, p.2) (second_rejected (table_file roles.Table) (λ table. data_file) table_with (roles.Table ∷ []) (roles.Data ∷ [])
+pub returns-in-Err : goal.returns-in-Err
+returns-in-Err g c =
+    (second_rejected (table_file roles.Table) (λ table. data_file) table_with (roles.Table ∷ []) (roles.Data ∷ [])
     (c.args.table.now ∷ []) (c.read_table_file.new.source ∷ []) (c.args.properties.now ∷ []) (c.read_data_file.new.source ∷ [])
     (λ table. table) _ (refl, λ table. tt) properties_of c.in_ok-table.table (λ table. (refl, λ points. tt)) c.in_ok-table.ensures
-    c.in_err-properties.field-0.0 refl c.in_err-properties.ensures)
+    c.in-Err.fault refl c.in-Err.ensures)
 
-pub returns : goal.returns
-returns g c =
+pub returns-in-Ok : goal.returns-in-Ok
+returns-in-Ok g c =
     both_read (table_file roles.Table) (λ table. data_file) table_with (roles.Table ∷ []) (roles.Data ∷ [])
     (c.args.table.now ∷ []) (c.read_table_file.new.source ∷ []) (c.args.properties.now ∷ []) (c.read_data_file.new.source ∷ [])
     (λ table. table) _ (refl, λ table. tt) properties_of c.in_ok-table.table (λ table. (refl, λ points. tt)) c.in_ok-table.ensures
-    c.in_ok-properties.properties _ refl c.in_ok-properties.ensures
+    c.in-Ok.properties _ refl c.in-Ok.ensures

@@ -28,8 +28,8 @@ returns-in_err-read g c =
     (λ content is. subst (λ f. RunsUnder {A = ⊤} (line_as c.args.form) c.args.weighting c.args.depth c.args.input.now c.args.input.now c.args.out.now c.args.out.now (Err f) content) (sym is) tt)
     c.in_err-read.ensures.read c.in_err-read.ensures.before_input c.in_err-read.ensures.failed)
 
-pub print_lines-requires : goal.print_lines-requires
-print_lines-requires g c = subst (λ made. HasShortRows made.rows) (sym c.collator-collator.ensures) c.in_ok-read.ensures.short
+pub print_lines-end-requires : goal.print_lines-end-requires
+print_lines-end-requires g c = subst (λ made. HasShortRows made.rows) (sym c.collator-collator.ensures) c.in_ok-read.ensures.short
 
 pub returns : goal.returns
 returns g c =
@@ -37,11 +37,11 @@ returns g c =
     let files = table_with read.files.table (properties_of read.files.properties) in
     let made = collation_in (rows_at read.rows) files in
     ended_by_lines table_and_data table_and_data_roles (λ content. IsCollation c.args.weighting made read.weighting content)
-    (RunsUnder (line_as c.args.form) c.args.weighting c.args.depth c.args.input.now c.print_lines.new.input c.args.out.now c.print_lines.new.out c.print_lines.result)
+    (RunsUnder (line_as c.args.form) c.args.weighting c.args.depth c.args.input.now c.print_lines-end.new.input c.args.out.now c.print_lines-end.new.out c.print_lines-end.result)
     (c.args.table.now ∷ c.args.properties.now ∷ []) (c.read_collation.new.table ∷ c.read_collation.new.properties ∷ []) {B = ⊤}
-    c.args.input.now c.print_lines.new.input c.args.out.now c.print_lines.new.out tt c.print_lines.result c.print_lines.ensures.of_lines
-    (λ content is. runs_under (line_as c.args.form) c.args.weighting c.args.depth c.args.input.now c.print_lines.new.input c.args.out.now c.print_lines.new.out c.print_lines.result content c.print_lines.ensures.of_lines
-    (subst (λ (d : KeySettings). RunsEach d.collation.properties (line_as c.args.form d) c.args.input.now c.print_lines.new.input c.args.out.now c.print_lines.new.out c.print_lines.result)
+    c.args.input.now c.print_lines-end.new.input c.args.out.now c.print_lines-end.new.out tt c.print_lines-end.result c.print_lines-end.ensures.of_lines
+    (λ content is. runs_under (line_as c.args.form) c.args.weighting c.args.depth c.args.input.now c.print_lines-end.new.input c.args.out.now c.print_lines-end.new.out c.print_lines-end.result content c.print_lines-end.ensures.of_lines
+    (subst (λ (d : KeySettings). RunsEach d.collation.properties (line_as c.args.form d) c.args.input.now c.print_lines-end.new.input c.args.out.now c.print_lines-end.new.out c.print_lines-end.result)
     (same_keying c.args.weighting c.args.depth (collation_of rows_at c.collator-collator.result) made read.weighting content c.collator-collator.ensures is)
-    c.print_lines.ensures.writes))
-    c.in_ok-read.ensures.read c.in_ok-read.ensures.failed c.print_lines.ensures.input_failed c.print_lines.ensures.out_failed
+    c.print_lines-end.ensures.writes))
+    c.in_ok-read.ensures.read c.in_ok-read.ensures.failed c.print_lines-end.ensures.input_failed c.print_lines-end.ensures.out_failed

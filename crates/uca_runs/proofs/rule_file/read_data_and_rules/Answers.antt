@@ -18,21 +18,20 @@ returns-in_err-properties g c =
     (c.args.properties.now ∷ []) (c.read_data_file.new.source ∷ []) (unread ∷ []) (unread ∷ []) properties_of _ (refl, λ points. tt)
     c.in_err-properties.field-0.0 refl (stays unread.failed, tt) c.in_err-properties.ensures)
 
-pub returns-in_err-rules : goal.returns-in_err-rules
-returns-in_err-rules g c =
-    let p = err_from_is_err_and c.from_residual-in_err-rules.result c.from_residual-in_err-rules.ensures.1 in
+pub returns-in-Err : goal.returns-in-Err
+returns-in-Err g c =
     let points = properties_of c.in_ok-properties.properties in
-    rw (p.1, p.2) (second_rejected data_file rules_file data_with (roles.Data ∷ []) (roles.Rules ∷ [])
+    (second_rejected data_file rules_file data_with (roles.Data ∷ []) (roles.Rules ∷ [])
     (c.args.properties.now ∷ []) (c.read_data_file.new.source ∷ []) (c.args.rules.now ∷ []) (c.read_rule_file.new.source ∷ [])
     properties_of _ (refl, λ points. tt) (λ rules. rules) c.in_ok-properties.properties (λ points. (refl, λ rules. tt)) c.in_ok-properties.ensures
-    c.in_err-rules.field-0.0 refl (file_rejected roles.Rules (rule_files.Means points) (RefusesRules points) c.args.rules.now c.read_rule_file.new.source (λ rules. rules)
-    c.in_err-rules.field-0.0 c.in_err-rules.ensures.only c.in_err-rules.ensures.refused c.in_err-rules.ensures.failed))
+    c.in-Err.fault refl (file_rejected roles.Rules (rule_files.Means points) (RefusesRules points) c.args.rules.now c.read_rule_file.new.source (λ rules. rules)
+    c.in-Err.fault c.in-Err.ensures.only c.in-Err.ensures.refused c.in-Err.ensures.failed))
 
-pub returns : goal.returns
-returns g c =
+pub returns-in-Ok : goal.returns-in-Ok
+returns-in-Ok g c =
     let points = properties_of c.in_ok-properties.properties in
     both_read data_file rules_file data_with (roles.Data ∷ []) (roles.Rules ∷ [])
     (c.args.properties.now ∷ []) (c.read_data_file.new.source ∷ []) (c.args.rules.now ∷ []) (c.read_rule_file.new.source ∷ [])
     properties_of _ (refl, λ points. tt) (λ rules. rules) c.in_ok-properties.properties (λ points. (refl, λ rules. tt)) c.in_ok-properties.ensures
-    c.in_ok-rules.rules _ refl (file_read roles.Rules (rule_files.Means points) (RefusesRules points) c.args.rules.now c.read_rule_file.new.source (λ rules. rules)
-    c.in_ok-rules.rules c.in_ok-rules.ensures.means c.in_ok-rules.ensures.only c.in_ok-rules.ensures.failed)
+    c.in-Ok.rules _ refl (file_read roles.Rules (rule_files.Means points) (RefusesRules points) c.args.rules.now c.read_rule_file.new.source (λ rules. rules)
+    c.in-Ok.rules c.in-Ok.ensures.means c.in-Ok.ensures.only c.in-Ok.ensures.failed)

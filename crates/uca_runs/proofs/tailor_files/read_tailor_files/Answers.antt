@@ -17,19 +17,18 @@ returns-in_err-base g c =
     (c.args.base.now ∷ []) (c.read_table_file.new.source ∷ []) unread unread (λ table. table) _ (refl, λ table. tt)
     c.in_err-base.field-0.0 refl (stays c.args.properties.now.failed, (stays c.args.rules.now.failed, tt)) c.in_err-base.ensures)
 
-pub returns-in_err-given : goal.returns-in_err-given
-returns-in_err-given g c =
-    let p = err_from_is_err_and c.from_residual-in_err-given.result c.from_residual-in_err-given.ensures.1 in
-    rw (p.1, p.2) (second_rejected (table_file roles.Table) (λ table. data_and_rules) tailor_by (roles.Table ∷ []) data_and_rules_roles
+pub returns-in-Err : goal.returns-in-Err
+returns-in-Err g c =
+    (second_rejected (table_file roles.Table) (λ table. data_and_rules) tailor_by (roles.Table ∷ []) data_and_rules_roles
     (c.args.base.now ∷ []) (c.read_table_file.new.source ∷ []) (c.args.properties.now ∷ c.args.rules.now ∷ [])
     (c.read_data_and_rules.new.properties ∷ c.read_data_and_rules.new.rules ∷ []) (λ table. table) _ (refl, λ table. tt)
     (λ files. data_with (properties_of files.properties) files.rules) c.in_ok-base.base
-    (λ table. (refl, λ points. (refl, λ rules. tt))) c.in_ok-base.ensures c.in_err-given.field-0.0 refl c.in_err-given.ensures)
+    (λ table. (refl, λ points. (refl, λ rules. tt))) c.in_ok-base.ensures c.in-Err.fault refl c.in-Err.ensures)
 
-pub returns : goal.returns
-returns g c =
+pub returns-in-Ok : goal.returns-in-Ok
+returns-in-Ok g c =
     both_read (table_file roles.Table) (λ table. data_and_rules) tailor_by (roles.Table ∷ []) data_and_rules_roles
     (c.args.base.now ∷ []) (c.read_table_file.new.source ∷ []) (c.args.properties.now ∷ c.args.rules.now ∷ [])
     (c.read_data_and_rules.new.properties ∷ c.read_data_and_rules.new.rules ∷ []) (λ table. table) _ (refl, λ table. tt)
     (λ files. data_with (properties_of files.properties) files.rules) c.in_ok-base.base
-    (λ table. (refl, λ points. (refl, λ rules. tt))) c.in_ok-base.ensures c.in_ok-given.given _ refl c.in_ok-given.ensures
+    (λ table. (refl, λ points. (refl, λ rules. tt))) c.in_ok-base.ensures c.in-Ok.given _ refl c.in-Ok.ensures
