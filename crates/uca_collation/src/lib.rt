@@ -12,7 +12,7 @@ pub use uca_certificates::{
     Certificate, CertificateFault, CertificateFaultKind, read_certificate, write_certificate,
 };
 pub use uca_key::{
-    Compared, KeyBuffer, KeyWriter, compare, compare_keys, key, key_of, level_count,
+    Compared, KeyBuffer, KeyWriter, TextComparer, compare, compare_keys, key, key_of, level_count,
 };
 pub use uca_match::{Collator, Elements, Lookup, RowList, Trie, row_of};
 pub use uca_rules::{Relation, RuleFault, RuleFaultKind, Rules, read_rules, read_rules_in};
