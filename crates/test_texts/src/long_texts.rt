@@ -20,13 +20,13 @@ fn letters(alloc: Global, count: usize) -> Result<String, AllocError> {
 /// The group at a position of the key of so many letters `a`: their primary weights, then 0000, and so on.
 fn group_at(count: usize, position: usize) -> [u8; 2] {
     if position < count {
-        [0x1C, 0x47]
-    } else if position == count {
+        return [0x1C, 0x47];
+    }
+    let behind = position - count;
+    if behind == 0 || behind == count.saturating_add(1) {
         [0, 0]
-    } else if position <= 2 * count {
+    } else if behind <= count {
         [0, 0x20]
-    } else if position == 2 * count + 1 {
-        [0, 0]
     } else {
         [0, 2]
     }
@@ -38,7 +38,7 @@ fn is_key_of_letters(key: &[u8], count: usize) -> bool {
             return false;
         }
     }
-    key.len() == 6 * count + 4
+    key.len() == count.saturating_mul(6).saturating_add(4)
 }
 
 fn check_length<L: Lookup>(
