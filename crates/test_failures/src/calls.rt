@@ -131,7 +131,7 @@ make key by a writer
 printed \x1C\x47\x1C\x60\x00\x00\x00\x20\x00\x20\x00\x24\x00\x00\x00\x02\x00\x02\x00\x02
 printed \x00\x00\xFF\xFF\x02\x09\xFF\xFF\xFF\xFF
 end done
-asks 10
+asks 14
 memory Memory
 
 make audit
@@ -173,7 +173,7 @@ printed 0000 0000\n
 printed 1C47 0000 0020 0024 0000 0002 0002\n
 printed 1C47 0000 0020 0000 0002\n
 end done
-asks 37
+asks 35
 memory table line @ 1 2 3; data line @ 1 2; memory; input line @ 1 2
 
 run keys
@@ -181,7 +181,7 @@ reads table data input
 input a\n\xFF\n
 printed 1C47 0000 0020 0000 0002\n
 end input line 2: Utf8, status 1
-asks 32
+asks 33
 memory table line @ 1 2 3; data line @ 1 2; memory; input line @ 1
 
 run identical keys
@@ -189,7 +189,7 @@ reads table data input
 input a\n
 printed 1C47 0000 0020 0000 0002 0000 000061\n
 end done
-asks 32
+asks 33
 memory table line @ 1 2 3; data line @ 1 2; memory; input line @ 1
 
 run keyed lines
@@ -201,7 +201,7 @@ printed 00000000\t\n
 printed 1C47000000200024000000020002\t\xC3\xA1\n
 printed 1C470000002000000002\ta\n
 end done
-asks 37
+asks 35
 memory table line @ 1 2 3; data line @ 1 2; memory; input line @ 1 2
 
 run keyed lines
@@ -209,7 +209,7 @@ reads table data input
 input a\n\xFF\n
 printed 1C470000002000000002\ta\n
 end input line 2: Utf8, status 1
-asks 32
+asks 33
 memory table line @ 1 2 3; data line @ 1 2; memory; input line @ 1
 
 run identical keyed lines
@@ -217,7 +217,7 @@ reads table data input
 input a\n
 printed 1C4700000020000000020000000061\ta\n
 end done
-asks 30
+asks 31
 memory table line @ 1 2 3; data line @ 1 2; memory; input line @ 1
 
 run affected
@@ -241,7 +241,7 @@ reads table data input
 input b\na\n\xC3\xA1\n\na
 printed \na\na\n\xC3\xA1\nb\n
 end done
-asks 36
+asks 37
 memory table line @ 1 2 3; data line @ 1 2; memory; input line @ 1; memory; input line @ 5; memory
 
 run sort
@@ -249,7 +249,7 @@ reads table data input
 input u\na\nb\nc\nd\ne\nf\ng\nh\ni\nj\nk\nl\nm\nn\no\np\nq\nr\ns\nt\n
 printed a\nb\nc\nd\ne\nf\ng\nh\ni\nj\nk\nl\nm\nn\no\np\nq\nr\ns\nt\nu\n
 end done
-asks 41
+asks 42
 memory table line @ 1 2 3; data line @ 1 2; memory; input line @ 1; memory; input line @ 5; memory
 memory input line @ 9; memory; input line @ 17; memory
 
@@ -258,7 +258,7 @@ reads table data input
 input aaaaaaaa\xC3\xA1\naaaaaaaaa\n
 printed aaaaaaaaa\naaaaaaaa\xC3\xA1\n
 end done
-asks 46
+asks 48
 memory table line @ 1 2 3; data line @ 1 2; memory; input line @ 1; memory; input line @ 2; memory
 
 run compare

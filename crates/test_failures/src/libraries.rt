@@ -366,8 +366,8 @@ fn write_twice<A: Allocator>(
     buffer.write_text(collator, text)
 }
 
-// A writer that writes a key twice. It asks for 10 allocations: the numbers of the pages, the page of U+0000, that of
-// U+0300, one for each of the four levels, and for the key one of 8 bytes, of 16 and of 32.
+// A writer that writes a key twice. It asks for 14 allocations: the numbers of the pages, the page of U+0000, that of
+// U+0300, two for the places of each of the four levels, and for the key one of 8 bytes, of 16 and of 32.
 fn writes_by_writer(
     memory: Memory,
     streams: &mut Streams,
