@@ -381,43 +381,9 @@ fn words_of(alloc: Global, line: &str) -> Result<Vec<&str>, AllocError> {
     once("uca").chain(line.split(',')).collect(alloc)
 }
 
-/// The command of some arguments, with commas between them, ends so over these files and this input. All files
-/// are opened before one is read, each is read before the next, and the input is read only if all are opened. No file
-/// is made.
-pub fn check(
-    alloc: Global,
-    files: &Files,
-    words: &str,
-    input: &[u8],
-    end: &End,
-) -> Result<(), Fail> {
-    check_words(alloc, files, &words_of(alloc, words)?, input, end)
-}
-
-/// The same for a list of arguments.
-pub fn check_words(
-    alloc: Global,
-    files: &Files,
-    words: &[&str],
-    input: &[u8],
-    end: &End,
-) -> Result<(), Fail> {
-    let disk = Disk::holding(alloc, "kept.txt", "kept")?;
-    let around = Around {
-        input,
-        paces: [WHOLE, WHOLE, WHOLE],
-        disk: &disk,
-        makes: false,
-    };
-    let checked = check_run(alloc, files, words, &around, end);
-    let is_kept = disk.holds("kept.txt", "kept");
-    drop(disk);
-    checked?;
-    holds(is_kept, "a file was made")
-}
-
-/// The same for arguments with commas between them, with a disk of its own. A file is to be made on it just where
-/// this is said, and once all files are read to their end. A file that is made is kept or removed.
+/// The command of some arguments, with commas between them, ends so over these files, this input and this disk. All files
+/// are opened before one is read, each is read before the next, and the input is read only if all are opened. A file is to be
+/// made on the disk just where this is said, and once all files are read to their end. It is then kept or removed.
 pub fn check_around(
     alloc: Global,
     files: &Files,

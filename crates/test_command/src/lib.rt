@@ -1,16 +1,9 @@
-//! Tests of the whole command over an opener in memory, and of all that it says of an error.
+//! Tests of the whole command over an opener in memory and streams that fail, and of all that it says of an error. What it
+//! prints over whole files is tested with the built program, by `tests/run.py`.
 #![tactic(auto)]
 
 #[cfg(test)]
-mod affected;
-#[cfg(test)]
-mod audits;
-#[cfg(test)]
-mod commands;
-#[cfg(test)]
 mod fakes;
-#[cfg(test)]
-mod helps;
 #[cfg(test)]
 mod lines;
 #[cfg(test)]

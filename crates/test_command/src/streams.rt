@@ -1,7 +1,6 @@
 //! Standard input, standard output and standard error that fail after each number of bytes.
 
 use crate::fakes::{Around, Disk, End, Files, WHOLE, check_around};
-use crate::helps::{CHECK, NO_DATA};
 use std::alloc::Global;
 use std::io::ErrorKind;
 use std::test::Fail;
@@ -121,6 +120,26 @@ fn standard_output_that_fails(rt: HostRuntime) -> Result<(), Fail> {
     check_output(rt.alloc(), SORT, &whole, &cut)
 }
 
+/// The help of `check`.
+const CHECK: &str =
+    "Says whether a weight table is well-formed (UTS #10, section 9.2). Prints `well-formed`, or the\n\
+    first condition that fails and the first row that fails it, such as `WF5 row 8`, with status 1.\n\
+    \n\
+    Usage: uca check <TABLE> <DATA>\n\
+    \n\
+    Arguments:\n\
+    \x20 <TABLE>\n\
+    \x20         A weight table in the format of allkeys.txt\n\
+    \n\
+    \x20 <DATA>\n\
+    \x20         A data file: combining classes and Han ranges\n\
+    \n\
+    Options:\n\
+    \x20 -h, --help\n\
+    \x20         Print help (see a summary with '-h')\n\
+    \n\
+    Example: uca check allkeys.txt data.txt\n";
+
 /// Help that does not go out changes neither the status nor standard error.
 #[test]
 fn help_that_does_not_go_out(rt: HostRuntime) -> Result<(), Fail> {
@@ -143,6 +162,14 @@ fn check_error(alloc: Global, words: &str, whole: &End) -> Result<(), Fail> {
     }
     Ok(())
 }
+
+/// What is said if the second argument of `keys` is missing.
+const NO_DATA: &str = "error: the following required arguments were not provided:\n\
+    \x20 <DATA>\n\
+    \n\
+    Usage: uca keys <TABLE> <DATA>\n\
+    \n\
+    For more information, try '--help'.\n";
 
 #[test]
 fn standard_error_that_fails(rt: HostRuntime) -> Result<(), Fail> {

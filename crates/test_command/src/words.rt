@@ -1,10 +1,12 @@
-//! Arguments that are read and arguments that are rejected, each list written as a line that is cut at its blanks.
+//! Arguments that are read, each list written as a line that is cut at its blanks. Those that are rejected, and the help, are
+//! tested with the built program, by `tests/run.py`.
 
 use std::alloc::{AllocError, Global};
 use std::iter::once;
 use std::test::Fail;
 use test_kit::{halves, holds, same};
 use uca_words::{WordFault, read_words};
+use unicode_normalization::UNICODE_VERSION;
 
 /// The program's name, and the arguments of a line.
 fn words_of(alloc: Global, line: &str) -> Result<Vec<&str>, AllocError> {
@@ -75,67 +77,6 @@ fn words_that_are_read(rt: HostRuntime) -> Result<(), Fail> {
     check_cases(rt.alloc(), READ)
 }
 
-const REFUSED: &str = "check | MissingRequiredArgument
-check t | MissingRequiredArgument
-check t d e | UnknownArgument
-check --weighting shifted t d | UnknownArgument
-check --identical t d | UnknownArgument
-keys t | MissingRequiredArgument
-keys t d --weighting | InvalidValue
-keys t d --weight shifted | UnknownArgument
-keys --identical=x t d | TooManyValues
-keys --lines=x t d | TooManyValues
-keys --lines --lines t d | ArgumentConflict
-keys --line t d | UnknownArgument
-keys --version t d | UnknownArgument
-keys -V t d | UnknownArgument
-sort t d e | UnknownArgument
-sort --lines t d | UnknownArgument
-sort --weighting x --weighting x t d | ArgumentConflict
-sort --identical --identical t d | ArgumentConflict
-compare t d | MissingRequiredArgument
-compare t d a | MissingRequiredArgument
-compare t d a b c | UnknownArgument
-tailor t d | MissingRequiredArgument
-tailor t d r | MissingRequiredArgument
-tailor t d r c e | UnknownArgument
-tailor --identical t d r c | UnknownArgument
-tailor --weighting shifted t d r c | UnknownArgument
-audit b d r t | MissingRequiredArgument
-audit b d r t c e | UnknownArgument
-audit --identical b d r t c | UnknownArgument
-affected | MissingRequiredArgument
-affected d | MissingRequiredArgument
-affected d r t | UnknownArgument
-affected --lines d r | UnknownArgument
-affected --identical d r | UnknownArgument
-affected --weighting shifted d r | UnknownArgument
---weighting shifted keys t d | UnknownArgument
---lines keys t d | UnknownArgument
-order t d | InvalidSubcommand
-help | DisplayHelp
-help keys | DisplayHelp
-help help | DisplayHelp
-help order | InvalidSubcommand
-help keys t | InvalidSubcommand
---help | DisplayHelp
-sort --help | DisplayHelp
-compare -h | DisplayHelp
-affected --help | DisplayHelp
---version | DisplayVersion
--V | DisplayVersion
---version keys t d | DisplayVersion
--- --version | InvalidSubcommand";
-
-#[test]
-fn words_that_are_refused(rt: HostRuntime) -> Result<(), Fail> {
-    check_cases(rt.alloc(), REFUSED)?;
-    let alone = said(rt.alloc(), &["uca"])?;
-    same(&alone, "MissingSubcommand", "the name alone")?;
-    let nothing = said(rt.alloc(), &[])?;
-    same(&nothing, "MissingSubcommand", "no words")
-}
-
 /// The words are judged before the weighting.
 const NO_WEIGHTINGS: &str = r#"keys --weighting x t d | Weighting
 sort --weighting Shifted t d | Weighting
@@ -158,52 +99,11 @@ fn text_of(alloc: Global, words: &[&str]) -> Result<String, AllocError> {
     }
 }
 
-/// A part of a help, and the words that ask for it.
-const HELPS: &str = "Usage: uca <COMMAND> | --help
-check  | --help
-keys  | --help
-sort  | --help
-compare  | --help
-tailor  | --help
-audit  | --help
-affected  | --help
-help  | --help
--V, --version | --help
-uca 0.1.0 | --version
-Unicode 18.0.0 | --version
-rattle-kit- | -V
-Usage: uca <COMMAND> | help
-Usage: uca keys [OPTIONS] <TABLE> <DATA> | help keys
-Usage: uca check <TABLE> <DATA> | check --help
-`well-formed` | check --help
-`WF5 row 8`, with status 1 | check --help
-Usage: uca keys [OPTIONS] <TABLE> <DATA> | keys --help
---weighting <W> | keys --help
-non-ignorable or shifted | keys --help
---lines | keys --help
-Usage: uca affected <DATA> <RULES> | affected --help
-`bh` occurs in `bach` | affected --help
-Lines of equal keys keep their order | sort --help
-Example: uca sort  | sort --help
-<LEFT> <RIGHT> | compare --help
-`<`, `=` or `>` | compare --help
-first differ, or 0 | compare --help
-Usage: uca tailor <TABLE> <DATA> <RULES> <CERTIFICATE> | tailor --help
-A file of that name is replaced | tailor --help
-Example: uca tailor table.txt data.txt rules.txt certificate.txt > tailored.txt | tailor --help
-<BASE> <DATA> <RULES> <TAILORED> <CERTIFICATE> | audit --help
-Example: uca audit table.txt data.txt rules.txt tailored.txt certificate.txt | audit --help";
-
-fn check_help(alloc: Global, case: &str) -> Result<(), Fail> {
-    let (part, line) = halves(case)?;
-    let words = words_of(alloc, line)?;
-    holds(text_of(alloc, &words)?.contains(part), case)
-}
-
+/// The version names the edition of the library that normalizes.
 #[test]
-fn help_that_is_asked_for(rt: HostRuntime) -> Result<(), Fail> {
-    for case in HELPS.lines() {
-        check_help(rt.alloc(), case)?;
-    }
-    Ok(())
+fn edition_of_the_normalization(rt: HostRuntime) -> Result<(), Fail> {
+    let (major, minor, update) = UNICODE_VERSION;
+    let edition = format!(in rt.alloc(); "(normalization of Unicode {major}.{minor}.{update}, ")?;
+    let text = text_of(rt.alloc(), &["uca", "--version"])?;
+    holds(text.contains(edition.as_str()), "the edition of Unicode")
 }

@@ -1,5 +1,5 @@
-//! Tests of the four readers over files that are damaged or random, and of the command's arguments over such
-//! lines. What is accepted means what it says, and what is rejected is rejected at a position that has an error.
+//! Tests of the four readers over files that are damaged or random. What is accepted means what it says, and what is
+//! rejected is rejected at a position that has an error.
 //!
 //! Which files are accepted: another reader was written by docs/FORMATS.md, apart from these crates and in another
 //! language, and read the same files. The number of accepted files, and the sum of their numbers, are those that it
@@ -19,10 +19,6 @@
 //! A rejected file: the position is there and may have such an error. The part of the file up to it is rejected in the
 //! same way (and so are rules after a chain), and the part before it is not. No model judges which of the kinds that
 //! are possible there is named.
-//!
-//! Arguments: for each line a small model says whether it is taken, whether its weighting is unknown, or whether it is
-//! rejected. Of a line that is taken it says the weighting, the depth, the names and the texts. What is read is the
-//! same, and reads as itself when it is written out.
 #![tactic(auto)]
 
 #[cfg(test)]
@@ -43,5 +39,3 @@ mod numbers;
 mod rules;
 #[cfg(test)]
 mod tables;
-#[cfg(test)]
-mod words;

@@ -1,7 +1,6 @@
 //! The tables and the data files of the tests.
 
-use std::alloc::{AllocError, Global};
-use test_kit::{DATA, TABLE, repeated};
+use std::alloc::AllocError;
 
 /// A table of a letter and an accent.
 pub const SHORT_TABLE: &str = "@version 1\n\
@@ -11,25 +10,8 @@ pub const SHORT_TABLE: &str = "@version 1\n\
 /// The class of an accent.
 pub const SHORT_DATA: &str = "@data 1\nccc 0301..0301 230\n";
 
-/// A contraction of `a` with an acute accent.
-pub const A_ACUTE: &str = "0061 0301 ; [.1C50.0020.0002]\n";
-
-/// A contraction of `a` with an acute and a grave accent.
-pub const A_ACUTE_GRAVE: &str = "0061 0301 0300 ; [.1C58.0020.0002]\n";
-
-/// A contraction of `x`, which has no row, with an acute accent.
-pub const X_ACUTE: &str = "0078 0301 ; [.1C90.0020.0002]\n";
-
-/// A row without weights: a text with this code point has the same key as the text without it.
-pub const NO_WEIGHTS: &str = "0001 ; [.0000.0000.0000]\n";
-
 /// The key of `a`, as a line.
 pub const KEY_OF_A: &str = "1C47 0000 0020 0000 0002\n";
-
-/// This many acute accents.
-pub fn acutes(alloc: Global, count: usize) -> Result<String, AllocError> {
-    repeated(alloc, "\u{301}", count)
-}
 
 /// Adds a weight this many times, as it is printed.
 pub fn push_weights(text: &mut String, weight: &str, count: usize) -> Result<(), AllocError> {
@@ -61,28 +43,11 @@ pub struct Files<'a> {
 }
 
 impl<'a> Files<'a> {
-    /// The same with another table.
-    pub fn with_table(self, table: &'a [&'a str]) -> Files<'a> {
-        Files { table, ..self }
-    }
-
-    /// The same with another data file.
-    pub fn with_data(self, data: &'a str) -> Files<'a> {
-        Files { data, ..self }
-    }
-
     /// The same with other lines.
     pub fn with_input(self, input: &'a [u8]) -> Files<'a> {
         Files { input, ..self }
     }
 }
-
-/// Letters and accents, and no lines.
-pub const SMALL: Files = Files {
-    table: &[TABLE],
-    data: DATA,
-    input: b"",
-};
 
 /// A letter and an accent, and no lines.
 pub const SHORT: Files = Files {

@@ -8,7 +8,7 @@ use crate::paces::{
 use crate::runs::Run;
 use std::alloc::{AllocError, Global};
 use std::test::Fail;
-use test_kit::{Pace, holds, repeated};
+use test_kit::{Pace, holds};
 
 /// How many bytes a call gives or takes at most. The last gives or takes all.
 const STEPS: [usize; 6] = [1, 2, 3, 7, 4096, usize::MAX];
@@ -134,64 +134,4 @@ fn lines_of_many_lengths(rt: HostRuntime) -> Result<(), Fail> {
         counts.push(place.saturating_mul(STRIDE))?;
     }
     check_lines(rt.alloc(), &counts)
-}
-
-/// Sizes of a sorted line with its LF: some size, and about the size of the buffers for input and output and
-/// its multiples.
-const SIZES: [usize; 5] = [12_345, 16_383, 16_384, 16_385, 32_769];
-
-fn check_size(alloc: Global, size: usize) -> Result<(), Fail> {
-    let lines = lines_of(alloc, &[size.saturating_sub(1)])?;
-    holds(lines.rising.len() == size, "another size")?;
-    check_sorted(alloc, &lines)
-}
-
-#[test]
-fn sorted_lines_about_the_size_of_the_buffer(rt: HostRuntime) -> Result<(), Fail> {
-    for size in SIZES {
-        check_size(rt.alloc(), size)?;
-    }
-    Ok(())
-}
-
-// Printed keys of a size, and the numbers of letters of lines that have such keys.
-fn check_key_size(alloc: Global, size: usize, counts: &[usize]) -> Result<(), Fail> {
-    let lines = lines_of(alloc, counts)?;
-    holds(lines.keys.len() == size, "another size")?;
-    check_keys(alloc, &lines)
-}
-
-// Sizes about the same. That of a printed key is a multiple of five.
-#[test]
-fn keys_about_the_size_of_the_buffer(rt: HostRuntime) -> Result<(), Fail> {
-    check_key_size(rt.alloc(), 12_345, &[0, 0, 821])?;
-    check_key_size(rt.alloc(), 16_380, &[0, 0, 1090])?;
-    check_key_size(rt.alloc(), 16_385, &[0, 1091])?;
-    check_key_size(rt.alloc(), 32_770, &[2184])
-}
-
-// The keys of these lines, and the end of the run.
-fn check_end<'a>(alloc: Global, lines: &'a str, keys: &'a str, end: &'a str) -> Result<(), Fail> {
-    let whole = with_input(&KEYS, lines.as_bytes(), keys);
-    let case = Case { end, ..whole };
-    let outcome = run_at(alloc, &case, [Pace::steps(usize::MAX); 4])?;
-    let checked = holds(is_whole(&case, &outcome), &outcome.end);
-    drop(outcome);
-    checked
-}
-
-// The keys of a million empty lines, and then the end of the run, where this comes after the lines.
-fn check_million(alloc: Global, more: &str, end: &str) -> Result<(), Fail> {
-    let mut lines = repeated(alloc, "\n", 1_000_000)?;
-    lines.push_str(more)?;
-    let keys = repeated(alloc, "0000 0000\n", 1_000_000)?;
-    check_end(alloc, &lines, &keys, end)
-}
-
-#[test]
-fn at_most_a_million_lines(rt: HostRuntime) -> Result<(), Fail> {
-    check_million(rt.alloc(), "", "done")?;
-    let limit = "input line 1000001: Limit, status 1";
-    check_million(rt.alloc(), "\n", limit)?;
-    check_million(rt.alloc(), "a", limit)
 }

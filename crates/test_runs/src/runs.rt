@@ -1,9 +1,8 @@
-//! The runs of the command over any readers and any writer, and over files in memory.
+//! The runs of the command over any readers and any writer.
 
-use crate::files::Files;
 use std::alloc::{AllocError, Global};
 use std::io::{Read, Write};
-use test_kit::{Streams, joined};
+use test_kit::Streams;
 use uca_cli::{RunFault, run_check, run_compare, run_keyed_lines, run_keys, run_sort};
 use uca_weights::{Depth, Sink, Source, Weighting};
 
@@ -87,32 +86,4 @@ pub fn run_over<T: Read, D: Read, I: Read, W: Write>(
             alloc, table, properties, left, right, out, asked, depth,
         )),
     }
-}
-
-/// What came of a run over files in memory.
-#[derive(Drop)]
-pub struct Outcome {
-    /// What is said of its end.
-    pub end: String,
-    /// What it printed.
-    pub printed: Vec<u8>,
-    /// Which of its streams say that they failed: the table, the data file, the input and the output.
-    pub failed: [bool; 4],
-}
-
-/// Runs over files in memory. None of the streams fails.
-pub fn run_files(alloc: Global, files: Files, run: Run) -> Result<Outcome, AllocError> {
-    let table = joined(alloc, files.table)?;
-    let mut streams = Streams {
-        table: Source::new(table.as_bytes()),
-        properties: Source::new(files.data.as_bytes()),
-        input: Source::new(files.input),
-        out: Sink::new(Vec::new(alloc)),
-    };
-    let end = run_over(alloc, &mut streams, run);
-    Ok(Outcome {
-        end: told(alloc, &end)?,
-        failed: streams.failed(),
-        printed: streams.out.into_inner(),
-    })
 }
