@@ -1,11 +1,11 @@
 -- Reading a text piece by piece, step by step.
-use Rattle.std.proofs.Common.{◌≡◌, ℕ, ◌<◌, ◌≤◌, ◌^◌, length, arith, Bool, true, false, List, [], ◌∷◌, ◌++◌, ◌⊎◌, inl, inr, Some, None, Result, Ok, Err, map, refl, sym, ap, subst, ◌∙◌, append-nil, append_assoc, encode_utf8_all}
+use Rattle.std.proofs.Common.{◌≡◌, ℕ, ◌<◌, ◌≤◌, ◌^◌, length, arith, Bool, true, false, List, [], ◌∷◌, ◌++◌, ◌⊎◌, inl, inr, Some, None, Result, Ok, Err, map, refl, sym, ap, subst, ◌∙◌, append-nil, append_assoc, encode_utf8_all, ◌-◌, take, drop, take-append-drop, length-append}
 use Rattle.std.specs.Prelude.{IfOk}
 use Rattle.std.specs.Bool.{OnTrue}
 use Rattle.std.specs.Char.{encode_utf8}
-use Rattle.std.specs.Str.{chars, IsUtf8}
+use Rattle.std.specs.Str.{chars, IsUtf8, IsCharBoundary}
 use Rattle.std.specs.String.{string_bytes}
-use Rattle.std.proofs.lemmas.Str.{encodes-chars, encodes-append, chars_from_encodes}
+use Rattle.std.proofs.lemmas.Str.{encodes-chars, encodes-append, chars_from_encodes, IsCharBoundary-at_seam}
 use Rattle.std.proofs.lemmas.List.{length-map}
 use Rattle.unicode_normalization.specs.Forms.{nfd, Nfd}
 use Rattle.unicode_normalization.proofs.LengthLemmas.{length-normalize-chars}
@@ -36,6 +36,38 @@ chars_pushed old new x utf8 whole is =
     let bytes : encode_utf8_all (chars old ++ x ∷ []) ≡ new =
     encodes-append (chars old) (x ∷ []) ∙ ap (λ l. l ++ (encode_utf8 x ++ [])) (encodes-chars old utf8) ∙ ap (λ l. old ++ l) (append-nil (encode_utf8 x)) ∙ sym is in
     sym (chars_from_encodes (chars old ++ x ∷ []) new whole bytes)
+
+-- a text with more at its end
+pub chars_extended : (old new more : List ℕ) → IsUtf8 old → IsUtf8 new → IsUtf8 more → new ≡ old ++ more → chars new ≡ chars old ++ chars more
+chars_extended old new more utf8 whole more_utf8 is =
+    let bytes : encode_utf8_all (chars old ++ chars more) ≡ new =
+    encodes-append (chars old) (chars more) ∙ ap (λ l. l ++ encode_utf8_all (chars more)) (encodes-chars old utf8)
+    ∙ ap (λ l. old ++ l) (encodes-chars more more_utf8) ∙ sym is in
+    sym (chars_from_encodes (chars old ++ chars more) new whole bytes)
+
+-- a text that ends in another one is cut where that begins
+pub text_seam : (text rest more : List ℕ) → IsUtf8 text → IsUtf8 rest → chars text ≡ more ++ chars rest → text ≡ encode_utf8_all more ++ rest
+text_seam text rest more utf8 rest_utf8 is =
+    sym (encodes-chars text utf8) ∙ ap encode_utf8_all is ∙ encodes-append more (chars rest) ∙ ap (λ l. encode_utf8_all more ++ l) (encodes-chars rest rest_utf8)
+
+pub seam_shorter : (text rest more : List ℕ) → IsUtf8 text → IsUtf8 rest → chars text ≡ more ++ chars rest → length rest ≤ length text
+seam_shorter text rest more utf8 rest_utf8 is =
+    omega (arith, ap length (text_seam text rest more utf8 rest_utf8 is), length-append (encode_utf8_all more) rest)
+
+pub seam_boundary : (text rest more : List ℕ) → IsUtf8 text → IsUtf8 rest → chars text ≡ more ++ chars rest
+    → IsCharBoundary text (length text - length rest)
+seam_boundary text rest more utf8 rest_utf8 is =
+    let seam = text_seam text rest more utf8 rest_utf8 is in
+    let at : length (encode_utf8_all more) ≡ length text - length rest =
+    omega (arith, ap length seam, length-append (encode_utf8_all more) rest) in
+    subst (IsCharBoundary text) at (IsCharBoundary-at_seam text (encode_utf8_all more) rest seam rest_utf8)
+
+-- the two parts of a text that is cut have its code points
+pub chars_cut : (text front back : List ℕ) (n : ℕ) → IsUtf8 text → IsUtf8 front → IsUtf8 back → front ≡ take n text → back ≡ drop n text
+    → chars text ≡ chars front ++ chars back
+chars_cut text front back n utf8 front_utf8 back_utf8 is_front is_back =
+    chars_extended front text back front_utf8 utf8 back_utf8
+    (sym (take-append-drop n text) ∙ ap (λ l. l ++ drop n text) (sym is_front) ∙ ap (λ l. front ++ l) (sym is_back))
 
 -- a piece begins with a plain code point, or at the begin of the text
 abbrev pub Begins : Collation → List ℕ → List ℕ → Type 0
@@ -98,12 +130,12 @@ next_piece c weighting xs b piece known true is few entry read =
     }
 next_piece c weighting xs b piece known false is few entry read = tt
 
--- the piece goes on by another code point
-pub longer_piece : (c : Collation) (weighting : Weighting) (xs : List ℕ) (b : LevelState) (old new : Piece) (x : ℕ)
-    → piece_points new ≡ piece_points old ++ x ∷ [] → new.alone ≡ None → ReadsTo c weighting xs b old → ReadsTo c weighting (xs ++ x ∷ []) b new
-longer_piece c weighting xs b old new x is none reads = record {
+-- the piece goes on by other code points
+pub longer_piece : (c : Collation) (weighting : Weighting) (xs : List ℕ) (b : LevelState) (old new : Piece) (more : List ℕ)
+    → piece_points new ≡ piece_points old ++ more → new.alone ≡ None → ReadsTo c weighting xs b old → ReadsTo c weighting (xs ++ more) b new
+longer_piece c weighting xs b old new more is none reads = record {
   before = reads.before;
-  split = ap (λ l. l ++ x ∷ []) reads.split ∙ append_assoc reads.before (piece_points old) (x ∷ []) ∙ ap (λ l. reads.before ++ l) (sym is);
+  split = ap (λ l. l ++ more) reads.split ∙ append_assoc reads.before (piece_points old) more ∙ ap (λ l. reads.before ++ l) (sym is);
   held = reads.held;
   runs = reads.runs;
   begins = longer reads.begins;
@@ -112,7 +144,7 @@ longer_piece c weighting xs b old new x is none reads = record {
   where
     longer : Begins c reads.before (piece_points old) → Begins c reads.before (piece_points new)
     longer (inl empty) = inl empty
-    longer (inr (y, ys, begins, plain)) = inr (y, ys ++ x ∷ [], is ∙ ap (λ l. l ++ x ∷ []) begins, plain)
+    longer (inr (y, ys, begins, plain)) = inr (y, ys ++ more, is ∙ ap (λ l. l ++ more) begins, plain)
 
 -- at the begin of a text
 pub begin_text : (c : Collation) (weighting : Weighting) (b : LevelState) (piece : Piece) → HoldsLevels weighting [] b → piece_points piece ≡ []

@@ -1,5 +1,6 @@
 -- What is kept of code points stays true.
-use Rattle.std.proofs.Common.{◌≡◌, ℕ, false, zero, suc, ◌+◌, ◌<◌, ◌≤◌, List, ◌∷◌, [], ◌++◌, length, take, replicate, sym, ap, subst, ◌∙◌, arith}
+use Rattle.std.proofs.Common.{◌≡◌, ℕ, Bool, true, false, zero, suc, ◌+◌, ◌<◌, ◌≤◌, List, ◌∷◌, [], ◌++◌, length, take, replicate, sym, ap, subst, ◌∙◌, arith}
+use Rattle.std.specs.Bool.{OnTrue}
 use Rattle.std.specs.Char.{encode_utf8}
 use Rattle.std.specs.Str.{chars, IsUtf8}
 use Rattle.std.proofs.Math.ListN.{set}
@@ -14,7 +15,9 @@ use Rattle.uca_text.proofs.NfdLength.{decompose_length}
 use Rattle.uca_match.specs.Collations.{Collation, elements_of}
 use Rattle.uca_key.specs.declared.plain.Known.{Known}
 use Rattle.uca_key.specs.Plain.{IsPlain}
-use Rattle.uca_key.specs.PlainPoints.{IsTrueEntry, BeginsWithStarter, HasTrueDecomposition, AreTrueEntries}
+use Rattle.uca_key.specs.PlainPoints.{IsTrueEntry, IsTrueLeaf, BeginsWithStarter, HasTrueDecomposition, AreTrueEntries}
+use Rattle.uca_key.specs.Leaves.{IsLeaf, points_elements}
+use Rattle.uca_key.proofs.LeafReading.{text_of_points, classes_of}
 
 -- of an entry that says nothing of a decomposition all is true
 pub nothing_said : (c : Collation) (known : Known) → 4 ≤ known.len → known.starts ≡ false → HasTrueDecomposition c known
@@ -23,17 +26,19 @@ nothing_said c known most none = record {
   starts = λ starts. cc;
 }
 
-replicate_true : (c : Collation) (known : Known) → 3 < known.count → HasTrueDecomposition c known → (n : ℕ) → AreTrueEntries c (replicate n known)
-replicate_true c known none said zero = tt
-replicate_true c known none said (suc n) = (((λ few. absurd (omega arith)), said), replicate_true c known none said n)
+replicate_true : (c : Collation) (known : Known) → 3 < known.count → 3 < known.leaf_count → HasTrueDecomposition c known → (n : ℕ)
+    → AreTrueEntries c (replicate n known)
+replicate_true c known none no_leaf said zero = tt
+replicate_true c known none no_leaf said (suc n) =
+    (((λ few. absurd (omega arith)), said, (λ few. absurd (omega arith))), replicate_true c known none no_leaf said n)
 
 -- more entries that have nothing to give
-pub more_entries : (c : Collation) (entries new : List Known) (n k : ℕ) (known : Known) → 3 < known.count → 4 ≤ known.len → known.starts ≡ false → length entries ≤ n
-    → new ≡ take n entries ++ replicate k known → AreTrueEntries c entries → AreTrueEntries c new
-more_entries c entries new n k known none most not_said all are true =
+pub more_entries : (c : Collation) (entries new : List Known) (n k : ℕ) (known : Known) → 3 < known.count → 3 < known.leaf_count → 4 ≤ known.len → known.starts ≡ false
+    → length entries ≤ n → new ≡ take n entries ++ replicate k known → AreTrueEntries c entries → AreTrueEntries c new
+more_entries c entries new n k known none no_leaf most not_said all are holds =
     subst (AreTrueEntries c) (sym (are ∙ ap (λ l. l ++ replicate k known) (take_all n entries all)))
-    (each_append (λ e. IsTrueEntry c e × HasTrueDecomposition c e) entries (replicate k known) true
-    (replicate_true c known none (nothing_said c known most not_said) k))
+    (each_append (λ e. IsTrueEntry c e × HasTrueDecomposition c e × IsTrueLeaf c e) entries (replicate k known) holds
+    (replicate_true c known none no_leaf (nothing_said c known most not_said) k))
 
 -- what an entry says of a decomposition is true of another entry that says it
 pub same_decomposition : (c : Collation) (bound known : Known) → known.point ≡ bound.point → known.len ≡ bound.len → known.starts ≡ bound.starts
@@ -53,11 +58,23 @@ element_kept elements so_far count at e same below are =
 pub chars_alone : (text : List ℕ) (x : ℕ) → IsUtf8 text → text ≡ encode_utf8 x → chars text ≡ x ∷ []
 chars_alone text x utf8 is = chars_past_char text [] x utf8 (is ∙ sym (append-nil (encode_utf8 x))) ∙ ap (λ l. x ∷ l) chars-nil
 
--- the entry of a plain code point, by that text
-pub entry_of : (c : Collation) (x : ℕ) (text : List ℕ) (normal : NfdText) (known : Known) → IsUtf8 text → text ≡ encode_utf8 x → IsPlain c x
-    → normal ≡ nfd_text c.properties (chars text) → known.point ≡ x → (known.count ≤ 3 → take known.count known.elements ≡ elements_of c normal)
-    → IsTrueEntry c known
-entry_of c x text normal known utf8 is plain normalized point has = λ few. (
-  subst (IsPlain c) (sym point) plain,
-  has few ∙ ap (elements_of c) (normalized ∙ ap (nfd_text c.properties) (chars_alone text x utf8 is ∙ ap (λ y. y ∷ []) (sym point))),
+-- the entry of a code point that is plain, by that text
+pub entry_of : (c : Collation) (x : ℕ) (text : List ℕ) (normal : NfdText) (known : Known) (plain : Bool) → IsUtf8 text → text ≡ encode_utf8 x
+    → OnTrue plain (IsPlain c x) → normal ≡ nfd_text c.properties (chars text) → known.point ≡ x
+    → (known.count ≤ 3 → (plain ≡ true) × (take known.count known.elements ≡ elements_of c normal)) → IsTrueEntry c known
+entry_of c x text normal known plain utf8 is is_plain normalized point has = λ few. (
+  subst (IsPlain c) (sym point) (subst (λ b. OnTrue b (IsPlain c x)) (has few).0 is_plain),
+  (has few).1 ∙ ap (elements_of c) (normalized ∙ ap (nfd_text c.properties) (chars_alone text x utf8 is ∙ ap (λ y. y ∷ []) (sym point))),
 )
+
+-- and of a leaf, which is that text
+pub leaf_of : (c : Collation) (x y : ℕ) (xs : List ℕ) (normal : NfdText) (known : Known) (leaf : Bool) → OnTrue leaf (IsLeaf c x)
+    → normal ≡ nfd_text c.properties xs → known.point ≡ y → y ≡ x
+    → (known.leaf_count ≤ 3 → (leaf ≡ true) × (normal.points ≡ y ∷ []) × (take known.leaf_count known.elements ≡ elements_of c normal))
+    → IsTrueLeaf c known
+leaf_of c x y xs normal known leaf is_leaf normalized point same has = λ few.
+    let said = has few in (
+      subst (IsLeaf c) (sym (point ∙ same)) (subst (λ b. OnTrue b (IsLeaf c x)) said.0 is_leaf),
+      said.2 ∙ sym (text_of_points c normal (classes_of c xs normal normalized))
+          ∙ ap (points_elements c) (said.1 ∙ ap (λ z. z ∷ []) (sym point)),
+    )

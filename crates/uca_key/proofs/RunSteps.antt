@@ -1,5 +1,5 @@
 -- Reading plain code points in a row, step by step.
-use Rattle.std.proofs.Common.{◌≡◌, ℕ, ◌≤◌, List, [], ◌∷◌, ◌++◌, inr, Some, refl, sym, ap, subst, ◌∙◌, append-nil, append_assoc, arith, take, length, Bool, true, nat_eq}
+use Rattle.std.proofs.Common.{◌≡◌, ℕ, ◌≤◌, List, [], ◌∷◌, ◌++◌, inr, Some, refl, sym, ap, subst, ◌∙◌, append-nil, append_assoc, arith, take, length, length-append, ◌<◌, Bool, true, nat_eq}
 use Rattle.std.specs.Str.{chars}
 use Rattle.std.specs.String.{string_bytes}
 use Rattle.std.proofs.lemmas.Bool.Decides.{nat_tests}
@@ -143,3 +143,8 @@ pub text_ends : (c : Collation) (weighting : Weighting) (text rest more : List �
 text_ends c weighting text rest more x old new was before is read =
     let whole = append_assoc before.more (x ∷ []) (chars more) ∙ ap (λ l. before.more ++ l) (sym is) ∙ sym before.split in
     subst (λ l. HasRead c weighting l new) whole read
+
+-- less of a text is left then
+pub less_to_read : (rest more after : List ℕ) (x : ℕ) (read : List ℕ) → chars rest ≡ x ∷ chars more → chars more ≡ read ++ chars after
+    → length (chars after) < length (chars rest)
+less_to_read rest more after x read is split = omega (arith, ap length is, ap length split, length-append read (chars after))

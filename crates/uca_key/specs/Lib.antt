@@ -6,6 +6,7 @@ pub mod StreamedWeights
 pub mod Buffers
 pub mod Writers
 pub mod Plain
+pub mod Leaves
 pub mod PlainPoints
 pub mod Pieces
 pub mod Runs

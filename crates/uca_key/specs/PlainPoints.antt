@@ -6,11 +6,16 @@ use Rattle.unicode_normalization.specs.Forms.{Nfd}
 use Rattle.unicode_normalization.specs.Decompose.{decompose}
 use Rattle.uca_match.specs.Collations.{Collation}
 use Rattle.uca_key.specs.declared.plain.Known.{Known}
+use Rattle.uca_key.specs.Leaves.{IsLeaf, leaf_elements}
 use Rattle.uca_key.specs.Plain.{IsPlain, elements_alone}
 
 -- where an entry has elements, its code point is plain and has these
 abbrev pub IsTrueEntry : Collation → Known → Type 0
 IsTrueEntry c known = known.count ≤ 3 → IsPlain c known.point × (take known.count known.elements ≡ elements_alone c known.point)
+
+-- where an entry has elements of a leaf, its code point is one and has these
+abbrev pub IsTrueLeaf : Collation → Known → Type 0
+IsTrueLeaf c known = known.leaf_count ≤ 3 → IsLeaf c known.point × (take known.leaf_count known.elements ≡ leaf_elements c known.point)
 
 -- the code point decomposes into a starter, under Unicode and under the data file, and what follows it
 pub record BeginsWithStarter (c : Collation) (x : ℕ) : Type 0 where
@@ -27,7 +32,7 @@ pub record HasTrueDecomposition (c : Collation) (known : Known) : Type 0 where
   pub starts : known.starts ≡ true → BeginsWithStarter c known.point
 
 abbrev pub AreTrueEntries : Collation → List Known → Type 0
-AreTrueEntries c entries = AllByRecursion (λ known. IsTrueEntry c known × HasTrueDecomposition c known) entries
+AreTrueEntries c entries = AllByRecursion (λ known. IsTrueEntry c known × HasTrueDecomposition c known × IsTrueLeaf c known) entries
 
 -- how many code points a text decomposes to from its last starter on, at most, with one more code point
 abbrev pub counted_on : Known → ℕ → ℕ

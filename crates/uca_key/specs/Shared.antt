@@ -46,13 +46,13 @@ pub record HasFirst (c : Collation) (xs : List ℕ) (first : Option Element) : T
   pub first_is : IsFirst first (text_elements c xs)
   pub runs : HasNoLongRun (map c.properties.class (nfd xs))
 
--- how two texts compare at all levels, neither of which has a long run
+-- How two texts compare at all levels. Neither text has a long run.
 pub record ComparesTexts (c : Collation) (weighting : Weighting) (xs ys : List ℕ) (w : Walked) : Type 0 where
   pub levels : ComparesLevels weighting (text_elements c xs) (text_elements c ys) w
   pub left_runs : HasNoLongRun (map c.properties.class (nfd xs))
   pub right_runs : HasNoLongRun (map c.properties.class (nfd ys))
 
--- the same of two texts that are accepted
+-- the same for two texts that are accepted
 pub record ComparesAccepted (c : Collation) (weighting : Weighting) (xs ys : List ℕ) (w : Walked) : Type 0 where
   pub levels : ComparesLevels weighting (text_elements c xs) (text_elements c ys) w
   pub left : IsAccepted (nfd_text c.properties xs)

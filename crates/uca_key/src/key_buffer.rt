@@ -217,13 +217,18 @@ fn push_pieces<L: Lookup, T: Allocator, A: Allocator>(
     let mut rest = text;
     while let Some((point, more)) = split_first(rest) {
         let known = points.get(collator, point)?;
-        if !piece.go_on(levels, weighting, collator, known)? {
+        if known.is_bound() {
+            rest = piece.go_on_bound(points, point, more)?;
+            continue;
+        }
+        if !piece.end_by(levels, weighting, collator, points)? {
             return Ok(false);
         }
+        piece.begin(known);
         let Some(after) = piece.run_on(levels, weighting, points, more)? else {
             return Ok(true);
         };
         rest = after;
     }
-    piece.end(levels, weighting, collator)
+    piece.end_by(levels, weighting, collator, points)
 }

@@ -1,7 +1,7 @@
 //! The levels of a key in the making: a buffer for each level, and one for the key.
 
 ghost use Rattle.std.specs.Prelude.{◌≡◌, ℕ, ◌<◌, ◌≤◌, ◌++◌, ◌∷◌, [], List, length, IfOk, OnOk};
-ghost use Rattle.std.specs.Bool.{MatchBool};
+ghost use Rattle.std.specs.Bool.{OnTrue, MatchBool};
 ghost use Rattle.std.specs.Iterator.{IsFinite};
 ghost use Rattle.std.specs.Iterator.Runs.{WholeRun};
 ghost use Rattle.uca_weights.specs.declared.Element.{Element};
@@ -9,13 +9,14 @@ ghost use Rattle.uca_match.specs.Collations.{Collation};
 ghost use Rattle.uca_key.specs.Levels.{key_bytes};
 ghost use Rattle.uca_key.specs.Depths;
 ghost use Rattle.uca_key.specs.Depths.{points_bytes};
+ghost use Rattle.uca_key.specs.Leaves.{points_elements};
 ghost use Rattle.uca_key.specs.LevelBuffers.{HoldsLevels, flattened};
 ghost use Rattle.uca_key.specs.PlainPoints.{AreTrueEntries};
 ghost use Rattle.uca_key.specs.Runs.{ReadsUpTo, RunReads};
 
 use crate::places::{Counts, NO_WEIGHTS, make_room, put_elements};
 use crate::plain::{Known, PlainPoints};
-use crate::runs::{RUN_PLACES, Run, put_run};
+use crate::runs::{LEAVES, RUN_PLACES, Run, put_leaves, put_run};
 use std::alloc::{AllocError, Allocator};
 use std::marker::Model;
 use uca_weights::{Element, Weighting};
@@ -207,6 +208,57 @@ impl<A: Allocator> LevelBuffers<A> {
         self.after_variable = after_variable;
         self.counts = counts;
         Ok(run)
+    }
+
+    /// Adds the weights of code points in Normalization Form D, if each is a leaf that was met. Otherwise `false` is returned, and
+    /// the weights are unspecified.
+    pub(crate) fn push_leaves(
+        &mut self,
+        weighting: Weighting,
+        points: &PlainPoints<A>,
+        text: &[char],
+    ) -> Result<bool, AllocError>
+        requires { length text.now ≤ LEAVES }
+        ensures { (c : Collation) (es : List Element) → AreTrueEntries c points.now.entries.items → HoldsLevels weighting es self.old →
+            IfOk result (λ all. OnTrue all (HoldsLevels weighting (es ++ points_elements c text.now) self.new)) }
+    {
+        match weighting {
+            Weighting::NonIgnorable => self.push_leaves_by(Weighting::NonIgnorable, points, text),
+            Weighting::Shifted => self.push_leaves_by(Weighting::Shifted, points, text),
+        }
+    }
+
+    // It stands apart so that it is compiled for each weighting.
+    #[inline(always)]
+    fn push_leaves_by(
+        &mut self,
+        weighting: Weighting,
+        points: &PlainPoints<A>,
+        text: &[char],
+    ) -> Result<bool, AllocError>
+        requires { length text.now ≤ LEAVES }
+        ensures { (c : Collation) (es : List Element) → AreTrueEntries c points.now.entries.items → HoldsLevels weighting es self.old →
+            IfOk result (λ all. OnTrue all (HoldsLevels weighting (es ++ points_elements c text.now) self.new)) }
+    {
+        make_room(&mut self.primary, self.counts.primary, RUN_PLACES)?;
+        make_room(&mut self.secondary, self.counts.secondary, RUN_PLACES)?;
+        make_room(&mut self.tertiary, self.counts.tertiary, RUN_PLACES)?;
+        make_room(&mut self.quaternary, self.counts.quaternary, RUN_PLACES)?;
+        let mut after_variable = self.after_variable;
+        let (all, counts) = put_leaves(
+            weighting,
+            points,
+            text,
+            &mut after_variable,
+            self.counts,
+            self.primary.as_mut_slice(),
+            self.secondary.as_mut_slice(),
+            self.tertiary.as_mut_slice(),
+            self.quaternary.as_mut_slice(),
+        );
+        self.after_variable = after_variable;
+        self.counts = counts;
+        Ok(all)
     }
 
     /// Writes the key of the elements that were pushed, over the key that was there.

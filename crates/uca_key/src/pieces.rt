@@ -1,13 +1,14 @@
 //! `Piece`: a piece of a text, which is cut before each plain code point.
 
-ghost use Rattle.std.specs.Prelude.{◌≡◌, ℕ, [], ◌∷◌, ◌++◌, List, chars, map, IfOk, OnOk, MatchOption};
+ghost use Rattle.std.specs.Prelude.{◌≡◌, ℕ, [], ◌∷◌, ◌++◌, List, Some, None, chars, map, IfOk, OnOk, MatchOption};
 ghost use Rattle.std.specs.Bool.{OnTrue};
 ghost use Rattle.unicode_normalization.specs.Forms.{nfd};
 ghost use Rattle.uca_weights.specs.declared.Element.{Element};
+ghost use Rattle.uca_weights.specs.declared.Weighting.{Weighting};
 ghost use Rattle.uca_text.specs.Texts.{nfd_text};
 ghost use Rattle.uca_text.specs.Limits.{HasNoLongRun};
 ghost use Rattle.uca_match.specs.Collations.{Collation, collation_of, elements_of};
-ghost use Rattle.uca_key.specs.LevelBuffers.{HoldsLevels};
+ghost use Rattle.uca_key.specs.LevelBuffers.{LevelState, HoldsLevels};
 ghost use Rattle.uca_key.specs.Pieces.{piece_points, ReadsTo, HasRead};
 ghost use Rattle.uca_key.specs.Plain.{elements_alone};
 ghost use Rattle.uca_key.specs.PlainPoints.{IsTrueEntry, AreTrueEntries};
@@ -15,7 +16,7 @@ ghost use Rattle.uca_key.specs.Runs.{ReadsMore};
 
 use crate::level_buffers::LevelBuffers;
 use crate::plain::{Known, PlainPoints};
-use crate::runs::Run;
+use crate::runs::{LEAVES, Run, split_bound};
 use std::alloc::{AllocError, Allocator, Global};
 use uca_match::{Collator, Lookup};
 use uca_text::{Normal, TextFault};
@@ -65,6 +66,31 @@ impl Piece {
         Ok(())
     }
 
+    /// Makes it this plain code point alone.
+    #[inline]
+    pub(crate) fn begin(&mut self, known: Known)
+        ensures alone { self.new.alone ≡ Some known }
+    {
+        self.alone = Some(known);
+    }
+
+    /// Goes on by a code point that is not plain, and by those that follow it in the text, as long as they were met and are not
+    /// plain. Returns what comes after them.
+    pub(crate) fn go_on_bound<'t, A: Allocator>(
+        &mut self,
+        points: &PlainPoints<A>,
+        point: char,
+        text: &'t str,
+    ) -> Result<&'t str, AllocError>
+        ensures { (c : Collation) (weighting : Weighting) (xs : List ℕ) (levels : LevelState) → ReadsTo c weighting xs levels self.old →
+            IfOk result (λ rest. ReadsMore c weighting (xs ++ point ∷ []) text.now rest.now levels self.new) }
+    {
+        self.push(point)?;
+        let (bound, rest) = split_bound(points, text);
+        self.text.push_str(bound)?;
+        Ok(rest)
+    }
+
     // Adds a code point that is not plain.
     fn push(&mut self, point: char) -> Result<(), AllocError>
         ensures points { OnOk result (piece_points self.new ≡ piece_points self.old ++ point ∷ []) }
@@ -93,7 +119,7 @@ impl Piece {
             return Ok(true);
         }
         let accepted = self.end(levels, weighting, collator)?;
-        self.alone = Some(known);
+        self.begin(known);
         Ok(accepted)
     }
 
@@ -121,6 +147,34 @@ impl Piece {
                 self.alone = Some(last);
                 Ok(Some(rest))
             }
+        }
+    }
+
+    /// Adds the weights of the piece to the levels, and returns whether it is accepted. A piece of leaves is read by what is known
+    /// of them.
+    pub(crate) fn end_by<L: Lookup, T: Allocator, A: Allocator>(
+        &mut self,
+        levels: &mut LevelBuffers<A>,
+        weighting: Weighting,
+        collator: &Collator<L, T>,
+        points: &mut PlainPoints<A>,
+    ) -> Result<bool, AllocError>
+        requires { AreTrueEntries (collation_of L.content collator.now) points.old.entries.items }
+        ensures entries { AreTrueEntries (collation_of L.content collator.now) points.new.entries.items }
+        ensures read { let c = collation_of L.content collator.now in (xs : List ℕ) → ReadsTo c weighting xs levels.old self.old →
+            IfOk result (λ accepted. OnTrue accepted (HasRead c weighting xs levels.new)) }
+    {
+        match &self.alone {
+            Some(known) => push_known(levels, weighting, known),
+            None if self.text.is_empty() => Ok(true),
+            None => push_text_by(
+                levels,
+                weighting,
+                collator,
+                points,
+                self.text.as_str(),
+                &mut self.normal,
+            ),
         }
     }
 
@@ -185,6 +239,68 @@ fn push_text<L: Lookup, T: Allocator, A: Allocator>(
         Err(TextFault::Memory) => Err(AllocError),
         Err(_) => Ok(false),
     }
+}
+
+// The same, where what is known of leaves is used.
+fn push_text_by<L: Lookup, T: Allocator, A: Allocator>(
+    levels: &mut LevelBuffers<A>,
+    weighting: Weighting,
+    collator: &Collator<L, T>,
+    points: &mut PlainPoints<A>,
+    text: &str,
+    normal: &mut Normal,
+) -> Result<bool, AllocError>
+    requires { AreTrueEntries (collation_of L.content collator.now) points.old.entries.items }
+    ensures entries { AreTrueEntries (collation_of L.content collator.now) points.new.entries.items }
+    ensures levels { let c = collation_of L.content collator.now in (es : List Element) → HoldsLevels weighting es levels.old →
+        IfOk result (λ accepted. OnTrue accepted (HoldsLevels weighting (es ++ elements_of c (nfd_text c.properties (chars text.now))) levels.new)) }
+    ensures runs { let c = collation_of L.content collator.now in
+        IfOk result (λ accepted. OnTrue accepted (HasNoLongRun (map c.properties.class (nfd (chars text.now))))) }
+{
+    match normal.renew(text, collator.data) {
+        Ok(()) => push_normal(levels, weighting, collator, points, normal),
+        Err(TextFault::Memory) => Err(AllocError),
+        Err(_) => Ok(false),
+    }
+}
+
+// Adds the weights of a text in Normalization Form D, and returns whether all are added.
+fn push_normal<L: Lookup, T: Allocator, A: Allocator>(
+    levels: &mut LevelBuffers<A>,
+    weighting: Weighting,
+    collator: &Collator<L, T>,
+    points: &mut PlainPoints<A>,
+    text: &Normal,
+) -> Result<bool, AllocError>
+    requires classes { text.now.classes ≡ map (collation_of L.content collator.now).properties.class text.now.points }
+    requires entries { AreTrueEntries (collation_of L.content collator.now) points.old.entries.items }
+    ensures entries { AreTrueEntries (collation_of L.content collator.now) points.new.entries.items }
+    ensures levels { (es : List Element) → HoldsLevels weighting es levels.old →
+        IfOk result (λ all. OnTrue all (HoldsLevels weighting (es ++ elements_of (collation_of L.content collator.now) text.now) levels.new)) }
+{
+    let chars = text.chars();
+    if chars.len() <= LEAVES && are_leaves(collator, points, chars)? {
+        return levels.push_leaves(weighting, points, chars);
+    }
+    push_elements(levels, weighting, collator, text)?;
+    Ok(true)
+}
+
+// Whether all code points are leaves. Those that were not met are then known.
+fn are_leaves<L: Lookup, T: Allocator, A: Allocator>(
+    collator: &Collator<L, T>,
+    points: &mut PlainPoints<A>,
+    text: &[char],
+) -> Result<bool, AllocError>
+    requires { AreTrueEntries (collation_of L.content collator.now) points.old.entries.items }
+    ensures { AreTrueEntries (collation_of L.content collator.now) points.new.entries.items }
+{
+    for point in text {
+        if !points.is_leaf(collator, *point)? {
+            return Ok(false);
+        }
+    }
+    Ok(true)
 }
 
 // Adds the weights of a text in Normalization Form D.

@@ -1,10 +1,11 @@
 //! `PlainPoints`: the elements of code points that read alone, kept for one text after another.
 
-ghost use Rattle.std.specs.Prelude.{◌≡◌, ◌<◌, ◌≤◌, length, take, IfOk, IfSome};
+ghost use Rattle.std.specs.Prelude.{◌≡◌, ◌<◌, ◌≤◌, ◌∷◌, [], true, length, take, IfOk, IfSome};
 ghost use Rattle.std.specs.Bool.{OnTrue, MatchBool};
 ghost use Rattle.uca_match.specs.Collations.{Collation, collation_of, elements_of};
 ghost use Rattle.uca_key.specs.Plain.{IsPlain, elements_alone};
-ghost use Rattle.uca_key.specs.PlainPoints.{IsTrueEntry, HasTrueDecomposition, AreTrueEntries, counted_on};
+ghost use Rattle.uca_key.specs.Leaves.{IsLeaf, leaf_elements};
+ghost use Rattle.uca_key.specs.PlainPoints.{IsTrueEntry, IsTrueLeaf, HasTrueDecomposition, AreTrueEntries, counted_on};
 ghost use Rattle.uca_key.specs.declared.plain.Known.{Known};
 
 use std::alloc::{AllocError, Allocator, Global};
@@ -45,6 +46,7 @@ const NOT_MET: Known = Known {
     count: BOUND,
     len: LONGEST_DECOMPOSITION,
     starts: false,
+    leaf_count: BOUND,
     elements: [NO_ELEMENT; ROOM],
 };
 
@@ -58,6 +60,8 @@ pub(crate) struct Known {
     len: u8,
     // that it decomposes into a starter first; `false` says nothing
     starts: bool,
+    // How many elements it has, if it is a leaf and has at most three: no key is longer and begins with it. Otherwise 4.
+    leaf_count: u8,
     elements: [Element; ROOM],
 }
 
@@ -66,6 +70,7 @@ impl Known {
     fn bound<L: Lookup, T: Allocator>(collator: &Collator<L, T>, point: char) -> Known
         ensures point { result.point ≡ point }
         ensures count { result.count ≡ 4 }
+        ensures leaf_count { result.leaf_count ≡ 4 }
         ensures entry { (c : Collation) → IsTrueEntry c result }
         ensures decomposition { HasTrueDecomposition (collation_of L.content collator.now) result }
     {
@@ -105,6 +110,20 @@ impl Known {
         ensures few { length result.now ≤ 3 }
     {
         &self.elements[..usize::from(self.count)]
+    }
+
+    /// The elements of the code point, if it is a leaf: those that it has wherever it is read by itself in Normalization Form D.
+    #[inline(always)]
+    pub(crate) fn leaf_elements(&self) -> Option<&[Element]>
+        ensures leaf { (c : Collation) → IsTrueLeaf c self.now →
+            IfSome result (λ elements. IsLeaf c self.now.point × (elements.now ≡ leaf_elements c self.now.point)) }
+        ensures few { IfSome result (λ elements. length elements.now ≤ 3) }
+    {
+        if self.leaf_count < BOUND {
+            Some(&self.elements[..usize::from(self.leaf_count)])
+        } else {
+            None
+        }
     }
 
     /// The elements of the code point, if it is plain.
@@ -181,6 +200,41 @@ impl<A: Allocator> PlainPoints<A> {
         }
     }
 
+    /// Whether a code point was met and has no elements to give. It is asked for speed alone.
+    #[inline(always)]
+    pub(crate) fn is_bound(&self, point: char) -> bool {
+        match self.find(point) {
+            Some(known) => known.is_bound(),
+            None => false,
+        }
+    }
+
+    /// Whether a code point is a leaf, which is found out if it was not met. It is asked for speed alone.
+    #[inline]
+    pub(crate) fn is_leaf<L: Lookup, T: Allocator>(
+        &mut self,
+        collator: &Collator<L, T>,
+        point: char,
+    ) -> Result<bool, AllocError>
+        requires { AreTrueEntries (collation_of L.content collator.now) self.old.entries.items }
+        ensures { AreTrueEntries (collation_of L.content collator.now) self.new.entries.items }
+    {
+        match self.find(point) {
+            Some(known) => Ok(known.leaf_count < BOUND),
+            None => Ok(self.learn(collator, point)?.leaf_count < BOUND),
+        }
+    }
+
+    /// The elements of a leaf that was met.
+    #[inline(always)]
+    pub(crate) fn find_leaf(&self, point: char) -> Option<&[Element]>
+        ensures leaf { (c : Collation) → AreTrueEntries c self.now.entries.items →
+            IfSome result (λ elements. IsLeaf c point × (elements.now ≡ leaf_elements c point)) }
+        ensures few { IfSome result (λ elements. length elements.now ≤ 3) }
+    {
+        self.find(point)?.leaf_elements()
+    }
+
     /// What is known of a code point that was met.
     #[inline(always)]
     pub(crate) fn find(&self, point: char) -> Option<&Known>
@@ -188,6 +242,7 @@ impl<A: Allocator> PlainPoints<A> {
         ensures entry { (c : Collation) → AreTrueEntries c self.now.entries.items → IfSome result (λ known. IsTrueEntry c known.now) }
         ensures decomposition { (c : Collation) → AreTrueEntries c self.now.entries.items →
             IfSome result (λ known. HasTrueDecomposition c known.now) }
+        ensures leaf { (c : Collation) → AreTrueEntries c self.now.entries.items → IfSome result (λ known. IsTrueLeaf c known.now) }
     {
         let code = u32::from(point) as usize;
         // the first page is that of the first code points
@@ -214,7 +269,7 @@ impl<A: Allocator> PlainPoints<A> {
         requires { AreTrueEntries (collation_of L.content collator.now) self.old.entries.items }
         ensures entries { AreTrueEntries (collation_of L.content collator.now) self.new.entries.items }
         ensures known { let c = collation_of L.content collator.now in
-            IfOk result (λ known. (known.point ≡ point) × IsTrueEntry c known × HasTrueDecomposition c known) }
+            IfOk result (λ known. (known.point ≡ point) × IsTrueEntry c known × HasTrueDecomposition c known × IsTrueLeaf c known) }
     {
         let known = read_point(collator, &mut self.text, point)?;
         self.open_page(u32::from(point) as usize / PAGE)?;
@@ -245,7 +300,7 @@ impl<A: Allocator> PlainPoints<A> {
 
     // Keeps what is known of a code point in its page.
     fn keep(&mut self, known: Known)
-        ensures { (c : Collation) → AreTrueEntries c self.old.entries.items → IsTrueEntry c known × HasTrueDecomposition c known →
+        ensures { (c : Collation) → AreTrueEntries c self.old.entries.items → IsTrueEntry c known × HasTrueDecomposition c known × IsTrueLeaf c known →
             AreTrueEntries c self.new.entries.items }
     {
         let code = u32::from(known.point) as usize;
@@ -274,17 +329,64 @@ fn read_point<L: Lookup, T: Allocator>(
     point: char,
 ) -> Result<Known, AllocError>
     ensures { let c = collation_of L.content collator.now in
-        IfOk result (λ known. (known.point ≡ point) × IsTrueEntry c known × HasTrueDecomposition c known) }
+        IfOk result (λ known. (known.point ≡ point) × IsTrueEntry c known × HasTrueDecomposition c known × IsTrueLeaf c known) }
 {
     let bound = Known::bound(collator, point);
-    if !is_plain(collator, point) {
+    let plain = is_plain(collator, point);
+    let leaf = is_leaf(collator, point);
+    if !plain && !leaf {
         return Ok(bound);
     }
     let mut room = [0; 4];
     match text.renew(point.encode_utf8(&mut room), collator.data) {
-        Ok(()) => Ok(first_elements(collator, text, bound)),
+        Ok(()) => Ok(read_entry(collator, text, bound, plain, leaf)),
         Err(TextFault::Memory) => Err(AllocError),
         Err(_) => Ok(bound),
+    }
+}
+
+// The entry of a code point with this text, where `bound` is without its elements, and it may be plain and a leaf.
+fn read_entry<L: Lookup, T: Allocator>(
+    collator: &Collator<L, T>,
+    text: &Normal,
+    bound: Known,
+    plain: bool,
+    leaf: bool,
+) -> Known
+    requires { bound.count ≡ 4 }
+    ensures point { result.point ≡ bound.point }
+    ensures len { result.len ≡ bound.len }
+    ensures starts { result.starts ≡ bound.starts }
+    ensures elements { result.count ≤ 3 → (plain ≡ true)
+        × (take result.count result.elements ≡ elements_of (collation_of L.content collator.now) text.now) }
+    ensures leaf { result.leaf_count ≤ 3 → (leaf ≡ true) × (text.now.points ≡ bound.point ∷ [])
+        × (take result.leaf_count result.elements ≡ elements_of (collation_of L.content collator.now) text.now) }
+{
+    let known = first_elements(collator, text, bound);
+    let as_leaf = leaf && is_alone(text, bound.point);
+    Known {
+        count: if plain { known.count } else { BOUND },
+        leaf_count: if as_leaf { known.count } else { BOUND },
+        ..known
+    }
+}
+
+// Whether a text is one code point, which is this one.
+fn is_alone(text: &Normal, point: char) -> bool
+    ensures { OnTrue result (text.now.points ≡ point ∷ []) }
+{
+    let points = text.chars();
+    points.len() == 1 && points[0] == point
+}
+
+// Whether no key is longer than a code point and begins with it.
+fn is_leaf<L: Lookup, T: Allocator>(collator: &Collator<L, T>, point: char) -> bool
+    ensures { OnTrue result (IsLeaf (collation_of L.content collator.now) point) }
+{
+    let lookup = collator.lookup;
+    match lookup.step(lookup.root(), point) {
+        Some(node) => !lookup.may_go_on(node),
+        None => true,
     }
 }
 

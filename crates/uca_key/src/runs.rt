@@ -1,8 +1,11 @@
 //! Runs of plain code points that were met, whose weights are put in one loop.
 
-ghost use Rattle.std.specs.Prelude.{◌≡◌, ℕ, ◌∷◌, [], ◌<◌, ◌≤◌, List, length, chars, IfSome, MatchOption};
+ghost use Rattle.std.specs.Prelude.{◌≡◌, ℕ, ◌∷◌, [], ◌<◌, ◌≤◌, ◌++◌, List, length, chars, IfSome, MatchOption};
+ghost use Rattle.std.specs.Bool.{OnTrue};
 ghost use Rattle.uca_match.specs.Collations.{Collation};
-ghost use Rattle.uca_key.specs.LevelBuffers.{levels_of, HasRoom};
+ghost use Rattle.uca_weights.specs.declared.Element.{Element};
+ghost use Rattle.uca_key.specs.Leaves.{points_elements};
+ghost use Rattle.uca_key.specs.LevelBuffers.{levels_of, HasRoom, HoldsLevels};
 ghost use Rattle.uca_key.specs.PlainPoints.{IsTrueEntry, AreTrueEntries};
 ghost use Rattle.uca_key.specs.Runs.{ReadsUpTo, RunReads};
 
@@ -16,6 +19,9 @@ const RUN: usize = 64;
 
 /// How many places of each level a run may fill.
 pub(crate) const RUN_PLACES: usize = 192;
+
+/// How many leaves are put at most.
+pub(crate) const LEAVES: usize = 64;
 
 /// How a run ended.
 #[derive(Drop)]
@@ -52,6 +58,23 @@ fn split_plain<'p, 't, A: Allocator>(
         return None;
     }
     Some((known, rest))
+}
+
+/// The code points that come first in a text, were met and are not plain, and what comes after them.
+pub(crate) fn split_bound<'t, A: Allocator>(
+    points: &PlainPoints<A>,
+    text: &'t str,
+) -> (&'t str, &'t str)
+    ensures { chars text.now ≡ chars result.0.now ++ chars result.1.now }
+{
+    let mut rest = text;
+    while let Some((point, after)) = split_first(rest) {
+        if !points.is_bound(point) {
+            break;
+        }
+        rest = after;
+    }
+    text.split_at(text.len() - rest.len())
 }
 
 /// Puts the weights of a plain code point and of those that follow it in a text, as long as they were met and are plain.
@@ -109,4 +132,44 @@ pub(crate) fn put_run<'p, 't, A: Allocator>(
         quaternary,
     );
     (Run::Ended, counts)
+}
+
+/// Puts the weights of code points in Normalization Form D, if each is a leaf that was met. Otherwise `false` is returned, and
+/// some are put.
+#[inline(always)]
+pub(crate) fn put_leaves<A: Allocator>(
+    weighting: Weighting,
+    points: &PlainPoints<A>,
+    text: &[char],
+    after_variable: &mut bool,
+    mut counts: Counts,
+    primary: &mut [[u8; 2]],
+    secondary: &mut [[u8; 2]],
+    tertiary: &mut [[u8; 2]],
+    quaternary: &mut [[u8; 2]],
+) -> (bool, Counts)
+    requires few { length text.now ≤ LEAVES }
+    requires room { HasRoom RUN_PLACES counts primary.old secondary.old tertiary.old quaternary.old }
+    ensures room { HasRoom 0 result.1 primary.new secondary.new tertiary.new quaternary.new }
+    ensures holds { (c : Collation) (key : List ℕ) (es : List Element) → AreTrueEntries c points.now.entries.items →
+        HoldsLevels weighting es (levels_of after_variable.old counts primary.old secondary.old tertiary.old quaternary.old key) →
+        OnTrue result.0 (HoldsLevels weighting (es ++ points_elements c text.now)
+        (levels_of after_variable.new result.1 primary.new secondary.new tertiary.new quaternary.new key)) }
+{
+    for point in text {
+        let Some(elements) = points.find_leaf(*point) else {
+            return (false, counts);
+        };
+        counts = put_elements(
+            weighting,
+            elements,
+            after_variable,
+            counts,
+            primary,
+            secondary,
+            tertiary,
+            quaternary,
+        );
+    }
+    (true, counts)
 }
