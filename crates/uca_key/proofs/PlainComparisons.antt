@@ -1,9 +1,10 @@
 -- How two texts of plain code points compare.
-use Rattle.std.proofs.Common.{◌≡◌, ℕ, ◌≤◌, List, [], ◌∷◌, length, Bool, true, false, map, Option, Some, None, Result, Ok, Err, is_some, not, slice_index_or, drop, refl, sym, ap, subst, ◌∙◌, arith}
+use Rattle.std.proofs.Common.{◌≡◌, ℕ, ◌<◌, ◌≤◌, List, [], ◌∷◌, ◌++◌, length, append-nil, Bool, true, false, map, Option, Some, None, Result, Ok, Err, is_some, not, slice_index_or, drop, refl, sym, ap, subst, ◌∙◌, arith}
 use Rattle.std.specs.Prelude.{IfSome, IfOk}
 use Rattle.std.specs.List.{flat_map}
 use Rattle.std.specs.Str.{chars, IsUtf8}
 use Rattle.std.specs.declared.cmp.Ordering.{Ordering}
+use Rattle.std.specs.declared.cmp.Ordering.TheVariants.{Equal}
 use Rattle.std.proofs.lemmas.List.{length-map}
 use Rattle.unicode_normalization.specs.Forms.{nfd, Nfd}
 use Rattle.unicode_normalization.proofs.LengthLemmas.{length-normalize-chars}
@@ -21,7 +22,7 @@ use Rattle.uca_key.specs.Fronts.{FrontState, weight_here, is_empty, is_ended, fe
 use Rattle.uca_key.specs.Walks.{Stands, Differs, none_decided, decided_level}
 use Rattle.uca_key.specs.Comparisons.{ComparesLevels}
 use Rattle.uca_key.specs.Plain.{IsPlain, ArePlain, elements_alone}
-use Rattle.uca_key.specs.Shared.{IsRest, IsFirst, BeginsPlain, HasFirst, ComparesTexts, ComparesAccepted, text_elements}
+use Rattle.uca_key.specs.Shared.{IsRest, IsFirst, BeginsPlain, HasFirst, HasCount, ComparesTexts, ComparesAccepted, flag_after, text_elements}
 use Rattle.uca_key.proofs.WalkSteps.{stands_decided}
 use Rattle.uca_key.proofs.LevelSteps.{walk_answers, all_levels}
 use Rattle.uca_key.proofs.SharedSteps.{stands_after, runs_after, first_is, plain_begins}
@@ -34,6 +35,10 @@ levels_bounds Shifted = (omega arith, omega arith)
 decided_first : (weighting : Weighting) → 1 ≡ decided_level 0 (level_count weighting)
 decided_first NonIgnorable = refl
 decided_first Shifted = refl
+
+none_decides : (weighting : Weighting) → 0 ≡ decided_level (level_count weighting) (level_count weighting)
+none_decides NonIgnorable = refl
+none_decides Shifted = refl
 
 -- there is no first element where a text has none
 pub first_ended : (first : Option Element) (es : List Element) (r : Bool) → IsFirst first es → is_some first ≡ not r → r ≡ is_empty es
@@ -132,6 +137,47 @@ rest_compared c weighting xs ys left right flag passed ls rs (Some w) rest plain
     (subst (λ l. Stands weighting es fs (record { elements = l; after_variable = flag; passed = passed })
     (record { elements = text_elements c right; after_variable = flag; passed = passed }) (none_decided 1 (level_count weighting))) lefts stands)))
 
+-- ---- The same text
+
+-- nothing is left, and no level differs
+same_levels : (weighting : Weighting) (es fs : List Element) (flag : Bool) (count : ℕ)
+    → Stands weighting es fs (record { elements = []; after_variable = flag; passed = count })
+    (record { elements = []; after_variable = flag; passed = count }) (none_decided 1 (level_count weighting))
+    → ComparesLevels weighting es fs
+    (record { order = Equal; level = 0; last = level_count weighting; fetched_left = count; fetched_right = count })
+same_levels weighting es fs flag count stands =
+    let last = level_count weighting in
+    let front : FrontState = record { elements = []; after_variable = flag; passed = count } in
+    all_levels weighting es fs (record { order = Equal; level = 0; last = last; fetched_left = count; fetched_right = count })
+    (walk_answers weighting es fs front front (none_decided 1 last) 1 last 0 count count stands (record { ends = λ some. (refl, refl) }) refl (omega arith)
+    (none_decides weighting) refl refl)
+    (λ e. omega arith)
+
+-- a text of plain code points is equal to itself, and all its elements are fetched
+pub same_compared : (c : Collation) (weighting : Weighting) (xs : List ℕ) (count last : ℕ) → HasCount c xs count → last ≡ level_count weighting
+    → ComparesTexts c weighting xs xs (record { order = Equal; level = 0; last = last; fetched_left = count; fetched_right = count })
+same_compared c weighting xs count last has all =
+    let flag = flag_after false (flat_map (elements_alone c) xs) in
+    let none = plain_texts c [] tt in
+    let whole : xs ≡ xs ++ [] = sym (append-nil xs) in
+    let rest : IsRest c xs xs [] [] flag count = record {
+      shared = xs;
+      left_is = whole;
+      right_is = whole;
+      plain = has.plain;
+      flag_is = refl;
+      passed_is = has.count_is;
+    } in
+    let runs = plain_no_long_run c [] tt in
+    subst (λ n. ComparesTexts c weighting xs xs (record { order = Equal; level = 0; last = n; fetched_left = count; fetched_right = count })) (sym all)
+    (texts_compared c weighting xs xs [] [] flag count
+    (record { order = Equal; level = 0; last = level_count weighting; fetched_left = count; fetched_right = count }) rest tt tt runs runs
+    (λ stands. same_levels weighting (text_elements c xs) (text_elements c xs) flag count
+    (subst (λ l. Stands weighting (text_elements c xs) (text_elements c xs) (record { elements = l; after_variable = flag; passed = count })
+    (record { elements = l; after_variable = flag; passed = count }) (none_decided 1 (level_count weighting))) none stands)))
+
+-- ---- Limits
+
 -- within the limits both are accepted
 pub accepted_found : (c : Collation) (weighting : Weighting) (left right : List ℕ) (o : Option Walked) → IsUtf8 left → IsUtf8 right
     → length left ≤ 524288 → length right ≤ 524288 → IfSome o (ComparesTexts c weighting (chars left) (chars right))
@@ -152,3 +198,9 @@ accepted_compared c weighting left right (Err e) utf8 utf8_too short short_too i
 pub first_of_some : (es : List Element) (d : Element) → 1 ≤ length es → es ≡ slice_index_or es 0 d ∷ drop 1 es
 first_of_some [] d some = absurd (omega (arith, some))
 first_of_some (e ∷ es) d some = refl
+
+-- one element
+pub only_of : (es : List Element) (d : Element) → 1 ≤ length es → length es < 2 → es ≡ slice_index_or es 0 d ∷ []
+only_of [] d some few = absurd (omega (arith, some))
+only_of (e ∷ []) d some few = refl
+only_of (e ∷ f ∷ es) d some few = absurd (omega (arith, few))

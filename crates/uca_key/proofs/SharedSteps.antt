@@ -14,7 +14,7 @@ use Rattle.uca_key.specs.StreamedWeights.{is_after_variable}
 use Rattle.uca_key.specs.Fronts.{begun, counted}
 use Rattle.uca_key.specs.Walks.{Stands, none_decided}
 use Rattle.uca_key.specs.Plain.{IsPlain, ArePlain, elements_alone}
-use Rattle.uca_key.specs.Shared.{flag_after, IsRest, IsFirst, BeginsPlain, text_elements}
+use Rattle.uca_key.specs.Shared.{flag_after, IsRest, IsFirst, BeginsPlain, HasCount, text_elements}
 use Rattle.uca_key.proofs.WalkSteps.{stands_begun, stands_agreed}
 use Rattle.uca_key.proofs.PlainTexts.{read_before, plain_texts, plain_no_long_run}
 
@@ -54,7 +54,35 @@ flag_append flag (e ∷ p) q = flag_append (is_after_variable flag e) p q
 pub rest_begun : (c : Collation) (xs ys : List ℕ) → IsRest c xs ys xs ys false 0
 rest_begun c xs ys = record { shared = []; left_is = refl; right_is = refl; plain = tt; flag_is = refl; passed_is = refl }
 
--- one more plain code point, which both have
+-- ---- Counts of elements
+
+pub plain_on : (c : Collation) (xs : List ℕ) (x y : ℕ) → y ≡ x → ArePlain c xs → IsPlain c y → ArePlain c (xs ++ x ∷ [])
+plain_on c xs x y same plain last = each_append (IsPlain c) xs (x ∷ []) plain (subst (IsPlain c) same last, tt)
+
+-- a count with the elements of one more code point
+count_step : (c : Collation) (xs : List ℕ) (x : ℕ) (es : List Element) (count count1 : ℕ) → es ≡ elements_alone c x
+    → count ≡ counted 0 (length (flat_map (elements_alone c) xs)) → count1 ≡ min (count + length es) 18446744073709551615
+    → count1 ≡ counted 0 (length (flat_map (elements_alone c) (xs ++ x ∷ [])))
+count_step c xs x es count count1 are is is_more =
+    let before = flat_map (elements_alone c) xs in
+    let all : flat_map (elements_alone c) (xs ++ x ∷ []) ≡ before ++ es =
+    flat_map-append (elements_alone c) xs (x ∷ []) ∙ ap (λ l. before ++ l) (append-nil (elements_alone c x) ∙ sym are) in
+    is_more ∙ counted_is count (length es) (omega (arith, is, counted_small (length before)))
+    ∙ ap (λ n. counted n (length es)) is ∙ counted_more 0 (length before) (length es)
+    ∙ ap (counted 0) (sym (length-append before es)) ∙ ap (λ (l : List Element). counted 0 (length l)) (sym all)
+
+pub count_begun : (c : Collation) → HasCount c [] 0
+count_begun c = record { plain = tt; count_is = refl }
+
+pub count_on : (c : Collation) (xs : List ℕ) (x y : ℕ) (es : List Element) (count count1 : ℕ) → y ≡ x → HasCount c xs count → IsPlain c y
+    → es ≡ elements_alone c y → count1 ≡ min (count + length es) 18446744073709551615 → HasCount c (xs ++ x ∷ []) count1
+count_on c xs x y es count count1 same so_far plain are is = record {
+  plain = plain_on c xs x y same so_far.plain plain;
+  count_is = count_step c xs x es count count1 (are ∙ ap (elements_alone c) same) so_far.count_is is;
+}
+
+-- ---- One more code point that both have
+
 pub rest_on : (c : Collation) (xs ys left right left1 right1 : List ℕ) (x : ℕ) (es : List Element) (flag flag1 : Bool) (passed passed1 : ℕ)
     → IsRest c xs ys left right flag passed → left ≡ x ∷ left1 → right ≡ x ∷ right1 → IsPlain c x → es ≡ elements_alone c x
     → flag1 ≡ flag_after flag es → passed1 ≡ min (passed + length es) 18446744073709551615 → IsRest c xs ys left1 right1 flag1 passed1
@@ -68,9 +96,7 @@ rest_on c xs ys left right left1 right1 x es flag flag1 passed passed1 rest firs
       right_is = rest.right_is ∙ ap (λ l. rest.shared ++ l) other ∙ sym (append_assoc rest.shared (x ∷ []) right1);
       plain = each_append (IsPlain c) rest.shared (x ∷ []) rest.plain (plain, tt);
       flag_is = flag_is ∙ ap (λ f. flag_after f es) rest.flag_is ∙ sym (flag_append false before es) ∙ ap (flag_after false) (sym one);
-      passed_is = passed_is ∙ counted_is passed (length es) (omega (arith, rest.passed_is, counted_small (length before)))
-          ∙ ap (λ n. counted n (length es)) rest.passed_is ∙ counted_more 0 (length before) (length es)
-          ∙ ap (counted 0) (sym (length-append before es)) ∙ ap (λ (l : List Element). counted 0 (length l)) (sym one);
+      passed_is = count_step c rest.shared x es passed passed1 are rest.passed_is passed_is;
     }
 
 module _ (c : Collation) where
@@ -144,9 +170,6 @@ stands_after c weighting last xs ys left right flag passed some few rest begins 
     (record { elements = text_elements c right; after_variable = f; passed = counted 0 (length p) }) (none_decided 1 last)) (sym rest.flag_is) after)
 
 -- ---- Texts of plain code points
-
-pub plain_on : (c : Collation) (xs : List ℕ) (x y : ℕ) → y ≡ x → ArePlain c xs → IsPlain c y → ArePlain c (xs ++ x ∷ [])
-plain_on c xs x y same plain last = each_append (IsPlain c) xs (x ∷ []) plain (subst (IsPlain c) same last, tt)
 
 pub elements_on : (c : Collation) (xs : List ℕ) (x y : ℕ) (before es items : List Element) → y ≡ x → before ≡ flat_map (elements_alone c) xs
     → es ≡ elements_alone c y → items ≡ before ++ es → items ≡ flat_map (elements_alone c) (xs ++ x ∷ [])

@@ -46,6 +46,11 @@ pub record HasFirst (c : Collation) (xs : List ℕ) (first : Option Element) : T
   pub first_is : IsFirst first (text_elements c xs)
   pub runs : HasNoLongRun (map c.properties.class (nfd xs))
 
+-- a text of plain code points, and how many elements it has
+pub record HasCount (c : Collation) (xs : List ℕ) (count : ℕ) : Type 0 where
+  pub plain : ArePlain c xs
+  pub count_is : count ≡ counted 0 (length (flat_map (elements_alone c) xs))
+
 -- How two texts compare at all levels. Neither text has a long run.
 pub record ComparesTexts (c : Collation) (weighting : Weighting) (xs ys : List ℕ) (w : Walked) : Type 0 where
   pub levels : ComparesLevels weighting (text_elements c xs) (text_elements c ys) w

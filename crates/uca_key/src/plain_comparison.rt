@@ -1,6 +1,6 @@
 //! `PlainComparison`: compares texts of plain code points, which are not normalized.
 
-ghost use Rattle.std.specs.Prelude.{◌≡◌, ℕ, List, chars, flat_map, IfOk, IfSome};
+ghost use Rattle.std.specs.Prelude.{◌≡◌, ◌++◌, ℕ, List, chars, flat_map, IfOk, IfSome};
 ghost use Rattle.std.specs.Bool.{OnTrue};
 ghost use Rattle.uca_weights.specs.declared.Element.{Element};
 ghost use Rattle.uca_match.specs.Collations.{Collation, collation_of};
@@ -9,12 +9,12 @@ ghost use Rattle.uca_key.specs.Fronts;
 ghost use Rattle.uca_key.specs.Fronts.{weight_here};
 ghost use Rattle.uca_key.specs.Comparisons.{ComparesLevels};
 ghost use Rattle.uca_key.specs.Walks.{Stands, none_decided};
-ghost use Rattle.uca_key.specs.Plain.{ArePlain, elements_alone};
-ghost use Rattle.uca_key.specs.PlainPoints.{AreTrueEntries};
-ghost use Rattle.uca_key.specs.Shared.{IsRest, IsFirst, BeginsPlain, HasFirst, ComparesTexts, ComparesAccepted};
+ghost use Rattle.uca_key.specs.Plain.{IsPlain, ArePlain, elements_alone};
+ghost use Rattle.uca_key.specs.PlainPoints.{IsTrueEntry, AreTrueEntries};
+ghost use Rattle.uca_key.specs.Shared.{IsRest, IsFirst, BeginsPlain, HasFirst, HasCount, ComparesTexts, ComparesAccepted};
 
 use crate::front::Front;
-use crate::plain::PlainPoints;
+use crate::plain::{Known, PlainPoints};
 use crate::runs::split_first;
 use crate::shared::{Rest, skip_shared};
 use crate::source::Listed;
@@ -73,10 +73,13 @@ impl<A: Allocator> PlainComparison<A> {
         if left.len() > SHORT_TEXT || right.len() > SHORT_TEXT {
             return Ok(None);
         }
+        if let Some(walked) = compare_same(&self.points, weighting, left, right) {
+            return Ok(Some(walked));
+        }
         let Some(rest) = skip_shared(collator, &mut self.points, left, right)? else {
             return Ok(None);
         };
-        match compare_first(collator, &mut self.points, weighting, &rest)? {
+        match compare_first(&self.points, weighting, &rest) {
             Some(walked) => Ok(Some(walked)),
             None => self.compare_rest(collator, weighting, &rest),
         }
@@ -111,6 +114,42 @@ impl<A: Allocator> PlainComparison<A> {
     }
 }
 
+// How two texts compare if they are the same, and their code points were met and are plain.
+fn compare_same<A: Allocator>(
+    points: &PlainPoints<A>,
+    weighting: Weighting,
+    left: &str,
+    right: &str,
+) -> Option<Walked>
+    ensures { (c : Collation) → AreTrueEntries c points.now.entries.items →
+        IfSome result (ComparesTexts c weighting (chars left.now) (chars right.now)) }
+{
+    if left != right {
+        return None;
+    }
+    let count = count_elements(points, left)?;
+    Some(Walked {
+        order: Ordering::Equal,
+        level: 0,
+        last: level_count(weighting, Depth::Weights),
+        fetched_left: count,
+        fetched_right: count,
+    })
+}
+
+// How many elements a text has, if its code points were met and are plain.
+fn count_elements<A: Allocator>(points: &PlainPoints<A>, text: &str) -> Option<u64>
+    ensures { (c : Collation) → AreTrueEntries c points.now.entries.items → IfSome result (HasCount c (chars text.now)) }
+{
+    let mut count = 0_u64;
+    for point in text.chars() {
+        let known = points.find(point)?;
+        let elements = known.elements()?;
+        count = count.saturating_add(elements.len() as u64);
+    }
+    Some(count)
+}
+
 // Replaces the elements by those of a text, and returns whether its code points are plain.
 fn read_plain<L: Lookup, T: Allocator, A: Allocator>(
     collator: &Collator<L, T>,
@@ -127,11 +166,49 @@ fn read_plain<L: Lookup, T: Allocator, A: Allocator>(
 {
     elements.clear();
     for point in text.chars() {
-        let known = points.get(collator, point)?;
-        let Some(more) = known.elements() else {
+        if !read_next(collator, points, elements, point)? {
             return Ok(false);
-        };
-        elements.extend_from_slice(more)?;
+        }
+    }
+    Ok(true)
+}
+
+// Adds the elements of a code point, and returns whether it is plain.
+fn read_next<L: Lookup, T: Allocator, A: Allocator>(
+    collator: &Collator<L, T>,
+    points: &mut PlainPoints<A>,
+    elements: &mut Vec<Element, A>,
+    point: char,
+) -> Result<bool, AllocError>
+    requires { AreTrueEntries (collation_of L.content collator.now) points.old.entries.items }
+    ensures entries { AreTrueEntries (collation_of L.content collator.now) points.new.entries.items }
+    ensures read { let c = collation_of L.content collator.now in IfOk result (λ plain. OnTrue plain (
+        IsPlain c point × (elements.new.items ≡ elements.old.items ++ elements_alone c point))) }
+{
+    match points.find(point) {
+        Some(known) => push_elements(elements, known),
+        None => {
+            let known = points.get(collator, point)?;
+            push_elements(elements, &known)
+        }
+    }
+}
+
+// Adds the elements of a code point of which these are known, and returns whether it is plain.
+#[inline(always)]
+fn push_elements<A: Allocator>(
+    elements: &mut Vec<Element, A>,
+    known: &Known,
+) -> Result<bool, AllocError>
+    ensures { (c : Collation) → IsTrueEntry c known.now → IfOk result (λ plain. OnTrue plain (
+        IsPlain c known.now.point × (elements.new.items ≡ elements.old.items ++ elements_alone c known.now.point))) }
+{
+    let Some(more) = known.elements() else {
+        return Ok(false);
+    };
+    match more {
+        [one] => elements.push(*one)?,
+        _ => elements.extend_from_slice(more)?,
     }
     Ok(true)
 }
@@ -160,72 +237,53 @@ fn compare_elements(
 }
 
 // How two texts compare if the first elements that follow what they share differ at level 1.
-fn compare_first<L: Lookup, T: Allocator, A: Allocator>(
-    collator: &Collator<L, T>,
-    points: &mut PlainPoints<A>,
+fn compare_first<A: Allocator>(
+    points: &PlainPoints<A>,
     weighting: Weighting,
     rest: &Rest,
-) -> Result<Option<Walked>, AllocError>
-    requires { AreTrueEntries (collation_of L.content collator.now) points.old.entries.items }
-    ensures entries { AreTrueEntries (collation_of L.content collator.now) points.new.entries.items }
-    ensures compared { let c = collation_of L.content collator.now in (xs ys : List ℕ) →
+) -> Option<Walked>
+    ensures { (c : Collation) (xs ys : List ℕ) → AreTrueEntries c points.now.entries.items →
         IsRest c xs ys (chars rest.now.left.now) (chars rest.now.right.now) rest.now.after_variable rest.now.passed →
-        IfOk result (λ found. IfSome found (ComparesTexts c weighting xs ys)) }
+        IfSome result (ComparesTexts c weighting xs ys) }
 {
-    let Some(left) = first_element(collator, points, rest.left)? else {
-        return Ok(None);
-    };
-    let Some(right) = first_element(collator, points, rest.right)? else {
-        return Ok(None);
-    };
-    Ok(compare_two(weighting, rest.after_variable, rest.passed, left, right))
+    let left = first_element(points, rest.left)?;
+    let right = first_element(points, rest.right)?;
+    compare_two(weighting, rest.after_variable, rest.passed, left, right)
 }
 
 // The first element of a text, or none if it has no code point. There is no result if the text has more than 32 bytes,
-// if its first two code points are not plain, or if the first has no element.
-fn first_element<L: Lookup, T: Allocator, A: Allocator>(
-    collator: &Collator<L, T>,
-    points: &mut PlainPoints<A>,
-    text: &str,
-) -> Result<Option<Option<Element>>, AllocError>
-    requires { AreTrueEntries (collation_of L.content collator.now) points.old.entries.items }
-    ensures entries { AreTrueEntries (collation_of L.content collator.now) points.new.entries.items }
-    ensures first { let c = collation_of L.content collator.now in IfOk result (λ found. IfSome found (HasFirst c (chars text.now))) }
+// if one of its first two code points was not met or is not plain, or if the first has no element.
+fn first_element<A: Allocator>(points: &PlainPoints<A>, text: &str) -> Option<Option<Element>>
+    ensures { (c : Collation) → AreTrueEntries c points.now.entries.items → IfSome result (HasFirst c (chars text.now)) }
 {
     if text.len() > SHORT_REST {
-        return Ok(None);
+        return None;
     }
     let Some((point, rest)) = split_first(text) else {
-        return Ok(Some(None));
+        return Some(None);
     };
-    let known = points.get(collator, point)?;
+    let known = points.find(point)?;
     let Some([first, ..]) = known.elements() else {
-        return Ok(None);
+        return None;
     };
-    if begins_plain(collator, points, rest)? {
-        Ok(Some(Some(*first)))
+    if begins_plain(points, rest) {
+        Some(Some(*first))
     } else {
-        Ok(None)
+        None
     }
 }
 
-// Whether a text has no code point or begins with a plain one.
-fn begins_plain<L: Lookup, T: Allocator, A: Allocator>(
-    collator: &Collator<L, T>,
-    points: &mut PlainPoints<A>,
-    text: &str,
-) -> Result<bool, AllocError>
-    requires { AreTrueEntries (collation_of L.content collator.now) points.old.entries.items }
-    ensures entries { AreTrueEntries (collation_of L.content collator.now) points.new.entries.items }
-    ensures plain { let c = collation_of L.content collator.now in
-        IfOk result (λ plain. OnTrue plain (BeginsPlain c (chars text.now))) }
+// Whether a text has no code point or begins with a plain one that was met.
+#[inline(always)]
+fn begins_plain<A: Allocator>(points: &PlainPoints<A>, text: &str) -> bool
+    ensures { (c : Collation) → AreTrueEntries c points.now.entries.items → OnTrue result (BeginsPlain c (chars text.now)) }
 {
-    match split_first(text) {
-        Some((point, _)) => {
-            let known = points.get(collator, point)?;
-            Ok(!known.is_bound())
-        }
-        None => Ok(true),
+    let Some((point, _)) = split_first(text) else {
+        return true;
+    };
+    match points.find(point) {
+        Some(known) => !known.is_bound(),
+        None => false,
     }
 }
 

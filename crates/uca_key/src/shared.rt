@@ -1,11 +1,11 @@
 //! `Rest`: what follows the code points with which two texts begin.
 
-ghost use Rattle.std.specs.Prelude.{◌≡◌, ◌∷◌, chars, IfOk, IfSome};
-ghost use Rattle.uca_match.specs.Collations.{collation_of};
-ghost use Rattle.uca_key.specs.PlainPoints.{AreTrueEntries};
+ghost use Rattle.std.specs.Prelude.{◌≡◌, ◌≤◌, ◌∷◌, chars, IfOk, IfSome};
+ghost use Rattle.uca_match.specs.Collations.{Collation, collation_of};
+ghost use Rattle.uca_key.specs.PlainPoints.{IsTrueEntry, AreTrueEntries};
 ghost use Rattle.uca_key.specs.Shared.{IsRest, flag_after};
 
-use crate::plain::PlainPoints;
+use crate::plain::{Known, PlainPoints};
 use crate::runs::split_first;
 use crate::weighting::is_after_variable;
 use std::alloc::{AllocError, Allocator};
@@ -24,6 +24,7 @@ pub(crate) struct Rest<'t> {
 }
 
 // The code point with which two texts begin, and what follows it in each.
+#[inline(always)]
 fn split_shared<'t>(left: &'t str, right: &'t str) -> Option<(char, &'t str, &'t str)>
     ensures { IfSome result (λ parts. (chars left.now ≡ parts.0 ∷ chars parts.1.now) × (chars right.now ≡ parts.0 ∷ chars parts.2.now)) }
 {
@@ -36,7 +37,28 @@ fn split_shared<'t>(left: &'t str, right: &'t str) -> Option<(char, &'t str, &'t
     }
 }
 
+// What is known of the code point with which two texts begin, if it was met and is plain, and what follows it in each.
+#[inline(always)]
+fn split_met<'p, 't, A: Allocator>(
+    points: &'p PlainPoints<A>,
+    left: &'t str,
+    right: &'t str,
+) -> Option<(&'p Known, &'t str, &'t str)>
+    ensures left { IfSome result (λ parts. chars left.now ≡ parts.0.now.point ∷ chars parts.1.now) }
+    ensures right { IfSome result (λ parts. chars right.now ≡ parts.0.now.point ∷ chars parts.2.now) }
+    ensures few { IfSome result (λ parts. parts.0.now.count ≤ 3) }
+    ensures entry { (c : Collation) → AreTrueEntries c points.now.entries.items → IfSome result (λ parts. IsTrueEntry c parts.0.now) }
+{
+    let (point, left_rest, right_rest) = split_shared(left, right)?;
+    let known = points.find(point)?;
+    if known.is_bound() {
+        return None;
+    }
+    Some((known, left_rest, right_rest))
+}
+
 // Whether the nearest element with a primary weight is variable, after some more elements.
+#[inline(always)]
 fn flag_of(after_variable: bool, elements: &[Element]) -> bool
     ensures { result ≡ flag_after after_variable elements.now }
 {
@@ -45,6 +67,29 @@ fn flag_of(after_variable: bool, elements: &[Element]) -> bool
         flag = is_after_variable(flag, *element);
     }
     flag
+}
+
+// What follows the code points with which both texts begin, as long as they were met and are plain.
+fn skip_met<'t, A: Allocator>(points: &PlainPoints<A>, left: &'t str, right: &'t str) -> Rest<'t>
+    ensures { (c : Collation) → AreTrueEntries c points.now.entries.items →
+        IsRest c (chars left.now) (chars right.now) (chars result.left.now) (chars result.right.now) result.after_variable result.passed }
+{
+    let (mut left, mut right) = (left, right);
+    let mut after_variable = false;
+    let mut passed = 0_u64;
+    while let Some((known, left_rest, right_rest)) = split_met(points, left, right) {
+        let elements = known.all_elements();
+        after_variable = flag_of(after_variable, elements);
+        passed = passed.saturating_add(elements.len() as u64);
+        left = left_rest;
+        right = right_rest;
+    }
+    Rest {
+        left,
+        right,
+        after_variable,
+        passed,
+    }
 }
 
 /// What follows the code points with which both texts begin. Where one of those is not plain, there is no result.
@@ -59,9 +104,10 @@ pub(crate) fn skip_shared<'t, L: Lookup, T: Allocator, A: Allocator>(
     ensures rest { let c = collation_of L.content collator.now in IfOk result (λ found. IfSome found (λ rest.
         IsRest c (chars left.now) (chars right.now) (chars rest.left.now) (chars rest.right.now) rest.after_variable rest.passed)) }
 {
-    let (mut left, mut right) = (left, right);
-    let mut after_variable = false;
-    let mut passed = 0_u64;
+    let met = skip_met(points, left, right);
+    let (mut left, mut right) = (met.left, met.right);
+    let mut after_variable = met.after_variable;
+    let mut passed = met.passed;
     while let Some((point, left_rest, right_rest)) = split_shared(left, right) {
         let known = points.get(collator, point)?;
         let Some(elements) = known.elements() else {

@@ -1,24 +1,25 @@
-use Rattle.std.proofs.Common.{◌≡◌, sym, subst, ◌∙◌}
+use Rattle.std.proofs.Common.{◌≡◌, ◌++◌, refl, sym, subst, ◌∙◌}
+use Rattle.std.specs.Bool.{OnTrue}
 use Rattle.std.specs.List.{flat_map}
 use Rattle.std.specs.Str.{chars}
 use Rattle.std.proofs.lemmas.Iterator.{YieldsList-from_chars}
 use Rattle.std.proofs.lemmas.Iterator.Consumers.{YieldsList-end}
 use Rattle.std.proofs.lemmas.List.{map-id}
 use Rattle.uca_match.specs.Collations.{collation_of}
-use Rattle.uca_key.specs.Plain.{ArePlain, elements_alone}
+use Rattle.uca_key.specs.Plain.{IsPlain, ArePlain, elements_alone}
 use Rattle.uca_key.proofs.SharedSteps.{plain_on, elements_on}
 use Rattle.uca_key.proofs.plain_comparison.read_plain.Goals as goal
 
 pub loop-point-preserved : goal.loop-point-preserved
 loop-point-preserved g c =
     let collation = collation_of g.L.Lookup.content c.args.collator.now in
-    let known = c.in_ok-known.ensures.known in
-    let has = c.in-Some-elements.ensures collation known.1 in
+    let read = subst (λ b. OnTrue b (IsPlain collation c.in-Some.point
+    × (c.read_next.new.elements.items ≡ c.loop-point.elements.items ++ elements_alone collation c.in-Some.point))) c.if-not-branch.false c.in_ok-read_next.ensures.read in
     record {
-      entries = c.get.ensures.entries;
-      plain = plain_on collation c.loop-point.yielded c.in-Some.point c.in_ok-known.known.point known.0 c.loop-point.invariant.plain has.0;
-      elements = elements_on collation c.loop-point.yielded c.in-Some.point c.in_ok-known.known.point c.loop-point.elements.items c.in-Some-elements.more.now _
-          known.0 c.loop-point.invariant.elements has.1 c.in_ok-extend_from_slice.ensures.items;
+      entries = c.read_next.ensures.entries;
+      plain = plain_on collation c.loop-point.yielded c.in-Some.point c.in-Some.point refl c.loop-point.invariant.plain read.0;
+      elements = elements_on collation c.loop-point.yielded c.in-Some.point c.in-Some.point c.loop-point.elements.items _ _
+          refl c.loop-point.invariant.elements refl read.1;
     }
 
 pub returns-clause-plain : goal.returns-clause-plain

@@ -2,7 +2,7 @@ use Rattle.std.proofs.Common.{ap, subst, ◌∙◌, rules}
 use Rattle.std.specs.Str.{chars}
 use Rattle.uca_match.specs.Collations.{collation_of}
 use Rattle.uca_key.specs.Plain.{IsPlain, elements_alone}
-use Rattle.uca_key.proofs.SharedSteps.{rest_begun, rest_on}
+use Rattle.uca_key.proofs.SharedSteps.{rest_on}
 use Rattle.uca_key.proofs.shared.skip_shared.Goals as goal
 
 pub loop-point-init : goal.loop-point-init
@@ -10,7 +10,7 @@ loop-point-init g c = record {
   entries = c.requires;
   left_text = search rules;
   right_text = search rules;
-  rest = rest_begun (collation_of g.L.Lookup.content c.args.collator.now) (chars c.args.left.now) (chars c.args.right.now);
+  rest = c.skip_met-met.ensures (collation_of g.L.Lookup.content c.args.collator.now) c.requires;
 }
 
 pub loop-point-preserved : goal.loop-point-preserved

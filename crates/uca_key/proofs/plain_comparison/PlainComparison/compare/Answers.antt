@@ -3,20 +3,24 @@ use Rattle.std.specs.Prelude.{IfSome}
 use Rattle.std.specs.Str.{chars}
 use Rattle.uca_match.specs.Collations.{collation_of}
 use Rattle.uca_key.specs.declared.shared.Rest.{Rest}
-use Rattle.uca_key.specs.declared.walk.Walked.{Walked}
 use Rattle.uca_key.specs.Shared.{IsRest, ComparesTexts}
 use Rattle.uca_key.proofs.PlainComparisons.{accepted_found, accepted_compared}
 use Rattle.uca_key.proofs.plain_comparison.PlainComparison.compare.Goals as goal
 
-pub returns-in-Some-2-clause-compared : goal.returns-in-Some-2-clause-compared
-returns-in-Some-2-clause-compared g c =
+pub returns-in-Some-clause-compared : goal.returns-in-Some-clause-compared
+returns-in-Some-clause-compared g c =
+    accepted_found (collation_of g.L.Lookup.content c.args.collator.now) c.args.weighting c.args.left.now c.args.right.now (Some c.in-Some.walked) c.utf8.left c.utf8.right
+    (omega arith) (omega arith) (c.in-Some.ensures (collation_of g.L.Lookup.content c.args.collator.now) c.requires)
+
+pub returns-in-Some-compare_first-clause-compared : goal.returns-in-Some-compare_first-clause-compared
+returns-in-Some-compare_first-clause-compared g c =
     let collation = collation_of g.L.Lookup.content c.args.collator.now in
     let xs = chars c.args.left.now in
     let ys = chars c.args.right.now in
     let rest = subst (λ (o : Option Rest). IfSome o (λ (r : Rest). IsRest collation xs ys (chars r.left.now) (chars r.right.now) r.after_variable r.passed))
-    c.in-Some.is c.in_ok-rest.ensures.rest in
-    accepted_found collation c.args.weighting c.args.left.now c.args.right.now (Some c.in-Some-2.walked) c.utf8.left c.utf8.right (omega arith) (omega arith)
-    (subst (λ (o : Option Walked). IfSome o (ComparesTexts collation c.args.weighting xs ys)) c.in-Some-2.is (c.in_ok-walked.ensures.compared xs ys rest))
+    c.in-Some-2.is c.in_ok-rest.ensures.rest in
+    accepted_found collation c.args.weighting c.args.left.now c.args.right.now (Some c.in-Some-compare_first.walked) c.utf8.left c.utf8.right (omega arith) (omega arith)
+    (c.in-Some-compare_first.ensures collation xs ys c.skip_shared.ensures.entries rest)
 
 pub returns-in-None-clause-compared : goal.returns-in-None-clause-compared
 returns-in-None-clause-compared g c =
@@ -24,6 +28,6 @@ returns-in-None-clause-compared g c =
     let xs = chars c.args.left.now in
     let ys = chars c.args.right.now in
     let rest = subst (λ (o : Option Rest). IfSome o (λ (r : Rest). IsRest collation xs ys (chars r.left.now) (chars r.right.now) r.after_variable r.passed))
-    c.in-Some.is c.in_ok-rest.ensures.rest in
+    c.in-Some-2.is c.in_ok-rest.ensures.rest in
     accepted_compared collation c.args.weighting c.args.left.now c.args.right.now c.compare_rest.result c.utf8.left c.utf8.right (omega arith) (omega arith)
     (c.compare_rest.ensures.compared xs ys rest)
