@@ -5,6 +5,7 @@
 
 mod beginnings;
 pub mod comparison;
+mod element_stream;
 mod front;
 pub mod key_buffer;
 pub mod key_writer;
@@ -17,7 +18,6 @@ mod plain;
 mod plain_comparison;
 mod runs;
 mod shared;
-mod source;
 pub mod stored;
 pub mod text_comparer;
 mod walk;

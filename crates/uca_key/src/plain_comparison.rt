@@ -13,11 +13,11 @@ ghost use Rattle.uca_key.specs.Plain.{IsPlain, ArePlain, elements_alone};
 ghost use Rattle.uca_key.specs.PlainPoints.{IsTrueEntry, AreTrueEntries};
 ghost use Rattle.uca_key.specs.Shared.{IsRest, IsFirst, BeginsPlain, HasFirst, HasCount, ComparesTexts, ComparesAccepted};
 
+use crate::element_stream::Listed;
 use crate::front::Front;
-use crate::plain::{Known, PlainPoints};
+use crate::plain::{Known, PlainPoints, SHORT_TEXT};
 use crate::runs::split_first;
 use crate::shared::{Rest, skip_shared};
-use crate::source::Listed;
 use crate::stored::level_count;
 use crate::walk::{LevelStep, Walked, look_at, walk_fronts};
 use crate::weighting::weights_of;
@@ -25,9 +25,6 @@ use std::alloc::{AllocError, Allocator, Global};
 use std::cmp::Ordering;
 use uca_match::{Collator, Lookup};
 use uca_weights::{Depth, Element, Weighting};
-
-/// A text of so many bytes has at most 1,048,576 code points in Normalization Form D, two for each byte.
-const SHORT_TEXT: usize = 524_288;
 
 /// A text of so many bytes has at most 64 code points in Normalization Form D.
 const SHORT_REST: usize = 32;
