@@ -18,3 +18,4 @@ pub mod SharedSteps
 pub mod PlainComparisons
 pub mod ComparisonLemmas
 pub mod RunSteps
+mod PrimarySteps

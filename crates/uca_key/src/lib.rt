@@ -16,6 +16,7 @@ mod pieces;
 mod places;
 mod plain;
 mod plain_comparison;
+mod primaries;
 mod runs;
 mod shared;
 pub mod stored;
