@@ -19,3 +19,4 @@ pub mod PlainComparisons
 pub mod ComparisonLemmas
 pub mod RunSteps
 pub mod LeafReading
+mod PrimarySteps

@@ -1,9 +1,8 @@
 -- How two texts of plain code points compare.
-use Rattle.std.proofs.Common.{◌≡◌, ℕ, ◌<◌, ◌≤◌, List, [], ◌∷◌, ◌++◌, length, append-nil, Bool, true, false, map, Option, Some, None, Result, Ok, Err, is_some, not, slice_index_or, drop, refl, sym, ap, subst, ◌∙◌, arith}
+use Rattle.std.proofs.Common.{◌≡◌, ℕ, ◌<◌, ◌≤◌, List, [], ◌∷◌, ◌++◌, length, append-nil, Bool, false, map, Option, Some, None, Result, Ok, Err, slice_index_or, refl, sym, subst, ◌∙◌, arith}
 use Rattle.std.specs.Prelude.{IfSome, IfOk}
 use Rattle.std.specs.List.{flat_map}
 use Rattle.std.specs.Str.{chars, IsUtf8}
-use Rattle.std.specs.declared.cmp.Ordering.{Ordering}
 use Rattle.std.specs.declared.cmp.Ordering.TheVariants.{Equal}
 use Rattle.std.proofs.lemmas.List.{length-map}
 use Rattle.unicode_normalization.specs.Forms.{nfd, Nfd}
@@ -13,60 +12,25 @@ use Rattle.uca_weights.specs.declared.Weighting.{Weighting}
 use Rattle.uca_weights.specs.declared.Weighting.TheVariants.{NonIgnorable, Shifted}
 use Rattle.uca_text.specs.Texts.{nfd_text}
 use Rattle.uca_text.specs.Limits.{HasNoLongRun, IsAccepted}
-use Rattle.uca_text.proofs.Runs.{few_have_no_long_run}
 use Rattle.uca_match.specs.Collations.{Collation}
-use Rattle.uca_key.specs.declared.walk.LevelsSoFar.{LevelsSoFar}
 use Rattle.uca_key.specs.declared.walk.Walked.{Walked}
 use Rattle.uca_key.specs.Levels.{level_count}
-use Rattle.uca_key.specs.Fronts.{FrontState, weight_here, is_empty, is_ended, fetched}
-use Rattle.uca_key.specs.Walks.{Stands, Differs, none_decided, decided_level}
+use Rattle.uca_key.specs.Fronts.{FrontState}
+use Rattle.uca_key.specs.Walks.{Stands, none_decided, decided_level}
 use Rattle.uca_key.specs.Comparisons.{ComparesLevels}
-use Rattle.uca_key.specs.Plain.{IsPlain, ArePlain, elements_alone}
-use Rattle.uca_key.specs.Shared.{IsRest, IsFirst, BeginsPlain, HasFirst, HasCount, ComparesTexts, ComparesAccepted, flag_after, text_elements}
-use Rattle.uca_key.proofs.WalkSteps.{stands_decided}
+use Rattle.uca_key.specs.Plain.{ArePlain, elements_alone}
+use Rattle.uca_key.specs.Shared.{IsRest, BeginsPlain, HasCount, ComparesTexts, ComparesAccepted, flag_after, text_elements}
 use Rattle.uca_key.proofs.LevelSteps.{walk_answers, all_levels}
-use Rattle.uca_key.proofs.SharedSteps.{stands_after, runs_after, first_is, plain_begins}
+use Rattle.uca_key.proofs.SharedSteps.{stands_after, runs_after, plain_begins}
 use Rattle.uca_key.proofs.PlainTexts.{plain_texts, plain_no_long_run}
 
 pub levels_bounds : (weighting : Weighting) → (1 ≤ level_count weighting) × (level_count weighting ≤ 4)
 levels_bounds NonIgnorable = (omega arith, omega arith)
 levels_bounds Shifted = (omega arith, omega arith)
 
-decided_first : (weighting : Weighting) → 1 ≡ decided_level 0 (level_count weighting)
-decided_first NonIgnorable = refl
-decided_first Shifted = refl
-
 none_decides : (weighting : Weighting) → 0 ≡ decided_level (level_count weighting) (level_count weighting)
 none_decides NonIgnorable = refl
 none_decides Shifted = refl
-
--- there is no first element where a text has none
-pub first_ended : (first : Option Element) (es : List Element) (r : Bool) → IsFirst first es → is_some first ≡ not r → r ≡ is_empty es
-first_ended None es true is h = ap is_empty (sym is)
-first_ended None es false is h = absurd cc
-first_ended (Some e) es true is h = absurd cc
-first_ended (Some e) es false is h = ap is_empty (sym is.1)
-
--- the first level decides at the fronts
-pub first_decides : (weighting : Weighting) (es fs : List Element) (left right : FrontState) (order : Ordering) (f g : ℕ)
-    → Stands weighting es fs left right (none_decided 1 (level_count weighting))
-    → Differs (weight_here weighting 1 left) (weight_here weighting 1 right) (is_ended left) (is_ended right) order
-    → f ≡ fetched left → g ≡ fetched right
-    → ComparesLevels weighting es fs (record { order = order; level = 1; last = level_count weighting; fetched_left = f; fetched_right = g })
-first_decides weighting es fs left right order f g stands differs one other =
-    let count = level_count weighting in
-    let bounds = levels_bounds weighting in
-    let t : LevelsSoFar = record { first = 1; through = 0; last = count; order = order } in
-    let decided = stands_decided weighting es fs left right (none_decided 1 count) t 1 stands (omega arith) (omega arith) bounds.0 refl refl refl differs in
-    all_levels weighting es fs (record { order = order; level = 1; last = count; fetched_left = f; fetched_right = g })
-    (walk_answers weighting es fs left right t 1 count 1 f g decided (record { ends = λ some. absurd (omega (arith, some)) }) refl (omega arith)
-    (decided_first weighting) one other)
-    (λ e. omega arith)
-
--- a short text has no long run
-pub short_no_long_run : (class : ℕ → ℕ) (text : List ℕ) → IsUtf8 text → length text ≤ 32 → HasNoLongRun (map class (nfd (chars text)))
-short_no_long_run class text utf8 short =
-    few_have_no_long_run (map class (nfd (chars text))) (omega (arith, short, length-map (nfd (chars text)) class, length-normalize-chars Nfd text utf8))
 
 -- a text within the limits is accepted
 pub text_accepted : (c : Collation) (text : List ℕ) → IsUtf8 text → length text ≤ 524288 → HasNoLongRun (map c.properties.class (nfd (chars text)))
@@ -90,33 +54,7 @@ texts_compared c weighting xs ys left right flag passed w rest begins begins_too
   right_runs = subst (λ l. HasNoLongRun (map c.properties.class (nfd l))) (sym rest.right_is) (runs_after c rest.shared right rest.plain begins_too runs_too);
 }
 
--- ---- The first elements
-
-pub empty_first : (c : Collation) (xs : List ℕ) → xs ≡ [] → HasFirst c xs None
-empty_first c xs is =
-    subst (λ l. HasFirst c l None) (sym is) (record { begins = tt; first_is = plain_texts c [] tt; runs = plain_no_long_run c [] tt })
-
-pub some_first : (c : Collation) (text ys : List ℕ) (x : ℕ) (e : Element) (es more : List Element) → IsUtf8 text → length text ≤ 32 → chars text ≡ x ∷ ys
-    → IsPlain c x → es ≡ elements_alone c x → es ≡ e ∷ more → BeginsPlain c ys → HasFirst c (chars text) (Some e)
-some_first c text ys x e es more utf8 short is plain are begin begins = record {
-  begins = subst (BeginsPlain c) (sym is) plain;
-  first_is = subst (λ l. IsFirst (Some e) (text_elements c l)) (sym is) (first_is c x ys e more plain begins (sym are ∙ begin));
-  runs = short_no_long_run c.properties.class text utf8 short;
-}
-
--- two texts compare by them
-pub two_compared : (c : Collation) (weighting : Weighting) (xs ys left right : List ℕ) (flag : Bool) (passed : ℕ) (first second : Option Element) (o : Option Walked)
-    → IsRest c xs ys left right flag passed → HasFirst c left first → HasFirst c right second
-    → ((es fs ls rs : List Element) → IsFirst first ls → IsFirst second rs
-    → Stands weighting es fs (record { elements = ls; after_variable = flag; passed = passed })
-    (record { elements = rs; after_variable = flag; passed = passed }) (none_decided 1 (level_count weighting)) → IfSome o (ComparesLevels weighting es fs))
-    → IfSome o (ComparesTexts c weighting xs ys)
-two_compared c weighting xs ys left right flag passed first second None rest one other compares = tt
-two_compared c weighting xs ys left right flag passed first second (Some w) rest one other compares =
-    texts_compared c weighting xs ys left right flag passed w rest one.begins other.begins one.runs other.runs
-    (λ stands. compares (text_elements c xs) (text_elements c ys) (text_elements c left) (text_elements c right) one.first_is other.first_is stands)
-
--- or by all elements
+-- two texts compare by all elements
 pub rest_compared : (c : Collation) (weighting : Weighting) (xs ys left right : List ℕ) (flag : Bool) (passed : ℕ) (ls rs : List Element) (o : Option Walked)
     → IsRest c xs ys left right flag passed → ArePlain c left → ArePlain c right
     → ls ≡ flat_map (elements_alone c) left → rs ≡ flat_map (elements_alone c) right
@@ -194,10 +132,6 @@ pub accepted_compared : {E : Type 0} (c : Collation) (weighting : Weighting) (le
     → IfOk r (λ o. IfSome o (ComparesAccepted c weighting (chars left) (chars right)))
 accepted_compared c weighting left right (Ok o) utf8 utf8_too short short_too is = accepted_found c weighting left right o utf8 utf8_too short short_too is
 accepted_compared c weighting left right (Err e) utf8 utf8_too short short_too is = tt
-
-pub first_of_some : (es : List Element) (d : Element) → 1 ≤ length es → es ≡ slice_index_or es 0 d ∷ drop 1 es
-first_of_some [] d some = absurd (omega (arith, some))
-first_of_some (e ∷ es) d some = refl
 
 -- one element
 pub only_of : (es : List Element) (d : Element) → 1 ≤ length es → length es < 2 → es ≡ slice_index_or es 0 d ∷ []

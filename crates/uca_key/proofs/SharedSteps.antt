@@ -32,7 +32,7 @@ counted_more n (suc a) (suc b) =
     let all = counted_some n (suc a + suc b) (omega arith) in
     omega (arith, one, all)
 
-counted_small : (k : ℕ) → counted 0 k ≤ 18446744073709551615
+pub counted_small : (k : ℕ) → counted 0 k ≤ 18446744073709551615
 counted_small zero = omega arith
 counted_small (suc k) = omega arith
 
@@ -41,7 +41,7 @@ counted_from_none zero = omega arith
 counted_from_none (suc n) = omega arith
 
 -- a count that saturates
-counted_is : (n k : ℕ) → n ≤ 18446744073709551615 → min (n + k) 18446744073709551615 ≡ counted n k
+pub counted_is : (n k : ℕ) → n ≤ 18446744073709551615 → min (n + k) 18446744073709551615 ≡ counted n k
 counted_is n zero small = omega arith
 counted_is n (suc k) small = omega arith
 
@@ -132,7 +132,7 @@ module _ (c : Collation) where
 
 -- ---- Fronts that follow it
 
-stands_shared : (weighting : Weighting) (es fs p left right : List Element) (flag : Bool) (passed : ℕ) (s : LevelsSoFar) → 1 ≤ s.first → s.first ≤ s.through
+pub stands_shared : (weighting : Weighting) (es fs p left right : List Element) (flag : Bool) (passed : ℕ) (s : LevelsSoFar) → 1 ≤ s.first → s.first ≤ s.through
     → Stands weighting es fs (record { elements = p ++ left; after_variable = flag; passed = passed })
     (record { elements = p ++ right; after_variable = flag; passed = passed }) s
     → Stands weighting es fs (record { elements = left; after_variable = flag_after flag p; passed = counted passed (length p) })

@@ -22,3 +22,4 @@ pub mod Lengths
 pub mod WorkedKeys
 pub mod WorkedComparisons
 pub mod WorkedTexts
+pub mod Primaries

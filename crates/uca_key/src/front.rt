@@ -5,14 +5,14 @@ ghost use Rattle.std.specs.Bool.{OnTrue};
 ghost use Rattle.uca_key.specs.Fronts;
 ghost use Rattle.uca_key.specs.Fronts.{Agree, advanced, begun, front_weights};
 
-use crate::source::Source;
+use crate::element_stream::ElementStream;
 use crate::weighting::{is_after_variable, weights_of};
 use std::marker::Model;
 use uca_weights::{Element, Weighting};
 
 /// The collation elements of a text from the front on.
 #[derive(Drop)]
-pub(crate) struct Front<S: Source> {
+pub(crate) struct Front<S: ElementStream> {
     // the element at the front, or none after the last
     element: Option<Element>,
     // the elements after it
@@ -23,7 +23,7 @@ pub(crate) struct Front<S: Source> {
     passed: u64,
 }
 
-impl<S: Source> Model for Front<S> {
+impl<S: ElementStream> Model for Front<S> {
     ghost use Rattle.uca_key.specs.Fronts.{FrontState, from_front};
 
     ghost Value = { FrontState };
@@ -35,7 +35,7 @@ impl<S: Source> Model for Front<S> {
     } };
 }
 
-impl<S: Source> Front<S> {
+impl<S: ElementStream> Front<S> {
     /// At the first element of a text.
     pub(crate) fn new(elements: S) -> Front<S>
         ensures { result ≡ begun (S.left elements) }

@@ -14,16 +14,13 @@ ghost use Rattle.uca_key.specs.PlainPoints.{AreTrueEntries};
 use crate::beginnings::{has_short_runs, push_beginning};
 use crate::level_buffers::LevelBuffers;
 use crate::pieces::Piece;
-use crate::plain::PlainPoints;
+use crate::plain::{PlainPoints, SHORT_TEXT};
 use crate::runs::split_first;
 use std::alloc::{AllocError, Allocator, Global};
 use std::marker::Model;
 use uca_match::{Collator, Lookup};
 use uca_text::Normal;
 use uca_weights::{Depth, Weighting};
-
-/// A text of so many bytes has at most 1,048,576 code points in Normalization Form D, two for each byte.
-const SHORT_TEXT: usize = 524_288;
 
 /// Memory for sort keys (UTS #10, section 7.3) under one weighting and at one depth. Each key that is written replaces
 /// the one before, and the memory is used again.

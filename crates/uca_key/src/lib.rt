@@ -5,6 +5,7 @@
 
 mod beginnings;
 pub mod comparison;
+mod element_stream;
 mod front;
 pub mod key_buffer;
 pub mod key_writer;
@@ -15,9 +16,9 @@ mod pieces;
 mod places;
 mod plain;
 mod plain_comparison;
+mod primaries;
 mod runs;
 mod shared;
-mod source;
 pub mod stored;
 pub mod text_comparer;
 mod walk;

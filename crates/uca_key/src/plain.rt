@@ -15,6 +15,9 @@ use uca_weights::Element;
 use unicode_normalization::Form;
 use unicode_normalization::char::{canonical_combining_class, decomposition};
 
+/// A text of so many bytes has at most 1,048,576 code points in Normalization Form D, two for each byte.
+pub(crate) const SHORT_TEXT: usize = 524_288;
+
 /// How many code points share a page.
 const PAGE: usize = 256;
 

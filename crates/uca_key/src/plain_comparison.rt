@@ -5,32 +5,23 @@ ghost use Rattle.std.specs.Bool.{OnTrue};
 ghost use Rattle.uca_weights.specs.declared.Element.{Element};
 ghost use Rattle.uca_match.specs.Collations.{Collation, collation_of};
 ghost use Rattle.uca_key.specs.Levels;
-ghost use Rattle.uca_key.specs.Fronts;
-ghost use Rattle.uca_key.specs.Fronts.{weight_here};
 ghost use Rattle.uca_key.specs.Comparisons.{ComparesLevels};
 ghost use Rattle.uca_key.specs.Walks.{Stands, none_decided};
 ghost use Rattle.uca_key.specs.Plain.{IsPlain, ArePlain, elements_alone};
 ghost use Rattle.uca_key.specs.PlainPoints.{IsTrueEntry, AreTrueEntries};
-ghost use Rattle.uca_key.specs.Shared.{IsRest, IsFirst, BeginsPlain, HasFirst, HasCount, ComparesTexts, ComparesAccepted};
+ghost use Rattle.uca_key.specs.Shared.{IsRest, HasCount, ComparesTexts, ComparesAccepted};
 
+use crate::element_stream::Listed;
 use crate::front::Front;
-use crate::plain::{Known, PlainPoints};
-use crate::runs::split_first;
+use crate::plain::{Known, PlainPoints, SHORT_TEXT};
+use crate::primaries::compare_primaries;
 use crate::shared::{Rest, skip_shared};
-use crate::source::Listed;
 use crate::stored::level_count;
-use crate::walk::{LevelStep, Walked, look_at, walk_fronts};
-use crate::weighting::weights_of;
+use crate::walk::{Walked, walk_fronts};
 use std::alloc::{AllocError, Allocator, Global};
 use std::cmp::Ordering;
 use uca_match::{Collator, Lookup};
 use uca_weights::{Depth, Element, Weighting};
-
-/// A text of so many bytes has at most 1,048,576 code points in Normalization Form D, two for each byte.
-const SHORT_TEXT: usize = 524_288;
-
-/// A text of so many bytes has at most 64 code points in Normalization Form D.
-const SHORT_REST: usize = 32;
 
 /// Memory for comparing texts of plain code points.
 #[derive(Drop)]
@@ -79,7 +70,7 @@ impl<A: Allocator> PlainComparison<A> {
         let Some(rest) = skip_shared(collator, &mut self.points, left, right)? else {
             return Ok(None);
         };
-        match compare_first(&self.points, weighting, &rest) {
+        match compare_primaries(&self.points, weighting, &rest) {
             Some(walked) => Ok(Some(walked)),
             None => self.compare_rest(collator, weighting, &rest),
         }
@@ -234,106 +225,4 @@ fn compare_elements(
         return None;
     }
     Some(walked)
-}
-
-// How two texts compare if the first elements that follow what they share differ at level 1.
-fn compare_first<A: Allocator>(
-    points: &PlainPoints<A>,
-    weighting: Weighting,
-    rest: &Rest,
-) -> Option<Walked>
-    ensures { (c : Collation) (xs ys : List ℕ) → AreTrueEntries c points.now.entries.items →
-        IsRest c xs ys (chars rest.now.left.now) (chars rest.now.right.now) rest.now.after_variable rest.now.passed →
-        IfSome result (ComparesTexts c weighting xs ys) }
-{
-    let left = first_element(points, rest.left)?;
-    let right = first_element(points, rest.right)?;
-    compare_two(weighting, rest.after_variable, rest.passed, left, right)
-}
-
-// The first element of a text, or none if it has no code point. There is no result if the text has more than 32 bytes,
-// if one of its first two code points was not met or is not plain, or if the first has no element.
-fn first_element<A: Allocator>(points: &PlainPoints<A>, text: &str) -> Option<Option<Element>>
-    ensures { (c : Collation) → AreTrueEntries c points.now.entries.items → IfSome result (HasFirst c (chars text.now)) }
-{
-    if text.len() > SHORT_REST {
-        return None;
-    }
-    let Some((point, rest)) = split_first(text) else {
-        return Some(None);
-    };
-    let known = points.find(point)?;
-    let Some([first, ..]) = known.elements() else {
-        return None;
-    };
-    if begins_plain(points, rest) {
-        Some(Some(*first))
-    } else {
-        None
-    }
-}
-
-// Whether a text has no code point or begins with a plain one that was met.
-#[inline(always)]
-fn begins_plain<A: Allocator>(points: &PlainPoints<A>, text: &str) -> bool
-    ensures { (c : Collation) → AreTrueEntries c points.now.entries.items → OnTrue result (BeginsPlain c (chars text.now)) }
-{
-    let Some((point, _)) = split_first(text) else {
-        return true;
-    };
-    match points.find(point) {
-        Some(known) => !known.is_bound(),
-        None => false,
-    }
-}
-
-// How two texts compare if the first elements that follow what they share differ at level 1.
-fn compare_two(
-    weighting: Weighting,
-    after_variable: bool,
-    passed: u64,
-    left: Option<Element>,
-    right: Option<Element>,
-) -> Option<Walked>
-    ensures { (es fs ls rs : List Element) → IsFirst left ls → IsFirst right rs →
-        Stands weighting es fs (record { elements = ls; after_variable = after_variable; passed = passed })
-        (record { elements = rs; after_variable = after_variable; passed = passed }) (none_decided 1 (Levels.level_count weighting)) →
-        IfSome result (ComparesLevels weighting es fs) }
-{
-    let first = primary_of(weighting, after_variable, left);
-    let second = primary_of(weighting, after_variable, right);
-    let LevelStep::Differ(order) = look_at(first, second, left.is_none(), right.is_none()) else {
-        return None;
-    };
-    Some(Walked {
-        order,
-        level: 1,
-        last: level_count(weighting, Depth::Weights),
-        fetched_left: count_with(passed, left),
-        fetched_right: count_with(passed, right),
-    })
-}
-
-// The weight at level 1 of the first element, or 0 if there is none.
-fn primary_of(weighting: Weighting, after_variable: bool, first: Option<Element>) -> u16
-    ensures { (elements : List Element) (passed : ℕ) → IsFirst first elements →
-        result ≡ weight_here weighting 1 (record { elements = elements; after_variable = after_variable; passed = passed }) }
-{
-    match first {
-        Some(element) => {
-            let weights = weights_of(weighting, after_variable, element);
-            weights[0]
-        }
-        None => 0,
-    }
-}
-
-// A count with the first element, if there is one.
-fn count_with(passed: u64, first: Option<Element>) -> u64
-    ensures { (elements : List Element) → IsFirst first elements → result ≡ Fronts.count_with passed elements }
-{
-    match first {
-        Some(_) => passed.saturating_add(1),
-        None => passed,
-    }
 }

@@ -42,9 +42,9 @@ pub(crate) fn split_first(text: &str) -> Option<(char, &str)>
     Some((point, rest.as_str()))
 }
 
-// What is known of the first code point of a text, if it was met and is plain, and what comes after it.
+/// What is known of the first code point of a text, if it was met and is plain, and what comes after it.
 #[inline(always)]
-fn split_plain<'p, 't, A: Allocator>(
+pub(crate) fn split_plain<'p, 't, A: Allocator>(
     points: &'p PlainPoints<A>,
     text: &'t str,
 ) -> Option<(&'p Known, &'t str)>

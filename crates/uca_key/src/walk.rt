@@ -6,8 +6,8 @@ ghost use Rattle.uca_weights.specs.declared.Element.{Element};
 ghost use Rattle.uca_key.specs.Walks;
 ghost use Rattle.uca_key.specs.Walks.{Says, Allows, IsTaken, Stands, Walks, none_decided, together};
 
+use crate::element_stream::ElementStream;
 use crate::front::Front;
-use crate::source::Source;
 use std::alloc::Allocator;
 use std::cmp::Ordering;
 use uca_match::{Collator, Lookup};
@@ -42,7 +42,7 @@ impl Step {
     }
 
     // Takes the step: one text goes on, or both do.
-    fn take<S: Source>(self, left: &mut Front<S>, right: &mut Front<S>)
+    fn take<S: ElementStream>(self, left: &mut Front<S>, right: &mut Front<S>)
         ensures { IsTaken self left.old right.old left.new right.new }
     {
         match self {
@@ -91,7 +91,12 @@ struct LevelsSoFar {
 impl LevelsSoFar {
     // How the texts may go on from their fronts. A level that differs here decides, and the levels after it no longer
     // matter. Where two levels allow no step together, the second and those after it are left for another walk.
-    fn step<S: Source>(&mut self, weighting: Weighting, left: &Front<S>, right: &Front<S>) -> Step
+    fn step<S: ElementStream>(
+        &mut self,
+        weighting: Weighting,
+        left: &Front<S>,
+        right: &Front<S>,
+    ) -> Step
         requires first { 1 ≤ self.old.first }
         requires through { self.old.through ≤ self.old.last }
         requires last { self.old.last ≤ 4 }
@@ -176,7 +181,7 @@ pub(crate) fn walk<'a, L: Lookup, A: Allocator>(
 }
 
 /// The same for two texts from the same fronts on, before which they do not differ at any of the levels.
-pub(crate) fn walk_fronts<S: Source>(
+pub(crate) fn walk_fronts<S: ElementStream>(
     weighting: Weighting,
     first: u8,
     last: u8,

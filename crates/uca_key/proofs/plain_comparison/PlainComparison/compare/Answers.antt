@@ -3,7 +3,7 @@ use Rattle.std.specs.Prelude.{IfSome}
 use Rattle.std.specs.Str.{chars}
 use Rattle.uca_match.specs.Collations.{collation_of}
 use Rattle.uca_key.specs.declared.shared.Rest.{Rest}
-use Rattle.uca_key.specs.Shared.{IsRest, ComparesTexts}
+use Rattle.uca_key.specs.Shared.{IsRest}
 use Rattle.uca_key.proofs.PlainComparisons.{accepted_found, accepted_compared}
 use Rattle.uca_key.proofs.plain_comparison.PlainComparison.compare.Goals as goal
 
@@ -12,15 +12,15 @@ returns-in-Some-clause-compared g c =
     accepted_found (collation_of g.L.Lookup.content c.args.collator.now) c.args.weighting c.args.left.now c.args.right.now (Some c.in-Some.walked) c.utf8.left c.utf8.right
     (omega arith) (omega arith) (c.in-Some.ensures (collation_of g.L.Lookup.content c.args.collator.now) c.requires)
 
-pub returns-in-Some-compare_first-clause-compared : goal.returns-in-Some-compare_first-clause-compared
-returns-in-Some-compare_first-clause-compared g c =
+pub returns-in-Some-compare_primaries-clause-compared : goal.returns-in-Some-compare_primaries-clause-compared
+returns-in-Some-compare_primaries-clause-compared g c =
     let collation = collation_of g.L.Lookup.content c.args.collator.now in
     let xs = chars c.args.left.now in
     let ys = chars c.args.right.now in
     let rest = subst (λ (o : Option Rest). IfSome o (λ (r : Rest). IsRest collation xs ys (chars r.left.now) (chars r.right.now) r.after_variable r.passed))
     c.in-Some-2.is c.in_ok-rest.ensures.rest in
-    accepted_found collation c.args.weighting c.args.left.now c.args.right.now (Some c.in-Some-compare_first.walked) c.utf8.left c.utf8.right (omega arith) (omega arith)
-    (c.in-Some-compare_first.ensures collation xs ys c.skip_shared.ensures.entries rest)
+    accepted_found collation c.args.weighting c.args.left.now c.args.right.now (Some c.in-Some-compare_primaries.walked) c.utf8.left c.utf8.right (omega arith) (omega arith)
+    (c.in-Some-compare_primaries.ensures collation xs ys c.skip_shared.ensures.entries rest)
 
 pub returns-in-None-clause-compared : goal.returns-in-None-clause-compared
 returns-in-None-clause-compared g c =

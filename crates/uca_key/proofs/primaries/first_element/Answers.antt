@@ -1,8 +1,8 @@
 use Rattle.std.proofs.Common.{drop, ap, subst, ◌∙◌, arith}
 use Rattle.std.specs.Str.{chars}
 use Rattle.uca_key.specs.Plain.{IsPlain, elements_alone}
-use Rattle.uca_key.proofs.PlainComparisons.{empty_first, some_first, first_of_some}
-use Rattle.uca_key.proofs.plain_comparison.first_element.Goals as goal
+use Rattle.uca_key.proofs.PrimarySteps.{empty_first, some_first, first_of_some}
+use Rattle.uca_key.proofs.primaries.first_element.Goals as goal
 
 pub returns-in_default : goal.returns-in_default
 returns-in_default g c = λ collation entries. empty_first collation (chars c.args.text.now) c.in_default.ensures

@@ -1,4 +1,4 @@
-//! `Source`: what gives the collation elements of a text, one after another.
+//! `ElementStream`: what gives the collation elements of a text, one after another.
 
 ghost use Rattle.std.specs.Prelude.{◌≡◌, ◌∷◌, [], List, MatchOption};
 ghost use Rattle.uca_weights.specs.declared.Element.{Element};
@@ -8,7 +8,7 @@ use uca_match::{Elements, Lookup};
 use uca_weights::Element;
 
 /// The collation elements of a text that are left.
-pub(crate) trait Source: Drop {
+pub(crate) trait ElementStream: Drop {
     ghost left: { Self → List Element };
 
     /// The next element, if there is one.
@@ -17,7 +17,7 @@ pub(crate) trait Source: Drop {
             (λ element. left self.old ≡ element ∷ left self.new) };
 }
 
-impl<'a, L: Lookup, A: Allocator> Source for Elements<'a, L, A> {
+impl<'a, L: Lookup, A: Allocator> ElementStream for Elements<'a, L, A> {
     ghost left = { λ elements. elements };
 
     fn take_next(&mut self) -> Option<Element> {
@@ -31,7 +31,7 @@ pub(crate) struct Listed<'a> {
     pub(crate) elements: &'a [Element],
 }
 
-impl<'a> Source for Listed<'a> {
+impl<'a> ElementStream for Listed<'a> {
     ghost left = { λ list. list.elements.now };
 
     fn take_next(&mut self) -> Option<Element> {
