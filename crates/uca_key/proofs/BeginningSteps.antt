@@ -1,5 +1,5 @@
 -- The beginning of a key, and how the rest of its text is judged.
-use Rattle.std.proofs.Common.{◌≡◌, ℕ, ◌+◌, ◌<◌, ◌≤◌, length, take, drop, get_or, arith, Bool, true, false, not, nat_eq, cond, List, [], ◌∷◌, ◌++◌, ◌⊎◌, inl, inr, map, filter, Result, Ok, Err}
+use Rattle.std.proofs.Common.{◌≡◌, ℕ, ◌+◌, ◌<◌, ◌≤◌, length, take, drop, get_or, ◌*◌, arith, Bool, true, false, not, nat_eq, cond, List, [], ◌∷◌, ◌++◌, ◌⊎◌, inl, inr, map, filter, Result, Ok, Err}
 use Rattle.std.proofs.Common.{refl, sym, ap, subst, ◌∙◌, append-nil, append_assoc, length-append}
 use Rattle.std.specs.Prelude.{IfOk}
 use Rattle.std.specs.Bool.{OnTrue}
@@ -7,6 +7,7 @@ use Rattle.std.specs.List.{flat_map}
 use Rattle.std.specs.Str.{chars, IsUtf8}
 use Rattle.std.proofs.lemmas.List.{length-map, map-append, map-id, take_more, take-append-le, take-append-drop}
 use Rattle.std.proofs.lemmas.List.Elements.{filter-append}
+use Rattle.std.proofs.lemmas.Str.{chars-append}
 use Rattle.std.proofs.lemmas.Grind.{flat_map-append}
 use mathlib.Core.List.{reverse_aux}
 use Rattle.unicode_normalization.specs.Forms.{nfd, Nfd, decomposed}
@@ -32,7 +33,7 @@ use Rattle.uca_key.specs.Buffers.{KeyState}
 use Rattle.uca_key.specs.LevelBuffers.{LevelState, HoldsLevels, bytes_of_level}
 use Rattle.uca_key.specs.Pieces.{piece_points, ReadsTo, HasRead}
 use Rattle.uca_key.specs.PlainPoints.{BeginsWithStarter, HasTrueDecomposition, counted_on}
-use Rattle.uca_key.specs.Beginnings.{HasBegun, IsJudged}
+use Rattle.uca_key.specs.Beginnings.{HasBegun, IsJudged, IsJudgedTo, HasPassed}
 use Rattle.uca_key.proofs.PieceSteps.{Begins, elements_joined, key_if_read, on_any}
 
 -- ---- Level 1 comes first
@@ -130,6 +131,29 @@ begun_all c weighting xs levels (Err e) read = tt
 
 -- ---- The rest is judged
 
+-- a text decomposes to at most two code points for each byte
+bytes_counted : (text : List ℕ) → IsUtf8 text → length (flat_map (decompose Nfd) (chars text)) ≤ 2 * length text
+unfolding decomposed
+bytes_counted text utf8 = omega (
+  arith,
+  length-normalize-chars Nfd text utf8,
+  ap length (normalize-Nfd (chars text)),
+  length-canonical_order (flat_map (decompose Nfd) (chars text)),
+)
+
+-- so bytes are passed over, of which only the number is counted
+pub bytes_passed : (text passed rest : List ℕ) (count more : ℕ) → text ≡ passed ++ rest → IsUtf8 passed → count + 2 * length passed ≤ more
+    → HasPassed text rest count more
+bytes_passed text passed rest count more is utf8 sum = record {
+  passed = chars passed;
+  split = ap chars is ∙ chars-append passed rest utf8;
+  counted = omega (arith, bytes_counted passed utf8);
+}
+
+-- what is left has no more code points
+pub passed_shorter : (text rest : List ℕ) (count more : ℕ) → HasPassed text rest count more → length (chars rest) ≤ length (chars text)
+passed_shorter text rest count more over = omega (arith, ap length over.split, length-append over.passed (chars rest))
+
 module _ (c : Collation) where
   abbrev Runs : List ℕ → Type 0
   Runs xs = HasNoLongRun (map c.properties.class (nfd xs))
@@ -141,7 +165,7 @@ module _ (c : Collation) where
       (omega (arith, length-map (nfd xs) c.properties.class, ap length (normalize-Nfd xs), length-canonical_order (flat_map (decompose Nfd) xs), few))
 
   -- nothing is read
-  pub judged_none : IsJudged c [] 0
+  judged_none : IsJudged c [] 0
   judged_none = record {
     before = [];
     last = [];
@@ -153,7 +177,7 @@ module _ (c : Collation) where
   }
 
   -- a text that was judged has no long run
-  pub judged_runs : (xs : List ℕ) (count : ℕ) → IsJudged c xs count → Runs xs
+  judged_runs : (xs : List ℕ) (count : ℕ) → IsJudged c xs count → Runs xs
   judged_runs xs count judged = subst Runs (sym judged.split) (joined judged.begins)
     where
       last : Runs judged.last
@@ -165,18 +189,37 @@ module _ (c : Collation) where
           (pieces_have_no_long_run y starts.first starts.more starts.split starts.starter c.properties.class starts.class judged.before ys judged.runs
           (subst Runs is last))
 
+  -- more code points, of which each is counted
+  judged_longer : (xs ps : List ℕ) (count more : ℕ) → IsJudged c xs count → count + length (flat_map (decompose Nfd) ps) ≤ more → more ≤ 64
+      → IsJudged c (xs ++ ps) more
+  judged_longer xs ps count more judged counted few = record {
+    before = judged.before;
+    last = judged.last ++ ps;
+    split = ap (λ l. l ++ ps) judged.split ∙ append_assoc judged.before judged.last ps;
+    runs = judged.runs;
+    begins = longer judged.begins;
+    counted = omega (
+      arith,
+      judged.counted,
+      counted,
+      ap length (flat_map-append (decompose Nfd) judged.last ps),
+      length-append (flat_map (decompose Nfd) judged.last) (flat_map (decompose Nfd) ps),
+    );
+    few = few;
+  }
+    where
+      longer : (judged.before ≡ []) ⊎ ((y : ℕ) × (ys : List ℕ) × (judged.last ≡ y ∷ ys) × BeginsWithStarter c y)
+          → (judged.before ≡ []) ⊎ ((y : ℕ) × (ys : List ℕ) × (judged.last ++ ps ≡ y ∷ ys) × BeginsWithStarter c y)
+      longer (inl none) = inl none
+      longer (inr (y, ys, begins, starts)) = inr (y, ys ++ ps, ap (λ l. l ++ ps) begins, starts)
+
   -- one code point more
-  pub judged_more : (xs : List ℕ) (x count more : ℕ) (known : Known) → known.point ≡ x → HasTrueDecomposition c known → IsJudged c xs count
+  judged_more : (xs : List ℕ) (x count more : ℕ) (known : Known) → known.point ≡ x → HasTrueDecomposition c known → IsJudged c xs count
       → more ≡ counted_on known count → more ≤ 64 → IsJudged c (xs ++ x ∷ []) more
   judged_more xs x count more known is true_of judged counted few = by known.starts refl counted
     where
-      alone : length (decompose Nfd x) ≤ known.len
-      alone = subst (λ y. length (decompose Nfd y) ≤ known.len) is true_of.few
-
-      longer : (judged.before ≡ []) ⊎ ((y : ℕ) × (ys : List ℕ) × (judged.last ≡ y ∷ ys) × BeginsWithStarter c y)
-          → (judged.before ≡ []) ⊎ ((y : ℕ) × (ys : List ℕ) × (judged.last ++ x ∷ [] ≡ y ∷ ys) × BeginsWithStarter c y)
-      longer (inl none) = inl none
-      longer (inr (y, ys, begins, starts)) = inr (y, ys ++ x ∷ [], ap (λ l. l ++ x ∷ []) begins, starts)
+      alone : length (flat_map (decompose Nfd) (x ∷ [])) ≤ known.len
+      alone = omega (arith, subst (λ y. length (decompose Nfd y) ≤ known.len) is true_of.few, length-append (decompose Nfd x) [])
 
       by : (b : Bool) → known.starts ≡ b → more ≡ cond b 0 count + known.len → IsJudged c (xs ++ x ∷ []) more
       by true starts sum = record {
@@ -185,25 +228,36 @@ module _ (c : Collation) where
         split = refl;
         runs = judged_runs xs count judged;
         begins = inr (x, [], refl, subst (BeginsWithStarter c) is (true_of.starts starts));
-        counted = omega (arith, alone, length-append (decompose Nfd x) []);
+        counted = omega (arith, alone);
         few = few;
       }
-      by false starts sum = record {
-        before = judged.before;
-        last = judged.last ++ x ∷ [];
-        split = ap (λ l. l ++ x ∷ []) judged.split ∙ append_assoc judged.before judged.last (x ∷ []);
-        runs = judged.runs;
-        begins = longer judged.begins;
-        counted = omega (
-          arith,
-          alone,
-          judged.counted,
-          ap length (flat_map-append (decompose Nfd) judged.last (x ∷ [])),
-          length-append (flat_map (decompose Nfd) judged.last) (flat_map (decompose Nfd) (x ∷ [])),
-          length-append (decompose Nfd x) [],
-        );
-        few = few;
-      }
+      by false starts sum = judged_longer xs (x ∷ []) count more judged (omega (arith, alone)) few
+
+  -- nothing of a text is judged yet
+  pub judge_begun : (text : List ℕ) → IsJudgedTo c (chars text) text 0
+  judge_begun text = record { done = []; split = refl; judged = judged_none }
+
+  -- code points that are passed over
+  pub judge_passes : (all text rest : List ℕ) (count more : ℕ) → HasPassed text rest count more → more ≤ 64 → IsJudgedTo c all text count → IsJudgedTo c all rest more
+  judge_passes all text rest count more over few so_far = record {
+    done = so_far.done ++ over.passed;
+    split = so_far.split ∙ ap (λ l. so_far.done ++ l) over.split ∙ sym (append_assoc so_far.done over.passed (chars rest));
+    judged = judged_longer so_far.done over.passed count more so_far.judged over.counted few;
+  }
+
+  -- the next code point is counted
+  pub judge_counts : (all text rest : List ℕ) (x count more : ℕ) (known : Known) → chars text ≡ x ∷ chars rest → known.point ≡ x → HasTrueDecomposition c known
+      → more ≡ counted_on known count → more ≤ 64 → IsJudgedTo c all text count → IsJudgedTo c all rest more
+  judge_counts all text rest x count more known first is true_of sum few so_far = record {
+    done = so_far.done ++ x ∷ [];
+    split = so_far.split ∙ ap (λ l. so_far.done ++ l) first ∙ sym (append_assoc so_far.done (x ∷ []) (chars rest));
+    judged = judged_more so_far.done x count more known is true_of so_far.judged sum few;
+  }
+
+  -- all of a text is judged
+  pub judge_ends : (all text : List ℕ) (count : ℕ) → chars text ≡ [] → IsJudgedTo c all text count → Runs all
+  judge_ends all text count none so_far =
+      subst Runs (sym (so_far.split ∙ ap (λ l. so_far.done ++ l) none ∙ append-nil so_far.done)) (judged_runs so_far.done count so_far.judged)
 
 -- ---- The whole text, if it is accepted
 

@@ -1,6 +1,6 @@
 -- The beginning of a key, for which a part of the text is read, and how the rest is judged. Only private contracts cite this
 -- file.
-use Rattle.std.specs.Prelude.{◌≡◌, ℕ, ◌≤◌, ◌<◌, List, [], ◌∷◌, ◌++◌, ◌⊎◌, map, length}
+use Rattle.std.specs.Prelude.{◌≡◌, ℕ, ◌+◌, ◌≤◌, ◌<◌, List, [], ◌∷◌, ◌++◌, ◌⊎◌, map, length, chars}
 use Rattle.std.specs.List.{flat_map}
 use Rattle.unicode_normalization.specs.Forms.{Nfd, nfd}
 use Rattle.unicode_normalization.specs.Decompose.{decompose}
@@ -31,3 +31,16 @@ pub record IsJudged (c : Collation) (xs : List ℕ) (count : ℕ) : Type 0 where
   pub begins : (before ≡ []) ⊎ ((y : ℕ) × (ys : List ℕ) × (last ≡ y ∷ ys) × BeginsWithStarter c y)
   pub counted : length (flat_map (decompose Nfd) last) ≤ count
   pub few : count ≤ 64
+
+-- What is left of a text, where the code points before it are judged.
+pub record IsJudgedTo (c : Collation) (all rest : List ℕ) (count : ℕ) : Type 0 where
+  pub done : List ℕ
+  pub split : all ≡ done ++ chars rest
+  pub judged : IsJudged c done count
+
+-- The text `rest` is left of a text where code points before it were passed over. With them the count is at least what they
+-- decompose to.
+pub record HasPassed (text rest : List ℕ) (count more : ℕ) : Type 0 where
+  pub passed : List ℕ
+  pub split : chars text ≡ passed ++ chars rest
+  pub counted : count + length (flat_map (decompose Nfd) passed) ≤ more

@@ -8,17 +8,24 @@ ghost use Rattle.uca_text.specs.Limits.{HasNoLongRun};
 ghost use Rattle.uca_match.specs.Collations.{collation_of};
 ghost use Rattle.uca_key.specs.LevelBuffers.{HoldsLevels};
 ghost use Rattle.uca_key.specs.PlainPoints.{AreTrueEntries};
-ghost use Rattle.uca_key.specs.Beginnings.{HasBegun};
+ghost use Rattle.uca_key.specs.Beginnings.{HasBegun, HasPassed};
 
 use crate::level_buffers::LevelBuffers;
 use crate::pieces::Piece;
 use crate::plain::PlainPoints;
+use crate::runs::split_first;
 use std::alloc::{AllocError, Allocator};
 use uca_match::{Collator, Lookup};
 use uca_weights::Weighting;
 
 /// How many non-starters may come in a row. So many code points are no run that is longer.
 const LONGEST_RUN: usize = 64;
+
+/// How many code points a starter and what it decomposes to are at most.
+const LONGEST_DECOMPOSITION: usize = 4;
+
+/// How many bytes after a starter are passed over. They are at most 48 code points of Normalization Form D, two for each byte.
+const PASSED: usize = 24;
 
 /// Adds the weights of a text to empty levels, piece by piece, until there are sixteen bytes at level 1 or the text ends.
 /// Returns whether each of these pieces is accepted.
@@ -61,12 +68,47 @@ pub(crate) fn has_short_runs<L: Lookup, T: Allocator, A: Allocator>(
     ensures runs { let c = collation_of L.content collator.now in
         IfOk result (λ short. OnTrue short (HasNoLongRun (map c.properties.class (nfd (chars text.now))))) }
 {
-    let mut count = 0;
-    for point in text.chars() {
-        count = points.count_on(collator, count, point)?;
-        if count > LONGEST_RUN {
+    if count_runs(collator, points, text, PASSED)? {
+        return Ok(true);
+    }
+    count_runs(collator, points, text, 0)
+}
+
+// The same, where at most so many bytes after each starter are passed over, and counted as the most code points that they may be.
+fn count_runs<L: Lookup, T: Allocator, A: Allocator>(
+    collator: &Collator<L, T>,
+    points: &mut PlainPoints<A>,
+    text: &str,
+    most: usize,
+) -> Result<bool, AllocError>
+    requires entries { AreTrueEntries (collation_of L.content collator.now) points.old.entries.items }
+    requires few { most ≤ PASSED }
+    ensures entries { AreTrueEntries (collation_of L.content collator.now) points.new.entries.items }
+    ensures runs { let c = collation_of L.content collator.now in
+        IfOk result (λ short. OnTrue short (HasNoLongRun (map c.properties.class (nfd (chars text.now))))) }
+{
+    let (mut rest, mut count) = pass_over(text, 0, most);
+    while let Some((point, more)) = split_first(rest) {
+        let counted = points.count_on(collator, count, point)?;
+        if counted > LONGEST_RUN {
             return Ok(false);
         }
+        (rest, count) = pass_over(more, counted, most);
     }
     Ok(true)
+}
+
+// A text after a starter without the bytes that are passed over, at most so many, and the count with them.
+#[inline]
+fn pass_over(text: &str, count: usize, most: usize) -> (&str, usize)
+    requires count { count ≤ LONGEST_RUN }
+    requires few { most ≤ PASSED }
+    ensures count { result.1 ≤ LONGEST_RUN }
+    ensures passed { HasPassed text.now result.0.now count result.1 }
+{
+    if count > LONGEST_DECOMPOSITION {
+        return (text, count);
+    }
+    let (passed, rest) = text.split_at(text.floor_char_boundary(most));
+    (rest, count + 2 * passed.len())
 }
