@@ -75,13 +75,13 @@ pair_steps old new ranges points has c scalar =
     (border_or_none (λ (r : ImplicitRange). r.first) (λ r. r.last) new points (suc c) scalar has.new_ranges))
     (border_or_none (λ (r : ImplicitRange). r.first) (λ r. r.last) old points (suc c) scalar has.old_ranges)
 
--- a data file says the same of a code point as of the one before it
+-- a data file says of a code point what it says of the one before it
 record IsSameAt (content : DataContent) (c : ℕ) : Type 0 where
   class : (properties_of content).class (suc c) ≡ (properties_of content).class c
   core : (properties_of content).is_core (suc c) ≡ (properties_of content).is_core c
   other : (properties_of content).is_other (suc c) ≡ (properties_of content).is_other c
 
--- a code point is on the list, or a data file says the same of it and of the one before it
+-- a code point is on the list, or a data file says of it what it says of the one before it
 data_step : (content : DataContent) (points : List ℕ) → HasDataBorders content points → (c : ℕ) → IsScalar (suc c)
     → Contains points (suc c) ⊎ IsSameAt content c
 data_step content points has c scalar =
