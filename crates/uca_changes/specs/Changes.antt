@@ -1,17 +1,14 @@
 -- Changes from an old table and its data file to a new table and its data file, and when one is accepted: eight conditions.
-use Rattle.std.specs.Prelude.{◌≡◌, ℕ, List, [], IsTrue, Contains}
-use Rattle.std.specs.Char.{IsScalar}
+use Rattle.std.specs.Prelude.{ℕ, List, IsTrue, Contains}
 use Rattle.std.specs.List.{AllByRecursion}
-use Rattle.uca_weights.specs.declared.Element.{Element}
 use Rattle.uca_values.specs.declared.CodePointRange.{CodePointRange}
-use Rattle.uca_values.specs.declared.ImplicitRange.{ImplicitRange}
 use Rattle.uca_values.specs.Content.{Entry, TableContent, Properties, IsTable}
-use Rattle.uca_values.specs.Implicit.{lead_of, pair_by_lead}
 use Rattle.uca_values.specs.Ranges.{is_within}
 use Rattle.uca_check.specs.WellFormed.{IsWellFormed}
 use Rattle.uca_text.specs.Occurring.{OccursInOrder}
 use Rattle.uca_match.specs.Rows.{IsKey, rows_of}
 use Rattle.uca_match.specs.Collations.{Collation}
+use Rattle.uca_change_lists.specs.Points.{IsSamePair, IsSamePoint, OutsideOf}
 use Rattle.uca_tailorings.specs.Images.{Maps, AreRisingMaps}
 use Rattle.uca_tailorings.specs.KeptRows.{IsKeptRow, IsKnownRow}
 use Rattle.uca_tailorings.specs.Tailorings.{reading_by, IsCovered}
@@ -58,19 +55,9 @@ pub record IsUnaffected (change : Change) (points : List ℕ) : Type 0 where
 
 -- ---- Conditions
 
--- the implicit weights of a code point by the ranges of a header alone; none where no range contains it
-abbrev pub range_pair : List ImplicitRange → ℕ → List Element
-range_pair ranges point = pair_by_lead ranges (lead_of ranges point) [] point
-
--- a code point is the same for both data files
-pub record IsSamePoint (old new : Properties) (point : ℕ) : Type 0 where
-  pub class : old.class point ≡ new.class point
-  pub core : old.is_core point ≡ new.is_core point
-  pub other : old.is_other point ≡ new.is_other point
-
 -- what is true of each code point outside of the changed ranges
 abbrev pub OutsideRanges : Change → (ℕ → Type 0) → Type 0
-OutsideRanges change P = (point : ℕ) → IsScalar point → ¬ (IsChangedPoint change point) → P point
+OutsideRanges change P = OutsideOf change.ranges P
 
 -- what is true of each old row whose key is not listed
 abbrev pub OfUnlistedRows : Change → (Entry → Type 0) → Type 0
@@ -80,7 +67,7 @@ OfUnlistedRows change P = AllByRecursion (λ row. ¬ (IsChangedText change row.k
 abbrev pub Meets : Change → ChangeCondition → Type 0
 Meets change OldIllFormed = IsWellFormed change.old_properties.class change.old.rows
 Meets change NewIllFormed = IsWellFormed change.new_properties.class change.new.rows
-Meets change RangeChanged = OutsideRanges change (λ point. range_pair change.old.header.ranges point ≡ range_pair change.new.header.ranges point)
+Meets change RangeChanged = OutsideRanges change (IsSamePair change.old.header.ranges change.new.header.ranges)
 Meets change Uncovered = OfUnlistedRows change (λ row. AllByRecursion (IsCovered change.maps) row.elements)
 Meets change RowChanged = AllByRecursion (IsKeptRow change.maps (IsChangedText change) (rows_of change.new.rows)) change.old.rows
 Meets change RowMissing = OfUnlistedRows change (λ row. IsKey (rows_of change.new.rows) row.key)

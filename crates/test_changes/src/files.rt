@@ -1,0 +1,163 @@
+//! The files of a change: those of a first one that changes nothing, and others by what is different in them.
+
+use std::alloc::{AllocError, Global};
+use std::test::Fail;
+use test_kit::{bytes_of, code_point, data_of, joined, table_of};
+use uca_certificates::{Certificate, read_certificate};
+use uca_change_audit::{ChangeFault, ChangeInputs, ChangePlace, Changes, audit_change};
+use uca_values::{CodePointRange, Data, Table};
+use uca_weights::Source;
+
+/// The certificate of a change that changes no weight.
+const CERTIFICATE: &str = "1 0209 0209 0001\n\
+    1 1C47 1C47 0001\n\
+    1 1C60 1C60 0001\n\
+    2 0020 0020 0001\n\
+    2 0024 0024 0002\n\
+    2 002C 002C 0001\n\
+    3 0002 0002 0001\n\
+    3 0008 0008 0001\n";
+
+/// A table and its data file.
+#[derive(Drop)]
+pub struct Edition {
+    table: Table,
+    data: Data,
+}
+
+/// A text with one change: `+LINE` adds a line, `-LINE` takes one away, `OLD => NEW` replaces a text.
+fn changed(alloc: Global, text: &str, change: &str) -> Result<String, Fail> {
+    if let Some(line) = change.strip_prefix("+") {
+        return Ok(joined(alloc, &[text, line, "\n"])?);
+    }
+    if let Some(line) = change.strip_prefix("-") {
+        let (front, rest) = text.split_once(line).ok_or("no such line")?;
+        let (_, rest) = rest.split_once("\n").ok_or("no end of line")?;
+        return Ok(joined(alloc, &[front, rest])?);
+    }
+    let (old, new) = change.split_once(" => ").ok_or("no change")?;
+    let (front, rest) = text.split_once(old).ok_or("nothing to change")?;
+    let new = bytes_of(alloc, new)?;
+    Ok(joined(alloc, &[front, str::from_utf8(&new)?, rest])?)
+}
+
+/// A text with changes, which `, ` separates. There are none if the field is `.`.
+fn edited(alloc: Global, text: &str, field: &str) -> Result<Vec<u8>, Fail> {
+    let mut text = String::from_str(alloc, text)?;
+    if field != "." {
+        for change in field.split(", ") {
+            text = changed(alloc, &text, change)?;
+        }
+    }
+    Ok(text.into_bytes())
+}
+
+/// The edition of a table and a data file, with changes.
+pub fn read_edition(alloc: Global, texts: [&str; 2], fields: [&str; 2]) -> Result<Edition, Fail> {
+    let [table_text, data_text] = texts;
+    let [table_field, data_field] = fields;
+    let table = edited(alloc, table_text, table_field)?;
+    let data = edited(alloc, data_text, data_field)?;
+    let table = table_of(alloc, &mut Source::new(table.as_slice()))?;
+    match data_of(alloc, &mut Source::new(data.as_slice())) {
+        Ok(data) => Ok(Edition { table, data }),
+        Err(fault) => {
+            drop(table);
+            Err(Fail::from(fault))
+        }
+    }
+}
+
+/// Lists what an item says: `text 0061 0301`, or `range 0041..005A`.
+fn list_item(alloc: Global, changes: &mut Changes, item: &str) -> Result<(), Fail> {
+    if let Some(points) = item.strip_prefix("text ") {
+        let mut text = Vec::new(alloc);
+        for digits in points.split(" ") {
+            text.push(code_point(digits)?)?;
+        }
+        changes.insert_text(text)?;
+        return Ok(());
+    }
+    let range = item.strip_prefix("range ").ok_or("no text and no range")?;
+    let (first, last) = range.split_once("..").ok_or("no range")?;
+    let (first, last) = (code_point(first)?, code_point(last)?);
+    changes.push_range(CodePointRange { first, last })?;
+    Ok(())
+}
+
+/// Lists what the field of a case says: items, which `, ` separates; none if it is `.`.
+fn list_items(alloc: Global, changes: &mut Changes, field: &str) -> Result<(), Fail> {
+    if field != "." {
+        for item in field.split(", ") {
+            list_item(alloc, changes, item)?;
+        }
+    }
+    Ok(())
+}
+
+/// The certificate of a case.
+fn certificate_of(alloc: Global, field: &str) -> Result<Certificate, Fail> {
+    let bytes = edited(alloc, CERTIFICATE, field)?;
+    Ok(read_certificate(alloc, &mut Source::new(bytes.as_slice()))?)
+}
+
+/// A position, as text.
+fn place_text(alloc: Global, place: ChangePlace) -> Result<String, AllocError> {
+    match place {
+        ChangePlace::OldRow(row) => format!(in alloc; "old row {row}"),
+        ChangePlace::NewRow(row) => format!(in alloc; "new row {row}"),
+        ChangePlace::CodePoint(point) => format!(in alloc; "{:04X}", u32::from(point)),
+    }
+}
+
+/// What an audit returns, as text. If an allocation failed, that is the error.
+fn verdict_text(alloc: Global, verdict: Result<(), ChangeFault>) -> Result<String, Fail> {
+    match verdict {
+        Ok(()) => Ok(String::from_str(alloc, "accepted")?),
+        Err(ChangeFault::NotMet(condition, place)) => {
+            let place = place_text(alloc, place)?;
+            Ok(format!(in alloc; "{condition:?} {place}")?)
+        }
+        Err(ChangeFault::Memory) => Err(Fail::new("out of memory")),
+    }
+}
+
+/// The verdict of an audit by a certificate.
+fn verdict_by(
+    alloc: Global,
+    old: &Edition,
+    new: &Edition,
+    changes: &Changes,
+    certificate: &Certificate,
+) -> Result<String, Fail> {
+    let inputs = ChangeInputs {
+        old: &old.table,
+        old_data: &old.data,
+        new: &new.table,
+        new_data: &new.data,
+        changes,
+        certificate,
+    };
+    verdict_text(alloc, audit_change(alloc, &inputs))
+}
+
+/// The verdict of an audit, by the fields of what is listed and of the certificate.
+pub fn verdict(
+    alloc: Global,
+    old: &Edition,
+    new: &Edition,
+    listed: &str,
+    certificate: &str,
+) -> Result<String, Fail> {
+    let mut changes = Changes::new(alloc);
+    if let Err(fail) = list_items(alloc, &mut changes, listed) {
+        drop(changes);
+        return Err(fail);
+    }
+    let found = match certificate_of(alloc, certificate) {
+        Ok(certificate) => verdict_by(alloc, old, new, &changes, &certificate),
+        Err(fail) => Err(fail),
+    };
+    drop(changes);
+    found
+}

@@ -1,0 +1,3 @@
+pub mod ChangeInputs
+pub mod ChangeRefusals
+pub mod Chaining

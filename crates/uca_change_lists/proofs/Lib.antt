@@ -1,0 +1,6 @@
+pub mod TextSets
+pub mod BorderLists
+pub mod BorderSteps
+pub mod FirstOutside
+pub mod RisingRanges
+pub mod SamePairs

@@ -1,0 +1,3 @@
+pub mod ChangeLists
+pub mod Points
+pub mod Borders

@@ -1,0 +1,120 @@
+//! Borders: the code points at which ranges begin, and those at which they have ended. Between two of them nothing changes.
+
+ghost use Rattle.std.specs.Prelude.{◌≡◌, ℕ, ◌+◌, List, IfOk, OnOk, Contains};
+ghost use Rattle.std.specs.Char.{IsScalar};
+ghost use Rattle.uca_change_lists.specs.Borders.{AddsBorders, HasFirsts, HasPairBorders, HasPointBorders, HasDataBorders};
+
+use crate::Changes;
+use std::alloc::{AllocError, Allocator};
+use uca_values::{ClassRange, CodePointRange, Data, Header, ImplicitRange};
+
+/// The borders of the ranges of two headers and of changed ranges. An error means that it ran out of memory.
+pub(crate) fn pair_borders<A: Allocator + Copy, T: Allocator>(
+    alloc: A,
+    old: &Header<T>,
+    new: &Header<T>,
+    changes: &Changes<T>,
+) -> Result<Vec<char, A>, AllocError>
+    ensures { IfOk result (λ list. HasPairBorders old.now.ranges new.now.ranges changes.now.ranges list.items) }
+{
+    let mut list = first_points(alloc)?;
+    push_implicit_ranges(&mut list, &old.ranges)?;
+    push_implicit_ranges(&mut list, &new.ranges)?;
+    push_ranges(&mut list, changes.ranges())?;
+    Ok(list)
+}
+
+/// The borders of the ranges of two data files and of changed ranges. An error means that it ran out of memory.
+pub(crate) fn point_borders<A: Allocator + Copy, T: Allocator>(
+    alloc: A,
+    old: &Data<T>,
+    new: &Data<T>,
+    changes: &Changes<T>,
+) -> Result<Vec<char, A>, AllocError>
+    ensures { IfOk result (λ list. HasPointBorders old.now new.now changes.now.ranges list.items) }
+{
+    let mut list = first_points(alloc)?;
+    push_data(&mut list, old)?;
+    push_data(&mut list, new)?;
+    push_ranges(&mut list, changes.ranges())?;
+    Ok(list)
+}
+
+// The first code point, and the first after the surrogates.
+fn first_points<A: Allocator>(alloc: A) -> Result<Vec<char, A>, AllocError>
+    ensures { IfOk result (λ list. HasFirsts list.items) }
+{
+    let mut list = Vec::new(alloc);
+    list.push('\0')?;
+    list.push('\u{E000}')?;
+    Ok(list)
+}
+
+// Adds the borders of the ranges of a data file.
+fn push_data<A: Allocator, T: Allocator>(
+    list: &mut Vec<char, A>,
+    data: &Data<T>,
+) -> Result<(), AllocError>
+    ensures kept { OnOk result ((point : ℕ) → Contains list.old.items point → Contains list.new.items point) }
+    ensures added { OnOk result (HasDataBorders «data».now list.new.items) }
+{
+    push_class_ranges(list, data.classes())?;
+    push_ranges(list, data.core())?;
+    push_ranges(list, data.other())
+}
+
+// Adds the borders of ranges with a class.
+fn push_class_ranges<A: Allocator>(
+    list: &mut Vec<char, A>,
+    ranges: &[ClassRange],
+) -> Result<(), AllocError>
+    ensures { OnOk result (AddsBorders (λ r. r.first) (λ r. r.last) ranges.now list.old.items list.new.items) }
+{
+    for range in ranges {
+        push_border(list, range.first, range.last)?;
+    }
+    Ok(())
+}
+
+// Adds the borders of ranges of code points.
+fn push_ranges<A: Allocator>(
+    list: &mut Vec<char, A>,
+    ranges: &[CodePointRange],
+) -> Result<(), AllocError>
+    ensures { OnOk result (AddsBorders (λ r. r.first) (λ r. r.last) ranges.now list.old.items list.new.items) }
+{
+    for range in ranges {
+        push_border(list, range.first, range.last)?;
+    }
+    Ok(())
+}
+
+// Adds the borders of ranges for implicit weights.
+fn push_implicit_ranges<A: Allocator>(
+    list: &mut Vec<char, A>,
+    ranges: &[ImplicitRange],
+) -> Result<(), AllocError>
+    ensures { OnOk result (AddsBorders (λ r. r.first) (λ r. r.last) ranges.now list.old.items list.new.items) }
+{
+    for range in ranges {
+        push_border(list, range.first, range.last)?;
+    }
+    Ok(())
+}
+
+// Adds the first code point of a range, and the one after its last, if there is one.
+fn push_border<A: Allocator>(
+    list: &mut Vec<char, A>,
+    first: char,
+    last: char,
+) -> Result<(), AllocError>
+    ensures kept { OnOk result ((point : ℕ) → Contains list.old.items point → Contains list.new.items point) }
+    ensures first { OnOk result (Contains list.new.items first) }
+    ensures after { OnOk result (IsScalar (last + 1) → Contains list.new.items (last + 1)) }
+{
+    list.push(first)?;
+    if let Some(after) = char::from_u32(u32::from(last) + 1) {
+        list.push(after)?;
+    }
+    Ok(())
+}

@@ -1,0 +1,2 @@
+pub mod ImageLists
+pub mod FirstRows

@@ -1,0 +1,2 @@
+pub mod ImageTables
+pub mod UnlistedRows
