@@ -15,6 +15,8 @@ mod full_tables;
 #[cfg(test)]
 mod maps;
 #[cfg(test)]
+mod moved_keys;
+#[cfg(test)]
 mod plans;
 #[cfg(test)]
 mod untouched;
