@@ -1,0 +1,5 @@
+pub mod Handles
+pub mod Numbers
+pub mod Opened
+pub mod Results
+pub mod Statuses
