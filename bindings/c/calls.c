@@ -61,6 +61,7 @@ static void check_closed(void)
     size_t needed = 7;
     out[0] = 0xEE;
     CHECK(uca_abi() == UCA_ABI);
+    CHECK(uca_version() == 1000);
     CHECK(uca_collator_size() == sizeof(uca_collator));
     CHECK(uca_key(&closed, BYTES("a"), out, ROOM, &needed) == UCA_CLOSED && needed == 0 && out[0] == 0xEE);
     CHECK(uca_compare(&closed, BYTES("a"), BYTES("b"), &found) == UCA_CLOSED && found.order == 0 && found.level == 0);

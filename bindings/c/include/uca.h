@@ -9,7 +9,7 @@
    - A uca_collator was zeroed (UCA_CLOSED_COLLATOR) before its first call, and its members are written by calls alone. It may be
      moved in memory, between calls, if the old bytes are forgotten. A copy of an open one is none.
    - A uca_collator is in one call at a time, and stays in the thread that opened it. Threads may have one each. uca_abi,
-     uca_collator_size and uca_compare_keys may be called from any thread.
+     uca_version, uca_collator_size and uca_compare_keys may be called from any thread.
    - malloc, realloc and free are one allocator, whose blocks are aligned to 16 bytes. No call is made in a signal handler, or in
      the forked child of a process with threads.
 
@@ -96,6 +96,9 @@ typedef struct uca_comparison {
 
 /* UCA_ABI, as the library was built. */
 uint32_t uca_abi(void);
+
+/* The version of the library: major * 1000000 + minor * 1000 + patch. */
+uint32_t uca_version(void);
 
 /* sizeof(uca_collator), as the library was built. */
 size_t uca_collator_size(void);

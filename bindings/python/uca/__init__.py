@@ -12,7 +12,7 @@ import ctypes
 import os
 from typing import NamedTuple, Optional, Type, Union
 
-__all__ = ["Collator", "Comparison", "ClosedError", "FileError", "TextError", "UcaError", "compare_keys"]
+__all__ = ["Collator", "Comparison", "ClosedError", "FileError", "TextError", "UcaError", "compare_keys", "library_version"]
 
 _ABI = 1
 
@@ -94,6 +94,7 @@ def _load() -> ctypes.PyDLL:
     collator, comparison = ctypes.POINTER(_Collator), ctypes.POINTER(_Comparison)
     calls = {
         "uca_abi": ([], number),
+        "uca_version": ([], number),
         "uca_collator_size": ([], size),
         "uca_open": ([collator, data, size, data, size, number, number, ctypes.POINTER(_Error)], number),
         "uca_key": ([collator, data, size, ctypes.c_void_p, size, ctypes.POINTER(size)], number),
@@ -110,6 +111,9 @@ def _load() -> ctypes.PyDLL:
 
 
 _library = _load()
+
+#: the version of the library, as (major, minor, patch)
+library_version = (_library.uca_version() // 1000000, _library.uca_version() // 1000 % 1000, _library.uca_version() % 1000)
 
 
 def _bytes_of(file: File) -> bytes:

@@ -2,9 +2,11 @@
 use Rattle.std.specs.Prelude.{◌≡◌, ◌⊎◌, ℕ, List, Option, Some, None}
 use Rattle.uca_weights.specs.declared.Depth.{Depth}
 use Rattle.uca_weights.specs.declared.Weighting.{Weighting}
+use Rattle.uca_values.specs.Content.{TableContent, Properties}
+use Rattle.uca_values.specs.declared.faults.FaultKind.TheVariants.{Read, Memory}
 use Rattle.uca_values.specs.declared.faults.TableFault.{TableFault}
 use Rattle.uca_owned.specs.Keyings.{Keying}
-use Rattle.uca_owned.specs.Opening.{Opens, IsOpenCause}
+use Rattle.uca_owned.specs.Opening.{MeanFiles, Opens, IsOpenCause}
 use Rattle.uca_owned.specs.declared.faults.OpenFault.TheVariants.{Table, Data}
 use Rattle.uca_c.specs.Numbers.{weighting_of, depth_of, kind_number}
 use Rattle.uca_c.specs.declared.statuses.TheConstants.{ARGUMENT, TABLE, DATA, MEMORY}
@@ -35,3 +37,13 @@ IsOpenStatus weighting depth table_bytes data_bytes line kind status =
     ⊎ ((status ≡ TABLE) × IsFileError (λ fault. IsOpenCause table_bytes data_bytes (Table fault)) line kind)
     ⊎ ((status ≡ DATA) × IsFileError (λ fault. IsOpenCause table_bytes data_bytes (Data fault)) line kind)
     ⊎ ((status ≡ MEMORY) × IsNoFileError line kind)
+
+-- the numbers ask for this weighting and this depth, and the bytes mean this table and these properties
+pub record Asks (weighting depth : ℕ) (table_bytes data_bytes : List ℕ) (asked : Option Weighting) (at : Depth) (table : TableContent) (properties : Properties) : Type 0 where
+  pub is_weighting : weighting_of weighting ≡ Some asked
+  pub is_depth : depth_of depth ≡ Some at
+  pub mean : MeanFiles table_bytes data_bytes table properties
+
+-- nothing is rejected: an allocation failed, or a read
+abbrev pub IsStopStatus : ℕ → ℕ → Type 0
+IsStopStatus status kind = (status ≡ MEMORY) ⊎ (((status ≡ TABLE) ⊎ (status ≡ DATA)) × ((kind ≡ kind_number Read) ⊎ (kind ≡ kind_number Memory)))

@@ -1,12 +1,15 @@
 //! The calls that C makes. Their clauses hold for every argument: a wrong one is a status.
 
-ghost use Rattle.std.specs.Prelude.{◌≡◌, ◌≢◌, ◌↔◌, ◌⊎◌, true, false, pos};
+ghost use Rattle.std.specs.Prelude.{◌≡◌, ◌≢◌, ◌↔◌, ◌⊎◌, true, false, pos, Option};
+ghost use Rattle.uca_weights.specs.declared.Depth.{Depth};
+ghost use Rattle.uca_weights.specs.declared.Weighting.{Weighting};
+ghost use Rattle.uca_values.specs.Content.{TableContent, Properties};
 ghost use Rattle.uca_key.specs.Levels.{lexicographic};
 ghost use Rattle.uca_key.specs.StoredKeys.{stored_level};
-ghost use Rattle.uca_owned.specs.Keyings.{key_of_bytes, bytes_compared};
+ghost use Rattle.uca_owned.specs.Keyings.{keying, key_of_bytes, bytes_compared};
 ghost use Rattle.uca_owned.specs.Owned.{keying_in};
 ghost use Rattle.uca_c.specs.Numbers.{order_number};
-ghost use Rattle.uca_c.specs.Opened.{OpensBy, IsNoFileError, IsOpenStatus};
+ghost use Rattle.uca_c.specs.Opened.{Asks, OpensBy, IsNoFileError, IsOpenStatus, IsStopStatus};
 ghost use Rattle.uca_c.specs.Results.{WritesKey, IsTooSmall, IsComparison};
 ghost use Rattle.uca_c.specs.Statuses.{IsKeyStatus, IsCompareStatus};
 
@@ -23,6 +26,14 @@ pub extern "C" fn uca_abi() -> u32
     ensures { result ≡ 1 }
 {
     1
+}
+
+/// The version of this library: major * 1,000,000 + minor * 1,000 + patch.
+#[unsafe(no_mangle)]
+pub extern "C" fn uca_version() -> u32
+    ensures { result ≡ 1000 }
+{
+    1_000
 }
 
 /// How many bytes `struct uca_collator` has.
@@ -48,6 +59,9 @@ pub extern "C" fn uca_open(
     ensures ok { result ≡ OK → OpensBy weighting depth table.now data_file.now (keying_in collator.new.handle.kept) }
     ensures open { result ≡ OK → collator.new.full ≡ true }
     ensures same { result ≢ OK → collator.new ≡ collator.old }
+    ensures only { (asked : Option Weighting) (at : Depth) (meant : TableContent) (properties : Properties) → collator.old.full ≡ false →
+        Asks weighting depth table.now data_file.now asked at meant properties →
+        ((result ≡ OK) × (keying_in collator.new.handle.kept ≡ keying asked at meant properties)) ⊎ IsStopStatus result error.new.kind }
     ensures no_error { (result ≡ OK) ⊎ (result ≡ ALREADY_OPEN) → IsNoFileError error.new.line error.new.kind }
     ensures rejected { result ≢ OK → result ≢ ALREADY_OPEN →
         IsOpenStatus weighting depth table.now data_file.now error.new.line error.new.kind result }

@@ -1,12 +1,15 @@
 //! What a call does with an open collator.
 
-ghost use Rattle.std.specs.Prelude.{◌≡◌, ◌≢◌, pos, IfOk, IfErr, OnOk};
-ghost use Rattle.uca_owned.specs.Keyings.{key_of_bytes, bytes_compared};
+ghost use Rattle.std.specs.Prelude.{◌≡◌, ◌≢◌, pos, Option, MatchResult, IfOk, IfErr, OnOk};
+ghost use Rattle.uca_weights.specs.declared.Depth.{Depth};
+ghost use Rattle.uca_weights.specs.declared.Weighting.{Weighting};
+ghost use Rattle.uca_values.specs.Content.{TableContent, Properties};
+ghost use Rattle.uca_owned.specs.Keyings.{keying, key_of_bytes, bytes_compared};
 ghost use Rattle.uca_owned.specs.Owned.{keying_in};
 ghost use Rattle.uca_c.specs.Statuses.{IsKeyStatus, IsCompareStatus};
 ghost use Rattle.uca_c.specs.Results.{WritesKey, IsTooSmall, IsComparison};
 ghost use Rattle.uca_c.specs.Numbers.{kind_number};
-ghost use Rattle.uca_c.specs.Opened.{OpensBy, IsNoFileError, IsOpenStatus};
+ghost use Rattle.uca_c.specs.Opened.{Asks, OpensBy, IsNoFileError, IsOpenStatus, IsStopStatus};
 
 use crate::numbers::{asked_depth, asked_weighting, number_of_kind, number_of_order};
 use crate::statuses::{ARGUMENT, DATA, MEMORY, OK, SMALL, TABLE, status_of_text, status_of_texts};
@@ -35,6 +38,9 @@ pub fn open(
     error: &mut FileError,
 ) -> Result<Box<OwnedCollator>, u32>
     ensures found { IfOk result (λ collator. OpensBy weighting depth table.now data_file.now (keying_in collator.value)) }
+    ensures only { (asked : Option Weighting) (at : Depth) (meant : TableContent) (properties : Properties) →
+        Asks weighting depth table.now data_file.now asked at meant properties →
+        MatchResult result (λ collator. keying_in collator.value ≡ keying asked at meant properties) (λ status. IsStopStatus status error.new.kind) }
     ensures no_error { OnOk result (IsNoFileError error.new.line error.new.kind) }
     ensures rejected { IfErr result (IsOpenStatus weighting depth table.now data_file.now error.new.line error.new.kind) }
 {
