@@ -8,7 +8,7 @@ First prove and build the static library: `rt lib` in crates/uca_c. Then this sc
 - `calls`, which calls everything in uca.h with good and bad input: as it is, under valgrind, and with the sanitizers of gcc;
 - `keys` and the module over files of examples/, whose keys and orders have to be those of `uca keys` and `uca sort`;
 - the names that libuca.so.1 exports, which have to be those of uca.h, and the header as C++;
-- a program that is compiled by what pkg-config says of a temporary installation;
+- a program that is compiled by what pkg-config says of a temporary installation, and the programs of docs/BINDINGS.md;
 - the tests of the module for Python.
 
 Debian's packages are gcc, g++, make, pkgconf and valgrind. What needs a command or a program that is not here is not run, and a line
@@ -77,7 +77,7 @@ def valgrind(work):
 
 def sanitizers(work):
     need("gcc")
-    run(["gcc", *FLAGS, "-g", "-fsanitize=address,undefined", "-fno-sanitize-recover=all", "-o", f"{work}/calls", f"{C}/calls.c", f"{C}/out/libuca.a"])
+    run(["gcc", *FLAGS, "-pthread", "-g", "-fsanitize=address,undefined", "-fno-sanitize-recover=all", "-o", f"{work}/calls", f"{C}/calls.c", f"{C}/out/libuca.a"])
     run([f"{work}/calls"])
 
 
@@ -101,7 +101,7 @@ def installed(work):
     run(["make", "-s", "-C", C, "install", f"PREFIX={work}/usr", f"OUT={work}/out"])
     environment = {**os.environ, "PKG_CONFIG_PATH": f"{work}/usr/lib/pkgconfig"}
     said = run(["pkg-config", "--cflags", "--libs", "uca"], env=environment).decode().split()
-    run(["gcc", "-std=c11", "-D_POSIX_C_SOURCE=200809L", "-o", f"{work}/shared", f"{C}/calls.c", *said])
+    run(["gcc", "-std=c11", "-D_POSIX_C_SOURCE=200809L", "-pthread", "-o", f"{work}/shared", f"{C}/calls.c", *said])
     run([f"{work}/shared"], env={**os.environ, "LD_LIBRARY_PATH": f"{work}/usr/lib"})
 
 
@@ -110,6 +110,19 @@ def stored_run(work):
     data = f"{TOP}/crates/uca/data"
     found = run([f"{C}/out/keys", f"{data}/table.txt", f"{data}/data.txt", "non-ignorable"], input=content(f"{TOP}/crates/uca/stdin"))
     same(found, content(f"{TOP}/crates/uca/stdout"), "keys")
+
+
+def page(work):
+    """The programs of docs/BINDINGS.md, which show what they print in their comments."""
+    need("gcc")
+    text = content(f"{TOP}/docs/BINDINGS.md").decode()
+    with open(f"{work}/page.c", "w", encoding="utf-8") as it:
+        it.write(re.search(r"```c\n(.*?)```", text, re.S).group(1))
+    run(["gcc", *FLAGS, "-o", f"{work}/page", f"{work}/page.c", f"{C}/out/libuca.a"])
+    same(run([f"{work}/page"]).decode(), re.search(r"/\* ([0-9A-F]+) \*/", text).group(1), "the page's program in C")
+    program = re.search(r"```python\n(.*?)```", text, re.S).group(1)
+    said = run([sys.executable, "-c", program], env=python_environment(), cwd=TOP).decode()
+    same(said.splitlines(), re.findall(r"# (\S.*)", program), "the page's program in Python")
 
 
 def options(setting):
@@ -163,7 +176,7 @@ def main():
     if not os.path.exists(ARCHIVE):
         sys.exit(f"there is no {ARCHIVE}: run `rt lib` in crates/uca_c first")
     checks = [("make", make), ("valgrind", valgrind), ("sanitizers", sanitizers), ("header in C++", header), ("exported names", exports),
-              ("installation", installed), ("stored run", stored_run), ("keys", keys_like(program)), ("Python", python), ("sort", sorted_like(program))]
+              ("installation", installed), ("stored run", stored_run), ("docs/BINDINGS.md", page), ("keys", keys_like(program)), ("Python", python), ("sort", sorted_like(program))]
     passed = failed = skipped = 0
     with tempfile.TemporaryDirectory() as work:
         for name, check in checks:

@@ -2,6 +2,7 @@
    passed; its status is 1 if one failed. */
 #include "uca.h"
 
+#include <pthread.h>
 #include <stdio.h>
 #include <stdlib.h>
 #include <string.h>
@@ -165,6 +166,22 @@ static void check_moved(uca_collator *it)
     CHECK(!moved.is_open);
 }
 
+static void *key_of_b(void *collator)
+{
+    return IS_KEY((uca_collator *)collator, "b", "\x1C\x60\0\0\0\x20\0\0\0\x02") ? collator : NULL;
+}
+
+/* One thread after another: their starts and joins order the calls. */
+static void check_threads(uca_collator *it)
+{
+    for (int i = 0; i < 3; i++) {
+        pthread_t thread;
+        void *found = NULL;
+        CHECK(pthread_create(&thread, NULL, key_of_b, it) == 0 && pthread_join(thread, &found) == 0 && found == it);
+        CHECK(key_of_b(it) == it);
+    }
+}
+
 static void check_identical(void)
 {
     uca_collator it = UCA_CLOSED_COLLATOR;
@@ -187,6 +204,7 @@ int main(void)
     check_compare(&it);
     check_stored_keys();
     check_limits(&it);
+    check_threads(&it);
     check_moved(&it);
     check_identical();
     printf("%d passed, %d failed\n", passed, failed);

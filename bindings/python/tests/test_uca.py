@@ -2,6 +2,7 @@
 import gc
 import os
 import tempfile
+import threading
 import unittest
 
 import uca
@@ -73,6 +74,21 @@ class Keys(unittest.TestCase):
                     self.collator.compare("a", text)
                 self.assertEqual(caught.exception.kind, kind)
         self.assertEqual(len(self.collator.key("a" + "\u0301" * 64)), 2 + 2 + 130 + 2 + 130)
+
+
+    def test_threads(self):
+        found = []
+
+        def work(text, key):
+            found.extend(self.collator.key(text) == key for _ in range(1000))
+
+        keys = [("a", hexadecimal("1C47 0000 0020 0000 0002")), ("b", hexadecimal("1C60 0000 0020 0000 0002"))]
+        threads = [threading.Thread(target=work, args=it) for it in keys]
+        for it in threads:
+            it.start()
+        for it in threads:
+            it.join()
+        self.assertEqual((len(found), all(found)), (2000, True))
 
 
 class Settings(unittest.TestCase):

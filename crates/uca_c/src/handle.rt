@@ -63,3 +63,5 @@ impl Handle {
         }
     }
 }
+
+unsafe impl Send for Handle {}

@@ -2,6 +2,7 @@
 //! and comparison. `include/uca.h` declares what is exported here, and says what a caller owes.
 #![tactic(auto)]
 
+mod crossing;
 mod exports;
 mod handle;
 mod numbers;
