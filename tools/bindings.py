@@ -6,6 +6,7 @@
 First prove and build the static library: `rt lib` in crates/uca_c. Then this script makes bindings/c/out and runs
 
 - `calls`, which calls everything in uca.h with good and bad input: as it is, under valgrind, and with the sanitizers of gcc;
+- `memory`, in which each allocation fails in turn: as it is, and under valgrind;
 - `keys` and the module over files of examples/, whose keys and orders have to be those of `uca keys` and `uca sort`;
 - the names that libuca.so.1 exports, which have to be those of uca.h, and the header as C++;
 - a program that is compiled by what pkg-config says of a temporary installation, and the programs of docs/BINDINGS.md;
@@ -72,7 +73,8 @@ def make(work):
 
 def valgrind(work):
     need("valgrind")
-    run(["valgrind", "-q", "--error-exitcode=9", "--leak-check=full", "--show-leak-kinds=all", "--errors-for-leak-kinds=all", f"{C}/out/calls"])
+    for program in ("calls", "memory"):
+        run(["valgrind", "-q", "--error-exitcode=9", "--leak-check=full", "--show-leak-kinds=all", "--errors-for-leak-kinds=all", f"{C}/out/{program}"])
 
 
 def sanitizers(work):

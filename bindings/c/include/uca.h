@@ -68,7 +68,7 @@ typedef enum uca_kind {
     UCA_KIND_RANGE = 6,
     UCA_KIND_LIMIT = 7,
     UCA_KIND_READ = 8, /* bytes in memory are always read, so this does not come */
-    UCA_KIND_MEMORY = 9
+    UCA_KIND_MEMORY = 9 /* memory ran out while the file was read */
 } uca_kind;
 
 /* A collator. Zeros are a closed one. The members are the library's; uca_collator_size tells how many bytes they have. */
