@@ -1,0 +1,212 @@
+/* Calls everything that uca.h declares, with good and with bad input. Prints a line for each check that fails, and how many
+   passed; its status is 1 if one failed. */
+#include "uca.h"
+
+#include <pthread.h>
+#include <stdio.h>
+#include <stdlib.h>
+#include <string.h>
+
+static const char TABLE[] = "@version 1\n"
+                            "@implicitweights 17000..18AFF; FB00\n"
+                            "0020 ; [*0209.0020.0002]\n"
+                            "200B ; [.0000.0000.0000]\n"
+                            "0061 ; [.1C47.0020.0002]\n"
+                            "0041 ; [.1C47.0020.0008]\n"
+                            "0062 ; [.1C60.0020.0002]\n"
+                            "0300 ; [.0000.0025.0002]\n"
+                            "0301 ; [.0000.0024.0002]\n"
+                            "0323 ; [.0000.002C.0002]\n";
+static const char DATA[] = "@data 1\nccc 0300..0314 230\nccc 0323..0323 220\ncore 4E00..9FFF\nother 20000..20FFF\n";
+
+#define BYTES(text) (const uint8_t *)(text), sizeof(text) - 1
+#define ROOM 64
+
+static int passed, failed;
+
+static void check(bool holds, int line, const char *what)
+{
+    if (holds) {
+        passed++;
+    } else {
+        failed++;
+        printf("calls.c:%d: %s\n", line, what);
+    }
+}
+
+#define CHECK(fact) check((fact), __LINE__, #fact)
+
+static bool is_key(uca_collator *collator, const uint8_t *text, size_t length, const char *key, size_t key_length)
+{
+    uint8_t out[ROOM];
+    size_t needed = 1;
+    return uca_key(collator, text, length, out, ROOM, &needed) == UCA_OK && needed == key_length && memcmp(out, key, needed) == 0;
+}
+
+#define IS_KEY(collator, text, key) is_key(collator, BYTES(text), key, sizeof(key) - 1)
+
+static bool is_comparison(uca_collator *collator, const uint8_t *left, size_t left_length, const uint8_t *right, size_t right_length,
+                          int32_t order, uint32_t level)
+{
+    uca_comparison found = {7, 7};
+    return uca_compare(collator, left, left_length, right, right_length, &found) == UCA_OK && found.order == order && found.level == level;
+}
+
+#define COMPARES(collator, left, right, order, level) is_comparison(collator, BYTES(left), BYTES(right), order, level)
+
+static void check_closed(void)
+{
+    uca_collator closed = UCA_CLOSED_COLLATOR;
+    uca_comparison found = {7, 7};
+    uint8_t out[ROOM];
+    size_t needed = 7;
+    out[0] = 0xEE;
+    CHECK(uca_abi() == UCA_ABI);
+    CHECK(uca_version() == 1000);
+    CHECK(uca_collator_size() == sizeof(uca_collator));
+    CHECK(uca_key(&closed, BYTES("a"), out, ROOM, &needed) == UCA_CLOSED && needed == 0 && out[0] == 0xEE);
+    CHECK(uca_compare(&closed, BYTES("a"), BYTES("b"), &found) == UCA_CLOSED && found.order == 0 && found.level == 0);
+    uca_close(&closed);
+    CHECK(!closed.is_open);
+}
+
+static uca_status opened(uca_collator *collator, const char *table, const char *data, uint32_t weighting, uint32_t depth, uca_error *error)
+{
+    *error = (uca_error){7, 7};
+    return uca_open(collator, (const uint8_t *)table, strlen(table), (const uint8_t *)data, strlen(data), weighting, depth, error);
+}
+
+static void check_open(void)
+{
+    uca_collator it = UCA_CLOSED_COLLATOR;
+    uca_error error;
+    CHECK(opened(&it, "@version 1\n0061 ; [.1C", DATA, 0, 0, &error) == UCA_TABLE && error.line == 2 && error.kind == UCA_KIND_WEIGHT);
+    CHECK(opened(&it, "", DATA, 0, 0, &error) == UCA_TABLE && error.line == 1 && error.kind == UCA_KIND_ORDER);
+    CHECK(opened(&it, TABLE, "x\n", 0, 0, &error) == UCA_DATA && error.line == 1 && error.kind == UCA_KIND_ORDER);
+    CHECK(opened(&it, TABLE, "@data 1\n\nccc 0300..0314 300\n", 0, 0, &error) == UCA_DATA && error.line == 3 && error.kind == UCA_KIND_WEIGHT);
+    CHECK(opened(&it, TABLE, DATA, 3, 0, &error) == UCA_ARGUMENT && error.line == 0 && error.kind == UCA_NO_ERROR);
+    CHECK(opened(&it, TABLE, DATA, 0, 2, &error) == UCA_ARGUMENT && !it.is_open);
+    CHECK(opened(&it, TABLE, DATA, UCA_NON_IGNORABLE, UCA_WEIGHTS, &error) == UCA_OK && it.is_open && error.line == 0);
+    CHECK(opened(&it, "", "", 9, 9, &error) == UCA_ALREADY_OPEN && error.line == 0 && error.kind == UCA_NO_ERROR);
+    CHECK(IS_KEY(&it, "a", "\x1C\x47\0\0\0\x20\0\0\0\x02"));
+    uca_close(&it);
+    CHECK(!it.is_open);
+    uca_close(&it);
+    CHECK(opened(&it, TABLE, DATA, UCA_BY_TABLE, UCA_WEIGHTS, &error) == UCA_OK);
+    CHECK(IS_KEY(&it, "a b", "\x1C\x47\x1C\x60\0\0\0\x20\0\x20\0\0\0\x02\0\x02\0\0\xFF\xFF\x02\x09\xFF\xFF"));
+    uca_close(&it);
+}
+
+static void check_keys(uca_collator *it)
+{
+    uint8_t out[ROOM];
+    size_t needed = 7;
+    CHECK(IS_KEY(it, "", "\0\0\0\0"));
+    CHECK(IS_KEY(it, "\xC3\xA1", "\x1C\x47\0\0\0\x20\0\x24\0\0\0\x02\0\x02"));
+    CHECK(IS_KEY(it, "a\xCC\x81", "\x1C\x47\0\0\0\x20\0\x24\0\0\0\x02\0\x02"));
+    memset(out, 0xEE, ROOM);
+    CHECK(uca_key(it, BYTES("a"), out, 9, &needed) == UCA_SMALL && needed == 10 && out[0] == 0xEE);
+    CHECK(uca_key(it, BYTES("a"), out, 0, &needed) == UCA_SMALL && needed == 10 && out[0] == 0xEE);
+    CHECK(uca_key(it, BYTES("a"), out, 10, &needed) == UCA_OK && needed == 10 && out[9] == 2 && out[10] == 0xEE);
+    CHECK(uca_key(it, BYTES("a\xFF"), out, ROOM, &needed) == UCA_UTF8 && needed == 0 && out[0] == 0x1C);
+    CHECK(IS_KEY(it, "b\0", "\x1C\x60\0\0\0\x20\0\0\0\x02") == false);
+}
+
+static void check_compare(uca_collator *it)
+{
+    uca_comparison found = {7, 7};
+    CHECK(COMPARES(it, "Aa", "ab", -1, 1));
+    CHECK(COMPARES(it, "\xC3\xA1", "a", 1, 2));
+    CHECK(COMPARES(it, "a", "A", -1, 3));
+    CHECK(COMPARES(it, "\xC3\xA1", "a\xCC\x81", 0, 0));
+    CHECK(COMPARES(it, "", "", 0, 0));
+    CHECK(uca_compare(it, BYTES("\xFF"), BYTES("a"), &found) == UCA_UTF8 && found.order == 0 && found.level == 0);
+    CHECK(uca_compare(it, BYTES("a"), BYTES("\xFF"), &found) == UCA_UTF8);
+}
+
+static void check_stored_keys(void)
+{
+    uca_comparison found = {7, 7};
+    uca_compare_keys(BYTES("\x1C\x47\0\0\0\x20\0\0\0\x02"), BYTES("\x1C\x47\0\0\0\x20\0\0\0\x08"), 3, &found);
+    CHECK(found.order == -1 && found.level == 3);
+    uca_compare_keys(BYTES("\x1C\x60"), BYTES("\x1C\x47"), 3, &found);
+    CHECK(found.order == 1 && found.level == 1);
+    uca_compare_keys(BYTES(""), BYTES(""), 3, &found);
+    CHECK(found.order == 0 && found.level == 0);
+}
+
+static void check_limits(uca_collator *it)
+{
+    char marks[1 + 2 * 65] = "a";
+    for (size_t i = 0; i < 65; i++) {
+        memcpy(marks + 1 + 2 * i, "\xCC\x81", 2);
+    }
+    uint8_t out[1024];
+    size_t needed;
+    CHECK(uca_key(it, (const uint8_t *)marks, 1 + 2 * 64, out, sizeof out, &needed) == UCA_OK && needed == 2 + 2 + 130 + 2 + 130);
+    CHECK(uca_key(it, (const uint8_t *)marks, 1 + 2 * 65, out, sizeof out, &needed) == UCA_LONG_RUN && needed == 0);
+    size_t length = 1048577;
+    uint8_t *text = malloc(length);
+    if (!text) {
+        abort();
+    }
+    memset(text, 'a', length);
+    CHECK(uca_key(it, text, length, out, sizeof out, &needed) == UCA_TOO_LONG && needed == 0);
+    CHECK(uca_key(it, text, length - 1, out, sizeof out, &needed) == UCA_SMALL && needed == (length - 1) * 6 + 4);
+    free(text);
+}
+
+static void check_moved(uca_collator *it)
+{
+    uca_collator moved;
+    memcpy(&moved, it, sizeof moved);
+    memset(it, 0, sizeof *it);
+    CHECK(IS_KEY(&moved, "b", "\x1C\x60\0\0\0\x20\0\0\0\x02"));
+    uca_close(&moved);
+    CHECK(!moved.is_open);
+}
+
+static void *key_of_b(void *collator)
+{
+    return IS_KEY((uca_collator *)collator, "b", "\x1C\x60\0\0\0\x20\0\0\0\x02") ? collator : NULL;
+}
+
+/* One thread after another: their starts and joins order the calls. */
+static void check_threads(uca_collator *it)
+{
+    for (int i = 0; i < 3; i++) {
+        pthread_t thread;
+        void *found = NULL;
+        CHECK(pthread_create(&thread, NULL, key_of_b, it) == 0 && pthread_join(thread, &found) == 0 && found == it);
+        CHECK(key_of_b(it) == it);
+    }
+}
+
+static void check_identical(void)
+{
+    uca_collator it = UCA_CLOSED_COLLATOR;
+    uca_error error;
+    CHECK(opened(&it, TABLE, DATA, UCA_NON_IGNORABLE, UCA_IDENTICAL, &error) == UCA_OK);
+    CHECK(IS_KEY(&it, "a", "\x1C\x47\0\0\0\x20\0\0\0\x02\0\0\0\0\x61"));
+    CHECK(COMPARES(&it, "\xCC\xA3\xCC\x81", "\xCC\x81\xCC\xA3", 0, 0));
+    CHECK(COMPARES(&it, "a\xE2\x80\x8B", "a", 1, 4));
+    uca_close(&it);
+}
+
+int main(void)
+{
+    uca_collator it = UCA_CLOSED_COLLATOR;
+    uca_error error;
+    check_closed();
+    check_open();
+    CHECK(opened(&it, TABLE, DATA, UCA_NON_IGNORABLE, UCA_WEIGHTS, &error) == UCA_OK);
+    check_keys(&it);
+    check_compare(&it);
+    check_stored_keys();
+    check_limits(&it);
+    check_threads(&it);
+    check_moved(&it);
+    check_identical();
+    printf("%d passed, %d failed\n", passed, failed);
+    return failed != 0;
+}

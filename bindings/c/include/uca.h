@@ -1,0 +1,144 @@
+/* uca: Unicode collation (UTS #10) in C. Sort keys and comparison over a table and a data file, with proved contracts.
+
+   What is proved, in the repository of uca: what each call below says, for every argument of the types that it has. Nothing is
+   proved of the C code that calls it, which owes this:
+
+   - A pointer and a length are of memory that is the caller's: readable where the parameter is const, else readable and
+     writable, and not written by anyone while the call lasts. What a call writes does not overlap anything else that it is
+     given. A pointer is never NULL, not even where the length is 0. A length is below 2^63.
+   - A uca_collator was zeroed (UCA_CLOSED_COLLATOR) before its first call, and its members are written by calls alone. It may be
+     moved in memory, between calls, if the old bytes are forgotten. A copy of an open one is none.
+   - A uca_collator is in one call at a time. It may change threads between two calls, if a lock or a thread's start or join orders
+     these. uca_abi, uca_version, uca_collator_size and uca_compare_keys may be called from any thread at any time.
+   - malloc, realloc and free are one allocator, whose blocks are aligned to 16 bytes. No call is made in a signal handler, or in
+     the forked child of a process with threads.
+
+   Who owns what: memory that a pointer names stays the caller's. An open collator has memory of its own, which uca_close
+   gives back. uca_open keeps none of the bytes that it reads. */
+#ifndef UCA_H
+#define UCA_H
+
+#include <stdbool.h>
+#include <stddef.h>
+#include <stdint.h>
+
+#ifdef __cplusplus
+extern "C" {
+#endif
+
+/* The number of this interface. It changes where a program that was compiled with this header could no longer be used. */
+#define UCA_ABI 1
+
+/* What a call did. No call ends the program: each error is a status. */
+typedef enum uca_status {
+    UCA_OK = 0,           /* the call did what it says */
+    UCA_CLOSED = 1,       /* the collator is closed */
+    UCA_ALREADY_OPEN = 2, /* the collator is open, and stays as it is */
+    UCA_ARGUMENT = 3,     /* the weighting or the depth is none of those below */
+    UCA_TABLE = 4,        /* the table is rejected: the error has the line and why */
+    UCA_DATA = 5,         /* the table is read, and the data file is rejected: the error has the line and why */
+    UCA_MEMORY = 6,       /* out of memory; the call may be tried again */
+    UCA_UTF8 = 7,         /* a text is not UTF-8 */
+    UCA_TOO_LONG = 8,     /* a text has more than 1,048,576 code points in Normalization Form D */
+    UCA_LONG_RUN = 9,     /* a text has more than 64 non-starters in a row in Normalization Form D */
+    UCA_SMALL = 10        /* the key has more bytes than there is room for */
+} uca_status;
+
+/* How variable elements, such as spaces and punctuation, are weighted (UTS #10, section 4). */
+typedef enum uca_weighting {
+    UCA_BY_TABLE = 0,      /* as the table's @variable says, or else as UCA_SHIFTED */
+    UCA_NON_IGNORABLE = 1, /* as all other elements: keys have 3 levels */
+    UCA_SHIFTED = 2        /* at a fourth level alone: keys have 4 levels */
+} uca_weighting;
+
+/* How far texts are compared. */
+typedef enum uca_depth {
+    UCA_WEIGHTS = 0,  /* by the levels of weights */
+    UCA_IDENTICAL = 1 /* by one more level, that of the code points: only canonically equivalent texts are equal */
+} uca_depth;
+
+/* Why a file is rejected. docs/FORMATS.md says what each kind means. */
+typedef enum uca_kind {
+    UCA_NO_ERROR = 0,
+    UCA_KIND_LINE = 1,
+    UCA_KIND_ORDER = 2,
+    UCA_KIND_CODE_POINT = 3,
+    UCA_KIND_WEIGHT = 4,
+    UCA_KIND_DUPLICATE_KEY = 5,
+    UCA_KIND_RANGE = 6,
+    UCA_KIND_LIMIT = 7,
+    UCA_KIND_READ = 8, /* bytes in memory are always read, so this does not come */
+    UCA_KIND_MEMORY = 9 /* memory ran out while the file was read */
+} uca_kind;
+
+/* A collator. Zeros are a closed one. The members are the library's; uca_collator_size tells how many bytes they have. */
+typedef struct uca_collator {
+    struct {
+        void *inside;
+        bool is_kept;
+    } handle;
+    bool is_open;
+} uca_collator;
+
+#define UCA_CLOSED_COLLATOR {{0, 0}, 0}
+
+/* Where a file is rejected, and why: a line from 1 on and a uca_kind, or 0 and 0 if no file is. */
+typedef struct uca_error {
+    uint32_t line;
+    uint32_t kind;
+} uca_error;
+
+/* How two texts or two keys compare. */
+typedef struct uca_comparison {
+    int32_t order;  /* -1 if the left one comes first, 1 if the right one does, 0 if they are equal */
+    uint32_t level; /* the first level at which they differ, from 1 on, or 0 */
+} uca_comparison;
+
+/* UCA_ABI, as the library was built. */
+uint32_t uca_abi(void);
+
+/* The version of the library: major * 1000000 + minor * 1000 + patch. */
+uint32_t uca_version(void);
+
+/* sizeof(uca_collator), as the library was built. */
+size_t uca_collator_size(void);
+
+/* Opens a closed collator by the bytes of a table (allkeys.txt) and of a data file. `weighting` is a uca_weighting, `depth` a
+   uca_depth. The error is 0 and 0 unless the status is UCA_TABLE or UCA_DATA.
+
+   UCA_OK: the bytes mean a table and a data file, and texts are keyed by these until uca_close.
+   UCA_ALREADY_OPEN, UCA_ARGUMENT, UCA_TABLE, UCA_DATA, UCA_MEMORY: the collator is as before. */
+uint32_t uca_open(uca_collator *collator, const uint8_t *table, size_t table_length, const uint8_t *data, size_t data_length,
+                  uint32_t weighting, uint32_t depth, uca_error *error);
+
+/* The sort key of a text (UTS #10, section 7.3), which is UTF-8 and may have any bytes, also 0.
+
+   UCA_OK: the first `*needed` bytes of `out` are the key, and those after them are as before.
+   UCA_SMALL: the key has `*needed` bytes, and `room` is less.
+   UCA_CLOSED, UCA_UTF8, UCA_TOO_LONG, UCA_LONG_RUN, UCA_MEMORY: `*needed` is 0.
+   Unless the status is UCA_OK, `out` is as before.
+
+   Keys of one collator compare as bytes (memcmp, and then the length) as their texts do, and uca_compare_keys tells the
+   level. Canonically equivalent texts have one key. At UCA_IDENTICAL no other texts have. */
+uint32_t uca_key(uca_collator *collator, const uint8_t *text, size_t length, uint8_t *out, size_t room, size_t *needed);
+
+/* Compares two texts without keys. It tells what uca_compare_keys tells of their keys.
+
+   UCA_OK: the comparison is that of the texts.
+   UCA_CLOSED, UCA_UTF8, UCA_TOO_LONG, UCA_LONG_RUN, UCA_MEMORY: the comparison is 0 and 0. The left text is judged first. */
+uint32_t uca_compare(uca_collator *collator, const uint8_t *left, size_t left_length, const uint8_t *right, size_t right_length,
+                     uca_comparison *comparison);
+
+/* Compares two stored keys of as many levels: 3, one more under UCA_SHIFTED, and one more at UCA_IDENTICAL. Any bytes can be
+   compared. */
+void uca_compare_keys(const uint8_t *left, size_t left_length, const uint8_t *right, size_t right_length, uint8_t levels,
+                      uca_comparison *comparison);
+
+/* Gives back all memory of a collator, which is closed then. A closed one stays so. */
+void uca_close(uca_collator *collator);
+
+#ifdef __cplusplus
+}
+#endif
+
+#endif

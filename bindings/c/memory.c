@@ -1,0 +1,119 @@
+/* Each allocation of a whole use fails in turn, alone and with all after it. It is linked with --wrap=malloc, --wrap=realloc and --wrap=free, so
+   that the library's allocations come here. Prints a line for each check that fails, and how many runs there were; its status is
+   1 if one failed. */
+#include "uca.h"
+
+#include <stdio.h>
+#include <stdlib.h>
+#include <string.h>
+
+void *__real_malloc(size_t size);
+void *__real_realloc(void *block, size_t size);
+void __real_free(void *block);
+void *__wrap_malloc(size_t size);
+void *__wrap_realloc(void *block, size_t size);
+void __wrap_free(void *block);
+
+static long asked, first_failing, last_failing, held, failed;
+
+static bool fails(void)
+{
+    asked++;
+    return first_failing <= asked && asked <= last_failing;
+}
+
+void *__wrap_malloc(size_t size)
+{
+    void *block = fails() ? NULL : __real_malloc(size);
+    held += block != NULL;
+    return block;
+}
+
+void *__wrap_realloc(void *block, size_t size)
+{
+    void *moved = fails() ? NULL : __real_realloc(block, size);
+    held += moved != NULL && block == NULL;
+    return moved;
+}
+
+void __wrap_free(void *block)
+{
+    held -= block != NULL;
+    __real_free(block);
+}
+
+static const char TABLE[] = "@version 1\n@implicitweights 17000..18AFF; FB00\n0061 ; [.1C47.0020.0002]\n0062 0061 ; [.1C60.0020.0002][.1C61.0020.0002]\n"
+                            "0301 ; [.0000.0024.0002]\n";
+static const char DATA[] = "@data 1\nccc 0301..0301 230\ncore 4E00..9FFF\n";
+static const uint8_t KEY[] = {0x1C, 0x47, 0, 0, 0, 0x20, 0, 0x24, 0, 0, 0, 2, 0, 2};
+
+#define BYTES(text) (const uint8_t *)(text), sizeof(text) - 1
+#define CHECK(fact) check((fact), __LINE__, #fact)
+
+static void check(bool holds, int line, const char *what)
+{
+    if (!holds) {
+        failed++;
+        printf("memory.c:%d: %s, where allocations %ld to %ld fail\n", line, what, first_failing, last_failing);
+    }
+}
+
+static bool is_memory(uint32_t status, const uca_error *error)
+{
+    return status == UCA_MEMORY || ((status == UCA_TABLE || status == UCA_DATA) && error->kind == UCA_KIND_MEMORY && error->line > 0);
+}
+
+static bool can_fail(void)
+{
+    return asked >= first_failing && first_failing > 0;
+}
+
+/* Opens, makes a key and compares. Returns whether nothing failed. Each status is OK, or says that memory ran out. */
+static bool use(uca_collator *it)
+{
+    uca_error error = {7, 7};
+    uca_comparison found = {7, 7};
+    uint8_t out[64] = {0xEE};
+    size_t needed = 7;
+    if (!it->is_open) {
+        uint32_t status = uca_open(it, BYTES(TABLE), BYTES(DATA), UCA_NON_IGNORABLE, UCA_WEIGHTS, &error);
+        CHECK(status == UCA_OK ? it->is_open : can_fail() && is_memory(status, &error) && !it->is_open);
+        if (status != UCA_OK) {
+            return false;
+        }
+    }
+    uint32_t status = uca_key(it, BYTES("a\xCC\x81"), out, sizeof out, &needed);
+    CHECK(status == UCA_OK ? needed == sizeof KEY && memcmp(out, KEY, sizeof KEY) == 0
+                           : can_fail() && status == UCA_MEMORY && needed == 0 && out[0] == 0xEE);
+    uint32_t other = uca_compare(it, BYTES("a\xCC\x81"), BYTES("ba"), &found);
+    CHECK(other == UCA_OK ? found.order == -1 && found.level == 1 : can_fail() && other == UCA_MEMORY && found.order == 0);
+    return status == UCA_OK && other == UCA_OK;
+}
+
+/* A use in which these allocations fail, and then one, of the same collator, in which none does. */
+static void run(long first, long last)
+{
+    uca_collator it = UCA_CLOSED_COLLATOR;
+    asked = 0;
+    first_failing = first;
+    last_failing = last;
+    use(&it);
+    first_failing = last_failing = 0;
+    CHECK(use(&it));
+    uca_close(&it);
+    CHECK(held == 0);
+}
+
+int main(void)
+{
+    uca_collator it = UCA_CLOSED_COLLATOR;
+    CHECK(use(&it));
+    uca_close(&it);
+    long count = asked;
+    for (long n = 1; n <= count; n++) {
+        run(n, n);
+        run(n, count + 1000);
+    }
+    printf("%ld runs, %ld checks failed\n", 2 * count, failed);
+    return failed != 0 || count == 0;
+}

@@ -1,0 +1,6 @@
+-- What may change threads.
+use denote.Param.Send.{IsSend}
+use Rattle.uca_c.specs.contracts.slot.Slot.{the_row}
+
+abbrev pub IsSendSlot : Type 0
+IsSendSlot = IsSend the_row

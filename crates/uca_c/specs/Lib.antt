@@ -1,0 +1,6 @@
+pub mod Crossing
+pub mod Handles
+pub mod Numbers
+pub mod Opened
+pub mod Results
+pub mod Statuses

@@ -1,0 +1,33 @@
+-- The numbers by which C says a weighting and a depth, and gets kinds of errors and orders.
+use Rattle.std.specs.Prelude.{ℕ, ℤ, pos, negsuc, ◌==◌, if◌then◌else◌, Option, Some, None}
+use Rattle.std.specs.declared.cmp.Ordering.{Ordering}
+use Rattle.std.specs.declared.cmp.Ordering.TheVariants.{Less, Equal, Greater}
+use Rattle.uca_weights.specs.declared.Depth.{Depth}
+use Rattle.uca_weights.specs.declared.Depth.TheVariants.{Weights, Identical}
+use Rattle.uca_weights.specs.declared.Weighting.{Weighting}
+use Rattle.uca_weights.specs.declared.Weighting.TheVariants.{NonIgnorable, Shifted}
+use Rattle.uca_values.specs.declared.faults.FaultKind.{FaultKind}
+use Rattle.uca_values.specs.declared.faults.FaultKind.TheVariants as kinds
+
+-- the weighting that a number asks for, or that of the table; other numbers have no meaning
+abbrev pub weighting_of : ℕ → Option (Option Weighting)
+weighting_of n = if n == 0 then Some None else if n == 1 then Some (Some NonIgnorable) else if n == 2 then Some (Some Shifted) else None
+
+abbrev pub depth_of : ℕ → Option Depth
+depth_of n = if n == 0 then Some Weights else if n == 1 then Some Identical else None
+
+abbrev pub kind_number : FaultKind → ℕ
+kind_number kinds.Line = 1
+kind_number kinds.Order = 2
+kind_number kinds.CodePoint = 3
+kind_number kinds.Weight = 4
+kind_number kinds.DuplicateKey = 5
+kind_number kinds.Range = 6
+kind_number kinds.Limit = 7
+kind_number kinds.Read = 8
+kind_number kinds.Memory = 9
+
+abbrev pub order_number : Ordering → ℤ
+order_number Less = negsuc 0
+order_number Equal = pos 0
+order_number Greater = pos 1

@@ -1,0 +1,49 @@
+-- What the status of opening says of the caller's bytes and numbers.
+use Rattle.std.specs.Prelude.{◌≡◌, ◌⊎◌, ℕ, List, Option, Some, None}
+use Rattle.uca_weights.specs.declared.Depth.{Depth}
+use Rattle.uca_weights.specs.declared.Weighting.{Weighting}
+use Rattle.uca_values.specs.Content.{TableContent, Properties}
+use Rattle.uca_values.specs.declared.faults.FaultKind.TheVariants.{Read, Memory}
+use Rattle.uca_values.specs.declared.faults.TableFault.{TableFault}
+use Rattle.uca_owned.specs.Keyings.{Keying}
+use Rattle.uca_owned.specs.Opening.{MeanFiles, Opens, IsOpenCause}
+use Rattle.uca_owned.specs.declared.faults.OpenFault.TheVariants.{Table, Data}
+use Rattle.uca_c.specs.Numbers.{weighting_of, depth_of, kind_number}
+use Rattle.uca_c.specs.declared.statuses.TheConstants.{ARGUMENT, TABLE, DATA, MEMORY}
+
+-- the numbers ask for a weighting and a depth, and the bytes mean a table and a data file: texts are keyed by these
+pub record OpensBy (weighting depth : ℕ) (table_bytes data_bytes : List ℕ) (k : Keying) : Type 0 where
+  pub asked : Option Weighting
+  pub at : Depth
+  pub is_weighting : weighting_of weighting ≡ Some asked
+  pub is_depth : depth_of depth ≡ Some at
+  pub opens : Opens asked at table_bytes data_bytes k
+
+-- an error in a file, by its line and the number of its kind
+pub record IsFileError (Rejects : TableFault → Type 0) (at number : ℕ) : Type 0 where
+  pub fault : TableFault
+  pub cause : Rejects fault
+  pub line : at ≡ fault.line
+  pub kind : number ≡ kind_number fault.kind
+
+-- no file is rejected
+abbrev pub IsNoFileError : ℕ → ℕ → Type 0
+IsNoFileError line kind = (line ≡ 0) × (kind ≡ 0)
+
+-- why nothing was opened
+abbrev pub IsOpenStatus : ℕ → ℕ → List ℕ → List ℕ → ℕ → ℕ → ℕ → Type 0
+IsOpenStatus weighting depth table_bytes data_bytes line kind status =
+    ((status ≡ ARGUMENT) × ((weighting_of weighting ≡ None) ⊎ (depth_of depth ≡ None)) × IsNoFileError line kind)
+    ⊎ ((status ≡ TABLE) × IsFileError (λ fault. IsOpenCause table_bytes data_bytes (Table fault)) line kind)
+    ⊎ ((status ≡ DATA) × IsFileError (λ fault. IsOpenCause table_bytes data_bytes (Data fault)) line kind)
+    ⊎ ((status ≡ MEMORY) × IsNoFileError line kind)
+
+-- the numbers ask for this weighting and this depth, and the bytes mean this table and these properties
+pub record Asks (weighting depth : ℕ) (table_bytes data_bytes : List ℕ) (asked : Option Weighting) (at : Depth) (table : TableContent) (properties : Properties) : Type 0 where
+  pub is_weighting : weighting_of weighting ≡ Some asked
+  pub is_depth : depth_of depth ≡ Some at
+  pub mean : MeanFiles table_bytes data_bytes table properties
+
+-- nothing is rejected: an allocation failed, or a read
+abbrev pub IsStopStatus : ℕ → ℕ → Type 0
+IsStopStatus status kind = (status ≡ MEMORY) ⊎ (((status ≡ TABLE) ⊎ (status ≡ DATA)) × ((kind ≡ kind_number Read) ⊎ (kind ≡ kind_number Memory)))

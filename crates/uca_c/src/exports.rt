@@ -1,0 +1,164 @@
+//! The calls that C makes. Their clauses hold for every argument: a wrong one is a status.
+
+ghost use Rattle.std.specs.Prelude.{◌≡◌, ◌≢◌, ◌↔◌, ◌⊎◌, true, false, pos, Option};
+ghost use Rattle.uca_weights.specs.declared.Depth.{Depth};
+ghost use Rattle.uca_weights.specs.declared.Weighting.{Weighting};
+ghost use Rattle.uca_values.specs.Content.{TableContent, Properties};
+ghost use Rattle.uca_key.specs.Levels.{lexicographic};
+ghost use Rattle.uca_key.specs.StoredKeys.{stored_level};
+ghost use Rattle.uca_owned.specs.Keyings.{keying, key_of_bytes, bytes_compared};
+ghost use Rattle.uca_owned.specs.Owned.{keying_in};
+ghost use Rattle.uca_c.specs.Numbers.{order_number};
+ghost use Rattle.uca_c.specs.Opened.{Asks, OpensBy, IsNoFileError, IsOpenStatus, IsStopStatus};
+ghost use Rattle.uca_c.specs.Results.{WritesKey, IsTooSmall, IsComparison};
+ghost use Rattle.uca_c.specs.Statuses.{IsKeyStatus, IsCompareStatus};
+
+use crate::numbers::number_of_order;
+use crate::slot::{Slot, put, take};
+use crate::statuses::{ALREADY_OPEN, CLOSED, OK, SMALL};
+use crate::structs::{Comparison, FileError};
+use crate::work;
+use std::alloc::Global;
+
+/// The number of this interface.
+#[unsafe(no_mangle)]
+pub extern "C" fn uca_abi() -> u32
+    ensures { result ≡ 1 }
+{
+    1
+}
+
+/// The version of this library: major * 1,000,000 + minor * 1,000 + patch.
+#[unsafe(no_mangle)]
+pub extern "C" fn uca_version() -> u32
+    ensures { result ≡ 1000 }
+{
+    1_000
+}
+
+/// How many bytes `struct uca_collator` has.
+#[unsafe(no_mangle)]
+pub extern "C" fn uca_collator_size() -> usize
+    ensures { result ≡ 24 }
+{
+    size_of::<Slot>()
+}
+
+/// Opens a collator that is closed, by the bytes of a table and of a data file.
+#[unsafe(no_mangle)]
+pub extern "C" fn uca_open(
+    alloc: Global,
+    collator: &mut Slot,
+    table: &[u8],
+    data_file: &[u8],
+    weighting: u32,
+    depth: u32,
+    error: &mut FileError,
+) -> u32
+    ensures already { (result ≡ ALREADY_OPEN) ↔ (collator.old.full ≡ true) }
+    ensures ok { result ≡ OK → OpensBy weighting depth table.now data_file.now (keying_in collator.new.handle.kept) }
+    ensures open { result ≡ OK → collator.new.full ≡ true }
+    ensures same { result ≢ OK → collator.new ≡ collator.old }
+    ensures only { (asked : Option Weighting) (at : Depth) (meant : TableContent) (properties : Properties) → collator.old.full ≡ false →
+        Asks weighting depth table.now data_file.now asked at meant properties →
+        ((result ≡ OK) × (keying_in collator.new.handle.kept ≡ keying asked at meant properties)) ⊎ IsStopStatus result error.new.kind }
+    ensures no_error { (result ≡ OK) ⊎ (result ≡ ALREADY_OPEN) → IsNoFileError error.new.line error.new.kind }
+    ensures rejected { result ≢ OK → result ≢ ALREADY_OPEN →
+        IsOpenStatus weighting depth table.now data_file.now error.new.line error.new.kind result }
+{
+    if collator.full {
+        *error = FileError { line: 0, kind: 0 };
+        return ALREADY_OPEN;
+    }
+    match work::open(alloc, table, data_file, weighting, depth, error) {
+        Ok(opened) => {
+            put(collator, opened);
+            OK
+        }
+        Err(status) => status,
+    }
+}
+
+/// Writes the key of a text at `out`.
+#[unsafe(no_mangle)]
+pub extern "C" fn uca_key(
+    alloc: Global,
+    collator: &mut Slot,
+    text: &[u8],
+    out: &mut [u8],
+    needed: &mut usize,
+) -> u32
+    ensures closed { (result ≡ CLOSED) ↔ (collator.old.full ≡ false) }
+    ensures ok { result ≡ OK → WritesKey (key_of_bytes (keying_in collator.old.handle.kept) text.now) out.old out.new needed.new }
+    ensures small { result ≡ SMALL → IsTooSmall (key_of_bytes (keying_in collator.old.handle.kept) text.now) out.old needed.new }
+    ensures rejected { collator.old.full ≡ true → IsKeyStatus (keying_in collator.old.handle.kept).collation.properties text.now result }
+    ensures unwritten { result ≢ OK → out.new ≡ out.old }
+    ensures none { result ≢ OK → result ≢ SMALL → needed.new ≡ 0 }
+    ensures full { collator.new.full ≡ collator.old.full }
+    ensures keying { collator.old.full ≡ true → keying_in collator.new.handle.kept ≡ keying_in collator.old.handle.kept }
+{
+    if !collator.full {
+        *needed = 0;
+        return CLOSED;
+    }
+    let mut opened = take(alloc, collator);
+    let status = work::write_key(&mut opened, text, out, needed);
+    put(collator, opened);
+    status
+}
+
+/// Compares two texts, without keys.
+#[unsafe(no_mangle)]
+pub extern "C" fn uca_compare(
+    alloc: Global,
+    collator: &mut Slot,
+    left: &[u8],
+    right: &[u8],
+    comparison: &mut Comparison,
+) -> u32
+    ensures closed { (result ≡ CLOSED) ↔ (collator.old.full ≡ false) }
+    ensures ok { result ≡ OK → IsComparison (bytes_compared (keying_in collator.old.handle.kept) left.now right.now)
+        comparison.new.order comparison.new.level }
+    ensures rejected { collator.old.full ≡ true →
+        IsCompareStatus (keying_in collator.old.handle.kept).collation.properties left.now right.now result }
+    ensures none { result ≢ OK → (comparison.new.order ≡ pos 0) × (comparison.new.level ≡ 0) }
+    ensures full { collator.new.full ≡ collator.old.full }
+    ensures keying { collator.old.full ≡ true → keying_in collator.new.handle.kept ≡ keying_in collator.old.handle.kept }
+{
+    if !collator.full {
+        *comparison = Comparison { order: 0, level: 0 };
+        return CLOSED;
+    }
+    let mut opened = take(alloc, collator);
+    let status = work::compare(&mut opened, left, right, comparison);
+    put(collator, opened);
+    status
+}
+
+/// Compares two stored keys, which have so many levels.
+#[unsafe(no_mangle)]
+pub extern "C" fn uca_compare_keys(
+    left: &[u8],
+    right: &[u8],
+    levels: u8,
+    comparison: &mut Comparison,
+)
+    ensures order { comparison.new.order ≡ order_number (lexicographic left.now right.now) }
+    ensures level { comparison.new.level ≡ stored_level levels left.now right.now }
+{
+    let (order, level) = uca_key::compare_keys(left, right, levels);
+    *comparison = Comparison {
+        order: number_of_order(order),
+        level: level.into(),
+    };
+}
+
+/// Gives back all memory of a collator, which is closed then. One that is closed stays so.
+#[unsafe(no_mangle)]
+pub extern "C" fn uca_close(alloc: Global, collator: &mut Slot)
+    ensures { collator.new.full ≡ false }
+{
+    if collator.full {
+        drop(take(alloc, collator));
+    }
+}

@@ -1,0 +1,67 @@
+//! What C has: a collator in memory of its own, or nothing.
+
+ghost use Rattle.std.specs.Prelude.{◌≡◌, true, false};
+ghost use Rattle.uca_owned.specs.declared.owned.OwnedCollator.{OwnedCollator};
+ghost use Rattle.uca_c.specs.Handles.{handle_owns, collator_coded};
+
+use crate::parts::Parts;
+use std::alloc::Global;
+use std::marker::Model;
+use std::ptr;
+use uca_owned::OwnedCollator;
+
+/// In C `struct { void *inside; bool is_kept; }`. Where `full` is false it owns nothing, and the pointer may be any. So a
+/// struct of zeros is a handle with nothing inside.
+#[repr(C)]
+#[derive(Drop)]
+pub struct Handle {
+    ptr: *mut u8,
+    alloc: Global,
+    pub(crate) full: bool,
+    pub ghost kept: { OwnedCollator } by { collator_coded },
+}
+
+impl Model for Handle {
+    ghost also_owns = { λ h. handle_owns h.full h.alloc h.ptr h.kept };
+}
+
+impl Handle {
+    /// A handle with nothing inside.
+    pub(crate) fn closed(alloc: Global) -> Handle
+        ensures { result.full ≡ false }
+    {
+        Handle {
+            ptr: ptr::null_mut(),
+            alloc,
+            full: false,
+        }
+    }
+
+    pub(crate) fn of_parts(parts: Parts<OwnedCollator, Global>) -> Handle
+        ensures { (result.full ≡ true) × (result.kept ≡ parts.value) }
+    {
+        let Parts { ptr, alloc } = parts;
+        Handle {
+            ptr: ptr as *mut u8,
+            alloc,
+            full: true,
+        }
+    }
+
+    pub(crate) fn into_parts(self) -> Parts<OwnedCollator, Global>
+        requires { self.full ≡ true }
+        ensures { result.value ≡ self.kept }
+    {
+        let Handle {
+            ptr,
+            alloc,
+            full: _,
+        } = self;
+        Parts {
+            ptr: ptr as *mut OwnedCollator,
+            alloc,
+        }
+    }
+}
+
+unsafe impl Send for Handle {}

@@ -1,0 +1,59 @@
+//! What numbers of a caller mean, and which numbers a caller gets.
+
+ghost use Rattle.std.specs.Prelude.{◌≡◌};
+ghost use Rattle.uca_c.specs.Numbers.{weighting_of, depth_of, kind_number, order_number};
+
+use std::cmp::Ordering;
+use uca_values::FaultKind;
+use uca_weights::{Depth, Weighting};
+
+// The weighting that is asked for: 0 asks for none. Other numbers have no meaning.
+pub fn asked_weighting(number: u32) -> Option<Option<Weighting>>
+    ensures { result ≡ weighting_of number }
+{
+    match number {
+        0 => Some(None),
+        1 => Some(Some(Weighting::NonIgnorable)),
+        2 => Some(Some(Weighting::Shifted)),
+        _ => None,
+    }
+}
+
+// The depth that is asked for. Other numbers have no meaning.
+pub fn asked_depth(number: u32) -> Option<Depth>
+    ensures { result ≡ depth_of number }
+{
+    match number {
+        0 => Some(Depth::Weights),
+        1 => Some(Depth::Identical),
+        _ => None,
+    }
+}
+
+// The number of the kind of an error.
+pub fn number_of_kind(kind: FaultKind) -> u32
+    ensures { result ≡ kind_number kind }
+{
+    match kind {
+        FaultKind::Line => 1,
+        FaultKind::Order => 2,
+        FaultKind::CodePoint => 3,
+        FaultKind::Weight => 4,
+        FaultKind::DuplicateKey => 5,
+        FaultKind::Range => 6,
+        FaultKind::Limit => 7,
+        FaultKind::Read => 8,
+        FaultKind::Memory => 9,
+    }
+}
+
+// -1, 0 or 1.
+pub fn number_of_order(order: Ordering) -> i32
+    ensures { result ≡ order_number order }
+{
+    match order {
+        Ordering::Less => -1,
+        Ordering::Equal => 0,
+        Ordering::Greater => 1,
+    }
+}

@@ -1,0 +1,4 @@
+pub mod Causes
+pub mod Keyings
+pub mod Opening
+pub mod Owned

@@ -1,0 +1,45 @@
+-- Opening a collator by the bytes of two files: what it keys texts by, and why there is none.
+use Rattle.std.specs.Prelude.{◌≡◌, ℕ, List, Option, ⊤}
+use Rattle.uca_weights.specs.declared.Depth.{Depth}
+use Rattle.uca_weights.specs.declared.Weighting.{Weighting}
+use Rattle.uca_values.specs.Content.{TableContent, Properties}
+use Rattle.uca_values.specs.declared.faults.TableFault.{TableFault}
+use Rattle.uca_lines.specs.FileStops.{IsStop}
+use Rattle.uca_table.specs.TableLines as tables
+use Rattle.uca_table.specs.DataSoFar as data_files
+use Rattle.uca_owned.specs.Keyings.{Keying, keying}
+use Rattle.uca_owned.specs.declared.faults.OpenFault.{OpenFault}
+use Rattle.uca_owned.specs.declared.faults.OpenFault.TheVariants.{Table, Data, Memory}
+
+-- the bytes are a table file and a data file, which mean this
+pub record MeanFiles (table_bytes data_bytes : List ℕ) (table : TableContent) (properties : Properties) : Type 0 where
+  pub table_file : tables.Means table_bytes table
+  pub data_file : data_files.Means data_bytes properties
+
+-- the bytes are a table file and a data file, and texts are keyed by what these mean
+pub record Opens (asked : Option Weighting) (depth : Depth) (table_bytes data_bytes : List ℕ) (k : Keying) : Type 0 where
+  pub table : TableContent
+  pub properties : Properties
+  pub mean : MeanFiles table_bytes data_bytes table properties
+  pub same : k ≡ keying asked depth table properties
+
+-- why the bytes of a table file are rejected, whatever is left of them
+abbrev pub RejectsTable : List ℕ → TableFault → Type 0
+RejectsTable bytes fault = (left : Option (List ℕ)) × tables.Refuses bytes left fault
+
+-- the same for a data file
+abbrev pub RejectsData : List ℕ → TableFault → Type 0
+RejectsData bytes fault = (left : Option (List ℕ)) × data_files.Refuses bytes left fault
+
+-- the bytes of a table are rejected; or they mean a table, and those of a data file are rejected; or an allocation failed
+abbrev pub IsOpenCause : List ℕ → List ℕ → OpenFault → Type 0
+IsOpenCause table_bytes data_bytes (Table fault) = RejectsTable table_bytes fault
+IsOpenCause table_bytes data_bytes (Data fault) =
+    ((table : TableContent) × tables.Means table_bytes table) × RejectsData data_bytes fault
+IsOpenCause table_bytes data_bytes Memory = ⊤
+
+-- the error is in no file: an allocation failed, or a read
+abbrev pub IsOpenStop : OpenFault → Type 0
+IsOpenStop (Table fault) = IsStop fault.kind
+IsOpenStop (Data fault) = IsStop fault.kind
+IsOpenStop Memory = ⊤

@@ -1,0 +1,104 @@
+//! Keys and comparisons of texts that are given as bytes.
+
+ghost use Rattle.std.specs.Prelude.{◌≡◌, chars, IfOk, IfErr, OnOk};
+ghost use Rattle.uca_values.specs.Content.{properties_of};
+ghost use Rattle.uca_text.specs.Texts.{nfd_text};
+ghost use Rattle.uca_key.specs.Depths.{read_text, compared_at};
+ghost use Rattle.uca_owned.specs.Keyings.{key_of_bytes, bytes_compared};
+ghost use Rattle.uca_owned.specs.Owned.{keying_in, key_in};
+ghost use Rattle.uca_owned.specs.Causes.{IsAcceptedText, IsKeyCause, IsCompareCause};
+
+use crate::OwnedCollator;
+use crate::faults::{CompareFault, KeyFault};
+use std::cmp::Ordering;
+use uca_key::compare;
+use uca_match::Collator;
+use uca_text::{Normal, TextFault};
+use uca_values::Data;
+
+// Takes the text of these bytes in place of the one that was there.
+fn renew(normal: &mut Normal, bytes: &[u8], properties: &Data) -> Result<(), KeyFault>
+    ensures found { OnOk result (normal.new ≡ nfd_text (properties_of properties.now) (chars bytes.now)) }
+    ensures accepted { OnOk result (IsAcceptedText (properties_of properties.now) bytes.now) }
+    ensures fault { IfErr result (IsKeyCause (properties_of properties.now) bytes.now) }
+{
+    let Ok(text) = str::from_utf8(bytes) else {
+        return Err(KeyFault::Utf8);
+    };
+    match normal.renew(text, properties) {
+        Ok(()) => Ok(()),
+        Err(fault) => Err(KeyFault::Text(fault)),
+    }
+}
+
+impl OwnedCollator {
+    /// Makes the sort key of a text (UTS #10, section 7.3), over the key that was there. [`key`](OwnedCollator::key)
+    /// returns it.
+    ///
+    /// # Errors
+    ///
+    /// `Utf8` if the bytes are not UTF-8. `Text` if the text is rejected, as [`normal`](uca_text::normal) says, or if an
+    /// allocation for the key failed. The key is then unspecified until the next one is made.
+    pub fn make_key(&mut self, text: &[u8]) -> Result<(), KeyFault>
+        ensures key { OnOk result (key_in self.new ≡ key_of_bytes (keying_in self.old) text.now) }
+        ensures accepted { OnOk result (IsAcceptedText (keying_in self.old).collation.properties text.now) }
+        ensures fault { IfErr result (IsKeyCause (keying_in self.old).collation.properties text.now) }
+        ensures keying { keying_in self.new ≡ keying_in self.old }
+    {
+        renew(&mut self.left, text, &self.properties)?;
+        let collator = Collator::new(&self.rows, &self.header, &self.properties);
+        match self.buffer.write_text(&collator, &self.left) {
+            Ok(()) => Ok(()),
+            Err(_) => Err(KeyFault::Text(TextFault::Memory)),
+        }
+    }
+
+    /// The key that was made last, or no bytes if none was.
+    pub fn key(&self) -> &[u8]
+        ensures { result.now ≡ key_in self.now }
+    {
+        self.buffer.bytes()
+    }
+
+    /// How two texts compare (UTS #10, section 1.1), without keys: their order, and the first level at which they
+    /// differ, or 0. The key that was made last stays.
+    ///
+    /// # Errors
+    ///
+    /// `Left` if the left text is rejected, or else `Right` if the right one is, for the reasons of
+    /// [`make_key`](OwnedCollator::make_key).
+    pub fn compare(&mut self, left: &[u8], right: &[u8]) -> Result<(Ordering, u8), CompareFault>
+        ensures compared { IfOk result (λ found. let answer = bytes_compared (keying_in self.old) left.now right.now in
+            (found.0 ≡ answer.order) × (found.1 ≡ answer.level)) }
+        ensures accepted { let properties = (keying_in self.old).collation.properties in
+            OnOk result (IsAcceptedText properties left.now × IsAcceptedText properties right.now) }
+        ensures fault { IfErr result (IsCompareCause (keying_in self.old).collation.properties left.now right.now) }
+        ensures keying { keying_in self.new ≡ keying_in self.old }
+        ensures key { key_in self.new ≡ key_in self.old }
+    {
+        if let Err(fault) = renew(&mut self.left, left, &self.properties) {
+            return Err(CompareFault::Left(fault));
+        }
+        if let Err(fault) = renew(&mut self.right, right, &self.properties) {
+            return Err(CompareFault::Right(fault));
+        }
+        Ok(self.compared())
+    }
+
+    // How the two texts that it has compare.
+    fn compared(&self) -> (Ordering, u8)
+        ensures { let keying = keying_in self.now in
+            let answer = compared_at keying.depth keying.weighting (read_text keying.collation self.now.left) (read_text keying.collation self.now.right) in
+            (result.0 ≡ answer.order) × (result.1 ≡ answer.level) }
+    {
+        let collator = Collator::new(&self.rows, &self.header, &self.properties);
+        let compared = compare(
+            &collator,
+            self.weighting,
+            self.depth,
+            &self.left,
+            &self.right,
+        );
+        (compared.order, compared.level)
+    }
+}

@@ -1,0 +1,11 @@
+//! A collator that owns all that it needs, so that a program can keep it. It has a table's header and rows, a data file, and
+//! memory for texts and keys that is used again.
+#![tactic(auto)]
+
+mod calls;
+mod faults;
+mod opening;
+mod owned;
+
+pub use faults::{CompareFault, KeyFault, OpenFault};
+pub use owned::OwnedCollator;

@@ -1,0 +1,89 @@
+//! How a collator is made: of a table and a data file that were read, or of the bytes of both.
+
+ghost use Rattle.std.specs.Prelude.{◌≡◌, IfOk, IfErr, MatchResult};
+ghost use Rattle.uca_values.specs.Content.{TableContent, Properties, properties_of};
+ghost use Rattle.uca_owned.specs.Keyings.{keying, weighting_by};
+ghost use Rattle.uca_owned.specs.Owned.{keying_in};
+ghost use Rattle.uca_owned.specs.Opening.{MeanFiles, Opens, IsOpenCause, IsOpenStop};
+
+use crate::OwnedCollator;
+use crate::faults::OpenFault;
+use std::alloc::{AllocError, Global};
+use uca_key::KeyBuffer;
+use uca_match::Trie;
+use uca_table::{read_data, read_table};
+use uca_text::Normal;
+use uca_values::{Data, Header, Table};
+use uca_weights::{Depth, Source, Weighting};
+
+// The weighting that is asked for, or else that of the table's `@variable`, or else shifted (UTS #10, section 4).
+fn chosen_weighting(asked: Option<Weighting>, header: &Header) -> Weighting
+    ensures { result ≡ weighting_by asked header.now.setting }
+{
+    asked.or(header.setting).unwrap_or(Weighting::Shifted)
+}
+
+impl OwnedCollator {
+    /// A collator of a table and a data file that were read. The weighting is the one that is asked for, or else that
+    /// of the table's `@variable`, or else shifted (UTS #10, section 4).
+    ///
+    /// # Errors
+    ///
+    /// An allocation failed.
+    pub fn new(
+        alloc: Global,
+        table: Table,
+        properties: Data,
+        asked: Option<Weighting>,
+        depth: Depth,
+    ) -> Result<OwnedCollator, AllocError>
+        ensures { IfOk result (λ c. keying_in c ≡ keying asked depth table (properties_of properties)) }
+    {
+        let rows = Trie::new(alloc, &table)?;
+        let weighting = chosen_weighting(asked, &table.header);
+        let Table { header, .. } = table;
+        Ok(OwnedCollator {
+            header,
+            properties,
+            rows,
+            left: Normal::new(alloc),
+            right: Normal::new(alloc),
+            weighting,
+            depth,
+            buffer: KeyBuffer::new(alloc, weighting, depth),
+        })
+    }
+
+    /// Reads a table and then a data file from their bytes, and makes a collator of them, as
+    /// [`new`](OwnedCollator::new) does. It keeps none of the bytes.
+    ///
+    /// # Errors
+    ///
+    /// `Table` if the table is rejected, else `Data` if the data file is, as [`read_table`] and [`read_data`] say. Both
+    /// also if an allocation failed while that file was read. `Memory` if one failed later.
+    pub fn open(
+        alloc: Global,
+        table: &[u8],
+        data_file: &[u8],
+        asked: Option<Weighting>,
+        depth: Depth,
+    ) -> Result<OwnedCollator, OpenFault>
+        ensures found { IfOk result (λ c. Opens asked depth table.now data_file.now (keying_in c)) }
+        ensures only { (meant : TableContent) (properties : Properties) → MeanFiles table.now data_file.now meant properties →
+            MatchResult result (λ c. keying_in c ≡ keying asked depth meant properties) IsOpenStop }
+        ensures fault { IfErr result (IsOpenCause table.now data_file.now) }
+    {
+        let read = match read_table(alloc, &mut Source::new(table)) {
+            Ok(read) => read,
+            Err(fault) => return Err(OpenFault::Table(fault)),
+        };
+        let properties = match read_data(alloc, &mut Source::new(data_file)) {
+            Ok(properties) => properties,
+            Err(fault) => return Err(OpenFault::Data(fault)),
+        };
+        match OwnedCollator::new(alloc, read, properties, asked, depth) {
+            Ok(collator) => Ok(collator),
+            Err(_) => Err(OpenFault::Memory),
+        }
+    }
+}

@@ -1,0 +1,199 @@
+#!/usr/bin/env python3
+"""Builds the library for C and the module for Python, and tries both. It installs nothing.
+
+    tools/bindings.py [--uca PATH]        crates/uca/out/uca, unless another program is named
+
+First prove and build the static library: `rt lib` in crates/uca_c. Then this script makes bindings/c/out and runs
+
+- `calls`, which calls everything in uca.h with good and bad input: as it is, under valgrind, and with the sanitizers of gcc;
+- `memory`, in which each allocation fails in turn: as it is, and under valgrind;
+- `keys` and the module over files of examples/, whose keys and orders have to be those of `uca keys` and `uca sort`;
+- the names that libuca.so.1 exports, which have to be those of uca.h, and the header as C++;
+- a program that is compiled by what pkg-config says of a temporary installation, and the programs of docs/BINDINGS.md;
+- the tests of the module for Python.
+
+Debian's packages are gcc, g++, make, pkgconf and valgrind. What needs a command or a program that is not here is not run, and a line
+says so. The last line is `N passed, M failed`, and how many were not run if there are any.
+"""
+import argparse
+import os
+import re
+import shutil
+import subprocess
+import sys
+import tempfile
+
+TOP = os.path.dirname(os.path.dirname(os.path.realpath(__file__)))
+C, PYTHON, EXAMPLES = f"{TOP}/bindings/c", f"{TOP}/bindings/python", f"{TOP}/examples"
+ARCHIVE = f"{TOP}/crates/uca_c/out/libuca_c.a"
+FLAGS = ["-std=c11", "-Wall", "-Wextra", "-Wpedantic", "-Werror", "-D_POSIX_C_SOURCE=200809L", f"-I{C}/include"]
+LINES = ["lines.txt", "words_danish.txt", "words_spanish.txt", "words_swedish.txt"]
+SETTINGS = [[], ["non-ignorable"], ["shifted"], ["non-ignorable", "identical"], ["shifted", "identical"]]
+SORTER = """
+import sys, uca
+weighting, identical = {None: None, **{it: it for it in ("non-ignorable", "shifted")}}[sys.argv[3] or None], sys.argv[4] == "identical"
+with uca.Collator(sys.argv[1], sys.argv[2], weighting, identical) as collator:
+    lines = sys.stdin.buffer.read().split(b"\\n")[:-1]
+    sys.stdout.buffer.write(b"".join(it + b"\\n" for it in sorted(lines, key=collator.key)))
+"""
+
+
+class NotHere(Exception):
+    """Something that a check needs is not here."""
+
+
+def need(*commands):
+    for it in commands:
+        if not shutil.which(it):
+            raise NotHere(f"there is no {it}")
+
+
+def run(words, **named):
+    """What a command prints. It fails if its status is not 0."""
+    ran = subprocess.run(words, stdout=subprocess.PIPE, stderr=subprocess.PIPE, **named)
+    if ran.returncode:
+        raise AssertionError(f"{' '.join(words)}: status {ran.returncode}\n{(ran.stdout + ran.stderr).decode(errors='replace')[-2000:]}")
+    return ran.stdout
+
+
+def same(found, wanted, what):
+    if found != wanted:
+        raise AssertionError(f"{what}: {found!r:.300}\n  in place of {wanted!r:.300}")
+
+
+def content(path):
+    with open(path, "rb") as it:
+        return it.read()
+
+
+def make(work):
+    need("make", "gcc")
+    run(["make", "-s", "-C", C, "all", "check"])
+
+
+def valgrind(work):
+    need("valgrind")
+    for program in ("calls", "memory"):
+        run(["valgrind", "-q", "--error-exitcode=9", "--leak-check=full", "--show-leak-kinds=all", "--errors-for-leak-kinds=all", f"{C}/out/{program}"])
+
+
+def sanitizers(work):
+    need("gcc")
+    run(["gcc", *FLAGS, "-pthread", "-g", "-fsanitize=address,undefined", "-fno-sanitize-recover=all", "-o", f"{work}/calls", f"{C}/calls.c", f"{C}/out/libuca.a"])
+    run([f"{work}/calls"])
+
+
+def header(work):
+    need("g++")
+    with open(f"{work}/header.cpp", "w", encoding="utf-8") as it:
+        it.write('#include "uca.h"\nint main() { uca_collator c = UCA_CLOSED_COLLATOR; uca_close(&c); return uca_abi() == UCA_ABI ? 0 : 1; }\n')
+    run(["g++", "-Wall", "-Wextra", "-Werror", f"-I{C}/include", "-o", f"{work}/header", f"{work}/header.cpp", f"{C}/out/libuca.a"])
+    run([f"{work}/header"])
+
+
+def exports(work):
+    need("nm")
+    declared = re.findall(r"^(?:uint32_t|size_t|void) (uca_\w+)\(", content(f"{C}/include/uca.h").decode(), re.M)
+    found = [it.split()[-1].split("@")[0] for it in run(["nm", "-D", "--defined-only", f"{C}/out/libuca.so.1"]).decode().splitlines()]
+    same(sorted(it for it in found if it != "UCA_1"), sorted(declared), "exported names")
+
+
+def installed(work):
+    need("make", "gcc", "pkg-config")
+    run(["make", "-s", "-C", C, "install", f"PREFIX={work}/usr", f"OUT={work}/out"])
+    environment = {**os.environ, "PKG_CONFIG_PATH": f"{work}/usr/lib/pkgconfig"}
+    said = run(["pkg-config", "--cflags", "--libs", "uca"], env=environment).decode().split()
+    run(["gcc", "-std=c11", "-D_POSIX_C_SOURCE=200809L", "-pthread", "-o", f"{work}/shared", f"{C}/calls.c", *said])
+    run([f"{work}/shared"], env={**os.environ, "LD_LIBRARY_PATH": f"{work}/usr/lib"})
+
+
+def stored_run(work):
+    """The stored run of the program `uca`, by the program `keys`."""
+    data = f"{TOP}/crates/uca/data"
+    found = run([f"{C}/out/keys", f"{data}/table.txt", f"{data}/data.txt", "non-ignorable"], input=content(f"{TOP}/crates/uca/stdin"))
+    same(found, content(f"{TOP}/crates/uca/stdout"), "keys")
+
+
+def page(work):
+    """The programs of docs/BINDINGS.md, which show what they print in their comments."""
+    need("gcc")
+    text = content(f"{TOP}/docs/BINDINGS.md").decode()
+    with open(f"{work}/page.c", "w", encoding="utf-8") as it:
+        it.write(re.search(r"```c\n(.*?)```", text, re.S).group(1))
+    run(["gcc", *FLAGS, "-o", f"{work}/page", f"{work}/page.c", f"{C}/out/libuca.a"])
+    same(run([f"{work}/page"]).decode(), re.search(r"/\* ([0-9A-F]+) \*/", text).group(1), "the page's program in C")
+    program = re.search(r"```python\n(.*?)```", text, re.S).group(1)
+    said = run([sys.executable, "-c", program], env=python_environment(), cwd=TOP).decode()
+    same(said.splitlines(), re.findall(r"# (\S.*)", program), "the page's program in Python")
+
+
+def options(setting):
+    return [*(["--identical"] if "identical" in setting else []), *(word for it in setting if it != "identical" for word in ("--weighting", it))]
+
+
+def keys_like(program):
+    """The keys of the program `keys` are those of `uca keys`."""
+
+    def check(work):
+        if not os.path.exists(program):
+            raise NotHere(f"there is no {program}")
+        for lines in LINES:
+            for setting in SETTINGS:
+                files = [f"{EXAMPLES}/table.txt", f"{EXAMPLES}/data.txt"]
+                wanted = run([program, "keys", *options(setting), *files], input=content(f"{EXAMPLES}/{lines}"))
+                same(run([f"{C}/out/keys", *files, *setting], input=content(f"{EXAMPLES}/{lines}")), wanted, f"keys of {lines}, {setting}")
+
+    return check
+
+
+def sorted_like(program):
+    """Lines sorted by the keys of the module are in the order of `uca sort`."""
+
+    def check(work):
+        if not os.path.exists(program):
+            raise NotHere(f"there is no {program}")
+        for lines in LINES:
+            for setting in SETTINGS:
+                files = [f"{EXAMPLES}/table.txt", f"{EXAMPLES}/data.txt"]
+                wanted = run([program, "sort", *options(setting), *files], input=content(f"{EXAMPLES}/{lines}"))
+                weighting = next((it for it in setting if it != "identical"), "")
+                words = [sys.executable, "-c", SORTER, *files, weighting, "identical" if "identical" in setting else ""]
+                same(run(words, input=content(f"{EXAMPLES}/{lines}"), env=python_environment()), wanted, f"order of {lines}, {setting}")
+
+    return check
+
+
+def python_environment():
+    return {**os.environ, "PYTHONPATH": PYTHON, "UCA_LIBRARY": f"{C}/out/libuca.so.1", "PYTHONDONTWRITEBYTECODE": "1"}
+
+
+def python(work):
+    run([sys.executable, "-W", "error", "-m", "unittest", "discover", "-s", f"{PYTHON}/tests"], env=python_environment())
+
+
+def main():
+    parser = argparse.ArgumentParser(description=__doc__, formatter_class=argparse.RawDescriptionHelpFormatter)
+    parser.add_argument("--uca", default=f"{TOP}/crates/uca/out/uca")
+    program = os.path.realpath(parser.parse_args().uca)
+    if not os.path.exists(ARCHIVE):
+        sys.exit(f"there is no {ARCHIVE}: run `rt lib` in crates/uca_c first")
+    checks = [("make", make), ("valgrind", valgrind), ("sanitizers", sanitizers), ("header in C++", header), ("exported names", exports),
+              ("installation", installed), ("stored run", stored_run), ("docs/BINDINGS.md", page), ("keys", keys_like(program)), ("Python", python), ("sort", sorted_like(program))]
+    passed = failed = skipped = 0
+    with tempfile.TemporaryDirectory() as work:
+        for name, check in checks:
+            try:
+                check(work)
+                passed += 1
+            except NotHere as it:
+                skipped += 1
+                print(f"{name}: not run, since {it}")
+            except AssertionError as it:
+                failed += 1
+                print(f"{name}: {it}")
+    print(f"{passed} passed, {failed} failed" + (f", {skipped} not run" if skipped else ""))
+    return 1 if failed else 0
+
+
+if __name__ == "__main__":
+    sys.exit(main())
