@@ -215,7 +215,7 @@ fn push_pieces<L: Lookup, T: Allocator, A: Allocator>(
     while let Some((point, more)) = split_first(rest) {
         let known = points.get(collator, point)?;
         if known.is_bound() {
-            rest = piece.go_on_bound(points, point, more)?;
+            rest = piece.go_on_bound(points, point, known.is_leaf(), more)?;
             continue;
         }
         if !piece.end_by(levels, weighting, collator, points)? {

@@ -29,6 +29,8 @@ pub(crate) struct Piece {
     alone: Option<Known>,
     // otherwise its code points
     text: String,
+    // whether these are leaves, which is asked for speed alone
+    leaves: bool,
     // lends its memory to their Normalization Form D
     normal: Normal,
 }
@@ -39,6 +41,7 @@ impl Piece {
         Piece {
             alone: None,
             text: String::new(global),
+            leaves: true,
             normal: Normal::new(global),
         }
     }
@@ -50,6 +53,7 @@ impl Piece {
     {
         self.alone = None;
         self.text.clear();
+        self.leaves = true;
     }
 
     // Writes out the code point that is the piece alone.
@@ -62,6 +66,7 @@ impl Piece {
         };
         self.text.clear();
         self.text.push(known.point)?;
+        self.leaves = known.is_leaf();
         self.alone = None;
         Ok(())
     }
@@ -80,24 +85,27 @@ impl Piece {
         &mut self,
         points: &PlainPoints<A>,
         point: char,
+        is_leaf: bool,
         text: &'t str,
     ) -> Result<&'t str, AllocError>
         ensures { (c : Collation) (weighting : Weighting) (xs : List ℕ) (levels : LevelState) → ReadsTo c weighting xs levels self.old →
             IfOk result (λ rest. ReadsMore c weighting (xs ++ point ∷ []) text.now rest.now levels self.new) }
     {
-        self.push(point)?;
-        let (bound, rest) = split_bound(points, text);
+        self.push(point, is_leaf)?;
+        let (bound, leaves, rest) = split_bound(points, text);
         self.text.push_str(bound)?;
+        self.leaves = self.leaves && leaves;
         Ok(rest)
     }
 
     // Adds a code point that is not plain.
-    fn push(&mut self, point: char) -> Result<(), AllocError>
+    fn push(&mut self, point: char, is_leaf: bool) -> Result<(), AllocError>
         ensures points { OnOk result (piece_points self.new ≡ piece_points self.old ++ point ∷ []) }
         ensures alone { OnOk result (self.new.alone ≡ None) }
     {
         self.write_out()?;
         self.text.push(point)?;
+        self.leaves = self.leaves && is_leaf;
         Ok(())
     }
 
@@ -115,7 +123,7 @@ impl Piece {
             IfOk result (λ accepted. OnTrue accepted (ReadsTo c weighting (xs ++ known.point ∷ []) levels.new self.new)) }
     {
         if known.is_bound() {
-            self.push(known.point)?;
+            self.push(known.point, known.is_leaf())?;
             return Ok(true);
         }
         let accepted = self.end(levels, weighting, collator)?;
@@ -172,6 +180,7 @@ impl Piece {
                 weighting,
                 collator,
                 points,
+                self.leaves,
                 self.text.as_str(),
                 &mut self.normal,
             ),
@@ -247,6 +256,7 @@ fn push_text_by<L: Lookup, T: Allocator, A: Allocator>(
     weighting: Weighting,
     collator: &Collator<L, T>,
     points: &mut PlainPoints<A>,
+    leaves: bool,
     text: &str,
     normal: &mut Normal,
 ) -> Result<bool, AllocError>
@@ -258,7 +268,7 @@ fn push_text_by<L: Lookup, T: Allocator, A: Allocator>(
         IfOk result (λ accepted. OnTrue accepted (HasNoLongRun (map c.properties.class (nfd (chars text.now))))) }
 {
     match normal.renew(text, collator.data) {
-        Ok(()) => push_normal(levels, weighting, collator, points, normal),
+        Ok(()) => push_normal(levels, weighting, collator, points, leaves, normal),
         Err(TextFault::Memory) => Err(AllocError),
         Err(_) => Ok(false),
     }
@@ -270,6 +280,7 @@ fn push_normal<L: Lookup, T: Allocator, A: Allocator>(
     weighting: Weighting,
     collator: &Collator<L, T>,
     points: &mut PlainPoints<A>,
+    leaves: bool,
     text: &Normal,
 ) -> Result<bool, AllocError>
     requires classes { text.now.classes ≡ map (collation_of L.content collator.now).properties.class text.now.points }
@@ -279,22 +290,26 @@ fn push_normal<L: Lookup, T: Allocator, A: Allocator>(
         IfOk result (λ all. OnTrue all (HoldsLevels weighting (es ++ elements_of (collation_of L.content collator.now) text.now) levels.new)) }
 {
     let chars = text.chars();
-    if chars.len() <= LEAVES && are_leaves(collator, points, chars)? {
+    if chars.len() <= LEAVES && are_leaves(collator, points, leaves, chars)? {
         return levels.push_leaves(weighting, points, chars);
     }
     push_elements(levels, weighting, collator, text)?;
     Ok(true)
 }
 
-// Whether all code points are leaves. Those that were not met are then known.
+// Whether all code points are leaves. If that is not known yet, those that were not met are found out about.
 fn are_leaves<L: Lookup, T: Allocator, A: Allocator>(
     collator: &Collator<L, T>,
     points: &mut PlainPoints<A>,
+    leaves: bool,
     text: &[char],
 ) -> Result<bool, AllocError>
     requires { AreTrueEntries (collation_of L.content collator.now) points.old.entries.items }
     ensures { AreTrueEntries (collation_of L.content collator.now) points.new.entries.items }
 {
+    if leaves {
+        return Ok(true);
+    }
     for point in text {
         if !points.is_leaf(collator, *point)? {
             return Ok(false);

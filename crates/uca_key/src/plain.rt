@@ -115,6 +115,12 @@ impl Known {
         &self.elements[..usize::from(self.count)]
     }
 
+    /// Whether it is a leaf that has its elements here. It is asked for speed alone.
+    #[inline(always)]
+    pub(crate) fn is_leaf(&self) -> bool {
+        self.leaf_count < BOUND
+    }
+
     /// The elements of the code point, if it is a leaf: those that it has wherever it is read by itself in Normalization Form D.
     #[inline(always)]
     pub(crate) fn leaf_elements(&self) -> Option<&[Element]>
@@ -203,13 +209,11 @@ impl<A: Allocator> PlainPoints<A> {
         }
     }
 
-    /// Whether a code point was met and has no elements to give. It is asked for speed alone.
+    /// What is known of a code point, if it was met and has no elements to give.
     #[inline(always)]
-    pub(crate) fn is_bound(&self, point: char) -> bool {
-        match self.find(point) {
-            Some(known) => known.is_bound(),
-            None => false,
-        }
+    pub(crate) fn find_bound(&self, point: char) -> Option<&Known> {
+        let known = self.find(point)?;
+        if known.is_bound() { Some(known) } else { None }
     }
 
     /// Whether a code point is a leaf, which is found out if it was not met. It is asked for speed alone.
@@ -223,8 +227,8 @@ impl<A: Allocator> PlainPoints<A> {
         ensures { AreTrueEntries (collation_of L.content collator.now) self.new.entries.items }
     {
         match self.find(point) {
-            Some(known) => Ok(known.leaf_count < BOUND),
-            None => Ok(self.learn(collator, point)?.leaf_count < BOUND),
+            Some(known) => Ok(known.is_leaf()),
+            None => Ok(self.learn(collator, point)?.is_leaf()),
         }
     }
 

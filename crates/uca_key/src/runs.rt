@@ -60,21 +60,25 @@ pub(crate) fn split_plain<'p, 't, A: Allocator>(
     Some((known, rest))
 }
 
-/// The code points that come first in a text, were met and are not plain, and what comes after them.
+/// The code points that come first in a text, were met and are not plain, whether all of them are leaves, and what comes after
+/// them.
 pub(crate) fn split_bound<'t, A: Allocator>(
     points: &PlainPoints<A>,
     text: &'t str,
-) -> (&'t str, &'t str)
-    ensures { chars text.now ≡ chars result.0.now ++ chars result.1.now }
+) -> (&'t str, bool, &'t str)
+    ensures { chars text.now ≡ chars result.0.now ++ chars result.2.now }
 {
     let mut rest = text;
+    let mut leaves = true;
     while let Some((point, after)) = split_first(rest) {
-        if !points.is_bound(point) {
+        let Some(known) = points.find_bound(point) else {
             break;
-        }
+        };
+        leaves = leaves && known.is_leaf();
         rest = after;
     }
-    text.split_at(text.len() - rest.len())
+    let (bound, rest) = text.split_at(text.len() - rest.len());
+    (bound, leaves, rest)
 }
 
 /// Puts the weights of a plain code point and of those that follow it in a text, as long as they were met and are plain.

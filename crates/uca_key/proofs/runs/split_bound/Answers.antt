@@ -18,6 +18,18 @@ loop-point-preserved g c =
       );
     }
 
+pub loop-point-preserved-then-leaves : goal.loop-point-preserved-then-leaves
+loop-point-preserved-then-leaves g c =
+    let so_far = c.loop-point.invariant.read in
+    let point = c.in-Some.point in
+    record {
+      utf8 = search rules;
+      read = (
+        so_far.0 ++ point ∷ [],
+        so_far.1 ∙ ap (λ l. so_far.0 ++ l) c.in-Some.ensures ∙ sym (append_assoc so_far.0 (point ∷ []) (chars c.in-Some.after.now)),
+      );
+    }
+
 pub overflow_sub-text : goal.overflow_sub-text
 overflow_sub-text g c =
     let so_far = c.loop-point.invariant in
