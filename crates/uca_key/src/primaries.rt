@@ -51,8 +51,23 @@ pub(crate) fn compare_primaries<A: Allocator>(
     };
     match compare_first(points, weighting, &begin) {
         Some(walked) => Some(walked),
-        None => compare_first(points, weighting, &skip_equal(points, weighting, &begin)),
+        None => compare_later(points, weighting, &begin),
     }
+}
+
+// How two texts compare if they differ at level 1 after some code points that have the same weight there.
+#[inline(never)]
+fn compare_later<A: Allocator>(
+    points: &PlainPoints<A>,
+    weighting: Weighting,
+    begin: &Pair,
+) -> Option<Walked>
+    ensures { (c : Collation) (xs ys : List ℕ) → AreTrueEntries c points.now.entries.items →
+        GoTogether c weighting xs ys (chars begin.now.left.now) (chars begin.now.right.now) begin.now.passed_left begin.now.passed_right →
+        IfSome result (ComparesTexts c weighting xs ys) }
+{
+    let pair = skip_equal(points, weighting, begin);
+    compare_first(points, weighting, &pair)
 }
 
 // What is left after the code points that have the same weight at level 1, one of the left text and one of the right.
@@ -138,6 +153,7 @@ fn primary_of(weighting: Weighting, element: Element) -> u16
 }
 
 // How two texts compare if the first elements that are left differ at level 1.
+#[inline(always)]
 fn compare_first<A: Allocator>(
     points: &PlainPoints<A>,
     weighting: Weighting,
@@ -154,6 +170,7 @@ fn compare_first<A: Allocator>(
 
 // The first element of a text, or none if it has no code point. There is no result if the text has more than 32 bytes,
 // if one of its first two code points was not met or is not plain, or if the first has no element.
+#[inline(always)]
 fn first_element<A: Allocator>(points: &PlainPoints<A>, text: &str) -> Option<Option<Element>>
     ensures { (c : Collation) → AreTrueEntries c points.now.entries.items → IfSome result (HasFirst c (chars text.now)) }
 {

@@ -8,5 +8,4 @@ returns-in-Some g c = λ collation xs ys entries rest.
 
 pub returns-in-None : goal.returns-in-None
 returns-in-None g c = λ collation xs ys entries rest.
-    c.compare_first-in-None.ensures collation xs ys entries (c.skip_equal.ensures collation xs ys entries
-    (together_begun collation c.args.weighting xs ys (chars c.args.rest.now.left.now) (chars c.args.rest.now.right.now) _ _ rest))
+    c.compare_later.ensures collation xs ys entries (together_begun collation c.args.weighting xs ys (chars c.args.rest.now.left.now) (chars c.args.rest.now.right.now) _ _ rest)
