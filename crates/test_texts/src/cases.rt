@@ -3,6 +3,7 @@
 
 use std::alloc::{AllocError, Global};
 use std::test::Fail;
+use uca_weights::Weighting;
 
 /// The number of some hexadecimal digits.
 fn number(digits: &str) -> Result<u32, Fail> {
@@ -58,6 +59,16 @@ fn groups_of(alloc: Global, bytes: &[u8]) -> Result<String, AllocError> {
 /// The two parts of a case, around the first ` | `.
 pub fn halves(case: &str) -> Result<(&str, &str), Fail> {
     Ok(case.split_once(" | ").ok_or("a case without its answer")?)
+}
+
+/// The code points of a case and the bytes of a key under the weighting. The case has the key under `NonIgnorable` first.
+pub fn points_and_key(weighting: Weighting, case: &str) -> Result<(&str, &str), Fail> {
+    let (points, keys) = halves(case)?;
+    let (plain, shifted) = halves(keys)?;
+    match weighting {
+        Weighting::NonIgnorable => Ok((points, plain)),
+        Weighting::Shifted => Ok((points, shifted)),
+    }
 }
 
 /// A text in code points, and what is said of it with a space before each word.

@@ -1,6 +1,6 @@
 //! Beginnings of keys that a `KeyWriter` writes.
 
-use crate::cases::{halves, holds, same_bytes, text_of};
+use crate::cases::{holds, points_and_key, same_bytes, text_of};
 use crate::samples::{Check, over_both};
 use crate::written_keys::{DATA, TABLE};
 use std::alloc::Global;
@@ -46,12 +46,7 @@ fn check_case<L: Lookup>(
     weighting: Weighting,
     case: &str,
 ) -> Result<(), Fail> {
-    let (points, keys) = halves(case)?;
-    let (plain, shifted) = halves(keys)?;
-    let wanted = match weighting {
-        NonIgnorable => plain,
-        Shifted => shifted,
-    };
+    let (points, wanted) = points_and_key(weighting, case)?;
     let text = text_of(alloc, points)?;
     writer.write_beginning(&text)?;
     same_bytes(alloc, beginning(writer.bytes()), wanted, case)
@@ -134,6 +129,7 @@ impl Check for Longer {
         )?;
         check_letters(alloc, &mut writer, &with_accents(alloc, 60)?)?;
         check_letters(alloc, &mut writer, &with_accents(alloc, 64)?)?;
+        check_letters(alloc, &mut writer, &letters(alloc, 1_000)?)?;
         check_letters(alloc, &mut writer, &letters(alloc, 524_289)?)
     }
 }

@@ -1,6 +1,6 @@
 //! Keys that a `KeyWriter` writes, one after another.
 
-use crate::cases::{halves, holds, same_bytes, text_of};
+use crate::cases::{holds, points_and_key, same_bytes, text_of};
 use crate::samples::{Check, over_both};
 use std::alloc::Global;
 use std::test::Fail;
@@ -44,12 +44,7 @@ fn check_case<L: Lookup>(
     weighting: Weighting,
     case: &str,
 ) -> Result<(), Fail> {
-    let (points, keys) = halves(case)?;
-    let (plain, shifted) = halves(keys)?;
-    let wanted = match weighting {
-        NonIgnorable => plain,
-        Shifted => shifted,
-    };
+    let (points, wanted) = points_and_key(weighting, case)?;
     let text = text_of(alloc, points)?;
     writer.write(&text)?;
     same_bytes(alloc, writer.bytes(), wanted, case)

@@ -21,7 +21,7 @@ use uca_weights::Weighting;
 /// How many non-starters may come in a row. So many code points are no run that is longer.
 const LONGEST_RUN: usize = 64;
 
-/// How many code points a starter and what it decomposes to are at most.
+/// How many code points one decomposes to at most, in Normalization Form D.
 const LONGEST_DECOMPOSITION: usize = 4;
 
 /// How many bytes after a starter are passed over. They are at most 48 code points of Normalization Form D, two for each byte.
@@ -74,7 +74,7 @@ pub(crate) fn has_short_runs<L: Lookup, T: Allocator, A: Allocator>(
     count_runs(collator, points, text, 0)
 }
 
-// The same, where at most so many bytes after each starter are passed over, and counted as the most code points that they may be.
+// The same, where at most so many bytes after each starter are passed over. They count as the most code points that they may be.
 fn count_runs<L: Lookup, T: Allocator, A: Allocator>(
     collator: &Collator<L, T>,
     points: &mut PlainPoints<A>,
@@ -98,7 +98,8 @@ fn count_runs<L: Lookup, T: Allocator, A: Allocator>(
     Ok(true)
 }
 
-// A text after a starter without the bytes that are passed over, at most so many, and the count with them.
+// What follows the bytes of a text that are passed over, and the count with them. There are some only where the count is small,
+// as it is after a starter.
 #[inline]
 fn pass_over(text: &str, count: usize, most: usize) -> (&str, usize)
     requires count { count ≤ LONGEST_RUN }

@@ -14,7 +14,7 @@ ghost use Rattle.uca_key.specs.LevelBuffers.{HoldsLevels, flattened};
 ghost use Rattle.uca_key.specs.PlainPoints.{AreTrueEntries};
 ghost use Rattle.uca_key.specs.Runs.{ReadsUpTo, RunReads};
 
-use crate::places::{Counts, NO_WEIGHTS, make_room, put_elements};
+use crate::places::{Counts, NO_WEIGHTS, make_rooms, put_elements};
 use crate::plain::{Known, PlainPoints};
 use crate::runs::{LEAVES, RUN_PLACES, Run, put_leaves, put_run};
 use std::alloc::{AllocError, Allocator};
@@ -130,11 +130,14 @@ impl<A: Allocator> LevelBuffers<A> {
         ensures { (es : List Element) → HoldsLevels weighting es self.old →
             OnOk result (HoldsLevels weighting (es ++ elements.now) self.new) }
     {
-        let more = elements.len();
-        make_room(&mut self.primary, self.counts.primary, more)?;
-        make_room(&mut self.secondary, self.counts.secondary, more)?;
-        make_room(&mut self.tertiary, self.counts.tertiary, more)?;
-        make_room(&mut self.quaternary, self.counts.quaternary, more)?;
+        make_rooms(
+            self.counts,
+            elements.len(),
+            &mut self.primary,
+            &mut self.secondary,
+            &mut self.tertiary,
+            &mut self.quaternary,
+        )?;
         let mut after_variable = self.after_variable;
         self.counts = put_elements(
             weighting,
@@ -188,10 +191,14 @@ impl<A: Allocator> LevelBuffers<A> {
         ensures { (c : Collation) (xs : List ℕ) → AreTrueEntries c points.now.entries.items → ReadsUpTo c weighting xs self.old first.now →
             IfOk result (λ run. RunReads c weighting xs text.now self.new run) }
     {
-        make_room(&mut self.primary, self.counts.primary, RUN_PLACES)?;
-        make_room(&mut self.secondary, self.counts.secondary, RUN_PLACES)?;
-        make_room(&mut self.tertiary, self.counts.tertiary, RUN_PLACES)?;
-        make_room(&mut self.quaternary, self.counts.quaternary, RUN_PLACES)?;
+        make_rooms(
+            self.counts,
+            RUN_PLACES,
+            &mut self.primary,
+            &mut self.secondary,
+            &mut self.tertiary,
+            &mut self.quaternary,
+        )?;
         let mut after_variable = self.after_variable;
         let (run, counts) = put_run(
             weighting,
@@ -266,9 +273,7 @@ impl<A: Allocator> LevelBuffers<A> {
         ensures { (es : List Element) → HoldsLevels weighting es self.old →
             OnOk result (self.new.key ≡ key_bytes weighting es) }
     {
-        self.key.clear();
-        self.key
-            .extend_from_slice(self.primary[..self.counts.primary].as_flattened())?;
+        self.join_beginning()?;
         push_level(&mut self.key, &self.secondary[..self.counts.secondary])?;
         push_level(&mut self.key, &self.tertiary[..self.counts.tertiary])?;
         match weighting {
@@ -289,7 +294,7 @@ impl<A: Allocator> LevelBuffers<A> {
 
     /// Writes level 1 of the elements that were pushed, over the key that was there.
     pub(crate) fn join_beginning(&mut self) -> Result<(), AllocError>
-        ensures { OnOk result (self.new.key ≡ self.old.primary) }
+        ensures { OnOk result (self.new ≡ record self.old { key = self.old.primary }) }
     {
         self.key.clear();
         self.key

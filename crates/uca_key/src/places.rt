@@ -1,6 +1,6 @@
 //! Places for the weights of four levels, which are filled from the front.
 
-ghost use Rattle.std.specs.Prelude.{◌≡◌, ℕ, ◌++◌, ◌∷◌, [], ◌+◌, ◌<◌, ◌≤◌, ◌==◌, List, length, OnOk, vec_len, if◌then◌else◌};
+ghost use Rattle.std.specs.Prelude.{◌≡◌, ℕ, ◌++◌, ◌∷◌, [], ◌+◌, ◌<◌, ◌≤◌, ◌==◌, Bool, List, length, OnOk, vec_len, if◌then◌else◌};
 ghost use Rattle.uca_weights.specs.declared.Element.{Element};
 ghost use Rattle.uca_key.specs.Levels.{weight_bytes};
 ghost use Rattle.uca_key.specs.LevelBuffers.{held, levels_of, HasRoom, IsNextFlag, HoldsLevels};
@@ -26,9 +26,9 @@ pub(crate) const NO_WEIGHTS: Counts = Counts {
     quaternary: 0,
 };
 
-/// Makes room for more weights after the first `count`.
+// Makes room for more weights after the first `count`.
 #[inline]
-pub(crate) fn make_room<A: Allocator>(
+fn make_room<A: Allocator>(
     places: &mut Vec<[u8; 2], A>,
     count: usize,
     more: usize,
@@ -42,6 +42,28 @@ pub(crate) fn make_room<A: Allocator>(
         lengthen(places, more)?;
     }
     Ok(())
+}
+
+/// Makes room for more weights at each level.
+#[inline(always)]
+pub(crate) fn make_rooms<A: Allocator>(
+    counts: Counts,
+    more: usize,
+    primary: &mut Vec<[u8; 2], A>,
+    secondary: &mut Vec<[u8; 2], A>,
+    tertiary: &mut Vec<[u8; 2], A>,
+    quaternary: &mut Vec<[u8; 2], A>,
+) -> Result<(), AllocError>
+    requires { HasRoom 0 counts primary.old.items secondary.old.items tertiary.old.items quaternary.old.items }
+    ensures same { (flag : Bool) (key : List ℕ) → levels_of flag counts primary.new.items secondary.new.items tertiary.new.items quaternary.new.items key
+        ≡ levels_of flag counts primary.old.items secondary.old.items tertiary.old.items quaternary.old.items key }
+    ensures counts { HasRoom 0 counts primary.new.items secondary.new.items tertiary.new.items quaternary.new.items }
+    ensures room { OnOk result (HasRoom more counts primary.new.items secondary.new.items tertiary.new.items quaternary.new.items) }
+{
+    make_room(primary, counts.primary, more)?;
+    make_room(secondary, counts.secondary, more)?;
+    make_room(tertiary, counts.tertiary, more)?;
+    make_room(quaternary, counts.quaternary, more)
 }
 
 // Adds so many places, and at least as many as there are. It stands apart, so that what `make_room` inlines stays small.

@@ -1,7 +1,8 @@
-use Rattle.std.proofs.Common.{true, subst, arith}
+use Rattle.std.proofs.Common.{true, ap, subst, arith}
 use Rattle.std.specs.Bool.{OnTrue}
 use Rattle.std.specs.Str.{chars}
 use Rattle.uca_match.specs.Collations.{collation_of}
+use Rattle.uca_key.specs.LevelBuffers.{LevelState}
 use Rattle.uca_key.specs.Beginnings.{HasBegun}
 use Rattle.uca_key.proofs.PieceSteps.{accepted_if_read}
 use Rattle.uca_key.proofs.BeginningSteps.{accepted_if_short, beginning_if_begun, whole_if_begun}
@@ -16,7 +17,8 @@ returns-then-has_beginning-clause-beginning g c =
     let xs = chars c.args.text.now in
     let levels = c.push_beginning.new.levels in
     let begun = subst (λ accepted. OnTrue accepted (HasBegun collation c.self.inside.weighting xs levels)) c.if-not-branch.false c.in_ok-push_beginning.ensures.begun in
-    beginning_if_begun collation _ c.args.self.now xs _ levels c.has_short_runs.result c.self.view_is begun c.if-has_beginning.ensures c.in_ok-join_beginning.ensures
+    beginning_if_begun collation _ c.args.self.now xs _ levels c.has_short_runs.result c.self.view_is begun c.if-has_beginning.ensures
+    (ap (λ (l : LevelState). l.key) c.in_ok-join_beginning.ensures)
 
 pub returns-then-has_beginning-clause-accepted : goal.returns-then-has_beginning-clause-accepted
 returns-then-has_beginning-clause-accepted g c =
