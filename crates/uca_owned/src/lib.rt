@@ -5,6 +5,7 @@
 mod calls;
 mod faults;
 mod opening;
+mod order;
 mod owned;
 
 pub use faults::{CompareFault, KeyFault, OpenFault};
