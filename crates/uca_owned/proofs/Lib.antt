@@ -1,1 +1,2 @@
+mod OrderLemmas
 mod Rejected

@@ -4,6 +4,7 @@
 
 mod calls;
 mod faults;
+pub mod laws;
 mod opening;
 mod order;
 mod owned;
