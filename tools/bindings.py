@@ -1,5 +1,5 @@
 #!/usr/bin/env python3
-"""Builds the library for C and the module for Python, and tries both. It installs nothing.
+"""Builds the library for C, the module for Python and the extension of SQLite, and tries them. It installs nothing.
 
     tools/bindings.py [--uca PATH]        crates/uca/out/uca, unless another program is named
 
@@ -10,9 +10,9 @@ First prove and build the static library: `rt lib` in crates/uca_c. Then this sc
 - `keys` and the module over files of examples/, whose keys and orders have to be those of `uca keys` and `uca sort`;
 - the names that libuca.so.1 exports, which have to be those of uca.h, and the header as C++;
 - a program that is compiled by what pkg-config says of a temporary installation, and the programs of docs/BINDINGS.md;
-- the tests of the module for Python.
+- the tests of the module for Python, and statements of SQLite with the extension.
 
-Debian's packages are gcc, g++, make, pkgconf and valgrind. What needs a command or a program that is not here is not run, and a line
+Debian's packages are gcc, g++, make, pkgconf, valgrind, sqlite3 and libsqlite3-dev. What needs a command or a program that is not here is not run, and a line
 says so. The last line is `N passed, M failed`, and how many were not run if there are any.
 """
 import argparse
@@ -171,6 +171,54 @@ def python(work):
     run([sys.executable, "-W", "error", "-m", "unittest", "discover", "-s", f"{PYTHON}/tests"], env=python_environment())
 
 
+SQLITE = [
+    ("SELECT hex(uca_key('a')), uca_key(NULL) IS NULL;", "1C4700000020000000020000FFFF|1\n"),
+    ("SELECT 'á' = 'a' || char(0x301) COLLATE uca, 'a' < 'A' COLLATE uca, 'c-h' < 'ch' COLLATE uca;", "1|1|1\n"),
+    ("SELECT hex(x) FROM (SELECT x'FF' AS x UNION SELECT 'ch' UNION SELECT x'61FE' UNION SELECT 'c-h' UNION SELECT 'a') ORDER BY CAST(x AS TEXT) COLLATE uca;",
+     "61\n632D68\n6368\n61FE\nFF\n"),
+]
+
+
+def sqlite_says(work, *statements):
+    """What the statements print, after the extension has read the files of examples/."""
+    need("sqlite3", "make", "gcc")
+    if not os.path.exists("/usr/include/sqlite3ext.h"):
+        raise NotHere("there is no sqlite3ext.h")
+    run(["make", "-s", "-C", f"{TOP}/bindings/sqlite"])
+    load = f"SELECT uca_load('{EXAMPLES}/table.txt', '{EXAMPLES}/data.txt', 'shifted');"
+    return run(["sqlite3", ":memory:", f".load {TOP}/bindings/sqlite/out/uca", load, *statements]).decode().removeprefix("\n")
+
+
+def sqlite(work):
+    for statement, wanted in SQLITE:
+        same(sqlite_says(work, statement), wanted, statement)
+    for statement in ("SELECT uca_key(CAST(x'FF' AS TEXT));", "SELECT uca_load('none', 'none');"):
+        try:
+            sqlite_says(work, statement)
+        except AssertionError:
+            continue
+        raise AssertionError(f"{statement} has no error")
+
+
+def sqlite_like(program):
+    """Lines ordered by the collation, by the key and by an index are in the order of `uca sort`."""
+
+    def check(work):
+        if not os.path.exists(program):
+            raise NotHere(f"there is no {program}")
+        for lines in LINES:
+            text = content(f"{EXAMPLES}/{lines}")
+            wanted = run([program, "sort", "--weighting", "shifted", f"{EXAMPLES}/table.txt", f"{EXAMPLES}/data.txt"], input=text).decode()
+            values = ", ".join("('" + it.replace("'", "''") + "')" for it in text.decode().split("\n")[:-1])
+            made = f"CREATE TABLE lines(line TEXT); INSERT INTO lines VALUES {values};"
+            for after in ("ORDER BY line COLLATE uca, rowid", "ORDER BY uca_key(line), rowid"):
+                same(sqlite_says(work, made, f"SELECT line FROM lines {after};"), wanted, f"order of {lines}, {after}")
+            index = "CREATE INDEX by_order ON lines(line COLLATE uca);"
+            same(sqlite_says(work, made, index, "SELECT line FROM lines ORDER BY line COLLATE uca;"), wanted, f"order of {lines} by an index")
+
+    return check
+
+
 def main():
     parser = argparse.ArgumentParser(description=__doc__, formatter_class=argparse.RawDescriptionHelpFormatter)
     parser.add_argument("--uca", default=f"{TOP}/crates/uca/out/uca")
@@ -178,7 +226,7 @@ def main():
     if not os.path.exists(ARCHIVE):
         sys.exit(f"there is no {ARCHIVE}: run `rt lib` in crates/uca_c first")
     checks = [("make", make), ("valgrind", valgrind), ("sanitizers", sanitizers), ("header in C++", header), ("exported names", exports),
-              ("installation", installed), ("stored run", stored_run), ("docs/BINDINGS.md", page), ("keys", keys_like(program)), ("Python", python), ("sort", sorted_like(program))]
+              ("installation", installed), ("stored run", stored_run), ("docs/BINDINGS.md", page), ("keys", keys_like(program)), ("Python", python), ("sort", sorted_like(program)), ("SQLite", sqlite), ("SQLite's orders", sqlite_like(program))]
     passed = failed = skipped = 0
     with tempfile.TemporaryDirectory() as work:
         for name, check in checks:

@@ -124,6 +124,26 @@ static void check_compare(uca_collator *it)
     CHECK(uca_compare(it, BYTES("a"), BYTES("\xFF"), &found) == UCA_UTF8);
 }
 
+static bool is_order(uca_collator *collator, const uint8_t *left, size_t left_length, const uint8_t *right, size_t right_length, int32_t order)
+{
+    int32_t found = 7, other = 7;
+    return uca_order(collator, left, left_length, right, right_length, &found) == UCA_OK && found == order
+           && uca_order(collator, right, right_length, left, left_length, &other) == UCA_OK && other == -order;
+}
+
+static void check_order(uca_collator *it)
+{
+    int32_t found = 7;
+    uca_collator closed = UCA_CLOSED_COLLATOR;
+    CHECK(uca_order(&closed, BYTES("a"), BYTES("b"), &found) == UCA_CLOSED && found == 0);
+    CHECK(is_order(it, BYTES("a"), BYTES("b"), -1));
+    CHECK(is_order(it, BYTES("\xC3\xA1"), BYTES("a\xCC\x81"), 0));
+    CHECK(is_order(it, BYTES("b"), BYTES("a\xFF"), -1));
+    CHECK(is_order(it, BYTES("a\xFE"), BYTES("a\xFF"), -1));
+    CHECK(is_order(it, BYTES("a\xFF"), BYTES("a\xFF"), 0));
+    CHECK(is_order(it, BYTES("\xFF"), BYTES("\xFF\x01"), -1));
+}
+
 static void check_stored_keys(void)
 {
     uca_comparison found = {7, 7};
@@ -202,6 +222,7 @@ int main(void)
     CHECK(opened(&it, TABLE, DATA, UCA_NON_IGNORABLE, UCA_WEIGHTS, &error) == UCA_OK);
     check_keys(&it);
     check_compare(&it);
+    check_order(&it);
     check_stored_keys();
     check_limits(&it);
     check_threads(&it);

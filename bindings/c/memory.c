@@ -87,7 +87,10 @@ static bool use(uca_collator *it)
                            : can_fail() && status == UCA_MEMORY && needed == 0 && out[0] == 0xEE);
     uint32_t other = uca_compare(it, BYTES("a\xCC\x81"), BYTES("ba"), &found);
     CHECK(other == UCA_OK ? found.order == -1 && found.level == 1 : can_fail() && other == UCA_MEMORY && found.order == 0);
-    return status == UCA_OK && other == UCA_OK;
+    int32_t order = 7;
+    uint32_t third = uca_order(it, BYTES("a\xFF"), BYTES("a\xCC\x81"), &order);
+    CHECK(third == UCA_OK ? order == 1 : can_fail() && third == UCA_MEMORY && order == 0);
+    return status == UCA_OK && other == UCA_OK && third == UCA_OK;
 }
 
 /* A use in which these allocations fail, and then one, of the same collator, in which none does. */

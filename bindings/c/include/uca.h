@@ -129,6 +129,13 @@ uint32_t uca_key(uca_collator *collator, const uint8_t *text, size_t length, uin
 uint32_t uca_compare(uca_collator *collator, const uint8_t *left, size_t left_length, const uint8_t *right, size_t right_length,
                      uca_comparison *comparison);
 
+/* Orders any two byte strings, for what has to place each row of a table. Texts that are accepted are in their order, as
+   uca_compare says. All other bytes come after them, in the order of bytes. `*order` is -1, 0 or 1.
+
+   UCA_OK: the order is that of the bytes.
+   UCA_CLOSED, UCA_MEMORY: `*order` is 0. */
+uint32_t uca_order(uca_collator *collator, const uint8_t *left, size_t left_length, const uint8_t *right, size_t right_length, int32_t *order);
+
 /* Compares two stored keys of as many levels: 3, one more under UCA_SHIFTED, and one more at UCA_IDENTICAL. Any bytes can be
    compared. */
 void uca_compare_keys(const uint8_t *left, size_t left_length, const uint8_t *right, size_t right_length, uint8_t levels,

@@ -10,12 +10,12 @@ ghost use Rattle.uca_owned.specs.Keyings.{keying, key_of_bytes, bytes_compared};
 ghost use Rattle.uca_owned.specs.Owned.{keying_in};
 ghost use Rattle.uca_c.specs.Numbers.{order_number};
 ghost use Rattle.uca_c.specs.Opened.{Asks, OpensBy, IsNoFileError, IsOpenStatus, IsStopStatus};
-ghost use Rattle.uca_c.specs.Results.{WritesKey, IsTooSmall, IsComparison};
+ghost use Rattle.uca_c.specs.Results.{WritesKey, IsTooSmall, IsComparison, IsOrderNumber};
 ghost use Rattle.uca_c.specs.Statuses.{IsKeyStatus, IsCompareStatus};
 
 use crate::numbers::number_of_order;
 use crate::slot::{Slot, put, take};
-use crate::statuses::{ALREADY_OPEN, CLOSED, OK, SMALL};
+use crate::statuses::{ALREADY_OPEN, CLOSED, MEMORY, OK, SMALL};
 use crate::structs::{Comparison, FileError};
 use crate::work;
 use std::alloc::Global;
@@ -131,6 +131,32 @@ pub extern "C" fn uca_compare(
     }
     let mut opened = take(alloc, collator);
     let status = work::compare(&mut opened, left, right, comparison);
+    put(collator, opened);
+    status
+}
+
+/// Orders two byte strings: accepted texts in their order, and all other bytes after them, in the order of bytes.
+#[unsafe(no_mangle)]
+pub extern "C" fn uca_order(
+    alloc: Global,
+    collator: &mut Slot,
+    left: &[u8],
+    right: &[u8],
+    order: &mut i32,
+) -> u32
+    ensures closed { (result ≡ CLOSED) ↔ (collator.old.full ≡ false) }
+    ensures ok { result ≡ OK → IsOrderNumber (keying_in collator.old.handle.kept) left.now right.now order.new }
+    ensures statuses { collator.old.full ≡ true → (result ≡ OK) ⊎ (result ≡ MEMORY) }
+    ensures none { result ≢ OK → order.new ≡ pos 0 }
+    ensures full { collator.new.full ≡ collator.old.full }
+    ensures keying { collator.old.full ≡ true → keying_in collator.new.handle.kept ≡ keying_in collator.old.handle.kept }
+{
+    if !collator.full {
+        *order = 0;
+        return CLOSED;
+    }
+    let mut opened = take(alloc, collator);
+    let status = work::order(&mut opened, left, right, order);
     put(collator, opened);
     status
 }

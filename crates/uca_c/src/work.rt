@@ -1,13 +1,13 @@
 //! What a call does with an open collator.
 
-ghost use Rattle.std.specs.Prelude.{◌≡◌, ◌≢◌, pos, Option, MatchResult, IfOk, IfErr, OnOk};
+ghost use Rattle.std.specs.Prelude.{◌≡◌, ◌≢◌, ◌⊎◌, pos, Option, MatchResult, IfOk, IfErr, OnOk};
 ghost use Rattle.uca_weights.specs.declared.Depth.{Depth};
 ghost use Rattle.uca_weights.specs.declared.Weighting.{Weighting};
 ghost use Rattle.uca_values.specs.Content.{TableContent, Properties};
 ghost use Rattle.uca_owned.specs.Keyings.{keying, key_of_bytes, bytes_compared};
 ghost use Rattle.uca_owned.specs.Owned.{keying_in};
 ghost use Rattle.uca_c.specs.Statuses.{IsKeyStatus, IsCompareStatus};
-ghost use Rattle.uca_c.specs.Results.{WritesKey, IsTooSmall, IsComparison};
+ghost use Rattle.uca_c.specs.Results.{WritesKey, IsTooSmall, IsComparison, IsOrderNumber};
 ghost use Rattle.uca_c.specs.Numbers.{kind_number};
 ghost use Rattle.uca_c.specs.Opened.{Asks, OpensBy, IsNoFileError, IsOpenStatus, IsStopStatus};
 
@@ -119,5 +119,22 @@ pub fn compare(
             OK
         }
         Err(fault) => status_of_texts(fault),
+    }
+}
+
+// Orders two byte strings.
+pub fn order(collator: &mut OwnedCollator, left: &[u8], right: &[u8], order: &mut i32) -> u32
+    ensures ok { result ≡ OK → IsOrderNumber (keying_in collator.old) left.now right.now order.new }
+    ensures statuses { (result ≡ OK) ⊎ (result ≡ MEMORY) }
+    ensures none { result ≢ OK → order.new ≡ pos 0 }
+    ensures keying { keying_in collator.new ≡ keying_in collator.old }
+{
+    *order = 0;
+    match collator.order(left, right) {
+        Ok(found) => {
+            *order = number_of_order(found);
+            OK
+        }
+        Err(_) => MEMORY,
     }
 }

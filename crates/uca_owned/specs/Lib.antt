@@ -1,4 +1,5 @@
 pub mod Causes
 pub mod Keyings
 pub mod Opening
+pub mod Orders
 pub mod Owned

@@ -17,7 +17,7 @@ use uca_text::{Normal, TextFault};
 use uca_values::Data;
 
 // Takes the text of these bytes in place of the one that was there.
-fn renew(normal: &mut Normal, bytes: &[u8], properties: &Data) -> Result<(), KeyFault>
+pub(crate) fn renew(normal: &mut Normal, bytes: &[u8], properties: &Data) -> Result<(), KeyFault>
     ensures found { OnOk result (normal.new ≡ nfd_text (properties_of properties.now) (chars bytes.now)) }
     ensures accepted { OnOk result (IsAcceptedText (properties_of properties.now) bytes.now) }
     ensures fault { IfErr result (IsKeyCause (properties_of properties.now) bytes.now) }
@@ -86,7 +86,7 @@ impl OwnedCollator {
     }
 
     // How the two texts that it has compare.
-    fn compared(&self) -> (Ordering, u8)
+    pub(crate) fn compared(&self) -> (Ordering, u8)
         ensures { let keying = keying_in self.now in
             let answer = compared_at keying.depth keying.weighting (read_text keying.collation self.now.left) (read_text keying.collation self.now.right) in
             (result.0 ≡ answer.order) × (result.1 ≡ answer.level) }

@@ -4,7 +4,9 @@
 
 mod calls;
 mod faults;
+pub mod laws;
 mod opening;
+mod order;
 mod owned;
 
 pub use faults::{CompareFault, KeyFault, OpenFault};

@@ -1,0 +1,64 @@
+-- The order of all byte strings is that of lists: 0 before the key of an accepted text, and 1 before all other bytes.
+use Rattle.std.proofs.Common.{◌≡◌, ◌⊎◌, ℕ, List, ◌∷◌, ◌∙◌, sym, ap, refl, chars, inl, inr}
+use Rattle.std.specs.declared.cmp.Ordering.{Ordering}
+use Rattle.std.specs.declared.cmp.Ordering.TheVariants.{Less, Equal, Greater}
+use Rattle.std.specs.Ordering.{ordering_reverse}
+use Rattle.std.proofs.lemmas.Cmp.{nat_list_cmp_total}
+use Rattle.uca_key.specs.Levels.{lexicographic}
+use Rattle.uca_key.specs.Laws.{StoredKeysCompareAsTexts}
+use Rattle.uca_owned.specs.Keyings.{Keying, key_of_bytes}
+use Rattle.uca_owned.specs.Causes.{IsAcceptedText}
+use Rattle.uca_owned.specs.Orders.{IsOrder, OrdersAreTotal}
+
+-- two orders that cannot differ are one
+stable : (x y : Ordering) → ((x ≡ y → ⊥) → ⊥) → x ≡ y
+stable Less Less h = refl
+stable Less Equal h = absurd (h (λ e. cc))
+stable Less Greater h = absurd (h (λ e. cc))
+stable Equal Less h = absurd (h (λ e. cc))
+stable Equal Equal h = refl
+stable Equal Greater h = absurd (h (λ e. cc))
+stable Greater Less h = absurd (h (λ e. cc))
+stable Greater Equal h = absurd (h (λ e. cc))
+stable Greater Greater h = refl
+
+-- an equation of orders may be shown for a fact and for its negation
+by_choice : (A : Type 0) (x y : Ordering) → (A ⊎ (A → ⊥) → x ≡ y) → x ≡ y
+by_choice A x y h = stable x y (λ differ. differ (h (inr (λ a. differ (h (inl a))))))
+
+module _ (law : StoredKeysCompareAsTexts) (k : Keying) where
+  abbrev Accepted : List ℕ → Type 0
+  Accepted bytes = IsAcceptedText k.collation.properties bytes
+
+  place : (bytes : List ℕ) → Accepted bytes ⊎ (Accepted bytes → ⊥) → List ℕ
+  place bytes (inl taken) = 0 ∷ key_of_bytes k bytes
+  place bytes (inr left_out) = 1 ∷ bytes
+
+  by_places : (a b : List ℕ) (da : Accepted a ⊎ (Accepted a → ⊥)) (db : Accepted b ⊎ (Accepted b → ⊥)) (o : Ordering) → IsOrder k a b o
+      → o ≡ lexicographic (place a da) (place b db)
+  unfolding place
+  by_places a b (inl taken) (inl also) o is = is.both taken also ∙ sym (law k.collation k.depth k.weighting (chars a) (chars b)).0
+  by_places a b (inl taken) (inr left_out) o is = is.left_alone taken left_out
+  by_places a b (inr left_out) (inl taken) o is = is.right_alone left_out taken
+  by_places a b (inr left_out) (inr neither) o is = is.neither left_out neither
+
+  one : (a b : List ℕ) (o p : Ordering) → IsOrder k a b o → IsOrder k a b p → o ≡ p
+  one a b o p first second = by_choice (Accepted a) o p (λ da. by_choice (Accepted b) o p (λ db.
+      by_places a b da db o first ∙ sym (by_places a b da db p second)))
+
+  reversed : (a b : List ℕ) (o p : Ordering) → IsOrder k a b o → IsOrder k b a p → o ≡ ordering_reverse p
+  reversed a b o p first second = by_choice (Accepted a) o (ordering_reverse p) (λ da. by_choice (Accepted b) o (ordering_reverse p) (λ db.
+      by_places a b da db o first ∙ nat_list_cmp_total.antisymm (place a da) (place b db) ∙ ap ordering_reverse (sym (by_places b a db da p second))))
+
+  less : (a b c : List ℕ) (o p q : Ordering) → IsOrder k a b o → IsOrder k b c p → IsOrder k a c q → o ≡ Less → p ≡ Less → q ≡ Less
+  less a b c o p q first second both o_less p_less = by_choice (Accepted a) q Less (λ da. by_choice (Accepted b) q Less (λ db. by_choice (Accepted c) q Less (λ dc.
+      by_places a c da dc q both ∙ nat_list_cmp_total.trans (place a da) (place b db) (place c dc)
+      (sym (by_places a b da db o first) ∙ o_less) (sym (by_places b c db dc p second) ∙ p_less))))
+
+  equal : (a b c : List ℕ) (o p q : Ordering) → IsOrder k a b o → IsOrder k a c p → IsOrder k b c q → o ≡ Equal → p ≡ q
+  equal a b c o p q first second third is_equal = by_choice (Accepted a) p q (λ da. by_choice (Accepted b) p q (λ db. by_choice (Accepted c) p q (λ dc.
+      by_places a c da dc p second ∙ nat_list_cmp_total.congr (place a da) (place b db) (place c dc) (sym (by_places a b da db o first) ∙ is_equal)
+      ∙ sym (by_places b c db dc q third))))
+
+pub orders_total : StoredKeysCompareAsTexts → OrdersAreTotal
+orders_total law = record { one = one law; reversed = reversed law; less = less law; equal = equal law }
