@@ -247,10 +247,14 @@ impl<A: Allocator> LevelBuffers<A> {
         ensures { (c : Collation) (es : List Element) → AreTrueEntries c points.now.entries.items → HoldsLevels weighting es self.old →
             IfOk result (λ all. OnTrue all (HoldsLevels weighting (es ++ points_elements c text.now) self.new)) }
     {
-        make_room(&mut self.primary, self.counts.primary, RUN_PLACES)?;
-        make_room(&mut self.secondary, self.counts.secondary, RUN_PLACES)?;
-        make_room(&mut self.tertiary, self.counts.tertiary, RUN_PLACES)?;
-        make_room(&mut self.quaternary, self.counts.quaternary, RUN_PLACES)?;
+        make_rooms(
+            self.counts,
+            RUN_PLACES,
+            &mut self.primary,
+            &mut self.secondary,
+            &mut self.tertiary,
+            &mut self.quaternary,
+        )?;
         let mut after_variable = self.after_variable;
         let (all, counts) = put_leaves(
             weighting,

@@ -9,18 +9,18 @@ use Rattle.uca_key.proofs.level_buffers.LevelBuffers.push_leaves_by.Goals as goa
 pub returns : goal.returns
 returns g c = λ collation es entries h.
     let counts = c.self.inside.counts in
-    let same = same_levels c.self.inside.after_variable counts _ _ _ _ _ _ _ _ c.self.inside.key.items
-    (ap (λ l. held l counts.primary) c.as_mut_slice.ensures.value ∙ c.make_room.ensures.held)
-    (ap (λ l. held l counts.secondary) c.as_mut_slice-2.ensures.value ∙ c.make_room-2.ensures.held)
-    (ap (λ l. held l counts.tertiary) c.as_mut_slice-3.ensures.value ∙ c.make_room-3.ensures.held)
-    (ap (λ l. held l counts.quaternary) c.as_mut_slice-4.ensures.value ∙ c.make_room-4.ensures.held) in
+    let key = c.self.inside.key.items in
+    let same = sym (c.make_rooms.ensures.same c.self.inside.after_variable key)
+    ∙ same_levels c.self.inside.after_variable counts _ _ _ _ _ _ _ _ key (ap (λ l. held l counts.primary) c.as_mut_slice.ensures.value)
+    (ap (λ l. held l counts.secondary) c.as_mut_slice-2.ensures.value) (ap (λ l. held l counts.tertiary) c.as_mut_slice-3.ensures.value)
+    (ap (λ l. held l counts.quaternary) c.as_mut_slice-4.ensures.value) in
     let new = c.put_leaves-all.new in
     let made = c.put_leaves-all.result.1 in
-    let kept = same_levels new.after_variable made _ _ _ _ _ _ _ _ c.self.inside.key.items
-    (ap (λ l. held l made.primary) (with_items_is c.make_room.new.places new.primary (omega (arith, c.as_mut_slice.ensures.len))))
-    (ap (λ l. held l made.secondary) (with_items_is c.make_room-2.new.places new.secondary (omega (arith, c.as_mut_slice-2.ensures.len))))
-    (ap (λ l. held l made.tertiary) (with_items_is c.make_room-3.new.places new.tertiary (omega (arith, c.as_mut_slice-3.ensures.len))))
-    (ap (λ l. held l made.quaternary) (with_items_is c.make_room-4.new.places new.quaternary (omega (arith, c.as_mut_slice-4.ensures.len)))) in
+    let kept = same_levels new.after_variable made _ _ _ _ _ _ _ _ key
+    (ap (λ l. held l made.primary) (with_items_is c.make_rooms.new.primary new.primary (omega (arith, c.as_mut_slice.ensures.len))))
+    (ap (λ l. held l made.secondary) (with_items_is c.make_rooms.new.secondary new.secondary (omega (arith, c.as_mut_slice-2.ensures.len))))
+    (ap (λ l. held l made.tertiary) (with_items_is c.make_rooms.new.tertiary new.tertiary (omega (arith, c.as_mut_slice-3.ensures.len))))
+    (ap (λ l. held l made.quaternary) (with_items_is c.make_rooms.new.quaternary new.quaternary (omega (arith, c.as_mut_slice-4.ensures.len)))) in
     subst (λ b. OnTrue c.put_leaves-all.result.0 (HoldsLevels c.args.weighting (es ++ points_elements collation c.args.text.now) b)) kept
-    (c.put_leaves-all.ensures.holds collation c.self.inside.key.items es entries
+    (c.put_leaves-all.ensures.holds collation key es entries
     (subst (HoldsLevels c.args.weighting es) (sym c.self.view_is ∙ same) h))
