@@ -1,10 +1,13 @@
 -- What the levels of the weights decide of two texts at either depth.
-use Rattle.std.proofs.Common.{◌≡◌, ℕ, ◌+◌, List, [], ◌∷◌, length, refl, sym, ap, ◌∙◌}
+use Rattle.std.proofs.Common.{◌≡◌, ℕ, ◌+◌, List, [], ◌∷◌, length, refl, sym, ap, subst, ◌∙◌}
+use Rattle.std.specs.Str.{chars}
 use Rattle.std.specs.declared.cmp.Ordering.{Ordering}
 use Rattle.std.specs.declared.cmp.Ordering.TheVariants.{Less, Equal, Greater}
 use Rattle.uca_weights.specs.declared.Depth.{Depth}
 use Rattle.uca_weights.specs.declared.Depth.TheVariants.{Weights, Identical}
 use Rattle.uca_weights.specs.declared.Weighting.{Weighting}
+use Rattle.uca_text.specs.Texts.{NfdText, nfd_text}
+use Rattle.uca_match.specs.Collations.{Collation, elements_of}
 use Rattle.uca_key.specs.declared.walk.Walked.{Walked}
 use Rattle.uca_key.specs.Levels.{Comparison, level_lists, level_count, weighted, decided, compare_from, compared}
 use Rattle.uca_key.specs.Depths.{ReadText, compared_at}
@@ -63,3 +66,20 @@ compares_at Identical weighting left right xs ys w levels none same =
     ∙ levels_decide weighting w.order left right (compare_from n (left.points ∷ []) (right.points ∷ [])) (sym levels.order_is)
     (λ equal. same_points n left.points right.points (same (none_more w.order xs ys none equal))) in
     (levels.order_is ∙ ap (λ (a : Comparison). a.order) (sym all), levels.level_is ∙ ap (λ (a : Comparison). a.level) (sym all))
+
+-- ---- Equal texts
+
+-- nothing else decides between them
+pub same_decides : (order : Ordering) (depth : Depth) (left right : List ℕ) → left ≡ right → NothingElseDecides order depth left right
+same_decides Less depth left right same = tt
+same_decides Equal Weights left right same = tt
+same_decides Equal Identical left right same = same
+same_decides Greater depth left right same = tt
+
+-- how a text compares with itself is how it compares with an equal one
+pub itself_and_same : (c : Collation) (weighting : Weighting) (text : NfdText) (left right : List ℕ) (w : Walked) → text ≡ nfd_text c.properties (chars left)
+    → left ≡ right → ComparesLevels weighting (elements_of c text) (elements_of c text) w
+    → ComparesLevels weighting (elements_of c (nfd_text c.properties (chars left))) (elements_of c (nfd_text c.properties (chars right))) w
+itself_and_same c weighting text left right w is same compares =
+    subst (λ (l : List ℕ). ComparesLevels weighting (elements_of c (nfd_text c.properties (chars left))) (elements_of c (nfd_text c.properties (chars l))) w) same
+    (subst (λ (t : NfdText). ComparesLevels weighting (elements_of c t) (elements_of c t) w) is compares)

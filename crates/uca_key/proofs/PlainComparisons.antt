@@ -15,13 +15,14 @@ use Rattle.uca_text.specs.Limits.{HasNoLongRun, IsAccepted}
 use Rattle.uca_match.specs.Collations.{Collation}
 use Rattle.uca_key.specs.declared.walk.Walked.{Walked}
 use Rattle.uca_key.specs.Levels.{level_count}
-use Rattle.uca_key.specs.Fronts.{FrontState}
+use Rattle.uca_key.specs.Fronts.{FrontState, begun, counted}
 use Rattle.uca_key.specs.Walks.{Stands, none_decided, decided_level}
 use Rattle.uca_key.specs.Comparisons.{ComparesLevels}
 use Rattle.uca_key.specs.Plain.{ArePlain, elements_alone}
 use Rattle.uca_key.specs.Shared.{IsRest, BeginsPlain, HasCount, ComparesTexts, ComparesAccepted, flag_after, text_elements}
 use Rattle.uca_key.proofs.LevelSteps.{walk_answers, all_levels}
-use Rattle.uca_key.proofs.SharedSteps.{stands_after, runs_after, plain_begins}
+use Rattle.uca_key.proofs.SharedSteps.{stands_after, stands_shared, runs_after, plain_begins}
+use Rattle.uca_key.proofs.WalkSteps.{stands_begun}
 use Rattle.uca_key.proofs.PlainTexts.{plain_texts, plain_no_long_run}
 
 pub levels_bounds : (weighting : Weighting) → (1 ≤ level_count weighting) × (level_count weighting ≤ 4)
@@ -90,6 +91,21 @@ same_levels weighting es fs flag count stands =
     (walk_answers weighting es fs front front (none_decided 1 last) 1 last 0 count count stands (record { ends = λ some. (refl, refl) }) refl (omega arith)
     (none_decides weighting) refl refl)
     (λ e. omega arith)
+
+-- all elements of a text are fetched to compare it with itself
+pub itself_compared : (weighting : Weighting) (es : List Element) (count last : ℕ) → count ≡ counted 0 (length es) → last ≡ level_count weighting
+    → ComparesLevels weighting es es (record { order = Equal; level = 0; last = last; fetched_left = count; fetched_right = count })
+itself_compared weighting es count last is all =
+    let n = level_count weighting in
+    let bounds = levels_bounds weighting in
+    let flag = flag_after false es in
+    let begin = stands_begun weighting es es 1 n (begun es) (begun es) refl refl bounds.0 bounds.1 in
+    let whole = subst (λ l. Stands weighting es es (begun l) (begun l) (none_decided 1 n)) (sym (append-nil es)) begin in
+    let after = stands_shared weighting es es es [] [] false 0 (none_decided 1 n) (omega arith) bounds.0 whole in
+    let stands = subst (λ k. Stands weighting es es (record { elements = []; after_variable = flag; passed = k })
+    (record { elements = []; after_variable = flag; passed = k }) (none_decided 1 n)) (sym is) after in
+    subst (λ k. ComparesLevels weighting es es (record { order = Equal; level = 0; last = k; fetched_left = count; fetched_right = count })) (sym all)
+    (same_levels weighting es es flag count stands)
 
 -- a text of plain code points is equal to itself, and all its elements are fetched
 pub same_compared : (c : Collation) (weighting : Weighting) (xs : List ℕ) (count last : ℕ) → HasCount c xs count → last ≡ level_count weighting

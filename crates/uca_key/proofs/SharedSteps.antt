@@ -71,6 +71,15 @@ count_step c xs x es count count1 are is is_more =
     ∙ ap (λ n. counted n (length es)) is ∙ counted_more 0 (length before) (length es)
     ∙ ap (counted 0) (sym (length-append before es)) ∙ ap (λ (l : List Element). counted 0 (length l)) (sym all)
 
+-- one more element
+pub count_one : (es : List Element) (e : Element) (count count1 : ℕ) → count ≡ counted 0 (length es) → count1 ≡ min (count + 1) 18446744073709551615
+    → count1 ≡ counted 0 (length (es ++ e ∷ []))
+count_one es e count count1 is is_more =
+    let before = counted_from_none (length es) in
+    let after = counted_from_none (length (es ++ e ∷ [])) in
+    let all = length-append es (e ∷ []) in
+    omega (arith, is, is_more, before, after, all)
+
 pub count_begun : (c : Collation) → HasCount c [] 0
 count_begun c = record { plain = tt; count_is = refl }
 

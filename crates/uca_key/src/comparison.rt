@@ -50,6 +50,27 @@ fn compare_levels<'a, L: Lookup, A: Allocator>(
     walked
 }
 
+/// How a text compares with itself: no level differs, and all elements are fetched.
+pub(crate) fn compare_itself<L: Lookup, A: Allocator>(
+    collator: &Collator<L, A>,
+    weighting: Weighting,
+    text: &Normal,
+) -> Walked
+    ensures { let es = elements_of (collation_of L.content collator.now) text.now in ComparesLevels weighting es es result }
+{
+    let mut count = 0_u64;
+    for _element in collator.elements(text) {
+        count = count.saturating_add(1);
+    }
+    Walked {
+        order: Ordering::Equal,
+        level: 0,
+        last: level_count(weighting, Depth::Weights),
+        fetched_left: count,
+        fetched_right: count,
+    }
+}
+
 // How two texts compare by their code points, which come after all levels of the weighting.
 fn compare_points(weighting: Weighting, left: &Normal, right: &Normal) -> (Ordering, u8)
     ensures { let answer = compared_points weighting left.now.points right.now.points in

@@ -11,8 +11,9 @@ ghost use Rattle.uca_key.specs.Fetched.{fetched_left, fetched_right};
 ghost use Rattle.uca_key.specs.Comparisons.{NothingElseDecides};
 ghost use Rattle.uca_key.specs.Comparers.{collation_by};
 
-use crate::comparison::{Compared, compare};
+use crate::comparison::{Compared, compare, compare_itself};
 use crate::plain_comparison::PlainComparison;
+use crate::walk::Walked;
 use std::alloc::{Allocator, Global};
 use std::cmp::Ordering;
 use std::marker::Model;
@@ -107,14 +108,13 @@ impl<'a, L: Lookup, T: Allocator, A: Allocator> TextComparer<'a, L, T, A> {
         if let Some(walked) = found
             && is_decided(walked.order, self.depth, left, right)
         {
-            return Ok(Compared {
-                order: walked.order,
-                level: walked.level,
-                fetched_left: walked.fetched_left,
-                fetched_right: walked.fetched_right,
-            });
+            return Ok(compared_of(&walked));
         }
         self.left.renew(left, self.collator.data)?;
+        if left == right {
+            let walked = compare_itself(&self.collator, self.weighting, &self.left);
+            return Ok(compared_of(&walked));
+        }
         self.right.renew(right, self.collator.data)?;
         Ok(compare(
             &self.collator,
@@ -123,6 +123,21 @@ impl<'a, L: Lookup, T: Allocator, A: Allocator> TextComparer<'a, L, T, A> {
             &self.left,
             &self.right,
         ))
+    }
+}
+
+// How two texts compare, after a walk over both.
+fn compared_of(walked: &Walked) -> Compared
+    ensures order { result.order ≡ walked.now.order }
+    ensures level { result.level ≡ walked.now.level }
+    ensures fetched_left { result.fetched_left ≡ walked.now.fetched_left }
+    ensures fetched_right { result.fetched_right ≡ walked.now.fetched_right }
+{
+    Compared {
+        order: walked.order,
+        level: walked.level,
+        fetched_left: walked.fetched_left,
+        fetched_right: walked.fetched_right,
     }
 }
 
