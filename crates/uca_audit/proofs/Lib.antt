@@ -1,7 +1,5 @@
 pub mod TargetSets
 pub mod FirstRelations
-pub mod FirstRows
-pub mod ImageLists
 pub mod Chaining
 pub mod NotAccepted
 pub mod AnchorSteps

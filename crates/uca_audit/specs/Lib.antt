@@ -7,4 +7,3 @@ pub mod PlacedRows
 pub mod WeightSets
 pub mod NewWeights
 pub mod KnownWeights
-pub mod ImageTables

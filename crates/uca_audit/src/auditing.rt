@@ -18,11 +18,11 @@ use crate::conditions::{
     rows_are_expected, rows_are_present, rows_are_unchanged, tailored_is_well_formed,
     targets_are_nearest, targets_are_placed, weights_are_covered,
 };
-use crate::images::Images;
 use crate::inputs::Inputs;
 use crate::targets::Targets;
 use crate::{AuditFault, Certificate};
 use std::alloc::Allocator;
+use uca_kept_rows::Images;
 use uca_match::{Collator, Lookup, Trie};
 use uca_rules::Rules;
 use uca_tailorings::accepted_tailorings_are_faithful;

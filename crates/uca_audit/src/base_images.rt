@@ -12,10 +12,10 @@ ghost use Rattle.uca_audit.specs.WeightSets.{HasWeight};
 ghost use Rattle.uca_audit.specs.KnownWeights.{HoldsImages, IsImageOf};
 ghost use Rattle.uca_audit.specs.NewWeights.{HoldsKnown};
 
-use crate::images::{Images, LevelImages};
 use crate::inputs::Inputs;
 use crate::weight_sets::WeightSet;
 use std::alloc::{AllocError, Allocator};
+use uca_kept_rows::{Images, LevelImages};
 use uca_values::Row;
 use uca_weights::{Element, Level};
 

@@ -16,7 +16,6 @@ pub(crate) mod placements;
 mod rows;
 mod weights;
 
-use crate::images::Images;
 use crate::inputs::Inputs;
 use crate::targets::Targets;
 use crate::weight_sets::WeightSet;
@@ -29,6 +28,7 @@ use rows::{
 };
 use std::alloc::Allocator;
 use uca_check::check;
+use uca_kept_rows::Images;
 use uca_match::{Collator, Lookup, Trie};
 use uca_rules::Rules;
 use uca_values::Table;

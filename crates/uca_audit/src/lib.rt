@@ -6,7 +6,6 @@ mod auditing;
 mod base_images;
 mod conditions;
 mod faults;
-mod images;
 mod inputs;
 mod laws;
 mod readings;

@@ -4,16 +4,15 @@ ghost use Rattle.std.specs.Prelude.{◌≡◌, ◌↔◌, IfOk, IsTrue};
 ghost use Rattle.std.specs.List.{AllByRecursion};
 ghost use Rattle.uca_check.specs.Searches.{FindsFirstWithout};
 ghost use Rattle.uca_match.specs.Rows.{IsKey};
-ghost use Rattle.uca_tailorings.specs.Images.{IsImage, AreImages};
 ghost use Rattle.uca_tailorings.specs.Tailorings.{IsCovered, IsCoveredRow, IsUnchangedRow, IsPresentRow, IsPresentTarget, IsExpectedRow};
 ghost use Rattle.uca_tailorings.specs.Inputs.{maps_of};
 ghost use Rattle.uca_audit.specs.Views.{FindsFirstRelation, tailoring_in};
 ghost use Rattle.uca_audit.specs.Chaining.{AreTargetsOf, FindsRowsOf};
 
-use crate::images::Images;
 use crate::inputs::Inputs;
 use crate::targets::Targets;
 use std::alloc::{AllocError, Allocator};
+use uca_kept_rows::{Images, are_images};
 use uca_match::{Lookup, Trie, row_of};
 use uca_rules::Relation;
 use uca_values::{Header, ImplicitRange, Row};
@@ -115,36 +114,6 @@ fn is_unchanged<A: Allocator + Copy, T: Allocator>(
         None => true,
         Some(new) => are_images(images, &row.elements, new),
     }
-}
-
-/// Whether the new elements are the images of the old ones, in order.
-fn are_images<A: Allocator + Copy, T: Allocator>(
-    images: &Images<A, T>,
-    old: &[Element],
-    new: &[Element],
-) -> bool
-    ensures { IsTrue result ↔ AreImages (maps_of images.now) old.now new.now }
-{
-    if old.len() != new.len() {
-        return false;
-    }
-    old.iter()
-        .zip(new)
-        .all(|(old, new)| is_image(images, *old, *new))
-}
-
-/// Whether each weight is put through the map of its level, and the element stays variable or not.
-fn is_image<A: Allocator + Copy, T: Allocator>(
-    images: &Images<A, T>,
-    old: Element,
-    new: Element,
-) -> bool
-    ensures { IsTrue result ↔ IsImage (maps_of images.now) old new }
-{
-    images.primary.get(old.primary) == Some(new.primary)
-        && images.secondary.get(old.secondary) == Some(new.secondary)
-        && images.tertiary.get(old.tertiary) == Some(new.tertiary)
-        && old.mark == new.mark
 }
 
 /// The first base row whose key has no tailored row, by its index.
