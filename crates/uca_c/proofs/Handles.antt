@@ -1,29 +1,25 @@
 -- What an open handle owns, put together and taken apart.
 use Rattle.std.proofs.Common.{◌≡◌, ℕ, List, [], ◌∷◌, ◌++◌, refl, subst}
-use mathlib.Core.Bool.{Bool, true, false, ◌&&◌}
-use lib.Dec.{T}
+use mathlib.Core.Bool.{Bool, true, false}
 use seplogic.Ra.Ura.{Ura}
 use mir.Raw.{raw as bare}
 use mir.Syntax.{w64}
 use Rattle.std.specs.Prelude.{None}
 use Rattle.uca_weights.specs.declared.Weighting.TheVariants.{Shifted}
 use Rattle.uca_weights.specs.declared.Depth.TheVariants.{Weights}
-use mir.Val.{Val, vptr, vbool, vint, vstruct, vcons, vnil, of_list, has_ty, WT}
+use mir.Val.{Val, vptr, vbool, vint, vstruct, vcons, vnil, of_list}
 use base.Logic.{never, fst∗}
 use types.Logic.{Logic, sem}
 use types.Kit.{Item, Goal, Seq, Step, step, ‵, ◌$◌, move, drop, fsplit, fjoin, fpick, fpack, rewrite, feq_i, feq_l}
 use denote.RattleType.{RattleType, Valss}
 use denote.Builtin.{RawPtr, bool}
-use denote.Memory.{lone}
 use denote.RawPtr.{Ptr, block_ptr, null_ptr, ptr_val, in_a_block}
 use denote.Steps.{nothing}
-use denote.Param.{layout}
 use denote.Struct.Struct.{within}
 use denote.Struct.Owning.{shape, to}
 use Rattle.std.proofs.alloc.Calls.{token, Fits, handle_tells}
 use Rattle.std_alloc.specs.Box.Ownership.{box_owns}
-use Rattle.std_alloc.proofs.ResultValues.{and_tt}
-use Rattle.std_alloc.proofs.BoxSteps.Form.{R, P, X, D, τ, handle as held}
+use Rattle.std_alloc.proofs.BoxSteps.Form.{R, X, τ, handle as held}
 use Rattle.std_heap.specs.contracts.Global as Heap
 use Rattle.uca_c.specs.contracts.handle.Handle as Handle
 use Rattle.uca_c.specs.Handles.{handle_owns}

@@ -1,5 +1,5 @@
 -- What the status of a call says of its texts.
-use Rattle.std.specs.Prelude.{◌≡◌, ◌≢◌, ◌⊎◌, ℕ, List}
+use Rattle.std.specs.Prelude.{◌≡◌, ◌⊎◌, ℕ, List}
 use Rattle.uca_values.specs.Content.{Properties}
 use Rattle.uca_text.specs.declared.normalize.TextFault.TheVariants.{TooLong, LongRun, Memory}
 use Rattle.uca_owned.specs.Causes.{IsAcceptedText, IsKeyCause, IsCompareCause}

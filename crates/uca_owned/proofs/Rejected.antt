@@ -1,5 +1,5 @@
 -- A text with a cause is not accepted.
-use Rattle.std.proofs.Common.{◌≡◌, ◌<◌, ℕ, List, length, arith, true, false}
+use Rattle.std.proofs.Common.{◌≡◌, ℕ, List, arith, false}
 use Rattle.uca_values.specs.Content.{Properties}
 use Rattle.uca_text.specs.declared.normalize.TextFault.TheVariants.{TooLong, LongRun, Memory}
 use Rattle.uca_owned.specs.declared.faults.KeyFault.{KeyFault}
