@@ -3,7 +3,7 @@
 
     tools/bindings.py [--uca PATH]        crates/uca/out/uca, unless another program is named
 
-First prove and build the static library: `rt lib` in crates/uca_c. Then this script makes bindings/c/out and runs
+First prove and build the static library: `tools/build.py uca_c`. Then this script makes bindings/c/out and runs
 
 - `calls`, which calls everything in uca.h with good and bad input: as it is, under valgrind, and with the sanitizers of gcc;
 - `memory`, in which each allocation fails in turn: as it is, and under valgrind;
@@ -224,7 +224,7 @@ def main():
     parser.add_argument("--uca", default=f"{TOP}/crates/uca/out/uca")
     program = os.path.realpath(parser.parse_args().uca)
     if not os.path.exists(ARCHIVE):
-        sys.exit(f"there is no {ARCHIVE}: run `rt lib` in crates/uca_c first")
+        sys.exit(f"there is no {ARCHIVE}: run `tools/build.py uca_c` first")
     checks = [("make", make), ("valgrind", valgrind), ("sanitizers", sanitizers), ("header in C++", header), ("exported names", exports),
               ("installation", installed), ("stored run", stored_run), ("docs/BINDINGS.md", page), ("keys", keys_like(program)), ("Python", python), ("sort", sorted_like(program)), ("SQLite", sqlite), ("SQLite's orders", sqlite_like(program))]
     passed = failed = skipped = 0
