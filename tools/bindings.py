@@ -33,7 +33,7 @@ SORTER = """
 import sys, uca
 weighting, identical = {None: None, **{it: it for it in ("non-ignorable", "shifted")}}[sys.argv[3] or None], sys.argv[4] == "identical"
 with uca.Collator(sys.argv[1], sys.argv[2], weighting, identical) as collator:
-    lines = sys.stdin.buffer.read().split(b"\\n")[:-1]
+    lines = sys.stdin.buffer.read().removesuffix(b"\\n").split(b"\\n")
     sys.stdout.buffer.write(b"".join(it + b"\\n" for it in sorted(lines, key=collator.key)))
 """
 
@@ -209,7 +209,7 @@ def sqlite_like(program):
         for lines in LINES:
             text = content(f"{EXAMPLES}/{lines}")
             wanted = run([program, "sort", "--weighting", "shifted", f"{EXAMPLES}/table.txt", f"{EXAMPLES}/data.txt"], input=text).decode()
-            values = ", ".join("('" + it.replace("'", "''") + "')" for it in text.decode().split("\n")[:-1])
+            values = ", ".join("('" + it.replace("'", "''") + "')" for it in text.decode().removesuffix("\n").split("\n"))
             made = f"CREATE TABLE lines(line TEXT); INSERT INTO lines VALUES {values};"
             for after in ("ORDER BY line COLLATE uca, rowid", "ORDER BY uca_key(line), rowid"):
                 same(sqlite_says(work, made, f"SELECT line FROM lines {after};"), wanted, f"order of {lines}, {after}")
