@@ -3,7 +3,7 @@
 
     tools/bindings.py [--uca PATH]        crates/uca/out/uca, unless another program is named
 
-First prove and build the static library: `rt lib` in crates/uca_c. Then this script makes bindings/c/out and runs
+First prove and build the static library: `tools/build.py uca_c`. Then this script makes bindings/c/out and runs
 
 - `calls`, which calls everything in uca.h with good and bad input: as it is, under valgrind, and with the sanitizers of gcc;
 - `memory`, in which each allocation fails in turn: as it is, and under valgrind;
@@ -33,7 +33,7 @@ SORTER = """
 import sys, uca
 weighting, identical = {None: None, **{it: it for it in ("non-ignorable", "shifted")}}[sys.argv[3] or None], sys.argv[4] == "identical"
 with uca.Collator(sys.argv[1], sys.argv[2], weighting, identical) as collator:
-    lines = sys.stdin.buffer.read().split(b"\\n")[:-1]
+    lines = sys.stdin.buffer.read().removesuffix(b"\\n").split(b"\\n")
     sys.stdout.buffer.write(b"".join(it + b"\\n" for it in sorted(lines, key=collator.key)))
 """
 
@@ -209,7 +209,7 @@ def sqlite_like(program):
         for lines in LINES:
             text = content(f"{EXAMPLES}/{lines}")
             wanted = run([program, "sort", "--weighting", "shifted", f"{EXAMPLES}/table.txt", f"{EXAMPLES}/data.txt"], input=text).decode()
-            values = ", ".join("('" + it.replace("'", "''") + "')" for it in text.decode().split("\n")[:-1])
+            values = ", ".join("('" + it.replace("'", "''") + "')" for it in text.decode().removesuffix("\n").split("\n"))
             made = f"CREATE TABLE lines(line TEXT); INSERT INTO lines VALUES {values};"
             for after in ("ORDER BY line COLLATE uca, rowid", "ORDER BY uca_key(line), rowid"):
                 same(sqlite_says(work, made, f"SELECT line FROM lines {after};"), wanted, f"order of {lines}, {after}")
@@ -224,7 +224,7 @@ def main():
     parser.add_argument("--uca", default=f"{TOP}/crates/uca/out/uca")
     program = os.path.realpath(parser.parse_args().uca)
     if not os.path.exists(ARCHIVE):
-        sys.exit(f"there is no {ARCHIVE}: run `rt lib` in crates/uca_c first")
+        sys.exit(f"there is no {ARCHIVE}: run `tools/build.py uca_c` first")
     checks = [("make", make), ("valgrind", valgrind), ("sanitizers", sanitizers), ("header in C++", header), ("exported names", exports),
               ("installation", installed), ("stored run", stored_run), ("docs/BINDINGS.md", page), ("keys", keys_like(program)), ("Python", python), ("sort", sorted_like(program)), ("SQLite", sqlite), ("SQLite's orders", sqlite_like(program))]
     passed = failed = skipped = 0

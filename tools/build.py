@@ -9,7 +9,7 @@ earlier run proved is kept in crates/*/out, if it has not changed since.
 
 Only `rt ci` is the gate. This script does not search for contracts that no call can meet, and tries no tests and no edits.
 
-The program is crates/uca/out/uca. A line for each crate comes first. The last line says how long all took.
+The program is crates/uca/out/uca, and the archive of the static library uca_c is crates/uca_c/out/libuca_c.a. A line for each crate comes first. The last line says how long all took.
 """
 import copy
 import hashlib
@@ -60,9 +60,13 @@ class Builder:
             sums.update(self.digests[below.name].encode())
         return sums.hexdigest()
 
+    def file_of(self, crate):
+        """The program of a crate, or the archive of a static library."""
+        return f"out/lib{crate.name}.a" if crate.is_static else f"out/{crate.name}"
+
     def made(self, crate):
         """What a crate is built into, and the file beside it that says from what."""
-        path = crate.rlib if crate.makes_rlib() else f"{crate.folder}/out/{crate.name}"
+        path = crate.rlib if crate.makes_rlib() else f"{crate.folder}/{self.file_of(crate)}"
         return path, f"{os.path.dirname(path)}/{crate.name}.statements"
 
     def prove(self, crate):
@@ -71,7 +75,7 @@ class Builder:
         path, kept = self.made(crate)
         os.makedirs(f"{crate.folder}/out", exist_ok=True)
         with tempfile.TemporaryFile("a+", errors="replace") as crate.out:
-            status = self.program(crate) if crate.is_program else crate.ci(JOBS, False)
+            status = crate.ci(JOBS, False) if crate.makes_rlib() else self.archive(crate) if crate.is_static else self.program(crate)
             crate.out.seek(0)
             said = crate.out.read()
         if status:
@@ -81,9 +85,14 @@ class Builder:
             it.write(self.stamp(crate))
         return True
 
+    def archive(self, crate):
+        """Proves a static library and makes its archive, in one process."""
+        words = [*crate.words(JOBS, keeps=False), "--toolchain", f"{self.rtlib.KIT}/toolchain"]
+        return crate.prove(["build", *words, "--backend", "llvm", "-o", self.file_of(crate)])
+
     def program(self, crate):
         """Proves a program and compiles it by LLVM, in one process, and links it."""
-        made = f"out/{crate.name}"
+        made = self.file_of(crate)
         words = [*crate.words(JOBS, keeps=False), "--toolchain", f"{self.rtlib.KIT}/toolchain"]
         status = crate.prove(["build", *words, "--backend", "llvm", "-o", f"{made}.o"])
         return status or crate.link(f"{made}.o", made)
