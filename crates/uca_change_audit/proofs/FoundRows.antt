@@ -1,10 +1,9 @@
 -- The first row without a property, by the values that its test was given.
-use Rattle.std.proofs.Common.{◌≡◌, ℕ, List, Option, Contains, subst}
+use Rattle.std.proofs.Common.{◌≡◌, ℕ, List, Option, subst}
 use mathlib.Core.Path.{fun_ext}
 use Rattle.uca_values.specs.Content.{Entry}
 use Rattle.uca_check.specs.Searches.{FindsFirstWithout}
 use Rattle.uca_match.specs.Rows.{Rows}
-use Rattle.uca_tailorings.specs.Images.{Maps}
 
 -- What is found among rows by listed texts and a lookup is found among the same rows by the same texts and by what the lookup has.
 pub found_by : (P : List (List ℕ) → Rows → Entry → Type 0) (lent rows : List Entry) (given texts : List (List ℕ)) (lookup found_rows : Rows) (found : Option ℕ)

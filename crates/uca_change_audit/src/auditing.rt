@@ -2,12 +2,9 @@
 
 ghost use Rattle.std.specs.Prelude.{◌≡◌, ◌⊎◌, IfErr, OnOk};
 ghost use Rattle.uca_values.specs.Content.{IsHeader, IsTable};
-ghost use Rattle.uca_match.specs.Collations.{Collation};
 ghost use Rattle.uca_tailorings.specs.Images.{AreRisingMaps};
 ghost use Rattle.uca_tailorings.specs.Inputs.{maps_of};
-ghost use Rattle.uca_tailorings.specs.Laws.{ReadsAs};
-ghost use Rattle.uca_changes.specs.Changes.{IsChange, IsAcceptedChange, old_reading, new_reading};
-ghost use Rattle.uca_changes.specs.Laws.{UnaffectedTextsStay};
+ghost use Rattle.uca_changes.specs.Changes.{IsChange, IsAcceptedChange};
 ghost use Rattle.uca_change_audit.specs.ChangeInputs.{change_in, MeansUnaffectedTextsStay};
 ghost use Rattle.uca_change_audit.specs.ChangeRefusals.{IsFirstRefusal};
 ghost use Rattle.uca_change_audit.specs.Chaining.{FindsRowsOf, MeetsBelow, Passes};

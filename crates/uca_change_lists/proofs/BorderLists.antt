@@ -1,7 +1,6 @@
 -- Lists of borders, as they are made.
 use Rattle.std.proofs.Common.{◌≡◌, ℕ, ◌+◌, ◌<◌, ◌≤◌, List, length, take, get_or, Contains, sym, subst}
 use Rattle.std.specs.Char.{IsScalar}
-use Rattle.std.specs.List.{AllByRecursion}
 use Rattle.std.proofs.lemmas.List.{take_all, get_or_default}
 use Rattle.uca_weights.proofs.Lists.{each_weaker, each_push, taken_more}
 use Rattle.uca_values.specs.declared.ClassRange.{ClassRange}

@@ -1,8 +1,8 @@
 -- Between two borders of some ranges, what the ranges say of code points stays.
-use Rattle.std.proofs.Common.{◌≡◌, ◌≢◌, ◌⊎◌, ⊎_elim, inl, inr, ℕ, zero, suc, ◌+◌, ◌-◌, ◌<◌, ◌≤◌, min, Bool, true, false, leb, eqb, cond, ◌&&◌, ◌||◌, List, [], ◌∷◌, Option, Some, None, Contains, refl, sym, ap, ap₂, subst, ◌∙◌, arith}
+use Rattle.std.proofs.Common.{◌≡◌, ◌≢◌, ◌⊎◌, ⊎_elim, inl, inr, ℕ, suc, ◌+◌, ◌-◌, ◌≤◌, min, true, eqb, cond, ◌||◌, List, [], ◌∷◌, Option, Some, None, Contains, refl, sym, ap, ap₂, subst, ◌∙◌, arith}
 use Rattle.std.specs.Char.{IsScalar}
 use Rattle.std.specs.List.{AllByRecursion}
-use Rattle.std.proofs.lemmas.Bool.{cases_eq, cases_lt, eqb-true}
+use Rattle.std.proofs.lemmas.Bool.{cases_eq, cases_lt}
 use Rattle.std.proofs.lemmas.Bool.Decides.{nat_tests}
 use Rattle.uca_weights.specs.declared.Element.{Element}
 use Rattle.uca_weights.proofs.Tests.{by_cases}
@@ -13,7 +13,7 @@ use Rattle.uca_values.specs.Implicit.{lead_of, base_of, implicit_pair, pair_by_l
 use Rattle.uca_values.specs.Ranges.{is_between, is_within, class_in}
 use Rattle.uca_values.proofs.Leads.{base_at_most}
 use Rattle.uca_change_lists.specs.Borders.{HasBorders}
-use Rattle.uca_change_lists.specs.Points.{range_pair, IsSamePair}
+use Rattle.uca_change_lists.specs.Points.{IsSamePair}
 
 -- the code point is no border of the ranges
 abbrev pub HasNoBorder : {X : Type 0} → (X → ℕ) → (X → ℕ) → ℕ → List X → Type 0

@@ -1,17 +1,16 @@
 -- The first code point outside of ranges without a property is a border.
-use Rattle.std.proofs.Common.{◌≡◌, ◌≢◌, ◌⊎◌, ⊎_elim, inl, inr, ℕ, zero, suc, ◌+◌, ◌<◌, ◌≤◌, Bool, true, false, leb, ltb, cond, ◌&&◌, List, [], ◌∷◌, ◌++◌, length, take, get_or, Option, Some, None, MatchOption, IsTrue, Contains, refl, sym, ap, subst, ◌∙◌, arith}
+use Rattle.std.proofs.Common.{◌≡◌, ◌⊎◌, ⊎_elim, inl, inr, ℕ, zero, suc, ◌+◌, ◌<◌, ◌≤◌, List, length, take, get_or, Option, Some, None, Contains, sym, subst, ◌∙◌, arith}
 use Rattle.std.specs.Char.{IsScalar}
 use Rattle.std.specs.List.{AllByRecursion}
 use Rattle.std.proofs.Math.Utf8.{scalar_cases, low_scalar}
 use Rattle.std.proofs.lemmas.Bool.{cases_lt}
 use Rattle.std.proofs.lemmas.Bool.Decides.{nat_tests}
 use Rattle.std.proofs.lemmas.List.{take_all}
-use Rattle.uca_weights.proofs.Lists.{each_weaker, each_contained, each_any, each_push, taken_more}
+use Rattle.uca_weights.proofs.Lists.{each_weaker, each_contained, each_push, taken_more}
 use Rattle.uca_values.specs.declared.CodePointRange.{CodePointRange}
 use Rattle.uca_values.specs.declared.ClassRange.{ClassRange}
 use Rattle.uca_values.specs.declared.ImplicitRange.{ImplicitRange}
 use Rattle.uca_values.specs.Content.{DataContent, properties_of}
-use Rattle.uca_values.specs.Ranges.{is_within}
 use Rattle.uca_change_lists.specs.Points.{IsSamePair, IsSamePoint, FindsFirstOutside}
 use Rattle.uca_change_lists.specs.Borders.{HasFirsts, HasDataBorders, HasPairBorders, HasPointBorders, IfOutside, FindsLeast, IsBelow}
 use Rattle.uca_change_lists.proofs.BorderSteps.{HasNoBorder, border_or_none, within_step, class_step, pairs_step}

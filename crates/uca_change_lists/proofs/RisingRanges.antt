@@ -1,11 +1,10 @@
 -- Ranges in rising order, and one that comes after them.
-use Rattle.std.proofs.Common.{◌≡◌, ℕ, zero, suc, ◌+◌, ◌-◌, ◌<◌, ◌≤◌, List, [], ◌∷◌, ◌++◌, length, Option, Some, None, Bool, IsTrue, ltb, ◌↔◌, sym, subst, arith}
+use Rattle.std.proofs.Common.{◌≡◌, ℕ, zero, suc, ◌+◌, ◌-◌, ◌<◌, ◌≤◌, List, [], ◌∷◌, ◌++◌, length, Some, IsTrue, ltb, ◌↔◌, sym, subst, arith}
 use Rattle.std.proofs.lemmas.Bool.{ltb-true, lt-ltb}
 use Rattle.std.specs.List.{slice_get}
-use Rattle.std.specs.List.{AllByRecursion}
 use Rattle.uca_weights.proofs.Lists.{each_push}
 use Rattle.uca_values.specs.declared.CodePointRange.{CodePointRange}
-use Rattle.uca_values.specs.Ranges.{RiseBy, AreRising}
+use Rattle.uca_values.specs.Ranges.{AreRising}
 use Rattle.uca_change_lists.specs.ChangeLists.{IsAfter}
 
 -- one more range after the others

@@ -1,6 +1,6 @@
 //! Borders: the code points at which ranges begin, and those at which they have ended. Between two of them nothing changes.
 
-ghost use Rattle.std.specs.Prelude.{◌≡◌, ℕ, ◌+◌, List, IfOk, OnOk, Contains};
+ghost use Rattle.std.specs.Prelude.{ℕ, ◌+◌, IfOk, OnOk, Contains};
 ghost use Rattle.std.specs.Char.{IsScalar};
 ghost use Rattle.uca_change_lists.specs.Borders.{AddsBorders, HasFirsts, HasPairBorders, HasPointBorders, HasDataBorders};
 

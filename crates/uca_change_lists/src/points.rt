@@ -1,6 +1,6 @@
 //! The first code point outside of changed ranges that is not as it was.
 
-ghost use Rattle.std.specs.Prelude.{◌↔◌, IfOk, IsTrue, [], ◌≡◌};
+ghost use Rattle.std.specs.Prelude.{◌↔◌, IfOk, IsTrue};
 ghost use Rattle.uca_values.specs.Content.{properties_of};
 ghost use Rattle.uca_values.specs.Implicit.{implicit};
 ghost use Rattle.uca_change_lists.specs.Points.{IsSamePair, IsSamePoint, FindsFirstOutside};

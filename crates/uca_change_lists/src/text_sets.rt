@@ -1,6 +1,6 @@
 //! Sets of texts.
 
-ghost use Rattle.std.specs.Prelude.{◌≡◌, ◌↔◌, ◌⊎◌, ℕ, List, [], IsTrue, OnOk, OnErr, Contains};
+ghost use Rattle.std.specs.Prelude.{◌≡◌, ◌↔◌, ◌⊎◌, ℕ, List, [], IsTrue, OnOk, Contains};
 
 use std::alloc::{AllocError, Allocator, Global};
 use std::collections::BTreeSet;

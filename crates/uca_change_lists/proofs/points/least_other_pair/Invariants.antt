@@ -1,6 +1,5 @@
 use Rattle.std.proofs.Common.{take}
-use Rattle.uca_values.specs.Content.{properties_of}
-use Rattle.uca_change_lists.specs.Points.{IsSamePair, IsSamePoint}
+use Rattle.uca_change_lists.specs.Points.{IsSamePair}
 use Rattle.uca_change_lists.specs.Borders.{IfOutside, FindsLeast}
 use Rattle.uca_change_lists.proofs.points.least_other_pair.Given as goal
 

@@ -1,6 +1,6 @@
 use Rattle.std.proofs.Common.{take}
 use Rattle.uca_values.specs.Content.{properties_of}
-use Rattle.uca_change_lists.specs.Points.{IsSamePair, IsSamePoint}
+use Rattle.uca_change_lists.specs.Points.{IsSamePoint}
 use Rattle.uca_change_lists.specs.Borders.{IfOutside, FindsLeast}
 use Rattle.uca_change_lists.proofs.points.least_other_point.Given as goal
 

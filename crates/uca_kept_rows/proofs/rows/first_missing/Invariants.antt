@@ -1,8 +1,6 @@
 use Rattle.std.proofs.Common.{take, Contains}
 use Rattle.std.specs.List.{AllByRecursion}
-use Rattle.uca_tailorings.specs.Inputs.{maps_of}
-use Rattle.uca_tailorings.specs.KeptRows.{IsKeptRow, IsKnownRow}
-use Rattle.uca_kept_rows.specs.UnlistedRows.{IsCoveredIfUnlisted, IsPresentIfUnlisted}
+use Rattle.uca_kept_rows.specs.UnlistedRows.{IsPresentIfUnlisted}
 use Rattle.uca_kept_rows.proofs.rows.first_missing.Given as goal
 
 abbrev pub invariant-loop-at : goal.invariant-loop-at
