@@ -25,16 +25,16 @@ const CASES: &str = r"-- nothing changes
 . | +0061 0301 0300 ; [.1C48.0020.0002] | . | text 0061 0301 0300 | . | NewIllFormed new row 8
 . | +0061 0301 0300 ; [.1C48.0020.0002] | 0300..0314 => 0301..0314 | text 0061 0301 0300, range 0300..0300 | . | accepted
 -- ranges for implicit weights: 17000..18AFF has the lead FB00
-. | 18AFF => 18AFE | . | . | . | RangeChanged 18AFF
+. | 18AFF => 18AFE | . | . | . | RangeChanged code point 18AFF
 . | 18AFF => 18AFE | . | range 18AFF..18AFF | . | accepted
-18AFF => 18AFE | . | . | . | . | RangeChanged 18AFF
-. | FB00 => FB01 | . | . | . | RangeChanged 17000
-. | FB00 => FB01 | . | range 17000..18AFE | . | RangeChanged 18AFF
+18AFF => 18AFE | . | . | . | . | RangeChanged code point 18AFF
+. | FB00 => FB01 | . | . | . | RangeChanged code point 17000
+. | FB00 => FB01 | . | range 17000..18AFE | . | RangeChanged code point 18AFF
 . | FB00 => FB01 | . | range 17000..17FFF, range 18000..18AFF | . | accepted
-. | 17000.. => 17001.. | . | . | . | RangeChanged 17000
-. | 17000.. => 17001.. | . | range 17000..17000 | . | RangeChanged 17001
-. | FB00 => FB00\n@implicitweights 18D00..18D8F; FB00 | . | . | . | RangeChanged 18D00
-. | FB00 => FB00\n@implicitweights 16FF0..16FFF; FB00 | . | range 16FF0..16FFF | . | RangeChanged 17000
+. | 17000.. => 17001.. | . | . | . | RangeChanged code point 17000
+. | 17000.. => 17001.. | . | range 17000..17000 | . | RangeChanged code point 17001
+. | FB00 => FB00\n@implicitweights 18D00..18D8F; FB00 | . | . | . | RangeChanged code point 18D00
+. | FB00 => FB00\n@implicitweights 16FF0..16FFF; FB00 | . | range 16FF0..16FFF | . | RangeChanged code point 17000
 . | 17000..18AFF; FB00 => 17000..17FFF; FB00\n@implicitweights 18000..18AFF; FB00 | . | . | . | accepted
 . | FB00 => FB00\n@implicitweights D7FF..D7FF; FB01 | . | range D7FF..D7FF | . | accepted
 -- weights without an image, and rows that are missing or too many
@@ -47,19 +47,19 @@ const CASES: &str = r"-- nothing changes
 . | +0063 ; [.1C70.0020.0002] | . | text 0063 | . | accepted
 +0063 ; [.1C60.0020.0002] | . | . | . | . | RowMissing old row 8
 -- the data file
-. | . | 230 => 231 | . | . | PointChanged 0300
+. | . | 230 => 231 | . | . | PointChanged code point 0300
 . | . | 230 => 231 | range 0300..0314 | . | accepted
-. | . | 230 => 231 | range 0300..0313 | . | PointChanged 0314
-. | . | 230 => 231 | range 0301..0314 | . | PointChanged 0300
-. | . | 0323..0323 => 0323..0324 | . | . | PointChanged 0324
-. | . | 9FFF => 9FFE | . | . | PointChanged 9FFF
-. | . | 20FFF => 21000 | . | . | PointChanged 21000
-. | . | core => other | . | . | PointChanged 4E00
+. | . | 230 => 231 | range 0300..0313 | . | PointChanged code point 0314
+. | . | 230 => 231 | range 0301..0314 | . | PointChanged code point 0300
+. | . | 0323..0323 => 0323..0324 | . | . | PointChanged code point 0324
+. | . | 9FFF => 9FFE | . | . | PointChanged code point 9FFF
+. | . | 20FFF => 21000 | . | . | PointChanged code point 21000
+. | . | core => other | . | . | PointChanged code point 4E00
 . | . | @data 1 => @data 1\nccc D7FF..D7FF 9 | range D7FF..D7FF | . | accepted
-. | . | @data 1 => @data 1\nccc 0000..0000 9 | range 0001..10FFFF | . | PointChanged 0000
-. | . | @data 1 => @data 1\nccc 10FFFF..10FFFF 9 | range 0000..10FFFE | . | PointChanged 10FFFF
+. | . | @data 1 => @data 1\nccc 0000..0000 9 | range 0001..10FFFF | . | PointChanged code point 0000
+. | . | @data 1 => @data 1\nccc 10FFFF..10FFFF 9 | range 0000..10FFFE | . | PointChanged code point 10FFFF
 -- the first condition that is not met
-. | 18AFF => 18AFE | 230 => 231 | . | -1 1C60 | RangeChanged 18AFF
+. | 18AFF => 18AFE | 230 => 231 | . | -1 1C60 | RangeChanged code point 18AFF
 . | .1C60. => .1C61., +0063 ; [.1C70.0020.0002] | 230 => 231 | . | . | RowChanged old row 4
 . | -0061, +0063 ; [.1C70.0020.0002] | 230 => 231 | . | . | RowMissing old row 2
 . | +0063 ; [.1C70.0020.0002] | 230 => 231 | . | . | RowExtra new row 8";

@@ -1,10 +1,10 @@
 //! The files of a change: those of a first one that changes nothing, and others by what is different in them.
 
-use std::alloc::{AllocError, Global};
+use std::alloc::Global;
 use std::test::Fail;
 use test_kit::{bytes_of, code_point, data_of, joined, table_of};
 use uca_certificates::{Certificate, read_certificate};
-use uca_change_audit::{ChangeFault, ChangeInputs, ChangePlace, Changes, audit_change};
+use uca_change_audit::{ChangeFault, ChangeInputs, Changes, audit_change};
 use uca_values::{CodePointRange, Data, Table};
 use uca_weights::Source;
 
@@ -101,24 +101,12 @@ fn certificate_of(alloc: Global, field: &str) -> Result<Certificate, Fail> {
     Ok(read_certificate(alloc, &mut Source::new(bytes.as_slice()))?)
 }
 
-/// A position, as text.
-fn place_text(alloc: Global, place: ChangePlace) -> Result<String, AllocError> {
-    match place {
-        ChangePlace::OldRow(row) => format!(in alloc; "old row {row}"),
-        ChangePlace::NewRow(row) => format!(in alloc; "new row {row}"),
-        ChangePlace::CodePoint(point) => format!(in alloc; "{:04X}", u32::from(point)),
-    }
-}
-
 /// What an audit returns, as text. If an allocation failed, that is the error.
 fn verdict_text(alloc: Global, verdict: Result<(), ChangeFault>) -> Result<String, Fail> {
     match verdict {
         Ok(()) => Ok(String::from_str(alloc, "accepted")?),
-        Err(ChangeFault::NotMet(condition, place)) => {
-            let place = place_text(alloc, place)?;
-            Ok(format!(in alloc; "{condition:?} {place}")?)
-        }
         Err(ChangeFault::Memory) => Err(Fail::new("out of memory")),
+        Err(fault) => Ok(format!(in alloc; "{fault}")?),
     }
 }
 
