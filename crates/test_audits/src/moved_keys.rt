@@ -3,7 +3,7 @@
 use std::alloc::Global;
 use std::test::Fail;
 use test_kit::{holds, is_remark, same_bytes, thirds};
-use uca_audit::{Certificate, read_certificate};
+use uca_certificates::{Certificate, read_certificate};
 use uca_moved_keys::KeyMover;
 use uca_weights::{Depth, Source, Weighting};
 
