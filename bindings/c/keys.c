@@ -1,4 +1,4 @@
-/* keys TABLE DATA [non-ignorable|shifted] [identical]: prints the sort key of each line of standard input, as `uca keys` does. */
+/* keys TABLE DATA [non-ignorable|shifted [identical]]: prints the sort key of each line of standard input, as `uca keys` does. */
 #include "uca.h"
 
 #include <stdio.h>
@@ -64,15 +64,37 @@ static void print_key(const uint8_t *key, size_t length, uint32_t depth, int lev
     putchar('\n');
 }
 
+/* Prints the key of each line of standard input, up to the first one that has none, and returns the status. */
+static uint32_t print_keys(uca_collator *collator, uint32_t depth, int levels)
+{
+    char *line = NULL;
+    size_t line_room = 0, room = 1024, needed;
+    uint8_t *key = malloc(room);
+    uint32_t status = key ? UCA_OK : UCA_MEMORY;
+    for (ssize_t length; status == UCA_OK && (length = getline(&line, &line_room, stdin)) >= 0;) {
+        length -= length > 0 && line[length - 1] == '\n';
+        status = uca_key(collator, (const uint8_t *)line, (size_t)length, key, room, &needed);
+        if (status == UCA_SMALL) {
+            free(key);
+            key = malloc(room = needed);
+            status = key ? uca_key(collator, (const uint8_t *)line, (size_t)length, key, room, &needed) : UCA_MEMORY;
+        }
+        if (status == UCA_OK) {
+            print_key(key, needed, depth, levels);
+        }
+    }
+    free(key);
+    free(line);
+    return status;
+}
+
 int main(int count, char **words)
 {
-    uint32_t weighting = UCA_BY_TABLE, depth = UCA_WEIGHTS;
-    for (int i = 3; i < count; i++) {
-        weighting = !strcmp(words[i], "non-ignorable") ? UCA_NON_IGNORABLE : !strcmp(words[i], "shifted") ? UCA_SHIFTED : weighting;
-        depth = !strcmp(words[i], "identical") ? UCA_IDENTICAL : depth;
-    }
+    const char *asked = count > 3 ? words[3] : "";
+    uint32_t weighting = !strcmp(asked, "non-ignorable") ? UCA_NON_IGNORABLE : !strcmp(asked, "shifted") ? UCA_SHIFTED : UCA_BY_TABLE;
+    uint32_t depth = count > 4 && !strcmp(words[4], "identical") ? UCA_IDENTICAL : UCA_WEIGHTS;
     if (count < 3) {
-        fputs("usage: keys TABLE DATA [non-ignorable|shifted] [identical]\n", stderr);
+        fputs("usage: keys TABLE DATA [non-ignorable|shifted [identical]]\n", stderr);
         return 2;
     }
     bytes table = read_file(words[1]), data = read_file(words[2]);
@@ -85,23 +107,10 @@ int main(int count, char **words)
         fprintf(stderr, "uca_open: status %u, line %u, kind %u\n", status, error.line, error.kind);
         return 1;
     }
-    char *line = NULL;
-    size_t line_room = 0, room = 1024, needed;
-    uint8_t *key = malloc(room);
-    for (ssize_t length; status == UCA_OK && key && (length = getline(&line, &line_room, stdin)) >= 0;) {
-        length -= length > 0 && line[length - 1] == '\n';
-        status = uca_key(&collator, (const uint8_t *)line, (size_t)length, key, room, &needed);
-        if (status == UCA_SMALL && (key = realloc(key, room = needed))) {
-            status = uca_key(&collator, (const uint8_t *)line, (size_t)length, key, room, &needed);
-        }
-        if (status == UCA_OK) {
-            print_key(key, needed, depth, weighting == UCA_NON_IGNORABLE ? 3 : 4);
-        } else {
-            fprintf(stderr, "uca_key: status %u\n", status);
-        }
-    }
-    free(key);
-    free(line);
+    status = print_keys(&collator, depth, weighting == UCA_NON_IGNORABLE ? 3 : 4);
     uca_close(&collator);
+    if (status != UCA_OK) {
+        fprintf(stderr, "uca_key: status %u\n", status);
+    }
     return status != UCA_OK;
 }
