@@ -141,7 +141,7 @@ bytes_counted text utf8 = omega (
   length-canonical_order (flat_map (decompose Nfd) (chars text)),
 )
 
--- so bytes are passed over, of which only the number is counted
+-- so bytes are passed over, and only their number is counted
 pub bytes_passed : (text passed rest : List ℕ) (count more : ℕ) → text ≡ passed ++ rest → IsUtf8 passed → count + 2 * length passed ≤ more
     → HasPassed text rest count more
 bytes_passed text passed rest count more is utf8 sum = record {
@@ -189,7 +189,7 @@ module _ (c : Collation) where
           (pieces_have_no_long_run y starts.first starts.more starts.split starts.starter c.properties.class starts.class judged.before ys judged.runs
           (subst Runs is last))
 
-  -- more code points, of which each is counted
+  -- more code points, which are counted one by one
   judged_longer : (xs ps : List ℕ) (count more : ℕ) → IsJudged c xs count → count + length (flat_map (decompose Nfd) ps) ≤ more → more ≤ 64
       → IsJudged c (xs ++ ps) more
   judged_longer xs ps count more judged counted few = record {
@@ -233,7 +233,7 @@ module _ (c : Collation) where
       }
       by false starts sum = judged_longer xs (x ∷ []) count more judged (omega (arith, alone)) few
 
-  -- nothing of a text is judged yet
+  -- no part of a text is judged yet
   pub judge_begun : (text : List ℕ) → IsJudgedTo c (chars text) text 0
   judge_begun text = record { done = []; split = refl; judged = judged_none }
 
