@@ -1,5 +1,5 @@
 #!/usr/bin/env python3
-"""Builds the library for C, the module for Python and the extension of SQLite, and tries them. It installs nothing.
+"""Builds the library for C, the module for Python and the extensions of SQLite and PostgreSQL, and tries them. It installs nothing.
 
     tools/bindings.py [--uca PATH]        crates/uca/out/uca, unless another program is named
 
@@ -10,9 +10,10 @@ First prove and build the static library: `tools/build.py uca_c`. Then this scri
 - `keys` and the module over files of examples/, whose keys and orders have to be those of `uca keys` and `uca sort`;
 - the names that libuca.so.1 exports, which have to be those of uca.h, and the header as C++;
 - a program that is compiled by what pkg-config says of a temporary installation, and the programs of docs/BINDINGS.md;
-- the tests of the module for Python, and statements of SQLite with the extension.
+- the tests of the module for Python, and statements of SQLite with the extension;
+- statements of PostgreSQL with its extension. The server has a folder of its own, listens on a Unix socket there, and is stopped afterwards.
 
-Debian's packages are gcc, g++, make, pkgconf, valgrind, sqlite3 and libsqlite3-dev. What needs a command or a program that is not here is not run, and a line
+Debian's packages are gcc, g++, make, pkgconf, valgrind, sqlite3, libsqlite3-dev, postgresql and postgresql-server-dev-15. What needs a command or a program that is not here is not run, and a line
 says so. The last line is `N passed, M failed`, and how many were not run if there are any.
 """
 import argparse
@@ -22,6 +23,7 @@ import shutil
 import subprocess
 import sys
 import tempfile
+from contextlib import contextmanager
 
 TOP = os.path.dirname(os.path.dirname(os.path.realpath(__file__)))
 C, PYTHON, EXAMPLES = f"{TOP}/bindings/c", f"{TOP}/bindings/python", f"{TOP}/examples"
@@ -219,6 +221,88 @@ def sqlite_like(program):
     return check
 
 
+@contextmanager
+def postgresql_server(work):
+    """A server with the extension's functions, what runs statements in it, and its settings."""
+    need("make", "gcc", "pg_config", "psql")
+    config = os.environ.get("PG_CONFIG", "pg_config")
+    if not os.path.exists(f"{run([config, '--includedir-server']).decode().strip()}/postgres.h"):
+        raise NotHere("there is no postgres.h")
+    run(["make", "-s", "-C", f"{TOP}/bindings/postgresql", f"PG_CONFIG={config}"])
+    sys.path.insert(0, f"{EXAMPLES}/databases")
+    sys.dont_write_bytecode = True
+    from local_servers import PostgreSQL
+
+    room = tempfile.mkdtemp(dir=work)
+    for folder in (work, room):
+        os.chmod(folder, 0o755)
+    for file in (f"{TOP}/bindings/postgresql/uca.so", f"{EXAMPLES}/table.txt", f"{EXAMPLES}/tailored.txt", f"{EXAMPLES}/data.txt"):
+        shutil.copy(file, room)
+    settings = "".join(f"{name} = '{room}/{file}'\n" for name, file in (("shared_preload_libraries", "uca"), ("uca.table", "table.txt"), ("uca.data", "data.txt")))
+    settings += "uca.weighting = shifted\n"
+    with PostgreSQL(room, settings) as server:
+
+        def says(statements, fails=False):
+            """What the statements print, or their error."""
+            words = ["psql", "-XAtq", "-v", "ON_ERROR_STOP=1"]
+            ran = subprocess.run(words, input=statements, capture_output=True, text=True, env={**os.environ, **server.environment})
+            if bool(ran.returncode) != fails:
+                raise AssertionError(f"{statements:.200}: {ran.stdout}{ran.stderr}")
+            return ran.stderr.split("\n")[0] if fails else ran.stdout
+
+        # what CREATE EXTENSION does, without an installation
+        made = content(f"{TOP}/bindings/postgresql/uca--0.1.sql").decode().partition("\n")[2]
+        says(made.replace("MODULE_PATHNAME", f"{room}/uca").replace("@extschema@", "public"))
+        yield server, says, settings
+
+
+OTHER_FILES = "ERROR:  uca: the server has other files than those by which this database's keys were made"
+MADE = "CREATE TABLE words(word text); INSERT INTO words VALUES ('ch'), ('c-h'), ('a'), ('á'); CREATE INDEX by_key ON words(uca_key(word));"
+RUN_OF_65 = "'a' || repeat(U&'\\0301', 65)"
+
+
+def postgresql(work):
+    with postgresql_server(work) as (server, says, settings):
+        same(says("SELECT encode(uca_key('a'), 'hex'), uca_key(NULL) IS NULL, encode(uca_any_key('a'), 'hex');"),
+             "1c4700000020000000020000ffff|t|001c4700000020000000020000ffff\n", "keys")
+        same(says(f"SELECT uca_key({RUN_OF_65});", fails=True), "ERROR:  uca: the text is rejected: LongRun", "a text that is rejected")
+        same(says(f"SELECT substring(uca_any_key({RUN_OF_65}) for 4);"), "\\x0161cc81\n", "any key of a text that is rejected")
+        same(says(MADE + "SET enable_seqscan = off; EXPLAIN (costs off) SELECT word FROM words ORDER BY uca_key(word); SELECT word FROM words ORDER BY uca_key(word);"),
+             "Index Scan using by_key on words\na\ná\nc-h\nch\n", "an index")
+        parallel = "SET max_parallel_workers_per_gather = 4; SET parallel_setup_cost = 0; SET parallel_tuple_cost = 0; SET min_parallel_table_scan_size = 0;"
+        same(says(f"CREATE TABLE numbers AS SELECT i::text AS n FROM generate_series(1, 100000) i; {parallel} SELECT count(*) FROM numbers WHERE uca_key(n) > '\\x00';"),
+             "100000\n", "parallel workers")
+        says("SET uca.weighting = 'non-ignorable';", fails=True)
+        server.restart(settings.replace("/table.txt", "/tailored.txt"))
+        for statement in ("SELECT uca_key('a');", "INSERT INTO words VALUES ('b');", "SELECT word FROM words WHERE uca_key(word) > '\\x00';"):
+            same(says(statement, fails=True), OTHER_FILES, f"{statement} with another table")
+        same(says("SELECT uca_use_files(); REINDEX TABLE words; INSERT INTO words VALUES ('b'); SELECT word FROM words ORDER BY uca_key(word);"),
+             "\na\ná\nb\nc-h\nch\n", "files that are used from now on")
+        server.restart(settings.replace("/data.txt", "/none.txt"))
+        if "the file of uca.data cannot be read" not in says("SELECT uca_key('a');", fails=True):
+            raise AssertionError("a server without its data file")
+
+
+def postgresql_like(program):
+    """Lines ordered by the key and by an index on it are in the order of `uca sort`, and the keys are those of `uca keys`."""
+
+    def check(work):
+        if not os.path.exists(program):
+            raise NotHere(f"there is no {program}")
+        with postgresql_server(work) as (_, says, _):
+            for number, lines in enumerate(LINES):
+                files = ["--weighting", "shifted", f"{EXAMPLES}/table.txt", f"{EXAMPLES}/data.txt"]
+                text = content(f"{EXAMPLES}/{lines}")
+                values = ", ".join("('" + it.replace("'", "''") + "')" for it in text.decode().removesuffix("\n").split("\n"))
+                says(f"CREATE TABLE lines{number}(id serial, line text); INSERT INTO lines{number}(line) VALUES {values};")
+                wanted = run([program, "sort", *files], input=text).decode()
+                same(says(f"SELECT line FROM lines{number} ORDER BY uca_key(line), id;"), wanted, f"order of {lines}")
+                wanted = run([program, "keys", *files], input=text).decode().replace(" ", "")
+                same(says(f"SELECT upper(encode(uca_key(line), 'hex')) FROM lines{number} ORDER BY id;"), wanted, f"keys of {lines}")
+
+    return check
+
+
 def main():
     parser = argparse.ArgumentParser(description=__doc__, formatter_class=argparse.RawDescriptionHelpFormatter)
     parser.add_argument("--uca", default=f"{TOP}/crates/uca/out/uca")
@@ -226,7 +310,8 @@ def main():
     if not os.path.exists(ARCHIVE):
         sys.exit(f"there is no {ARCHIVE}: run `tools/build.py uca_c` first")
     checks = [("make", make), ("valgrind", valgrind), ("sanitizers", sanitizers), ("header in C++", header), ("exported names", exports),
-              ("installation", installed), ("stored run", stored_run), ("docs/BINDINGS.md", page), ("keys", keys_like(program)), ("Python", python), ("sort", sorted_like(program)), ("SQLite", sqlite), ("SQLite's orders", sqlite_like(program))]
+              ("installation", installed), ("stored run", stored_run), ("docs/BINDINGS.md", page), ("keys", keys_like(program)), ("Python", python), ("sort", sorted_like(program)), ("SQLite", sqlite),
+              ("SQLite's orders", sqlite_like(program)), ("PostgreSQL", postgresql), ("PostgreSQL's orders", postgresql_like(program))]
     passed = failed = skipped = 0
     with tempfile.TemporaryDirectory() as work:
         for name, check in checks:

@@ -21,10 +21,10 @@ def owner():
 
 
 class PostgreSQL:
-    """A server in a folder of its own, which listens on a Unix socket there and nowhere else."""
+    """A server in a folder of its own, which listens on a Unix socket there and nowhere else. Settings are lines of its file of settings."""
 
-    def __init__(self, room):
-        self.folder, self.owner = os.path.join(room, "postgresql"), owner()
+    def __init__(self, room, settings=""):
+        self.folder, self.owner, self.settings = os.path.join(room, "postgresql"), owner(), settings
         found = sorted(glob.glob("/usr/lib/postgresql/*/bin/initdb")) or [shutil.which("initdb")]
         if not found[-1]:
             raise OSError("there is no initdb: Debian has it in the package postgresql")
@@ -47,8 +47,17 @@ class PostgreSQL:
         if self.owner:
             shutil.chown(self.folder, self.owner)
         self.call("initdb", "--username=postgres", "--auth=trust", "--no-locale", "--encoding=UTF8", "--no-sync")
-        self.call("pg_ctl", "-w", "-o", f"-c listen_addresses='' -c unix_socket_directories='{self.folder}' -c fsync=off", "start")
+        self.start(self.settings)
         return self
+
+    def start(self, settings=""):
+        with open(f"{self.folder}/data/postgresql.auto.conf", "w", encoding="utf-8") as file:
+            file.write(settings)
+        self.call("pg_ctl", "-w", "-o", f"-c listen_addresses='' -c unix_socket_directories='{self.folder}' -c fsync=off", "start")
+
+    def restart(self, settings):
+        self.call("pg_ctl", "-w", "-m", "fast", "stop")
+        self.start(settings)
 
     def __exit__(self, *_):
         self.call("pg_ctl", "-w", "-m", "immediate", "stop")
