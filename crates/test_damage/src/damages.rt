@@ -1,6 +1,6 @@
-//! Files with one byte less, one doubled or one changed at each position, and files that are random after some beginning.
+//! Rules with one byte less, one doubled or one changed at each position, and rules that are random after some beginning.
 
-use crate::answers::{Reader, judge};
+use crate::answers::judge;
 use crate::counts::Counts;
 use crate::numbers::Numbers;
 use std::alloc::{AllocError, Global};
@@ -20,9 +20,7 @@ const RANDOM_BYTES: usize = 64;
 /// The files to be damaged, and how many random ones there are.
 #[derive(Clone, Copy)]
 pub struct Trial<'a> {
-    /// What reads them.
-    pub reader: Reader,
-    /// A file that it accepts.
+    /// A file that is accepted.
     pub file: &'a [u8],
     /// How many random files.
     pub random: usize,
@@ -106,7 +104,7 @@ fn judge_place(
 ) -> Result<(), Fail> {
     for damage in damages(numbers, own) {
         let file = damaged(alloc, trial.file, place, damage)?;
-        counts.count(judge(alloc, trial.reader, data, &file)?);
+        counts.count(judge(alloc, data, &file)?);
     }
     Ok(())
 }
@@ -136,14 +134,14 @@ fn judge_random(
 ) -> Result<(), Fail> {
     for _ in 0..trial.random {
         let file = random_file(alloc, trial.file, numbers)?;
-        counts.count(judge(alloc, trial.reader, data, &file)?);
+        counts.count(judge(alloc, data, &file)?);
     }
     Ok(())
 }
 
 /// Judges each damaged file and each random one. The file itself is accepted.
 pub fn judge_all(alloc: Global, trial: Trial, data: &Data) -> Result<(), Fail> {
-    let is_accepted = judge(alloc, trial.reader, data, trial.file)?;
+    let is_accepted = judge(alloc, data, trial.file)?;
     holds(is_accepted, "the file itself is refused")?;
     let mut numbers = Numbers::new(trial.seed);
     let mut counts = Counts::new();

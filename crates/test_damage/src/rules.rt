@@ -1,6 +1,6 @@
 //! Rules: an error is at a byte that may have it, with anything before the rules.
 
-use crate::answers::{Answer, Reader};
+use crate::answers::Answer;
 use crate::counts::Counts;
 use crate::damages::{Trial, judge_all};
 use std::alloc::{AllocError, Global};
@@ -178,7 +178,6 @@ e(301) <<< S(27)T
 fn damaged_rules(rt: HostRuntime) -> Result<(), Fail> {
     let data = data_of(rt.alloc(), &mut Source::new(DATA.as_bytes()))?;
     let trial = Trial {
-        reader: Reader::Rules,
         file: RULES.as_bytes(),
         random: 568,
         seed: 4,
