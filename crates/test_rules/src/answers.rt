@@ -111,14 +111,6 @@ pub fn said(alloc: Global, data: &Data, rules: &[u8]) -> Result<String, Fail> {
     }
 }
 
-/// How many relations rules mean, or why they are rejected.
-pub fn counted(alloc: Global, data: &Data, rules: &[u8]) -> Result<String, Fail> {
-    match read_rules(alloc, rules, data) {
-        Ok(read) => Ok(format!(in alloc; "{} relations", read.relations().len())?),
-        Err(fault) => refusal(alloc, rules, fault),
-    }
-}
-
 /// This is said of these rules.
 pub fn check_rules(alloc: Global, data: &Data, rules: &str, wanted: &str) -> Result<(), Fail> {
     same(&said(alloc, data, rules.as_bytes())?, wanted, rules)

@@ -1,15 +1,11 @@
-//! Tests of the reader of rules: which of several errors is named, values that come from outside, the limits, and the
-//! rules of `examples/`. Cases are lines of text.
+//! Tests of the reader of rules: what rules mean, values that come from outside, and the rules of `examples/`. Cases are lines
+//! of text. Rules that are rejected, and those at the limits, are read by the built program, in `tests/test_rules.py`.
 #![tactic(auto)]
 
 #[cfg(test)]
 mod answers;
 #[cfg(test)]
 mod examples;
-#[cfg(test)]
-mod faults;
-#[cfg(test)]
-mod limits;
 #[cfg(test)]
 mod readings;
 #[cfg(test)]
