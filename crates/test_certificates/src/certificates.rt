@@ -1,14 +1,23 @@
 //! Certificates that are read and written.
 
-use crate::files::CERTIFICATE;
 use std::alloc::Global;
 use std::io::Read;
 use std::test::Fail;
 use test_kit::{Calls, FakeWriter, Pace, bytes_of, halves, holds, is_remark, repeated, same};
-use uca_audit::{
+use uca_certificates::{
     Certificate, CertificateFault, CertificateFaultKind, read_certificate, write_certificate,
 };
 use uca_weights::{Sink, Source};
+
+/// The certificate of a tailoring that changes no weight.
+const CERTIFICATE: &str = "1 0209 0209 0001\n\
+    1 1C47 1C47 0001\n\
+    1 1C60 1C60 0001\n\
+    2 0020 0020 0001\n\
+    2 0024 0024 0002\n\
+    2 002C 002C 0001\n\
+    3 0002 0002 0001\n\
+    3 0008 0008 0001\n";
 
 /// The bytes of a certificate, and what is said of them: that they are accepted, or the error.
 const CASES: &str = r"-- the least one, and runs of which each lies above the one before
