@@ -194,7 +194,12 @@ def sqlite_says(work, *statements):
 def sqlite(work):
     for statement, wanted in SQLITE:
         same(sqlite_says(work, statement), wanted, statement)
-    for statement in ("SELECT uca_key(CAST(x'FF' AS TEXT));", "SELECT uca_load('none', 'none');"):
+    fingerprint = sqlite_says(work, "SELECT uca_fingerprint();").strip()
+    same(len(fingerprint), 32, "the digits of a fingerprint")
+    again = f"SELECT uca_load('{EXAMPLES}/table.txt', '{EXAMPLES}/data.txt', 'shifted', '', '{fingerprint}');"
+    same(sqlite_says(work, again), "\n", "the same files")
+    other = again.replace("table.txt", "tailored.txt"), again.replace("shifted", "non-ignorable")
+    for statement in ("SELECT uca_key(CAST(x'FF' AS TEXT));", "SELECT uca_load('none', 'none');", *other):
         try:
             sqlite_says(work, statement)
         except AssertionError:
