@@ -181,13 +181,15 @@ SQLITE = [
 ]
 
 
-def sqlite_says(work, *statements):
+LOAD = f"SELECT uca_load('{EXAMPLES}/table.txt', '{EXAMPLES}/data.txt', 'shifted');"
+
+
+def sqlite_says(work, *statements, load=LOAD):
     """What the statements print, after the extension has read the files of examples/."""
     need("sqlite3", "make", "gcc")
     if not os.path.exists("/usr/include/sqlite3ext.h"):
         raise NotHere("there is no sqlite3ext.h")
     run(["make", "-s", "-C", f"{TOP}/bindings/sqlite"])
-    load = f"SELECT uca_load('{EXAMPLES}/table.txt', '{EXAMPLES}/data.txt', 'shifted');"
     return run(["sqlite3", ":memory:", f".load {TOP}/bindings/sqlite/out/uca", load, *statements]).decode().removeprefix("\n")
 
 
@@ -196,15 +198,15 @@ def sqlite(work):
         same(sqlite_says(work, statement), wanted, statement)
     fingerprint = sqlite_says(work, "SELECT uca_fingerprint();").strip()
     same(len(fingerprint), 32, "the digits of a fingerprint")
-    again = f"SELECT uca_load('{EXAMPLES}/table.txt', '{EXAMPLES}/data.txt', 'shifted', '', '{fingerprint}');"
-    same(sqlite_says(work, again), "\n", "the same files")
-    other = again.replace("table.txt", "tailored.txt"), again.replace("shifted", "non-ignorable")
-    for statement in ("SELECT uca_key(CAST(x'FF' AS TEXT));", "SELECT uca_load('none', 'none');", *other):
+    again = LOAD.replace(");", f", '', '{fingerprint}');")
+    same(sqlite_says(work, "SELECT hex(uca_key('a'));", load=again), "1C4700000020000000020000FFFF\n", "the same files")
+    loads = [again.replace("table.txt", "tailored.txt"), again.replace("shifted", "non-ignorable"), LOAD.replace("table.txt", "none")]
+    for load, statement in [(LOAD, "SELECT uca_key(CAST(x'FF' AS TEXT));"), *((load, "") for load in loads)]:
         try:
-            sqlite_says(work, statement)
+            sqlite_says(work, statement, load=load)
         except AssertionError:
             continue
-        raise AssertionError(f"{statement} has no error")
+        raise AssertionError(f"{load} {statement} has no error")
 
 
 def sqlite_like(program):
