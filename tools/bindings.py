@@ -229,8 +229,8 @@ def sqlite_like(program):
 
 
 @contextmanager
-def postgresql_server(work):
-    """A server with the extension's functions, what runs statements in it, and its settings."""
+def postgresql_server(work, table=f"{EXAMPLES}/table.txt", data=f"{EXAMPLES}/data.txt"):
+    """A server with the extension's functions over these files, what runs statements in it, and its settings."""
     need("make", "gcc", "pg_config", "psql")
     config = os.environ.get("PG_CONFIG", "pg_config")
     if not os.path.exists(f"{run([config, '--includedir-server']).decode().strip()}/postgres.h"):
@@ -243,8 +243,8 @@ def postgresql_server(work):
     room = tempfile.mkdtemp(dir=work)
     for folder in (work, room):
         os.chmod(folder, 0o755)
-    for file in (f"{TOP}/bindings/postgresql/uca.so", f"{EXAMPLES}/table.txt", f"{EXAMPLES}/tailored.txt", f"{EXAMPLES}/data.txt"):
-        shutil.copy(file, room)
+    for file, name in ((f"{TOP}/bindings/postgresql/uca.so", "uca.so"), (table, "table.txt"), (f"{EXAMPLES}/tailored.txt", "tailored.txt"), (data, "data.txt")):
+        shutil.copy(file, f"{room}/{name}")
     settings = "".join(f"{name} = '{room}/{file}'\n" for name, file in (("shared_preload_libraries", "uca"), ("uca.table", "table.txt"), ("uca.data", "data.txt")))
     settings += "uca.weighting = shifted\n"
     with PostgreSQL(room, settings) as server:

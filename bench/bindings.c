@@ -1,0 +1,151 @@
+/* Processor time of a call of the library for C, beside ICU4C, over the lines of a file.
+
+     bindings TABLE DATA LINES
+
+   Each round goes over all lines, or all pairs of neighbours. It prints a line for each kind: its name, and the nanoseconds of a call of
+   uca and of ICU, each in its fastest round of five. Variable elements are non-ignorable, and there are three levels. */
+#include "uca.h"
+
+#include <stdio.h>
+#include <stdlib.h>
+#include <string.h>
+#include <time.h>
+#include <unicode/ucol.h>
+#include <unicode/ustring.h>
+
+enum { ROUNDS = 5, ROOM = 1 << 20 };
+
+typedef struct text {
+    const char *bytes;
+    size_t length;
+} text;
+
+typedef struct bench {
+    uca_collator uca;
+    UCollator *icu;
+    text *lines;
+    size_t count;
+    uint8_t *key;
+    UChar *wide;
+    volatile long sum;
+} bench;
+
+typedef void (*call)(bench *it, const text *left, const text *right);
+
+static double now(void)
+{
+    struct timespec time;
+    clock_gettime(CLOCK_PROCESS_CPUTIME_ID, &time);
+    return time.tv_sec * 1e9 + time.tv_nsec;
+}
+
+static char *read_file(const char *path, size_t *length)
+{
+    FILE *file = fopen(path, "rb");
+    if (!file || fseek(file, 0, SEEK_END)) {
+        perror(path);
+        exit(1);
+    }
+    *length = (size_t)ftell(file);
+    rewind(file);
+    char *bytes = malloc(*length + 1);
+    if (!bytes || fread(bytes, 1, *length, file) != *length) {
+        perror(path);
+        exit(1);
+    }
+    fclose(file);
+    return bytes;
+}
+
+static void read_lines(bench *it, const char *path)
+{
+    size_t length;
+    char *bytes = read_file(path, &length), *end = bytes + length;
+    it->lines = malloc((length + 1) * sizeof *it->lines);
+    for (char *at = bytes, *next; at < end && (next = memchr(at, '\n', (size_t)(end - at))); at = next + 1) {
+        it->lines[it->count++] = (text){at, (size_t)(next - at)};
+    }
+}
+
+static void open_both(bench *it, const char *table_path, const char *data_path)
+{
+    size_t table_length, data_length;
+    char *table = read_file(table_path, &table_length), *data = read_file(data_path, &data_length);
+    uca_error error;
+    UErrorCode status = U_ZERO_ERROR;
+    if (uca_open(&it->uca, (uint8_t *)table, table_length, (uint8_t *)data, data_length, UCA_NON_IGNORABLE, UCA_WEIGHTS, &error) != UCA_OK) {
+        exit(1);
+    }
+    it->icu = ucol_open("root", &status);
+    ucol_setAttribute(it->icu, UCOL_ALTERNATE_HANDLING, UCOL_NON_IGNORABLE, &status);
+    ucol_setAttribute(it->icu, UCOL_NORMALIZATION_MODE, UCOL_ON, &status);
+    if (U_FAILURE(status)) {
+        exit(1);
+    }
+    free(table);
+    free(data);
+}
+
+static void uca_keys(bench *it, const text *left, const text *right)
+{
+    size_t needed;
+    (void)right;
+    uca_key(&it->uca, (const uint8_t *)left->bytes, left->length, it->key, ROOM, &needed);
+    it->sum += (long)needed;
+}
+
+static void icu_keys(bench *it, const text *left, const text *right)
+{
+    UErrorCode status = U_ZERO_ERROR;
+    int32_t length;
+    (void)right;
+    u_strFromUTF8(it->wide, ROOM, &length, left->bytes, (int32_t)left->length, &status);
+    it->sum += ucol_getSortKey(it->icu, it->wide, length, it->key, ROOM);
+}
+
+static void uca_comparison_of(bench *it, const text *left, const text *right)
+{
+    uca_comparison found;
+    uca_compare(&it->uca, (const uint8_t *)left->bytes, left->length, (const uint8_t *)right->bytes, right->length, &found);
+    it->sum += found.order;
+}
+
+static void icu_comparison_of(bench *it, const text *left, const text *right)
+{
+    UErrorCode status = U_ZERO_ERROR;
+    it->sum += ucol_strcollUTF8(it->icu, left->bytes, (int32_t)left->length, right->bytes, (int32_t)right->length, &status);
+}
+
+/* The nanoseconds of a call, where the right text is so many lines after the left one. */
+static double time_of(bench *it, call make, size_t apart)
+{
+    double best = 0;
+    for (int round = 0; round < ROUNDS; round++) {
+        double begun = now();
+        for (size_t i = 0; i + apart < it->count; i++) {
+            make(it, &it->lines[i], &it->lines[i + apart]);
+        }
+        double spent = (now() - begun) / (double)(it->count - apart);
+        best = round == 0 || spent < best ? spent : best;
+    }
+    return best;
+}
+
+static void report(bench *it, const char *name, call uca, call icu, size_t apart)
+{
+    printf("%s %.0f %.0f\n", name, time_of(it, uca, apart), time_of(it, icu, apart));
+}
+
+int main(int count, char **arguments)
+{
+    bench it = {.uca = UCA_CLOSED_COLLATOR, .key = malloc(ROOM), .wide = malloc(ROOM * sizeof(UChar))};
+    if (count != 4 || !it.key || !it.wide) {
+        return 2;
+    }
+    open_both(&it, arguments[1], arguments[2]);
+    read_lines(&it, arguments[3]);
+    report(&it, "keys", uca_keys, icu_keys, 0);
+    report(&it, "neighbours", uca_comparison_of, icu_comparison_of, 1);
+    report(&it, "equal", uca_comparison_of, icu_comparison_of, 0);
+    return 0;
+}
