@@ -4,8 +4,8 @@
     tools/build.py uca_c && make -C bindings/c
     bench/bindings.py TABLE DATA LINES ..            a table, a data file, and files of lines
 
-For each file it prints the nanoseconds of a key and of comparisons (bindings.c; the lines are sorted first), and then the
-seconds of `ORDER BY` without an index and of making an index, by `uca_key` and by COLLATE "und-x-icu". It installs nothing. It needs
+For each file it prints the nanoseconds of a key and of comparisons (bindings.c). The lines are sorted first. Then it prints the
+seconds of `ORDER BY` without an index, and of making an index, by `uca_key` and by COLLATE "und-x-icu". It installs nothing. It needs
 Debian's packages gcc, libicu-dev, pkgconf, and for PostgreSQL those of tools/bindings.py; without them that part is left out.
 Compare only figures of one run.
 """
