@@ -1,0 +1,79 @@
+//! Lists that are made by calls, and writers that fail.
+
+use std::alloc::Global;
+use std::io::ErrorKind;
+use std::test::Fail;
+use test_kit::{Calls, Failure, FakeWriter, Pace, holds, same_bytes};
+use uca_change_files::{ChangeList, ChangedText, CodePointRange, FaultKind, write_changes};
+use uca_weights::Sink;
+
+/// The text of the list that is made.
+const TEXT: &[u8] = b"@changes 1\ntext 0061 10FFFF\nrange 0041..1F600\n";
+
+fn push_text(alloc: Global, list: &mut ChangeList, text: &str) -> Result<(), FaultKind> {
+    let mut points = Vec::new(alloc);
+    for point in text.chars() {
+        points.push(point)?;
+    }
+    list.push_text(ChangedText { points })
+}
+
+fn push_range(list: &mut ChangeList, first: char, last: char) -> Result<(), FaultKind> {
+    list.push_range(CodePointRange { first, last })
+}
+
+/// A list of a text and a range. Nothing else is added.
+fn made(alloc: Global) -> Result<ChangeList, Fail> {
+    let mut list = ChangeList::new(alloc);
+    let found = [
+        push_text(alloc, &mut list, ""),
+        push_text(alloc, &mut list, "a\u{10FFFF}"),
+        push_text(alloc, &mut list, "a"),
+        push_range(&mut list, 'B', 'A'),
+        push_range(&mut list, 'A', '\u{1F600}'),
+        push_range(&mut list, '\u{1F600}', '\u{1F601}'),
+        push_text(alloc, &mut list, "b"),
+    ];
+    let wanted = [
+        Err(FaultKind::Line),
+        Ok(()),
+        Err(FaultKind::Order),
+        Err(FaultKind::Line),
+        Ok(()),
+        Err(FaultKind::Order),
+        Err(FaultKind::Order),
+    ];
+    holds(found == wanted, "what is added")?;
+    Ok(list)
+}
+
+#[test]
+fn lists_that_are_made(rt: HostRuntime) -> Result<(), Fail> {
+    let list = made(rt.alloc())?;
+    let mut out = Sink::new(Vec::new(rt.alloc()));
+    write_changes(&list, &mut out)?;
+    same_bytes(&out.into_inner(), TEXT, "the text of a list")
+}
+
+/// After this many bytes the writer fails.
+fn check_cut(alloc: Global, list: &ChangeList, good: usize) -> Result<(), Fail> {
+    let calls = Calls::new();
+    let pace = Pace::failing(4, good, Failure::Error(ErrorKind::Other));
+    let mut out = Sink::new(FakeWriter::new(alloc, pace, &calls));
+    let is_told = match write_changes(list, &mut out) {
+        Ok(()) => false,
+        Err(fault) => fault.written == good as u64,
+    };
+    holds(is_told && out.failed(), "no failure")?;
+    let text = out.into_inner().text;
+    holds(Some(text.as_slice()) == TEXT.get(..good), "other bytes")
+}
+
+#[test]
+fn writers_that_fail(rt: HostRuntime) -> Result<(), Fail> {
+    let list = made(rt.alloc())?;
+    for good in [0, 1, 11, 27, 45] {
+        check_cut(rt.alloc(), &list, good)?;
+    }
+    Ok(())
+}

@@ -1,0 +1,4 @@
+pub mod Changes
+pub mod ChangeTexts
+pub mod Steps
+pub mod Laws

@@ -1,0 +1,166 @@
+//! What changes: texts and ranges of code points, in their order.
+
+ghost use Rattle.std.specs.Prelude.{◌≡◌, ◌↔◌, ◌⊎◌, [], IsTrue, OnOk, OnErr, IfErr};
+ghost use Rattle.uca_values.specs.declared.faults.FaultKind.{FaultKind};
+ghost use Rattle.uca_change_files.specs.Changes.{OfText, OfRange, IsBelow, IsBefore, IsChangeList, MayCome};
+ghost use Rattle.uca_change_files.specs.Steps.{Adds, Refuses};
+
+use std::alloc::{Allocator, Global};
+use std::cmp::Ordering;
+use std::marker::Model;
+use uca_values::{CodePointRange, FaultKind};
+
+/// How many code points a text has at most.
+const MOST_POINTS: usize = 16;
+
+/// How many texts and ranges there are at most: with the header a million lines.
+const MOST_ITEMS: usize = 999_999;
+
+/// A text that changes.
+#[derive(Drop)]
+pub struct ChangedText<A: Allocator = Global> {
+    /// Its code points, 1 to 16 in a list of changes.
+    pub points: Vec<char, A>,
+}
+
+impl<A: Allocator> Model for ChangedText<A> {
+    ghost use Rattle.std.specs.Prelude.{ℕ, List};
+
+    ghost Value = { List ℕ };
+
+    ghost view = { λ t. t.points.items };
+}
+
+/// The texts and the ranges of code points that change from one table and data file to others. Each text has 1 to 16
+/// code points, and is above the one before it by its code points. Each range begins after the end of the one before it.
+#[derive(Drop)]
+pub struct ChangeList<A: Allocator = Global> {
+    texts: Vec<ChangedText<A>, A>,
+    ranges: Vec<CodePointRange, A>,
+}
+
+impl<A: Allocator> Model for ChangeList<A> {
+    ghost use Rattle.uca_change_files.specs.Changes.{ChangeContent, IsChangeList};
+
+    ghost Value = { ChangeContent };
+
+    ghost view = { λ l. record { texts = l.texts.items; ranges = l.ranges.items } };
+
+    ghost invariant = { λ l. IsChangeList (record { texts = l.texts.items; ranges = l.ranges.items }) };
+}
+
+impl<A: Allocator + Copy> ChangeList<A> {
+    /// Nothing changes. It takes no memory.
+    pub fn new(alloc: A) -> ChangeList<A>
+        ensures { result ≡ record { texts = []; ranges = [] } }
+    {
+        ChangeList {
+            texts: Vec::new(alloc),
+            ranges: Vec::new(alloc),
+        }
+    }
+}
+
+impl<A: Allocator> ChangeList<A> {
+    /// Adds a text after all others.
+    ///
+    /// # Errors
+    ///
+    /// Nothing changes at an error. The first of these is returned:
+    ///
+    /// - `Line`: it has no code point, or more than 16.
+    /// - `Order`: there is a range, or the text is not above the one before it.
+    /// - `Limit`: there are 999,999 texts.
+    /// - `Memory`: an allocation failed.
+    pub fn push_text(&mut self, text: ChangedText<A>) -> Result<(), FaultKind>
+        ensures ok { OnOk result (Adds self.old (OfText text) self.new) }
+        ensures same { OnErr result (self.new ≡ self.old) }
+        ensures fault { IfErr result (λ kind. (kind ≡ FaultKind.Memory) ⊎ Refuses (λ item. OfText text ≡ item) self.old kind) }
+    {
+        if text.points.is_empty() || text.points.len() > MOST_POINTS {
+            return Err(FaultKind::Line);
+        }
+        if !self.ranges.is_empty() || !is_above(&self.texts, &text.points) {
+            return Err(FaultKind::Order);
+        }
+        if self.texts.len() >= MOST_ITEMS {
+            return Err(FaultKind::Limit);
+        }
+        self.texts.push(text)?;
+        Ok(())
+    }
+
+    /// Adds a range after all others.
+    ///
+    /// # Errors
+    ///
+    /// Nothing changes at an error. The first of these is returned:
+    ///
+    /// - `Line`: its last code point is less than its first.
+    /// - `Order`: it does not begin after the end of the range before it.
+    /// - `Limit`: there are 999,999 texts and ranges.
+    /// - `Memory`: an allocation failed.
+    pub fn push_range(&mut self, range: CodePointRange) -> Result<(), FaultKind>
+        ensures ok { OnOk result (Adds self.old (OfRange range) self.new) }
+        ensures same { OnErr result (self.new ≡ self.old) }
+        ensures fault { IfErr result (λ kind. (kind ≡ FaultKind.Memory) ⊎ Refuses (λ item. OfRange range ≡ item) self.old kind) }
+    {
+        if range.last < range.first {
+            return Err(FaultKind::Line);
+        }
+        if !is_after(&self.ranges, range) {
+            return Err(FaultKind::Order);
+        }
+        if self.texts.len() + self.ranges.len() >= MOST_ITEMS {
+            return Err(FaultKind::Limit);
+        }
+        self.ranges.push(range)?;
+        Ok(())
+    }
+
+    /// The texts, in rising order.
+    pub fn texts(&self) -> &[ChangedText<A>]
+        ensures value { result.now ≡ self.now.texts }
+        ensures list { IsChangeList self.now }
+    {
+        &self.texts
+    }
+
+    /// The ranges, in rising order.
+    pub fn ranges(&self) -> &[CodePointRange]
+        ensures value { result.now ≡ self.now.ranges }
+        ensures list { IsChangeList self.now }
+    {
+        &self.ranges
+    }
+}
+
+// Whether the text is above the last one, if there is one.
+fn is_above<A: Allocator>(texts: &[ChangedText<A>], text: &[char]) -> bool
+    ensures { IsTrue result ↔ MayCome IsBelow texts.now text.now }
+{
+    match texts.last() {
+        None => true,
+        Some(last) => is_below(&last.points, text),
+    }
+}
+
+// Whether a text comes before another by their code points.
+fn is_below(text: &[char], other: &[char]) -> bool
+    ensures { IsTrue result ↔ IsBelow text.now other.now }
+{
+    match text.cmp(other) {
+        Ordering::Less => true,
+        Ordering::Equal | Ordering::Greater => false,
+    }
+}
+
+// Whether the range begins after the end of the last one, if there is one.
+fn is_after(ranges: &[CodePointRange], range: CodePointRange) -> bool
+    ensures { IsTrue result ↔ MayCome IsBefore ranges.now range }
+{
+    match ranges.last() {
+        None => true,
+        Some(last) => last.last < range.first,
+    }
+}

@@ -1,0 +1,152 @@
+//! Writing of files of changes.
+
+ghost use Rattle.std.specs.Prelude.{◌≡◌, ◌||◌, ◌<◌, IfErr, OnOk, length, is_err};
+ghost use Rattle.std.specs.Char.{IsScalar};
+ghost use Rattle.std.specs.List.{flat_map, AllByRecursion};
+ghost use Rattle.uca_weights.specs.Writes.{Writes};
+ghost use Rattle.uca_lines.specs.Buffered.{count_of, HasRoom, WritesThrough};
+ghost use Rattle.uca_lines.specs.Lines.{ended};
+ghost use Rattle.uca_table.specs.Canonical.{point_text};
+ghost use Rattle.uca_change_files.specs.ChangeTexts.{AreScalars, Means, changes_text, spaced, text_line, range_line};
+ghost use Rattle.uca_change_files.specs.Steps.{text_lines, range_lines};
+
+use crate::points::spare_digits;
+use crate::{ChangeList, ChangedText};
+use std::alloc::Allocator;
+use std::io::Write;
+use uca_lines::OutputBuffer;
+use uca_lines::fields::six_digits;
+use uca_values::CodePointRange;
+use uca_weights::{Sink, WriteFault};
+
+/// Writes the text of a list of changes: `@changes 1`, a line `text CP CP ..` for each text, and then a line
+/// `range FIRST..LAST` for each range, each ended by LF. This text means the list, and no other one.
+///
+/// # Errors
+///
+/// The writer failed: `written` says how many bytes went out, counted from the beginning of the text.
+pub fn write_changes<W: Write, A: Allocator>(
+    list: &ChangeList<A>,
+    out: &mut Sink<W>,
+) -> Result<(), WriteFault>
+    ensures text { Writes out.old.contents out.new.contents (changes_text list.now) result }
+    ensures means { OnOk result (Means (changes_text list.now) list.now) }
+    ensures not_all { IfErr result (λ fault. fault.written < length (changes_text list.now)) }
+    ensures failed { out.new.failed ≡ (out.old.failed || is_err result) }
+{
+    let mut buffer = OutputBuffer::new();
+    write_list(&mut buffer, out, list)?;
+    buffer.flush(out)
+}
+
+fn write_list<W: Write, A: Allocator>(
+    buffer: &mut OutputBuffer,
+    out: &mut Sink<W>,
+    list: &ChangeList<A>,
+) -> Result<(), WriteFault>
+    requires { count_of buffer.old ≡ 0 }
+    ensures text { WritesThrough (changes_text list.now) buffer.old buffer.new out.old out.new result }
+    ensures means { OnOk result (Means (changes_text list.now) list.now) }
+{
+    buffer.write(out, b"@changes 1\n")?;
+    write_texts(buffer, out, list.texts())?;
+    write_ranges(buffer, out, list.ranges())
+}
+
+fn write_texts<W: Write, A: Allocator>(
+    buffer: &mut OutputBuffer,
+    out: &mut Sink<W>,
+    texts: &[ChangedText<A>],
+) -> Result<(), WriteFault>
+    requires { HasRoom buffer.old (length (text_lines texts.now)) }
+    ensures text { WritesThrough (text_lines texts.now) buffer.old buffer.new out.old out.new result }
+    ensures scalars { OnOk result (AreScalars texts.now) }
+{
+    for text in texts {
+        write_text(buffer, out, text)?;
+    }
+    Ok(())
+}
+
+fn write_text<W: Write, A: Allocator>(
+    buffer: &mut OutputBuffer,
+    out: &mut Sink<W>,
+    text: &ChangedText<A>,
+) -> Result<(), WriteFault>
+    requires { HasRoom buffer.old (length (ended (text_line text.now))) }
+    ensures text { WritesThrough (ended (text_line text.now)) buffer.old buffer.new out.old out.new result }
+    ensures scalars { OnOk result (AllByRecursion IsScalar text.now) }
+{
+    buffer.write(out, b"text")?;
+    write_points(buffer, out, &text.points)?;
+    buffer.write(out, b"\n")
+}
+
+fn write_points<W: Write>(
+    buffer: &mut OutputBuffer,
+    out: &mut Sink<W>,
+    points: &[char],
+) -> Result<(), WriteFault>
+    requires { HasRoom buffer.old (length (flat_map spaced points.now)) }
+    ensures text { WritesThrough (flat_map spaced points.now) buffer.old buffer.new out.old out.new result }
+    ensures scalars { OnOk result (AllByRecursion IsScalar points.now) }
+{
+    for point in points {
+        write_spaced(buffer, out, *point)?;
+    }
+    Ok(())
+}
+
+// A code point after a space.
+fn write_spaced<W: Write>(
+    buffer: &mut OutputBuffer,
+    out: &mut Sink<W>,
+    point: char,
+) -> Result<(), WriteFault>
+    requires { HasRoom buffer.old (length (spaced point)) }
+    ensures { WritesThrough (spaced point) buffer.old buffer.new out.old out.new result }
+{
+    buffer.write(out, b" ")?;
+    write_point(buffer, out, point)
+}
+
+fn write_point<W: Write>(
+    buffer: &mut OutputBuffer,
+    out: &mut Sink<W>,
+    point: char,
+) -> Result<(), WriteFault>
+    requires { HasRoom buffer.old (length (point_text point)) }
+    ensures { WritesThrough (point_text point) buffer.old buffer.new out.old out.new result }
+{
+    let digits = six_digits(u32::from(point));
+    buffer.write(out, &digits[spare_digits(point)..])
+}
+
+fn write_ranges<W: Write>(
+    buffer: &mut OutputBuffer,
+    out: &mut Sink<W>,
+    ranges: &[CodePointRange],
+) -> Result<(), WriteFault>
+    requires { HasRoom buffer.old (length (range_lines ranges.now)) }
+    ensures { WritesThrough (range_lines ranges.now) buffer.old buffer.new out.old out.new result }
+{
+    for range in ranges {
+        write_range(buffer, out, *range)?;
+    }
+    Ok(())
+}
+
+fn write_range<W: Write>(
+    buffer: &mut OutputBuffer,
+    out: &mut Sink<W>,
+    range: CodePointRange,
+) -> Result<(), WriteFault>
+    requires { HasRoom buffer.old (length (ended (range_line range))) }
+    ensures { WritesThrough (ended (range_line range)) buffer.old buffer.new out.old out.new result }
+{
+    buffer.write(out, b"range ")?;
+    write_point(buffer, out, range.first)?;
+    buffer.write(out, b"..")?;
+    write_point(buffer, out, range.last)?;
+    buffer.write(out, b"\n")
+}
