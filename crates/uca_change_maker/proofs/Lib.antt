@@ -1,0 +1,3 @@
+pub mod LeastRuns
+pub mod ListedTexts
+pub mod SameLists

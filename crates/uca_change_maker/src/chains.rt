@@ -1,0 +1,166 @@
+//! Chains: moves of which each has a greater weight than the one before it, on both sides. The heaviest chain is that of most
+//! rows.
+
+use crate::moves::Move;
+use std::alloc::{AllocError, Allocator};
+
+/// How many weights of 16 bits there are.
+const WEIGHT_COUNT: usize = 0x1_0000;
+
+/// How many nodes there are from the leaf of a weight up to the root.
+const TREE_DEPTH: usize = 17;
+
+/// A move with how many rows have it, and the move before it in the heaviest chain that ends with it.
+#[derive(Clone, Copy, Debug, PartialEq, Eq)]
+pub(crate) struct Step {
+    /// The move.
+    pub(crate) is: Move,
+    /// How often it occurs.
+    votes: u64,
+    /// The number of the step before it, counted from 1; 0 if there is none.
+    before: usize,
+}
+
+/// A chain, by its last step.
+#[derive(Clone, Copy, Debug, PartialEq, Eq)]
+struct Chain {
+    /// How often its moves occur, all together.
+    votes: u64,
+    /// The number of its last step, counted from 1; 0 if it has none.
+    end: usize,
+}
+
+/// The chain without steps.
+const EMPTY: Chain = Chain { votes: 0, end: 0 };
+
+/// The heaviest chain of some moves, in rising order.
+pub(crate) fn heaviest_chain<A: Allocator + Copy>(
+    alloc: A,
+    moves: &mut [Move],
+) -> Result<Vec<Step, A>, AllocError> {
+    // Of one old weight no two moves can follow one another, since the greatest new weight comes first.
+    moves.sort_unstable_by(|left, right| left.old.cmp(&right.old).then(right.new.cmp(&left.new)));
+    let mut steps = counted(alloc, moves)?;
+    let heaviest = link_steps(alloc, &mut steps)?;
+    chain_to(alloc, &steps, heaviest)
+}
+
+// The moves, each once with its count. Equal ones follow one another.
+fn counted<A: Allocator>(alloc: A, moves: &[Move]) -> Result<Vec<Step, A>, AllocError> {
+    let mut steps = Vec::new(alloc);
+    let mut current: Option<Step> = None;
+    for is in moves {
+        current = match current {
+            Some(step) if step.is == *is => Some(Step {
+                votes: step.votes.saturating_add(1),
+                ..step
+            }),
+            Some(step) => {
+                steps.push(step)?;
+                Some(first_vote(*is))
+            }
+            None => Some(first_vote(*is)),
+        };
+    }
+    if let Some(step) = current {
+        steps.push(step)?;
+    }
+    Ok(steps)
+}
+
+// A move that occurred once.
+fn first_vote(is: Move) -> Step {
+    Step {
+        is,
+        votes: 1,
+        before: 0,
+    }
+}
+
+// Finds the step before each step, and returns the heaviest chain. A tree has for each range of new weights the heaviest chain
+// that ends in it: its leaves are the weights, and the two halves of node n are nodes 2n and 2n + 1.
+fn link_steps<A: Allocator>(alloc: A, steps: &mut [Step]) -> Result<Chain, AllocError> {
+    let mut tree = vec![in alloc; EMPTY; 2 * WEIGHT_COUNT]?;
+    let mut number: usize = 0;
+    let mut heaviest = EMPTY;
+    for step in steps.iter_mut() {
+        number = number.saturating_add(1);
+        let below = heaviest_below(&tree, step.is.new);
+        step.before = below.end;
+        let chain = Chain {
+            votes: below.votes.saturating_add(step.votes),
+            end: number,
+        };
+        put_chain(&mut tree, step.is.new, chain);
+        heaviest = heavier(heaviest, chain);
+    }
+    Ok(heaviest)
+}
+
+// The heaviest chain that ends with a lower new weight than this one.
+fn heaviest_below(tree: &[Chain], weight: u16) -> Chain {
+    let mut heaviest = EMPTY;
+    let mut node = WEIGHT_COUNT + usize::from(weight);
+    for _ in 1..TREE_DEPTH {
+        if node % 2 == 1 {
+            heaviest = heavier(heaviest, chain_at(tree, node - 1));
+        }
+        node /= 2;
+    }
+    heaviest
+}
+
+// The chain at a node.
+fn chain_at(tree: &[Chain], node: usize) -> Chain {
+    match tree.get(node) {
+        Some(chain) => *chain,
+        None => EMPTY,
+    }
+}
+
+// Puts a chain that ends with a new weight in at all nodes that have this weight, where it is the heaviest.
+fn put_chain(tree: &mut [Chain], weight: u16, chain: Chain) {
+    let mut node = WEIGHT_COUNT + usize::from(weight);
+    for _ in 0..TREE_DEPTH {
+        if node < tree.len() {
+            tree[node] = heavier(tree[node], chain);
+        }
+        node /= 2;
+    }
+}
+
+// The heavier one of two chains; the first if they are equal.
+fn heavier(first: Chain, second: Chain) -> Chain {
+    if first.votes < second.votes {
+        second
+    } else {
+        first
+    }
+}
+
+// The steps of a chain, in rising order.
+fn chain_to<A: Allocator>(
+    alloc: A,
+    steps: &[Step],
+    chain: Chain,
+) -> Result<Vec<Step, A>, AllocError> {
+    let mut found = Vec::new(alloc);
+    let mut number = chain.end;
+    for _ in 0..steps.len() {
+        let Some(step) = numbered(steps, number) else {
+            break;
+        };
+        found.push(step)?;
+        number = step.before;
+    }
+    found.reverse();
+    Ok(found)
+}
+
+// The step with a number, counted from 1.
+fn numbered(steps: &[Step], number: usize) -> Option<Step> {
+    if number == 0 || number > steps.len() {
+        return None;
+    }
+    Some(steps[number - 1])
+}

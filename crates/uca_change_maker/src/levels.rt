@@ -1,0 +1,84 @@
+//! The map of a level.
+
+ghost use Rattle.std.specs.Prelude.{◌≡◌, IfOk};
+ghost use Rattle.uca_change_maker.specs.LeastMaps as least_maps;
+
+use crate::chains::{Step, heaviest_chain};
+use crate::moves::{Move, fixed_weight, level_moves};
+use std::alloc::{AllocError, Allocator};
+use uca_match::Lookup;
+use uca_values::Row;
+use uca_weights::{Level, Run, WeightMap};
+
+/// A rising map of a level's weights that sends them as most rows do. An error means that it ran out of memory.
+pub(crate) fn level_map<A: Allocator + Copy, T: Allocator, L: Lookup>(
+    alloc: A,
+    level: Level,
+    rows: &[Row<T>],
+    new: &L,
+) -> Result<WeightMap<A>, AllocError>
+    ensures { IfOk result (λ map. map.level ≡ level) }
+{
+    let mut moves = level_moves(alloc, level, rows, new)?;
+    let chain = heaviest_chain(alloc, &mut moves)?;
+    match WeightMap::from_runs(level, runs_of(alloc, &chain)?) {
+        Ok(map) => Ok(map),
+        Err(_) => least_map(alloc, level),
+    }
+}
+
+// The map that has the weight that stays, and no other.
+fn least_map<A: Allocator>(alloc: A, level: Level) -> Result<WeightMap<A>, AllocError>
+    ensures { IfOk result (λ map. map.level ≡ level) }
+{
+    match WeightMap::from_runs(level, least_runs(alloc, level)?) {
+        Ok(map) => Ok(map),
+        Err(_) => unreachable!(),
+    }
+}
+
+// The run of the weight that stays, if the level has one.
+fn least_runs<A: Allocator>(alloc: A, level: Level) -> Result<Vec<Run, A>, AllocError>
+    ensures { IfOk result (λ runs. runs.items ≡ least_maps.least_runs level) }
+{
+    match fixed_weight(level) {
+        None => Ok(Vec::new(alloc)),
+        Some(weight) => Ok(vec![in alloc; first_run(weight, weight)]?),
+    }
+}
+
+// The runs of a chain.
+fn runs_of<A: Allocator>(alloc: A, chain: &[Step]) -> Result<Vec<Run, A>, AllocError> {
+    let mut runs = Vec::new(alloc);
+    let mut current: Option<Run> = None;
+    for step in chain {
+        current = match current {
+            Some(run) if is_next(run, step.is) => Some(Run {
+                count: run.count.saturating_add(1),
+                ..run
+            }),
+            Some(run) => {
+                runs.push(run)?;
+                Some(first_run(step.is.old, step.is.new))
+            }
+            None => Some(first_run(step.is.old, step.is.new)),
+        };
+    }
+    if let Some(run) = current {
+        runs.push(run)?;
+    }
+    Ok(runs)
+}
+
+// The run of one weight and its image.
+fn first_run(from: u16, to: u16) -> Run
+    ensures { result ≡ record { from = from; to = to; count = 1 } }
+{
+    Run { from, to, count: 1 }
+}
+
+// Whether both weights of a move come directly after those of a run.
+fn is_next(run: Run, step: Move) -> bool {
+    run.from.checked_add(run.count) == Some(step.old)
+        && run.to.checked_add(run.count) == Some(step.new)
+}

@@ -1,0 +1,158 @@
+//! `find_changes`: what changes, and its audit.
+
+ghost use Rattle.std.specs.Prelude.{IfOk, IfErr, OnOk};
+ghost use Rattle.uca_values.specs.Content.{IsHeader, IsTable};
+ghost use Rattle.uca_tailorings.specs.Images.{AreRisingMaps};
+ghost use Rattle.uca_tailorings.specs.Inputs.{maps_of};
+ghost use Rattle.uca_change_lists.specs.ChangeLists.{ChangesContent};
+ghost use Rattle.uca_changes.specs.Changes.{IsChange, IsAcceptedChange};
+ghost use Rattle.uca_change_audit.specs.ChangeInputs.{MeansUnaffectedTextsStay};
+ghost use Rattle.uca_change_maker.specs.Found.{change_by, change_with, RefusesChanges};
+
+use crate::changed_ranges::list_ranges;
+use crate::changed_texts::list_texts;
+use crate::levels::level_map;
+use crate::{Editions, FoundChanges, changes_of};
+use std::alloc::{AllocError, Allocator};
+use uca_certificates::Certificate;
+use uca_change_audit::{ChangeFault, ChangeInputs, audit_change};
+use uca_change_files::ChangeList;
+use uca_change_lists::Changes;
+use uca_changes::changes_keep_unaffected_texts;
+use uca_match::Trie;
+use uca_values::{Header, Table};
+use uca_weights::Level;
+
+/// Finds what changes from an old table and its data file to new ones: changed texts, changed ranges of code points, and maps
+/// of weights. An audit accepts them: [`audit_change`](uca_change_audit::audit_change) is called on what was found.
+///
+/// The maps send weights as most rows do that have as many elements in both tables. Each key is listed whose new row is not
+/// the image of its old row, and each key of one table alone. These need not be the fewest texts.
+///
+/// It takes n log n steps for tables and data files of n lines.
+///
+/// # Errors
+///
+/// That of the audit. `NotMet` with `OldIllFormed` or `NewIllFormed` means that a table is not well-formed, and has its first
+/// row that is not. `NotMet` with another condition means that what was found is not accepted. `Memory` means that an
+/// allocation failed.
+pub fn find_changes<A: Allocator + Copy>(
+    alloc: A,
+    editions: &Editions<A>,
+) -> Result<FoundChanges<A>, ChangeFault>
+    // An audit accepts what was found.
+    ensures accepted { IfOk result (λ found. IsAcceptedChange (change_by editions.now found)) }
+
+    // So texts in which nothing is changed compare as before, and their stored keys are put through the maps.
+    ensures meaning { IfOk result (λ found. MeansUnaffectedTextsStay (change_by editions.now found)) }
+
+    ensures refused { IfErr result (RefusesChanges editions.now) }
+{
+    let found = found_changes(alloc, editions)?;
+    audit_found(alloc, editions, &found)?;
+    meaning(editions, &found);
+    Ok(found)
+}
+
+// What changes, before any audit.
+fn found_changes<A: Allocator + Copy>(
+    alloc: A,
+    editions: &Editions<A>,
+) -> Result<FoundChanges<A>, AllocError> {
+    let new = Trie::new(alloc, editions.new)?;
+    let certificate = certificate_of(alloc, editions, &new)?;
+    let mut list = ChangeList::new(alloc);
+    list_texts(alloc, &mut list, editions, &certificate, &new)?;
+    list_ranges(alloc, &mut list, editions)?;
+    Ok(FoundChanges { list, certificate })
+}
+
+// The maps of the weights of all levels.
+fn certificate_of<A: Allocator + Copy>(
+    alloc: A,
+    editions: &Editions<A>,
+    new: &Trie<A>,
+) -> Result<Certificate<A>, AllocError> {
+    let old = editions.old;
+    Ok(Certificate {
+        primary: level_map(alloc, Level::One, &old.rows, new)?,
+        secondary: level_map(alloc, Level::Two, &old.rows, new)?,
+        tertiary: level_map(alloc, Level::Three, &old.rows, new)?,
+    })
+}
+
+// Audits what was found.
+fn audit_found<A: Allocator + Copy>(
+    alloc: A,
+    editions: &Editions<A>,
+    found: &FoundChanges<A>,
+) -> Result<(), ChangeFault>
+    ensures accepted { OnOk result (IsAcceptedChange (change_by editions.now found.now)) }
+    ensures refused { IfErr result (RefusesChanges editions.now) }
+{
+    let changes = changes_of(alloc, &found.list)?;
+    audit_lists(alloc, editions, &changes, &found.certificate)
+}
+
+// Audits lists and a certificate.
+fn audit_lists<A: Allocator + Copy>(
+    alloc: A,
+    editions: &Editions<A>,
+    changes: &Changes<A>,
+    certificate: &Certificate<A>,
+) -> Result<(), ChangeFault>
+    ensures accepted { OnOk result (IsAcceptedChange (change_with editions.now changes.now certificate.now)) }
+    ensures refused { IfErr result (RefusesChanges editions.now) }
+{
+    let inputs = ChangeInputs {
+        old: editions.old,
+        old_data: editions.old_data,
+        new: editions.new,
+        new_data: editions.new_data,
+        changes,
+        certificate,
+    };
+    audit_change(alloc, &inputs)
+}
+
+// What follows if what was found is accepted.
+fn meaning<T: Allocator>(editions: &Editions<T>, found: &FoundChanges<T>)
+    requires { IsAcceptedChange (change_by editions.now found.now) }
+    ensures { MeansUnaffectedTextsStay (change_by editions.now found.now) }
+{
+    know(editions, &found.certificate);
+    changes_keep_unaffected_texts();
+}
+
+// The arguments' invariants, brought into scope for the proof.
+fn know<T: Allocator>(editions: &Editions<T>, certificate: &Certificate<T>)
+    ensures { (changes : ChangesContent) → IsChange (change_with editions.now changes certificate.now) }
+{
+    know_table(editions.old);
+    know_table(editions.new);
+    know_certificate(certificate);
+}
+
+// What a table keeps.
+fn know_table<T: Allocator>(table: &Table<T>)
+    ensures { IsTable table.now }
+{
+    know_header(&table.header);
+    let _ = &table.rows;
+}
+
+// What a header keeps.
+fn know_header<T: Allocator>(header: &Header<T>)
+    ensures { IsHeader header.now }
+{
+    let _ = &header.ranges;
+}
+
+// What the maps of a certificate keep.
+fn know_certificate<T: Allocator>(certificate: &Certificate<T>)
+    ensures { AreRisingMaps (maps_of certificate.now) }
+{
+    let _ = certificate.primary.runs();
+    let _ = certificate.secondary.runs();
+    let _ = certificate.tertiary.runs();
+}
