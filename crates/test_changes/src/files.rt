@@ -3,10 +3,12 @@
 use std::alloc::Global;
 use std::test::Fail;
 use test_kit::{bytes_of, code_point, data_of, joined, table_of};
-use uca_certificates::{Certificate, read_certificate};
+use uca_certificates::{Certificate, read_certificate, write_certificate};
 use uca_change_audit::{ChangeFault, ChangeInputs, Changes, audit_change};
+use uca_change_files::write_changes;
+use uca_change_maker::{Editions, FoundChanges, find_changes};
 use uca_values::{CodePointRange, Data, Table};
-use uca_weights::Source;
+use uca_weights::{Sink, Source};
 
 /// The certificate of a change that changes no weight.
 const CERTIFICATE: &str = "1 0209 0209 0001\n\
@@ -148,4 +150,41 @@ pub fn verdict(
     };
     drop(changes);
     found
+}
+
+/// What was found, as text: the file of changes, and then the certificate's.
+fn found_text(alloc: Global, found: &FoundChanges) -> Result<String, Fail> {
+    let mut out = Sink::new(Vec::new(alloc));
+    write_changes(&found.list, &mut out)?;
+    write_certificate(&found.certificate, &mut out)?;
+    let bytes = out.into_inner();
+    Ok(String::from_str(alloc, str::from_utf8(&bytes)?)?)
+}
+
+/// What the maker finds from one edition to another, as text; or its error.
+pub fn found(alloc: Global, old: &Edition, new: &Edition) -> Result<String, Fail> {
+    let editions = Editions {
+        old: &old.table,
+        old_data: &old.data,
+        new: &new.table,
+        new_data: &new.data,
+    };
+    match find_changes(alloc, &editions) {
+        Ok(found) => found_text(alloc, &found),
+        Err(fault) => verdict_text(alloc, Err(fault)),
+    }
+}
+
+/// The text that the maker has to find, by what is listed and by what is different in the certificate.
+pub fn wanted_text(alloc: Global, listed: &str, certificate: &str) -> Result<String, Fail> {
+    let mut text = String::from_str(alloc, "@changes 1\n")?;
+    if listed != "." {
+        for item in listed.split(", ") {
+            text.push_str(item)?;
+            text.push_str("\n")?;
+        }
+    }
+    let bytes = edited(alloc, CERTIFICATE, certificate)?;
+    text.push_str(str::from_utf8(&bytes)?)?;
+    Ok(text)
 }

@@ -29,7 +29,8 @@ use uca_weights::Level;
 /// The maps send weights as most rows do that have as many elements in both tables. Each key is listed whose new row is not
 /// the image of its old row, and each key of one table alone. These need not be the fewest texts.
 ///
-/// It takes n log n steps for tables and data files of n lines.
+/// It takes n log n steps for tables and data files of n lines. For each code point at which a range begins or has ended it looks at
+/// the ranges of both headers, at most 512.
 ///
 /// # Errors
 ///
