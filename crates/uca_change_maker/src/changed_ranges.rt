@@ -1,5 +1,5 @@
-//! The ranges of code points that change. Between two borders, the code points at which ranges begin or have ended, nothing
-//! changes: so one code point says how it is for all from its border to the next one.
+//! The ranges of code points that change. A border is a code point at which a range begins or has ended. Between two borders
+//! nothing changes, so a border says how it is for all code points up to the next one.
 
 use crate::Editions;
 use std::alloc::{AllocError, Allocator};

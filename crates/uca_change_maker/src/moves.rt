@@ -18,8 +18,8 @@ pub(crate) struct Move {
     pub(crate) new: u16,
 }
 
-/// The moves of a level that a map may have: one for each weight of each old row whose new row has the same shape, and one
-/// for the weight that has to stay.
+/// The moves of a level that a map may have. There is one for each weight of each old row whose new row has the same shape.
+/// There is one more for the weight that has to stay.
 pub(crate) fn level_moves<A: Allocator, T: Allocator, L: Lookup>(
     alloc: A,
     level: Level,
