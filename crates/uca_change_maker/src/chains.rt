@@ -1,4 +1,4 @@
-//! Chains: moves of which each has a greater weight than the one before it, on both sides. The heaviest chain is that of most
+//! Chains of moves. In a chain each move has greater weights than the one before, on both sides. The heaviest chain is that of most
 //! rows.
 
 use crate::moves::Move;
