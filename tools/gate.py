@@ -12,6 +12,7 @@ import sys
 
 import kit
 
+PROGRAM = f"{kit.TOP}/crates/uca/out/uca"
 COUNTS = re.compile(r"(\d+) passed, (\d+) failed")
 
 
@@ -27,7 +28,10 @@ def counted(words):
 
 
 def main(words):
-    parts = [counted(["rt", "ci", *words]), counted([f"{kit.TOP}/tests/run.py"])]
+    parts = [counted(["rt", "ci", *words])]
+    if not os.access(PROGRAM, os.X_OK):
+        counted([f"{kit.TOP}/tools/build.py"])
+    parts.append(counted([f"{kit.TOP}/tests/run.py"]))
     print(f"{sum(it[1] for it in parts)} passed, {sum(it[2] for it in parts)} failed")
     return 1 if any(it[0] or it[2] for it in parts) else 0
 
