@@ -86,8 +86,18 @@ fn check_cases<L: Lookup>(
     cases: &str,
 ) -> Result<(), Fail> {
     let mut comparers = at_each_depth(alloc, collator, weighting);
+    let checked = check_lines(alloc, &mut comparers, cases);
+    drop(comparers);
+    checked
+}
+
+fn check_lines<L: Lookup>(
+    alloc: Global,
+    comparers: &mut Comparers<L>,
+    cases: &str,
+) -> Result<(), Fail> {
     for case in cases.lines() {
-        check_case(alloc, &mut comparers, case)?;
+        check_case(alloc, comparers, case)?;
     }
     Ok(())
 }
@@ -181,15 +191,21 @@ fn check_repeated<L: Lookup>(
 /// Texts of more than 32 bytes, of 524,288 bytes, and of one more.
 struct Long;
 
+fn check_long<L: Lookup>(alloc: Global, comparer: &mut TextComparer<L>) -> Result<(), Fail> {
+    let less = ("c", ("Less 1", "1 1"));
+    check_repeated(alloc, comparer, ('a', 33, ""), less)?;
+    check_repeated(alloc, comparer, ('a', 33, "b"), less)?;
+    let greater = ("a", ("Greater 1", "2 1"));
+    check_repeated(alloc, comparer, ('a', 524_288, ""), greater)?;
+    check_repeated(alloc, comparer, ('a', 524_288, "c"), greater)
+}
+
 impl Check for Long {
     fn check<L: Lookup>(&self, alloc: Global, collator: &Collator<L>) -> Result<(), Fail> {
         let mut comparer = TextComparer::new(alloc, alloc, *collator, NonIgnorable, Weights);
-        let less = ("c", ("Less 1", "1 1"));
-        check_repeated(alloc, &mut comparer, ('a', 33, ""), less)?;
-        check_repeated(alloc, &mut comparer, ('a', 33, "b"), less)?;
-        let greater = ("a", ("Greater 1", "2 1"));
-        check_repeated(alloc, &mut comparer, ('a', 524_288, ""), greater)?;
-        check_repeated(alloc, &mut comparer, ('a', 524_288, "c"), greater)
+        let checked = check_long(alloc, &mut comparer);
+        drop(comparer);
+        checked
     }
 }
 
@@ -223,16 +239,30 @@ fn is_rejected<L: Lookup>(
 /// Texts with a run of marks that is too long are rejected, and the next pair is compared.
 struct LongRuns;
 
+fn are_rejected<L: Lookup>(
+    comparer: &mut TextComparer<L>,
+    first: &str,
+    second: &str,
+) -> Result<(), Fail> {
+    is_rejected(comparer, first, "a", 2)?;
+    is_rejected(comparer, "c", second, 3)?;
+    is_rejected(comparer, first, second, 2)?;
+    is_rejected(comparer, second, first, 3)
+}
+
+fn check_long_runs<L: Lookup>(alloc: Global, comparer: &mut TextComparer<L>) -> Result<(), Fail> {
+    let first = long_run(alloc, "ca")?;
+    let second = long_run(alloc, "aca")?;
+    are_rejected(comparer, &first, &second)?;
+    check_pair(alloc, comparer, ("a", "c"), ("Less 1", "1 1"))
+}
+
 impl Check for LongRuns {
     fn check<L: Lookup>(&self, alloc: Global, collator: &Collator<L>) -> Result<(), Fail> {
         let mut comparer = TextComparer::new(alloc, alloc, *collator, NonIgnorable, Weights);
-        let first = long_run(alloc, "ca")?;
-        let second = long_run(alloc, "aca")?;
-        is_rejected(&mut comparer, &first, "a", 2)?;
-        is_rejected(&mut comparer, "c", &second, 3)?;
-        is_rejected(&mut comparer, &first, &second, 2)?;
-        is_rejected(&mut comparer, &second, &first, 3)?;
-        check_pair(alloc, &mut comparer, ("a", "c"), ("Less 1", "1 1"))
+        let checked = check_long_runs(alloc, &mut comparer);
+        drop(comparer);
+        checked
     }
 }
 

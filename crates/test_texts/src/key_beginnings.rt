@@ -58,11 +58,30 @@ fn check_cases<L: Lookup>(
     depth: Depth,
     cases: &str,
 ) -> Result<(), Fail> {
-    for weighting in [NonIgnorable, Shifted] {
-        let mut writer = KeyWriter::new(alloc, alloc, *collator, weighting, depth);
-        for case in cases.lines() {
-            check_case(alloc, &mut writer, weighting, case)?;
-        }
+    check_weighting(alloc, collator, (NonIgnorable, depth), cases)?;
+    check_weighting(alloc, collator, (Shifted, depth), cases)
+}
+
+fn check_weighting<L: Lookup>(
+    alloc: Global,
+    collator: &Collator<L>,
+    (weighting, depth): (Weighting, Depth),
+    cases: &str,
+) -> Result<(), Fail> {
+    let mut writer = KeyWriter::new(alloc, alloc, *collator, weighting, depth);
+    let checked = check_lines(alloc, &mut writer, weighting, cases);
+    drop(writer);
+    checked
+}
+
+fn check_lines<L: Lookup>(
+    alloc: Global,
+    writer: &mut KeyWriter<L>,
+    weighting: Weighting,
+    cases: &str,
+) -> Result<(), Fail> {
+    for case in cases.lines() {
+        check_case(alloc, writer, weighting, case)?;
     }
     Ok(())
 }
@@ -119,18 +138,46 @@ fn check_letters<L: Lookup>(
 /// What comes after the beginning of a key is judged too, and a text of more than 524,288 bytes has one.
 struct Longer;
 
+fn check_accents<L: Lookup>(
+    alloc: Global,
+    writer: &mut KeyWriter<L>,
+    count: u8,
+) -> Result<(), Fail> {
+    let text = with_accents(alloc, count)?;
+    check_letters(alloc, writer, &text)
+}
+
+fn check_count<L: Lookup>(
+    alloc: Global,
+    writer: &mut KeyWriter<L>,
+    count: u32,
+) -> Result<(), Fail> {
+    let text = letters(alloc, count)?;
+    check_letters(alloc, writer, &text)
+}
+
+fn check_long_run<L: Lookup>(alloc: Global, writer: &mut KeyWriter<L>) -> Result<(), Fail> {
+    let text = with_accents(alloc, 65)?;
+    holds(
+        writer.write_beginning(&text) == Err(TextFault::LongRun(10)),
+        "a run of 65 marks after the beginning",
+    )
+}
+
+fn check_longer<L: Lookup>(alloc: Global, writer: &mut KeyWriter<L>) -> Result<(), Fail> {
+    check_long_run(alloc, writer)?;
+    check_accents(alloc, writer, 60)?;
+    check_accents(alloc, writer, 64)?;
+    check_count(alloc, writer, 1_000)?;
+    check_count(alloc, writer, 524_289)
+}
+
 impl Check for Longer {
     fn check<L: Lookup>(&self, alloc: Global, collator: &Collator<L>) -> Result<(), Fail> {
         let mut writer = KeyWriter::new(alloc, alloc, *collator, NonIgnorable, Depth::Weights);
-        let text = with_accents(alloc, 65)?;
-        holds(
-            writer.write_beginning(&text) == Err(TextFault::LongRun(10)),
-            "a run of 65 marks after the beginning",
-        )?;
-        check_letters(alloc, &mut writer, &with_accents(alloc, 60)?)?;
-        check_letters(alloc, &mut writer, &with_accents(alloc, 64)?)?;
-        check_letters(alloc, &mut writer, &letters(alloc, 1_000)?)?;
-        check_letters(alloc, &mut writer, &letters(alloc, 524_289)?)
+        let checked = check_longer(alloc, &mut writer);
+        drop(writer);
+        checked
     }
 }
 

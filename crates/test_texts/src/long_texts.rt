@@ -1,12 +1,11 @@
 //! Keys of texts around the length up to which a `KeyWriter` goes piece by piece: 524,288 bytes.
 
 use crate::cases::holds;
-use crate::samples::{DATA, TABLE, data_of, table_of};
+use crate::samples::{Check, DATA, TABLE, over_both};
 use std::alloc::{AllocError, Global};
 use std::test::Fail;
 use uca_key::KeyWriter;
-use uca_match::{Collator, Lookup, Trie};
-use uca_values::{Data, Table};
+use uca_match::{Collator, Lookup};
 use uca_weights::{Depth, Weighting};
 
 fn letters(alloc: Global, count: usize) -> Result<String, AllocError> {
@@ -54,27 +53,25 @@ fn check_length<L: Lookup>(
     )
 }
 
-/// Both sides of the length, by the rows of a table in a trie.
-fn check_lengths(alloc: Global, table: &Table, data: &Data) -> Result<(), Fail> {
-    let rows = Trie::new(alloc, table)?;
-    let collator = Collator::new(&rows, &table.header, data);
-    let mut writer = KeyWriter::new(
-        alloc,
-        alloc,
-        collator,
-        Weighting::NonIgnorable,
-        Depth::Weights,
-    );
-    for count in [524_288, 524_289] {
-        check_length(alloc, &mut writer, count)?;
+/// Both sides of the length.
+struct Lengths;
+
+fn check_lengths<L: Lookup>(alloc: Global, writer: &mut KeyWriter<L>) -> Result<(), Fail> {
+    check_length(alloc, writer, 524_288)?;
+    check_length(alloc, writer, 524_289)
+}
+
+impl Check for Lengths {
+    fn check<L: Lookup>(&self, alloc: Global, collator: &Collator<L>) -> Result<(), Fail> {
+        let weighting = Weighting::NonIgnorable;
+        let mut writer = KeyWriter::new(alloc, alloc, *collator, weighting, Depth::Weights);
+        let checked = check_lengths(alloc, &mut writer);
+        drop(writer);
+        checked
     }
-    Ok(())
 }
 
 #[test]
 fn texts_around_the_length(rt: HostRuntime) -> Result<(), Fail> {
-    let alloc = rt.alloc();
-    let table = table_of(alloc, TABLE)?;
-    let data = data_of(alloc, DATA)?;
-    check_lengths(alloc, &table, &data)
+    over_both(rt.alloc(), TABLE, DATA, &Lengths)
 }

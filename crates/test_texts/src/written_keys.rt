@@ -50,18 +50,35 @@ fn check_case<L: Lookup>(
     same_bytes(alloc, writer.bytes(), wanted, case)
 }
 
+fn check_cases<L: Lookup>(
+    alloc: Global,
+    writer: &mut KeyWriter<L>,
+    weighting: Weighting,
+) -> Result<(), Fail> {
+    for case in CASES.lines() {
+        check_case(alloc, writer, weighting, case)?;
+    }
+    Ok(())
+}
+
+fn check_weighting<L: Lookup>(
+    alloc: Global,
+    collator: &Collator<L>,
+    weighting: Weighting,
+) -> Result<(), Fail> {
+    let mut writer = KeyWriter::new(alloc, alloc, *collator, weighting, Depth::Weights);
+    let checked = check_cases(alloc, &mut writer, weighting);
+    drop(writer);
+    checked
+}
+
 /// Cases of texts and their keys under each weighting.
 struct Cases;
 
 impl Check for Cases {
     fn check<L: Lookup>(&self, alloc: Global, collator: &Collator<L>) -> Result<(), Fail> {
-        for weighting in [NonIgnorable, Shifted] {
-            let mut writer = KeyWriter::new(alloc, alloc, *collator, weighting, Depth::Weights);
-            for case in CASES.lines() {
-                check_case(alloc, &mut writer, weighting, case)?;
-            }
-        }
-        Ok(())
+        check_weighting(alloc, collator, NonIgnorable)?;
+        check_weighting(alloc, collator, Shifted)
     }
 }
 
@@ -82,20 +99,26 @@ fn long_run(alloc: Global) -> Result<String, Fail> {
 /// A text with a run of marks that is too long is rejected, and the next text is written.
 struct LongRun;
 
+fn check_long_run<L: Lookup>(alloc: Global, writer: &mut KeyWriter<L>) -> Result<(), Fail> {
+    let text = long_run(alloc)?;
+    holds(
+        writer.write(&text) == Err(TextFault::LongRun(2)),
+        "a run of 65 marks",
+    )?;
+    check_case(
+        alloc,
+        writer,
+        NonIgnorable,
+        "0061 | 1C47 0000 0020 0000 0002 | ",
+    )
+}
+
 impl Check for LongRun {
     fn check<L: Lookup>(&self, alloc: Global, collator: &Collator<L>) -> Result<(), Fail> {
         let mut writer = KeyWriter::new(alloc, alloc, *collator, NonIgnorable, Depth::Weights);
-        let text = long_run(alloc)?;
-        holds(
-            writer.write(&text) == Err(TextFault::LongRun(2)),
-            "a run of 65 marks",
-        )?;
-        check_case(
-            alloc,
-            &mut writer,
-            NonIgnorable,
-            "0061 | 1C47 0000 0020 0000 0002 | ",
-        )
+        let checked = check_long_run(alloc, &mut writer);
+        drop(writer);
+        checked
     }
 }
 
