@@ -45,7 +45,12 @@ const REFUSED: &str = r"0301 ; [.0000.0024. => 0301 ; [.0000.0020. | . | OldIllF
 . | 0301 ; [.0000.0024. => 0301 ; [.0000.0020. | NewIllFormed new row 6";
 
 /// What is found from one edition to another, by what is different in them.
-fn found_between(alloc: Global, old: &str, new: &str, data: &str) -> Result<String, Fail> {
+fn found_between<'x>(
+    alloc: Global,
+    old: &'x str,
+    new: &'x str,
+    data: &'x str,
+) -> Result<String, Fail> {
     let old = read_edition(alloc, [TABLE, DATA], [old, "."])?;
     let text = match read_edition(alloc, [TABLE, DATA], [new, data]) {
         Ok(new) => found(alloc, &old, &new),
