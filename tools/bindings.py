@@ -283,6 +283,10 @@ def postgresql(work):
         server.restart(settings.replace("/table.txt", "/tailored.txt"))
         for statement in ("SELECT uca_key('a');", "INSERT INTO words VALUES ('b');", "SELECT word FROM words WHERE uca_key(word) > '\\x00';"):
             same(says(statement, fails=True), OTHER_FILES, f"{statement} with another table")
+        taken_back = "BEGIN; SELECT uca_use_files(); SELECT uca_key('a'); ROLLBACK; SELECT uca_key('a');"
+        same(says(taken_back, fails=True), OTHER_FILES, "files that are not used after all")
+        inside = "BEGIN; SAVEPOINT s; SELECT uca_use_files(); SELECT uca_key('a'); ROLLBACK TO s; SELECT uca_key('a');"
+        same(says(inside, fails=True), OTHER_FILES, "the same inside a transaction")
         same(says("SELECT uca_use_files(); REINDEX TABLE words; INSERT INTO words VALUES ('b'); SELECT word FROM words ORDER BY uca_key(word);"),
              "\na\ná\nb\nc-h\nch\n", "files that are used from now on")
         server.restart(settings.replace("/data.txt", "/none.txt"))

@@ -5,6 +5,7 @@
    is an error until uca_use_files() is called. So an index never has keys of two orders. */
 #include "postgres.h"
 
+#include "access/xact.h"
 #include "catalog/pg_type.h"
 #include "common/cryptohash.h"
 #include "common/sha2.h"
@@ -13,6 +14,7 @@
 #include "lib/stringinfo.h"
 #include "mb/pg_wchar.h"
 #include "miscadmin.h"
+#include "storage/proc.h"
 #include "utils/builtins.h"
 #include "utils/guc.h"
 #include "utils/lsyscache.h"
@@ -39,8 +41,10 @@ static uint8 fingerprint[PG_SHA256_DIGEST_LENGTH];
 /* Why the collator is closed. */
 static char reason[200] = "uca: the server has not read the files of uca.table and uca.data";
 
-/* Whether this process has seen that its database is for these files. */
-static bool is_checked = false;
+/* Where this process has seen last that its database is for these files: a transaction, and one inside it. A change of uca_files
+   may be taken back with the transaction that made it, so each one is looked at anew. */
+static LocalTransactionId checked_transaction = InvalidLocalTransactionId;
+static SubTransactionId checked_inside = InvalidSubTransactionId;
 
 /* The bytes of a file, or false. */
 static bool read_file(const char *name, StringInfo bytes)
@@ -171,13 +175,14 @@ static bool is_for_these_files(Oid function)
 static void need_files(Oid function)
 {
     need_open();
-    if (is_checked)
+    if (checked_transaction == MyProc->lxid && checked_inside == GetCurrentSubTransactionId())
         return;
     if (!is_for_these_files(function))
         ereport(ERROR, (errcode(ERRCODE_OBJECT_NOT_IN_PREREQUISITE_STATE),
                         errmsg("uca: the server has other files than those by which this database's keys were made"),
                         errhint("Give it the old files. Or call uca_use_files(), and then make all stored keys and all indexes on keys again.")));
-    is_checked = true;
+    checked_transaction = MyProc->lxid;
+    checked_inside = GetCurrentSubTransactionId();
 }
 
 /* Writes the key of a text after so many bytes of a new value, and returns its status. */
