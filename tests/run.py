@@ -25,8 +25,9 @@ def main(names):
     suite = loader.loadTestsFromNames(names) if names else loader.discover(HERE)
     result = unittest.TextTestRunner(stream=sys.stdout, verbosity=0).run(suite)
     tests_that_failed = {getattr(test, "test_case", test) for test, _ in [*result.failures, *result.errors]}
-    failed = len(tests_that_failed)
-    print(f"{result.testsRun - failed} passed, {failed} failed")
+    # where no test is found, that is a failure
+    failed = len(tests_that_failed) + (result.testsRun == 0)
+    print(f"{max(result.testsRun - failed, 0)} passed, {failed} failed")
     return 1 if failed else 0
 
 
