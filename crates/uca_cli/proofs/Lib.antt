@@ -1,3 +1,4 @@
 pub mod Refusals
 pub mod AuditFilesRead
 pub mod PlanAnswers
+pub mod Opening

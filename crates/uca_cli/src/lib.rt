@@ -2,8 +2,10 @@
 #![tactic(auto)]
 
 pub mod audit;
+mod change_commands;
 pub mod command;
 mod keeping;
+mod opening;
 pub mod reporting;
 pub mod tailor;
 
@@ -11,6 +13,11 @@ pub use audit::{run_audit, run_audit_in};
 pub use command::{MakeFault, OpenFault, Opens, run_command};
 pub use reporting::report;
 pub use tailor::{run_tailor, run_tailor_in, write_tailored};
+pub use uca_change_runs::{
+    run_affected_by_changes, run_affected_by_changes_in, run_audit_changes, run_audit_changes_in,
+    run_changes, run_changes_in,
+};
+pub use uca_rekey::{run_rekey, run_rekey_in};
 pub use uca_runs::{
     FileFault, InputKind, Role, RunFault, affected_texts_are_the_others,
     canonically_equivalent_lines_have_one_key_line, compare_words,
