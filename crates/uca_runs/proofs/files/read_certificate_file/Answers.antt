@@ -6,7 +6,7 @@ use Rattle.uca_runs.specs.declared.faults.RunFault.TheVariants.{File}
 use Rattle.uca_runs.specs.declared.faults.Role.TheVariants as roles
 use Rattle.uca_runs.specs.Files.{RefusesCertificate}
 use Rattle.uca_runs.proofs.ReadFilesLemmas.{file_read, file_rejected}
-use Rattle.uca_runs.proofs.audit_files.read_certificate_file.Goals as goal
+use Rattle.uca_runs.proofs.files.read_certificate_file.Goals as goal
 
 pub returns-in-Ok : goal.returns-in-Ok
 returns-in-Ok g c =

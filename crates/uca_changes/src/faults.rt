@@ -1,7 +1,7 @@
 //! Why an audit rejects a change.
 
 ghost use Rattle.std.specs.Prelude.{◌≡◌};
-ghost use Rattle.uca_change_audit.specs.declared.faults.ChangeFault.{ChangeFault};
+ghost use Rattle.uca_changes.specs.declared.faults.ChangeFault.{ChangeFault};
 
 use crate::ChangeCondition;
 use std::alloc::AllocError;
