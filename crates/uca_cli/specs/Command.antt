@@ -1,6 +1,7 @@
 -- What the whole command does: it reads its arguments, opens the files that they name in their order, runs over them,
 -- and ends with a status.
 use Rattle.std.specs.Prelude.{◌≡◌, ◌≢◌, ◌⊎◌, ◌<◌, ℕ, List, [], ◌∷◌, ◌||◌, Bool, true, false, Option, Result, Ok, Err, IfErr, is_err, length, unwrap_or}
+use Rattle.std.specs.Global.{Global}
 use Rattle.uca_weights.specs.declared.Depth.{Depth}
 use Rattle.uca_weights.specs.declared.streams.sink.WriteFault.{WriteFault}
 use Rattle.uca_weights.specs.declared.Weighting.{Weighting}
@@ -374,11 +375,15 @@ abbrev pub DoesTailor : {O F M : Type 0} → FileSystem O F M → O → O → Li
 DoesTailor files old new table properties rules certificate out out_new result =
     MakesNamed files old new (tailor_files table properties rules) certificate TailorsFiles made_table out out_new result
 
+-- a run of changes, with what it finds in the memory of the command
+abbrev pub Finds : List SourceState → List SourceState → Result (FoundChanges Global) RunFault → Type 0
+Finds olds news run = FindsChanges olds news run
+
 -- what `changes` does with the four files that it reads
 abbrev pub DoesChanges : {O F M : Type 0} → FileSystem O F M → O → O → List NamedFile → List ℕ
     → SinkState → SinkState → Result ℕ RunFault → Type 0
 DoesChanges files old new named certificate out out_new result =
-    MakesNamed files old new named certificate FindsChanges made_changes out out_new result
+    MakesNamed files old new named certificate Finds made_changes out out_new result
 
 -- ---- Audits
 

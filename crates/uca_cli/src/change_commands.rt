@@ -1,9 +1,7 @@
 //! The subcommands that work with changes from a table and its data file to others: `changes`, `audit-changes` and `rekey`.
 
-ghost use Rattle.std.specs.Prelude.{Result};
-ghost use Rattle.uca_cli.specs.Command.{DoesAuditChanges, DoesChanges, DoesRekey, KeepsAndPrints, KeepsMade, MakesOpened, file_system, made_changes, streams};
+ghost use Rattle.uca_cli.specs.Command.{DoesAuditChanges, DoesChanges, DoesRekey, Finds, KeepsAndPrints, KeepsMade, MakesOpened, file_system, made_changes, streams};
 ghost use Rattle.uca_cli.specs.EditionNames.{change_files_of, edition_files_of};
-ghost use Rattle.uca_change_runs.specs.ChangesRun.{FindsChanges};
 
 use crate::command::Opens;
 use crate::keeping::{find_certificate_of_editions, keep_certificate, print_changes};
@@ -43,7 +41,7 @@ fn change_files<O: Opens, W: Write>(
     out: &mut Sink<W>,
 ) -> Result<u8, RunFault>
     ensures { MakesOpened (file_system O.open_gives O.same_gives O.create_gives O.keep_gives O.remove_gives O.File.remaining O.Made.contents)
-        opener.old opener.new (edition_files_of names) certificate.now FindsChanges made_changes out.old out.new result }
+        opener.old opener.new (edition_files_of names) certificate.now Finds made_changes out.old out.new result }
 {
     let mut files = match open_editions(opener, names) {
         Ok(files) => files,
