@@ -138,12 +138,5 @@ pub(crate) fn rekey<O: Opens, I: Read, W: Write>(
         Err(role) => return Err(RunFault::Open(role)),
     };
     let weighting = weighting.unwrap_or(Weighting::Shifted);
-    done(run_rekey(
-        alloc,
-        &mut certificate,
-        input,
-        out,
-        weighting,
-        depth,
-    ))
+    done(run_rekey(alloc, &mut certificate, input, out, weighting, depth))
 }

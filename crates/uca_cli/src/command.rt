@@ -368,14 +368,7 @@ fn affected<O: Opens, I: Read, W: Write>(
         Ok(files) => files,
         Err(role) => return Err(RunFault::Open(role)),
     };
-    done(print_lines(
-        alloc,
-        changes,
-        &mut properties,
-        &mut rules,
-        input,
-        out,
-    ))
+    done(print_lines(alloc, changes, &mut properties, &mut rules, input, out))
 }
 
 // What the second file of `affected` is.
