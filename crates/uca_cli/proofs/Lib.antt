@@ -1,4 +1,3 @@
 pub mod Refusals
 pub mod AuditFilesRead
 pub mod PlanAnswers
-pub mod Opening

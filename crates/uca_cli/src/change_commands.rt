@@ -19,12 +19,12 @@ use uca_weights::{Depth, Sink, Source, Weighting};
 pub(crate) fn changes<O: Opens, W: Write>(
     alloc: Global,
     opener: &mut O,
-    names: EditionNames,
+    names: &EditionNames,
     certificate: &str,
     out: &mut Sink<W>,
 ) -> Result<u8, RunFault>
     ensures { DoesChanges (file_system O.open_gives O.same_gives O.create_gives O.keep_gives O.remove_gives O.File.remaining O.Made.contents)
-        opener.old opener.new (edition_files_of names) certificate.now out.old out.new result }
+        opener.old opener.new (edition_files_of names.now) certificate.now out.old out.new result }
 {
     if let Err(role) = find_certificate_of_editions(opener, names, certificate) {
         return Err(RunFault::SameAs(role));
@@ -36,12 +36,12 @@ pub(crate) fn changes<O: Opens, W: Write>(
 fn change_files<O: Opens, W: Write>(
     alloc: Global,
     opener: &mut O,
-    names: EditionNames,
+    names: &EditionNames,
     certificate: &str,
     out: &mut Sink<W>,
 ) -> Result<u8, RunFault>
     ensures { MakesOpened (file_system O.open_gives O.same_gives O.create_gives O.keep_gives O.remove_gives O.File.remaining O.Made.contents)
-        opener.old opener.new (edition_files_of names) certificate.now Finds made_changes out.old out.new result }
+        opener.old opener.new (edition_files_of names.now) certificate.now Finds made_changes out.old out.new result }
 {
     let mut files = match open_editions(opener, names) {
         Ok(files) => files,
@@ -95,13 +95,13 @@ fn keep_found<O: Opens, W: Write>(
 pub(crate) fn audit_changes<O: Opens, W: Write>(
     alloc: Global,
     opener: &mut O,
-    names: EditionNames,
+    names: &EditionNames,
     changes: &str,
     certificate: &str,
     out: &mut Sink<W>,
 ) -> Result<u8, RunFault>
     ensures { DoesAuditChanges (file_system O.open_gives O.same_gives O.create_gives O.keep_gives O.remove_gives O.File.remaining O.Made.contents)
-        opener.old opener.new (change_files_of names changes.now certificate.now) out.old out.new result }
+        opener.old opener.new (change_files_of names.now changes.now certificate.now) out.old out.new result }
 {
     let mut files = match open_change_files(opener, names, changes, certificate) {
         Ok(files) => files,
@@ -133,7 +133,7 @@ pub(crate) fn rekey<O: Opens, I: Read, W: Write>(
         opener.old opener.new weighting depth certificate.now
         (streams input.old out.old) (streams input.new out.new) result }
 {
-    let mut certificate = match open_one(opener, (Role::Certificate, certificate)) {
+    let mut certificate = match open_one(opener, Role::Certificate, certificate) {
         Ok(file) => file,
         Err(role) => return Err(RunFault::Open(role)),
     };

@@ -270,9 +270,12 @@ fn tailor_files<O: Opens, W: Write>(
 {
     let (mut table, mut properties, mut rules) = match open_three(
         opener,
-        (Role::Table, table),
-        (Role::Data, properties),
-        (Role::Rules, rules),
+        Role::Table,
+        table,
+        Role::Data,
+        properties,
+        Role::Rules,
+        rules,
     ) {
         Ok(files) => files,
         Err(role) => return Err(RunFault::Open(role)),
@@ -362,8 +365,10 @@ fn affected<O: Opens, I: Read, W: Write>(
 {
     let (mut properties, mut rules) = match open_two(
         opener,
-        (Role::Data, properties),
-        (affected_role(changes), rules),
+        Role::Data,
+        properties,
+        affected_role(changes),
+        rules,
     ) {
         Ok(files) => files,
         Err(role) => return Err(RunFault::Open(role)),
@@ -474,7 +479,7 @@ fn run_words<O: Opens, I: Read, W: Write>(
         } => changes(
             alloc,
             opener,
-            EditionNames {
+            &EditionNames {
                 old,
                 old_data,
                 new,
@@ -493,7 +498,7 @@ fn run_words<O: Opens, I: Read, W: Write>(
         } => audit_changes(
             alloc,
             opener,
-            EditionNames {
+            &EditionNames {
                 old,
                 old_data,
                 new,

@@ -54,14 +54,14 @@ pub(crate) fn find_certificate<O: Opens>(
 /// The same, among the files that `changes` reads.
 pub(crate) fn find_certificate_of_editions<O: Opens>(
     opener: &mut O,
-    names: EditionNames,
+    names: &EditionNames,
     certificate: &str,
 ) -> Result<(), Role>
     ensures { MatchResult result
         (λ done. AreOthers (file_system O.open_gives O.same_gives O.create_gives O.keep_gives O.remove_gives O.File.remaining O.Made.contents)
-        opener.old opener.new (edition_files_of names) certificate.now)
+        opener.old opener.new (edition_files_of names.now) certificate.now)
         (IsFirstSame (file_system O.open_gives O.same_gives O.create_gives O.keep_gives O.remove_gives O.File.remaining O.Made.contents)
-        opener.old opener.new (edition_files_of names) certificate.now) }
+        opener.old opener.new (edition_files_of names.now) certificate.now) }
 {
     if is_certificate(opener, names.old, certificate) {
         return Err(Role::Old);

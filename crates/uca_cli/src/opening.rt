@@ -12,37 +12,40 @@ use uca_weights::Source;
 /// The source of a file, or its role if it does not open.
 pub(crate) fn open_one<O: Opens>(
     opener: &mut O,
-    file: (Role, &str),
+    role: Role,
+    name: &str,
 ) -> Result<Source<O::File>, Role>
     ensures { MatchResult result
         (λ source. AreOpened (file_system O.open_gives O.same_gives O.create_gives O.keep_gives O.remove_gives O.File.remaining O.Made.contents)
-        opener.old opener.new (file_for file.0 file.1.now ∷ []) (source ∷ []))
+        opener.old opener.new (file_for role name.now ∷ []) (source ∷ []))
         (DoesNotOpen (file_system O.open_gives O.same_gives O.create_gives O.keep_gives O.remove_gives O.File.remaining O.Made.contents)
-        opener.old opener.new (file_for file.0 file.1.now ∷ [])) }
+        opener.old opener.new (file_for role name.now ∷ [])) }
 {
-    match opener.open(file.1) {
+    match opener.open(name) {
         Ok(opened) => Ok(Source::new(opened)),
-        Err(_) => Err(file.0),
+        Err(_) => Err(role),
     }
 }
 
 /// The sources of two files, which are opened in this order, or the role of the first that does not open.
 pub(crate) fn open_two<O: Opens>(
     opener: &mut O,
-    first: (Role, &str),
-    second: (Role, &str),
+    first: Role,
+    first_name: &str,
+    second: Role,
+    second_name: &str,
 ) -> Result<(Source<O::File>, Source<O::File>), Role>
     ensures { MatchResult result
         (λ files. AreOpened (file_system O.open_gives O.same_gives O.create_gives O.keep_gives O.remove_gives O.File.remaining O.Made.contents)
-        opener.old opener.new (file_for first.0 first.1.now ∷ file_for second.0 second.1.now ∷ []) (files.0 ∷ files.1 ∷ []))
+        opener.old opener.new (file_for first first_name.now ∷ file_for second second_name.now ∷ []) (files.0 ∷ files.1 ∷ []))
         (DoesNotOpen (file_system O.open_gives O.same_gives O.create_gives O.keep_gives O.remove_gives O.File.remaining O.Made.contents)
-        opener.old opener.new (file_for first.0 first.1.now ∷ file_for second.0 second.1.now ∷ [])) }
+        opener.old opener.new (file_for first first_name.now ∷ file_for second second_name.now ∷ [])) }
 {
-    let Ok(one) = opener.open(first.1) else {
-        return Err(first.0);
+    let Ok(one) = opener.open(first_name) else {
+        return Err(first);
     };
-    let Ok(other) = opener.open(second.1) else {
-        return Err(second.0);
+    let Ok(other) = opener.open(second_name) else {
+        return Err(second);
     };
     Ok((Source::new(one), Source::new(other)))
 }
@@ -60,25 +63,28 @@ pub(crate) fn open_files<O: Opens>(
         (DoesNotOpen (file_system O.open_gives O.same_gives O.create_gives O.keep_gives O.remove_gives O.File.remaining O.Made.contents)
         opener.old opener.new (table_and_data table.now properties.now)) }
 {
-    open_two(opener, (Role::Table, table), (Role::Data, properties))
+    open_two(opener, Role::Table, table, Role::Data, properties)
 }
 
 /// The sources of three files, which are opened in this order, or the role of the first that does not open.
 pub(crate) fn open_three<O: Opens>(
     opener: &mut O,
-    first: (Role, &str),
-    second: (Role, &str),
-    third: (Role, &str),
+    first: Role,
+    first_name: &str,
+    second: Role,
+    second_name: &str,
+    third: Role,
+    third_name: &str,
 ) -> Result<(Source<O::File>, Source<O::File>, Source<O::File>), Role>
     ensures { MatchResult result
         (λ files. AreOpened (file_system O.open_gives O.same_gives O.create_gives O.keep_gives O.remove_gives O.File.remaining O.Made.contents)
-        opener.old opener.new (file_for first.0 first.1.now ∷ file_for second.0 second.1.now ∷ file_for third.0 third.1.now ∷ [])
+        opener.old opener.new (file_for first first_name.now ∷ file_for second second_name.now ∷ file_for third third_name.now ∷ [])
         (files.0 ∷ files.1 ∷ files.2 ∷ []))
         (DoesNotOpen (file_system O.open_gives O.same_gives O.create_gives O.keep_gives O.remove_gives O.File.remaining O.Made.contents)
-        opener.old opener.new (file_for first.0 first.1.now ∷ file_for second.0 second.1.now ∷ file_for third.0 third.1.now ∷ [])) }
+        opener.old opener.new (file_for first first_name.now ∷ file_for second second_name.now ∷ file_for third third_name.now ∷ [])) }
 {
-    let (one, other) = open_two(opener, first, second)?;
-    let last = open_one(opener, third)?;
+    let (one, other) = open_two(opener, first, first_name, second, second_name)?;
+    let last = open_one(opener, third, third_name)?;
     Ok((one, other, last))
 }
 
@@ -110,14 +116,19 @@ pub(crate) fn open_audit_files<O: Opens>(
 {
     let (base, properties, rules) = open_three(
         opener,
-        (Role::Base, base),
-        (Role::Data, data_file),
-        (Role::Rules, rules),
+        Role::Base,
+        base,
+        Role::Data,
+        data_file,
+        Role::Rules,
+        rules,
     )?;
     let (tailored, certificate) = open_two(
         opener,
-        (Role::Tailored, tailored),
-        (Role::Certificate, certificate),
+        Role::Tailored,
+        tailored,
+        Role::Certificate,
+        certificate,
     )?;
     Ok(OpenedAudit {
         base,
@@ -150,24 +161,16 @@ pub(crate) struct OpenedEditions<F: Read + Drop> {
 /// not open.
 pub(crate) fn open_editions<O: Opens>(
     opener: &mut O,
-    names: EditionNames,
+    names: &EditionNames,
 ) -> Result<OpenedEditions<O::File>, Role>
     ensures { MatchResult result
         (λ files. AreOpened (file_system O.open_gives O.same_gives O.create_gives O.keep_gives O.remove_gives O.File.remaining O.Made.contents)
-        opener.old opener.new (edition_files_of names) (files.old ∷ files.old_data ∷ files.new ∷ files.new_data ∷ []))
+        opener.old opener.new (edition_files_of names.now) (files.old ∷ files.old_data ∷ files.new ∷ files.new_data ∷ []))
         (DoesNotOpen (file_system O.open_gives O.same_gives O.create_gives O.keep_gives O.remove_gives O.File.remaining O.Made.contents)
-        opener.old opener.new (edition_files_of names)) }
+        opener.old opener.new (edition_files_of names.now)) }
 {
-    let (old, old_data) = open_two(
-        opener,
-        (Role::Old, names.old),
-        (Role::OldData, names.old_data),
-    )?;
-    let (new, new_data) = open_two(
-        opener,
-        (Role::New, names.new),
-        (Role::NewData, names.new_data),
-    )?;
+    let (old, old_data) = open_two(opener, Role::Old, names.old, Role::OldData, names.old_data)?;
+    let (new, new_data) = open_two(opener, Role::New, names.new, Role::NewData, names.new_data)?;
     Ok(OpenedEditions {
         old,
         old_data,
@@ -188,22 +191,24 @@ pub(crate) struct OpenedChange<F: Read + Drop> {
 /// open.
 pub(crate) fn open_change_files<O: Opens>(
     opener: &mut O,
-    names: EditionNames,
+    names: &EditionNames,
     changes: &str,
     certificate: &str,
 ) -> Result<OpenedChange<O::File>, Role>
     ensures { MatchResult result
         (λ files. AreOpened (file_system O.open_gives O.same_gives O.create_gives O.keep_gives O.remove_gives O.File.remaining O.Made.contents)
-        opener.old opener.new (change_files_of names changes.now certificate.now)
+        opener.old opener.new (change_files_of names.now changes.now certificate.now)
         (files.editions.old ∷ files.editions.old_data ∷ files.editions.new ∷ files.editions.new_data ∷ files.changes ∷ files.certificate ∷ []))
         (DoesNotOpen (file_system O.open_gives O.same_gives O.create_gives O.keep_gives O.remove_gives O.File.remaining O.Made.contents)
-        opener.old opener.new (change_files_of names changes.now certificate.now)) }
+        opener.old opener.new (change_files_of names.now changes.now certificate.now)) }
 {
     let editions = open_editions(opener, names)?;
     let (changes, certificate) = open_two(
         opener,
-        (Role::Changes, changes),
-        (Role::Certificate, certificate),
+        Role::Changes,
+        changes,
+        Role::Certificate,
+        certificate,
     )?;
     Ok(OpenedChange {
         editions,
