@@ -7,5 +7,5 @@ returns g c = inr (record {
   before = c.in-Ok.file ∷ [];
   after = c.run_rekey.new.certificate ∷ [];
   opened = c.in-Ok.ensures;
-  runs = record { run = c.run_rekey.result; runs = c.run_rekey.ensures; status = c.done.ensures };
+  runs = record { run = c.run_rekey.result; runs = rw c.unwrap_or-weighting.ensures at c.run_rekey.ensures; status = c.done.ensures };
 })
