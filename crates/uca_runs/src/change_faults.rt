@@ -26,7 +26,7 @@ pub fn change_message(fault: ChangeFault) -> Message
 /// The verdict of an audit that rejects a change: `refused 5 RowChanged old row 3`.
 pub fn change_verdict(fault: ChangeFault) -> Message
     ensures text { result ≡ change_verdict_text fault }
-    ensures short { length result ≤ 100 }
+    ensures short { length result ≤ 120 }
 {
     match fault {
         ChangeFault::NotMet(condition, _) => Message::of("refused ")
