@@ -17,5 +17,5 @@ unreachable-requires c =
     let six = is_of_rest audit_app name rows _ five c.in_default.not-audit in
     let seven = is_of_rest affected_app name rows _ six c.in_default.not-affected in
     let eight = is_of_rest changes_app name rows _ seven c.in_default.not-changes in
-    let nine = is_of_rest audit_changes_app name rows _ eight c.in_default.not-audit-changes in
+    let nine = is_of_rest audit_changes_app name rows _ eight c.in_default.not-text in
     true≢false (sym (is_of_rest rekey_app name rows _ nine c.in_default.not-rekey))
