@@ -1,4 +1,4 @@
--- The audit takes the texts as a set; so it says the same of the texts of the list.
+-- The audit takes the texts of a set. The list has the same texts, so what it says is so for the list.
 use Rattle.std.proofs.Common.{◌≡◌, ◌⊎◌, ⊎_elim, inl, inr}
 use Rattle.std.proofs.lemmas.Result.{IfErr-weaker, on_ok_weaker}
 use Rattle.uca_changes.specs.declared.faults.ChangeFault.TheVariants.{Memory}
