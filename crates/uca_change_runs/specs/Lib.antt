@@ -1,1 +1,4 @@
 pub mod ChangeFiles
+pub mod ReadChanges
+pub mod ChangesRun
+pub mod AuditRun

@@ -1,0 +1,3 @@
+pub mod EditionsRead
+pub mod ChangeVerdicts
+pub mod ChangeFilesRead
