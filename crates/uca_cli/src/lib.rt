@@ -1,4 +1,5 @@
-//! The command: the runs of `uca_runs`, those of the planner and of the auditor, and what is reported of them.
+//! The command: the runs of `uca_runs`, `uca_change_runs` and `uca_rekey`, those of the planner and of the auditor, and what
+//! is reported of them.
 #![tactic(auto)]
 
 pub mod audit;
@@ -14,10 +15,10 @@ pub use command::{MakeFault, OpenFault, Opens, run_command};
 pub use reporting::report;
 pub use tailor::{run_tailor, run_tailor_in, write_tailored};
 pub use uca_change_runs::{
-    run_affected_by_changes, run_affected_by_changes_in, run_audit_changes, run_audit_changes_in,
-    run_changes, run_changes_in,
+    affected_by_changes_are_the_others, run_affected_by_changes, run_affected_by_changes_in,
+    run_audit_changes, run_audit_changes_in, run_changes, run_changes_in,
 };
-pub use uca_rekey::{run_rekey, run_rekey_in};
+pub use uca_rekey::{lines_move_with_keys, run_rekey, run_rekey_in};
 pub use uca_runs::{
     FileFault, InputKind, Role, RunFault, affected_texts_are_the_others,
     canonically_equivalent_lines_have_one_key_line, compare_words,
