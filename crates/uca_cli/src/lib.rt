@@ -20,7 +20,7 @@ pub use uca_change_runs::{
 };
 pub use uca_rekey::{lines_move_with_keys, run_rekey, run_rekey_in};
 pub use uca_runs::{
-    FileFault, InputKind, Role, RunFault, affected_texts_are_the_others,
+    Affects, FileFault, InputKind, Role, RunFault, StoredKeyKind, affected_texts_are_the_others,
     canonically_equivalent_lines_have_one_key_line, compare_words,
     identical_line_keys_are_of_equivalent_lines, key_order_is_one, line_keys_compare_as_lines,
     print_affected, print_keyed_lines, print_keys, run_affected, run_affected_in, run_check,
