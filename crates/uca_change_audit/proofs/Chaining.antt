@@ -4,10 +4,10 @@ use Rattle.std.specs.Result.{IsErrAnd}
 use Rattle.std.proofs.lemmas.Bool.{cases_lt}
 use Rattle.uca_changes.specs.declared.conditions.ChangeCondition.{ChangeCondition}
 use Rattle.uca_changes.specs.declared.conditions.ChangeCondition.TheVariants.{OldIllFormed, NewIllFormed, RangeChanged, Uncovered, RowChanged, RowMissing, RowExtra, PointChanged}
-use Rattle.uca_changes.specs.Changes.{Change, Meets, IsAcceptedChange}
-use Rattle.uca_change_audit.specs.declared.faults.ChangeFault.{ChangeFault}
-use Rattle.uca_change_audit.specs.declared.faults.ChangeFault.TheVariants.{Memory}
-use Rattle.uca_change_audit.specs.ChangeRefusals.{number_of, IsFirstRefusal}
+use Rattle.uca_changes.specs.Changes.{Change, Meets, IsAcceptedChange, number_of}
+use Rattle.uca_changes.specs.declared.faults.ChangeFault.{ChangeFault}
+use Rattle.uca_changes.specs.declared.faults.ChangeFault.TheVariants.{Memory}
+use Rattle.uca_change_audit.specs.ChangeRefusals.{IsFirstRefusal}
 use Rattle.uca_change_audit.specs.Chaining.{MeetsBelow, Fails, Settles, Passes}
 
 -- the condition of a number

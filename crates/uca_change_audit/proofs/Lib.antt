@@ -1,3 +1,4 @@
 pub mod Chaining
 pub mod NotAccepted
 pub mod FoundRows
+pub mod SameChanges

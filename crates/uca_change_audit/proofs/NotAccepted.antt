@@ -3,7 +3,7 @@ use Rattle.uca_check.proofs.WellFormedLemmas.{no_row_without, no_form_fails}
 use Rattle.uca_changes.specs.declared.conditions.ChangeCondition.{ChangeCondition}
 use Rattle.uca_changes.specs.declared.conditions.ChangeCondition.TheVariants.{OldIllFormed, NewIllFormed, RangeChanged, Uncovered, RowChanged, RowMissing, RowExtra, PointChanged}
 use Rattle.uca_changes.specs.Changes.{Change, Meets}
-use Rattle.uca_change_audit.specs.declared.faults.ChangePlace.{ChangePlace}
+use Rattle.uca_changes.specs.declared.faults.ChangePlace.{ChangePlace}
 use Rattle.uca_change_audit.specs.ChangeRefusals.{FailsFirstAt, RefusedChangesAreNotAccepted}
 
 -- a condition that is met fails nowhere

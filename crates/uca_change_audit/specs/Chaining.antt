@@ -3,12 +3,12 @@
 use Rattle.std.specs.Prelude.{◌≡◌, ◌⊎◌, ℕ, ◌<◌, List, Result, MatchResult}
 use Rattle.uca_values.specs.Content.{TableContent}
 use Rattle.uca_match.specs.Rows.{Rows, rows_of}
-use Rattle.uca_changes.specs.Changes.{Change, Meets}
+use Rattle.uca_changes.specs.Changes.{Change, Meets, number_of}
 use Rattle.uca_changes.specs.declared.conditions.ChangeCondition.{ChangeCondition}
-use Rattle.uca_change_audit.specs.declared.faults.ChangeFault.{ChangeFault}
-use Rattle.uca_change_audit.specs.declared.faults.ChangeFault.TheVariants.{NotMet, Memory}
-use Rattle.uca_change_audit.specs.declared.faults.ChangePlace.{ChangePlace}
-use Rattle.uca_change_audit.specs.ChangeRefusals.{number_of, FailsFirstAt, IsFirstRefusal}
+use Rattle.uca_changes.specs.declared.faults.ChangeFault.{ChangeFault}
+use Rattle.uca_changes.specs.declared.faults.ChangeFault.TheVariants.{NotMet, Memory}
+use Rattle.uca_changes.specs.declared.faults.ChangePlace.{ChangePlace}
+use Rattle.uca_change_audit.specs.ChangeRefusals.{FailsFirstAt, IsFirstRefusal}
 
 -- each row of the table is found at its key, and nothing else is
 abbrev pub FindsRowsOf : TableContent → Rows → Type 0

@@ -5,24 +5,13 @@ use Rattle.uca_match.specs.Rows.{rows_of}
 use Rattle.uca_tailorings.specs.KeptRows.{IsKeptRow, IsKnownRow}
 use Rattle.uca_kept_rows.specs.UnlistedRows.{IsCoveredIfUnlisted, IsPresentIfUnlisted}
 use Rattle.uca_change_lists.specs.Points.{IsSamePair, IsSamePoint, IsFirstOutsideWithout}
-use Rattle.uca_changes.specs.Changes.{Change, IsChangedText, Meets, IsAcceptedChange}
+use Rattle.uca_changes.specs.Changes.{Change, IsChangedText, Meets, IsAcceptedChange, number_of}
 use Rattle.uca_changes.specs.declared.conditions.ChangeCondition.{ChangeCondition}
 use Rattle.uca_changes.specs.declared.conditions.ChangeCondition.TheVariants.{OldIllFormed, NewIllFormed, RangeChanged, Uncovered, RowChanged, RowMissing, RowExtra, PointChanged}
-use Rattle.uca_change_audit.specs.declared.faults.ChangeFault.{ChangeFault}
-use Rattle.uca_change_audit.specs.declared.faults.ChangeFault.TheVariants.{NotMet}
-use Rattle.uca_change_audit.specs.declared.faults.ChangePlace.{ChangePlace}
-use Rattle.uca_change_audit.specs.declared.faults.ChangePlace.TheVariants.{OldRow, NewRow, CodePoint}
-
--- the conditions are numbered from 1
-abbrev pub number_of : ChangeCondition → ℕ
-number_of OldIllFormed = 1
-number_of NewIllFormed = 2
-number_of RangeChanged = 3
-number_of Uncovered = 4
-number_of RowChanged = 5
-number_of RowMissing = 6
-number_of RowExtra = 7
-number_of PointChanged = 8
+use Rattle.uca_changes.specs.declared.faults.ChangeFault.{ChangeFault}
+use Rattle.uca_changes.specs.declared.faults.ChangeFault.TheVariants.{NotMet}
+use Rattle.uca_changes.specs.declared.faults.ChangePlace.{ChangePlace}
+use Rattle.uca_changes.specs.declared.faults.ChangePlace.TheVariants.{OldRow, NewRow, CodePoint}
 
 -- the position is such a one, with a number that has the property
 abbrev pub At : (ℕ → ChangePlace) → ChangePlace → (ℕ → Type 0) → Type 0

@@ -4,15 +4,13 @@
 
 mod auditing;
 mod conditions;
-mod faults;
 mod inputs;
 mod laws;
 mod rows;
 
 pub use auditing::audit_change;
-pub use faults::{ChangeFault, ChangePlace};
 pub use inputs::ChangeInputs;
 pub use laws::refused_changes_are_not_accepted;
 pub use uca_certificates::Certificate;
 pub use uca_change_lists::Changes;
-pub use uca_changes::ChangeCondition;
+pub use uca_changes::{ChangeCondition, ChangeFault, ChangePlace};

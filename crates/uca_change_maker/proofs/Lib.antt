@@ -1,3 +1,2 @@
 pub mod LeastRuns
 pub mod ListedTexts
-pub mod SameLists

@@ -6,8 +6,8 @@ use Rattle.uca_tailorings.specs.Inputs.{maps_of}
 use Rattle.uca_change_lists.specs.ChangeLists.{ChangesContent}
 use Rattle.uca_changes.specs.Changes.{Change}
 use Rattle.uca_change_audit.specs.ChangeRefusals.{IsFirstRefusal}
-use Rattle.uca_change_audit.specs.declared.faults.ChangeFault.{ChangeFault}
-use Rattle.uca_change_audit.specs.declared.faults.ChangeFault.TheVariants.{Memory}
+use Rattle.uca_changes.specs.declared.faults.ChangeFault.{ChangeFault}
+use Rattle.uca_changes.specs.declared.faults.ChangeFault.TheVariants.{Memory}
 use Rattle.uca_change_maker.specs.declared.editions.Editions.{Editions}
 use Rattle.uca_change_maker.specs.declared.found.FoundChanges.{FoundChanges}
 

@@ -1,3 +1,4 @@
 pub mod Points
 pub mod Unaffected
 pub mod FromTailorings
+pub mod SameLists

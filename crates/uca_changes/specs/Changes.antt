@@ -77,3 +77,14 @@ Meets change PointChanged = OutsideRanges change (IsSamePoint change.old_propert
 -- a change is accepted where all conditions are met
 abbrev pub IsAcceptedChange : Change → Type 0
 IsAcceptedChange change = (condition : ChangeCondition) → Meets change condition
+
+-- the conditions are numbered from 1
+abbrev pub number_of : ChangeCondition → ℕ
+number_of OldIllFormed = 1
+number_of NewIllFormed = 2
+number_of RangeChanged = 3
+number_of Uncovered = 4
+number_of RowChanged = 5
+number_of RowMissing = 6
+number_of RowExtra = 7
+number_of PointChanged = 8

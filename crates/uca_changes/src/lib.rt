@@ -1,9 +1,11 @@
 //! Changes from one table to another, such as an edition of Unicode to the next: when one is accepted, and what that means
-//! for texts and for stored keys. These are definitions and laws.
+//! for texts and for stored keys. These are definitions and laws, and the errors of a change that is not accepted.
 #![tactic(auto)]
 
 mod conditions;
+mod faults;
 mod laws;
 
 pub use conditions::ChangeCondition;
+pub use faults::{ChangeFault, ChangePlace};
 pub use laws::{changes_keep_unaffected_texts, tailorings_are_changes};

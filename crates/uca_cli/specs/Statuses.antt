@@ -13,10 +13,14 @@ use Rattle.uca_text.specs.declared.normalize.TextFault.{TextFault}
 use Rattle.uca_text.specs.declared.normalize.TextFault.TheVariants as text_fault
 use Rattle.uca_runs.specs.declared.faults.InputKind.{InputKind}
 use Rattle.uca_runs.specs.declared.faults.InputKind.TheVariants as input_kind
+use Rattle.uca_runs.specs.declared.faults.StoredKeyKind.{StoredKeyKind}
+use Rattle.uca_runs.specs.declared.faults.StoredKeyKind.TheVariants as stored_key
 use Rattle.uca_runs.specs.declared.faults.FileFault.{FileFault}
 use Rattle.uca_runs.specs.declared.faults.FileFault.TheVariants.{Lines, Rules, RulesRead, RulesMemory, Certificate}
 use Rattle.uca_runs.specs.declared.faults.RunFault.{RunFault}
-use Rattle.uca_runs.specs.declared.faults.RunFault.TheVariants.{File, Input, Write, Memory, Text, Tailor, CertificateWrite, Open, SameAs, Words}
+use Rattle.uca_runs.specs.declared.faults.RunFault.TheVariants.{File, Input, StoredKey, Write, Memory, Text, Tailor, Changes, CertificateWrite, Open, SameAs, Words}
+use Rattle.uca_changes.specs.declared.faults.ChangeFault.{ChangeFault}
+use Rattle.uca_changes.specs.declared.faults.ChangeFault.TheVariants as change_faults
 use Rattle.uca_plans.specs.declared.faults.TailorKind.{TailorKind}
 use Rattle.uca_plans.specs.declared.faults.TailorKind.TheVariants as planner
 use Rattle.uca_words.specs.declared.WordFault.{WordFault}
@@ -49,6 +53,11 @@ input_status input_kind.Read = 3
 input_status input_kind.Memory = 4
 input_status _ = 1
 
+abbrev pub stored_key_status : StoredKeyKind → ℕ
+stored_key_status stored_key.Read = 3
+stored_key_status stored_key.Memory = 4
+stored_key_status _ = 1
+
 abbrev pub text_status : TextFault → ℕ
 text_status text_fault.Memory = 4
 text_status _ = 1
@@ -56,6 +65,10 @@ text_status _ = 1
 abbrev pub tailor_status : TailorKind → ℕ
 tailor_status planner.Memory = 4
 tailor_status _ = 1
+
+abbrev pub change_status : ChangeFault → ℕ
+change_status change_faults.Memory = 4
+change_status _ = 1
 
 -- whether the text of `clap` is help or the version, which was asked for
 abbrev pub is_asked_for : ErrorKind → Bool
@@ -80,10 +93,12 @@ IsWordStatus (words.Refused error) status = IsRefusalStatus (kind_of error) stat
 abbrev pub IsStatus : RunFault → ℕ → Type 0
 IsStatus (File role fault) status = status ≡ file_status fault
 IsStatus (Input line kind) status = status ≡ input_status kind
+IsStatus (StoredKey line kind) status = status ≡ stored_key_status kind
 IsStatus (Write written) status = status ≡ 3
 IsStatus Memory status = status ≡ 4
 IsStatus (Text right fault) status = status ≡ text_status fault
 IsStatus (Tailor fault) status = status ≡ tailor_status fault.kind
+IsStatus (Changes fault) status = status ≡ change_status fault
 IsStatus (CertificateWrite written) status = status ≡ 3
 IsStatus (Open role) status = status ≡ 3
 IsStatus (SameAs role) status = status ≡ 2

@@ -2,8 +2,9 @@
 
 ghost use Rattle.std.specs.Prelude.{◌≡◌, ◌++◌, ◌∷◌, []};
 ghost use Rattle.uca_runs.specs.FaultText.{fault_text};
+ghost use Rattle.uca_cli.specs.Command.{check_result, done_result};
 ghost use Rattle.uca_cli.specs.Reports.{GoesOut, ReportsRefusal, ReportsWords, Reports};
-ghost use Rattle.uca_cli.specs.Statuses.{line_status, rule_status, certificate_status, file_status, input_status, text_status, tailor_status, is_asked_for, IsWordStatus, IsStatus};
+ghost use Rattle.uca_cli.specs.Statuses.{line_status, rule_status, certificate_status, file_status, input_status, stored_key_status, text_status, tailor_status, change_status, is_asked_for, IsWordStatus, IsStatus};
 
 use clap::error::ErrorKind;
 use std::alloc::Global;
@@ -11,9 +12,10 @@ use std::fmt::Display;
 use std::io::Write;
 use std::string::ToString;
 use uca_certificates::CertificateFaultKind;
+use uca_changes::ChangeFault;
 use uca_plans::TailorKind;
 use uca_rules::RuleFaultKind;
-use uca_runs::faults::{FileFault, InputKind, RunFault};
+use uca_runs::faults::{FileFault, InputKind, RunFault, StoredKeyKind};
 use uca_text::TextFault;
 use uca_values::FaultKind;
 use uca_weights::Sink;
@@ -29,6 +31,27 @@ pub const WRONG_WORDS: u8 = 2;
 pub const STREAM_FAILED: u8 = 3;
 /// An allocation failed.
 pub const NO_MEMORY: u8 = 4;
+
+/// The status of a run that was done.
+pub(crate) fn done(run: Result<(), RunFault>) -> Result<u8, RunFault>
+    ensures { result ≡ done_result run }
+{
+    match run {
+        Ok(()) => Ok(DONE),
+        Err(fault) => Err(fault),
+    }
+}
+
+/// The status of a check that was done.
+pub(crate) fn checked(run: Result<bool, RunFault>) -> Result<u8, RunFault>
+    ensures { result ≡ check_result run }
+{
+    match run {
+        Ok(true) => Ok(DONE),
+        Ok(false) => Ok(REFUSED),
+        Err(fault) => Err(fault),
+    }
+}
 
 fn status_of_line(kind: FaultKind) -> u8
     ensures { result ≡ line_status kind }
@@ -81,11 +104,30 @@ fn status_of_input(kind: InputKind) -> u8
     }
 }
 
+fn status_of_stored_key(kind: StoredKeyKind) -> u8
+    ensures { result ≡ stored_key_status kind }
+{
+    match kind {
+        StoredKeyKind::Read => STREAM_FAILED,
+        StoredKeyKind::Memory => NO_MEMORY,
+        _ => REFUSED,
+    }
+}
+
 fn status_of_text(fault: TextFault) -> u8
     ensures { result ≡ text_status fault }
 {
     match fault {
         TextFault::Memory => NO_MEMORY,
+        _ => REFUSED,
+    }
+}
+
+fn status_of_change(fault: ChangeFault) -> u8
+    ensures { result ≡ change_status fault }
+{
+    match fault {
+        ChangeFault::Memory => NO_MEMORY,
         _ => REFUSED,
     }
 }
@@ -180,10 +222,12 @@ pub fn report<W: Write, E: Write>(
     match fault {
         RunFault::File { fault: file, .. } => write_line(fault, status_of_file(*file), err),
         RunFault::Input { kind, .. } => write_line(fault, status_of_input(*kind), err),
+        RunFault::StoredKey { kind, .. } => write_line(fault, status_of_stored_key(*kind), err),
         RunFault::Write { .. } => write_line(fault, STREAM_FAILED, err),
         RunFault::Memory => write_line(fault, NO_MEMORY, err),
         RunFault::Text { fault: text, .. } => write_line(fault, status_of_text(*text), err),
         RunFault::Tailor(plan) => write_line(fault, status_of_plan(plan.kind), err),
+        RunFault::Changes(change) => write_line(fault, status_of_change(*change), err),
         RunFault::CertificateWrite { .. } => write_line(fault, STREAM_FAILED, err),
         RunFault::Open(_) => write_line(fault, STREAM_FAILED, err),
         RunFault::SameAs(_) => write_line(fault, WRONG_WORDS, err),

@@ -20,6 +20,11 @@ same_role roles.Rules = refl
 same_role roles.Certificate = refl
 same_role roles.Base = refl
 same_role roles.Tailored = refl
+same_role roles.Old = refl
+same_role roles.OldData = refl
+same_role roles.New = refl
+same_role roles.NewData = refl
+same_role roles.Changes = refl
 
 -- an error of this role is a failed read if its cause is one
 pub read_of_role : (role : Role) (new old reads : Bool) → new ≡ (old || reads) → new ≡ (old || (is_role role role && reads))

@@ -4,7 +4,7 @@ use Rattle.uca_weights.specs.Streams.{SinkState}
 use Rattle.uca_weights.specs.declared.Depth.{Depth}
 use Rattle.uca_weights.specs.declared.Weighting.{Weighting}
 use Rattle.uca_runs.specs.declared.faults.RunFault.{RunFault}
-use Rattle.uca_runs.specs.declared.faults.RunFault.TheVariants.{File, Input, Write, Memory, Text, Tailor, CertificateWrite, Open, SameAs, Words}
+use Rattle.uca_runs.specs.declared.faults.RunFault.TheVariants.{File, Input, StoredKey, Write, Memory, Text, Tailor, Changes, CertificateWrite, Open, SameAs, Words}
 use Rattle.uca_runs.specs.Keys.{key_settings}
 use Rattle.uca_runs.specs.Files.{TableAndData}
 use Rattle.uca_runs.specs.Runs.{FailsToWrite}
@@ -31,11 +31,13 @@ run_compares asked depth left right out out_new files (Err fault) writes = by_fa
         → RunsCompare {A = Unit {0}} asked depth left right out out_new (Err fault) files
     by_fault (File role cause) writes = writes
     by_fault (Input line kind) writes = writes
+    by_fault (StoredKey line kind) writes = writes
     by_fault (Write written) writes = writes
     by_fault Memory writes = absurd writes
     by_fault (Text false cause) writes = writes
     by_fault (Text true cause) writes = writes
     by_fault (Tailor cause) writes = writes
+    by_fault (Changes cause) writes = writes
     by_fault (CertificateWrite written) writes = writes
     by_fault (Open role) writes = writes
     by_fault (SameAs role) writes = writes

@@ -25,13 +25,17 @@ is_affected relations text = list_any (λ r. occurs_in_order r.target.points tex
 abbrev pub AffectedTextsAreTheOthers : Type 0
 AffectedTextsAreTheOthers = (relations : List Relation) (text : List ℕ) → (is_affected relations text ≡ false) ↔ IsUntouched relations text
 
--- what is written of a text's line: the line, where a target occurs in the text
-abbrev pub if_affected : List Relation → List ℕ → List ℕ → List ℕ
-if_affected relations text line = if is_affected relations text then ended line else []
+-- what is written of a text's line: the line, where this is so of the text
+abbrev pub if_so : (List ℕ → Bool) → List ℕ → List ℕ → List ℕ
+if_so is_so text line = if is_so text then ended line else []
 
--- that of a line of the input, which is UTF-8
+-- that of a line of the input, which is UTF-8, by its text in Normalization Form D
+abbrev pub line_if : (List ℕ → Bool) → Properties → List ℕ → List ℕ
+line_if is_so properties line = if_so is_so (nfd_text properties (chars line)).points line
+
+-- that by the targets of relations
 abbrev pub affected_line : Properties → List Relation → List ℕ → List ℕ
-affected_line properties relations line = if_affected relations (nfd_text properties (chars line)).points line
+affected_line properties relations = line_if (is_affected relations) properties
 
 -- What a run returns under properties and rules. Nothing but its files ends it before its input: it looks no rows up.
 abbrev pub RunsAffected : {A : Type 0} → SourceState → SourceState → SinkState → SinkState → Result A RunFault → DataAndRules → Type 0

@@ -12,10 +12,13 @@ use Rattle.uca_words.specs.declared.WordFault.{WordFault}
 use Rattle.uca_words.specs.declared.WordFault.TheVariants as words
 use Rattle.uca_runs.specs.declared.faults.InputKind.{InputKind}
 use Rattle.uca_runs.specs.declared.faults.InputKind.TheVariants as input_kind
+use Rattle.uca_runs.specs.declared.faults.StoredKeyKind.{StoredKeyKind}
+use Rattle.uca_runs.specs.declared.faults.StoredKeyKind.TheVariants as stored_key
 use Rattle.uca_runs.specs.declared.faults.FileFault.{FileFault}
 use Rattle.uca_runs.specs.declared.faults.FileFault.TheVariants.{Lines, Rules, RulesRead, RulesMemory, Certificate}
 use Rattle.uca_runs.specs.declared.faults.RunFault.{RunFault}
-use Rattle.uca_runs.specs.declared.faults.RunFault.TheVariants.{File, Input, Write, Memory, Text, Tailor, CertificateWrite, Open, SameAs, Words}
+use Rattle.uca_runs.specs.declared.faults.RunFault.TheVariants.{File, Input, StoredKey, Write, Memory, Text, Tailor, Changes, CertificateWrite, Open, SameAs, Words}
+use Rattle.uca_runs.specs.ChangeFaultText.{change_fault_text}
 use Rattle.uca_runs.specs.RoleText.{role_text}
 
 abbrev pub input_kind_text : InputKind → List ℕ
@@ -25,6 +28,13 @@ input_kind_text (input_kind.LongRun place) = codes "LongRun at " ++ decimal plac
 input_kind_text input_kind.Read = codes "Read"
 input_kind_text input_kind.Limit = codes "Limit"
 input_kind_text input_kind.Memory = codes "Memory"
+
+abbrev pub stored_key_text : StoredKeyKind → List ℕ
+stored_key_text stored_key.NoKey = codes "NoKey"
+stored_key_text stored_key.NoImage = codes "NoImage"
+stored_key_text stored_key.TooLong = codes "TooLong"
+stored_key_text stored_key.Read = codes "Read"
+stored_key_text stored_key.Memory = codes "Memory"
 
 -- where a file of this name is rejected, and why
 abbrev pub file_fault_text : List ℕ → FileFault → List ℕ
@@ -55,10 +65,12 @@ tailor_text fault = line_by fault.kind
 abbrev pub fault_text : RunFault → List ℕ
 fault_text (File role fault) = file_fault_text (role_text role) fault
 fault_text (Input line kind) = codes "input line " ++ decimal line ++ codes ": " ++ input_kind_text kind
+fault_text (StoredKey line kind) = codes "input line " ++ decimal line ++ codes ": " ++ stored_key_text kind
 fault_text (Write written) = codes "output: Write"
 fault_text Memory = codes "memory"
 fault_text (Text right fault) = side_text right ++ codes ": " ++ text_fault_text fault
 fault_text (Tailor fault) = tailor_text fault
+fault_text (Changes fault) = codes "changes: " ++ change_fault_text fault
 fault_text (CertificateWrite written) = codes "certificate: Write"
 fault_text (Open role) = role_text role ++ codes ": Open"
 fault_text (SameAs role) = codes "certificate: SameAs " ++ role_text role

@@ -10,6 +10,7 @@ use Rattle.uca_rules.specs.declared.relations.Relation.{Relation}
 use Rattle.uca_rules.specs.Meaning as rule_files
 use Rattle.uca_rules.specs.Faults as rule_faults
 use Rattle.uca_rules.specs.declared.faults.RuleFaultKind.TheVariants as rule_kinds
+use Rattle.uca_certificates.specs.Certificates.{CertificateContent}
 use Rattle.uca_certificates.specs.Texts as certificates
 use Rattle.uca_tailorings.specs.Tailorings.{Tailoring}
 use Rattle.uca_tailorings.specs.Inputs.{tailoring_of}
@@ -30,6 +31,11 @@ is_role roles.Rules roles.Rules = true
 is_role roles.Certificate roles.Certificate = true
 is_role roles.Base roles.Base = true
 is_role roles.Tailored roles.Tailored = true
+is_role roles.Old roles.Old = true
+is_role roles.OldData roles.OldData = true
+is_role roles.New roles.New = true
+is_role roles.NewData roles.NewData = true
+is_role roles.Changes roles.Changes = true
 is_role _ _ = false
 
 -- why the file of this role was rejected, where the run ended by that
@@ -132,9 +138,9 @@ OfLines Refuses bytes left _ = ⊥
 abbrev pub then_table : {C : Type 0} → Role → (TableContent → Reading C) → Reading C
 then_table role next = Then role tables.Means (OfLines tables.Refuses) next
 
--- a data file does
-abbrev pub then_data : {C : Type 0} → (Properties → Reading C) → Reading C
-then_data next = Then roles.Data data_files.Means (OfLines data_files.Refuses) next
+-- a data file of this role does
+abbrev pub then_data : {C : Type 0} → Role → (Properties → Reading C) → Reading C
+then_data role next = Then role data_files.Means (OfLines data_files.Refuses) next
 
 -- at most this many of the bytes were read, and the others are left
 abbrev pub LosesAtMost : ℕ → List ℕ → Option (List ℕ) → Type 0
@@ -159,6 +165,10 @@ abbrev pub RefusesCertificate : List ℕ → Option (List ℕ) → FileFault →
 RefusesCertificate bytes left (Certificate fault) = certificates.Refuses bytes left fault
 RefusesCertificate bytes left _ = ⊥
 
+-- a certificate comes next
+abbrev pub then_certificate : {C : Type 0} → (CertificateContent → Reading C) → Reading C
+then_certificate next = Then roles.Certificate certificates.Means RefusesCertificate next
+
 -- ---- A table and a data file
 
 -- what they mean
@@ -171,7 +181,7 @@ abbrev pub table_with : TableContent → Properties → TableAndData
 table_with table properties = record { table = table; properties = properties }
 
 abbrev pub table_and_data : Reading TableAndData
-table_and_data = then_table roles.Table (λ table. then_data (λ properties. Done (table_with table properties)))
+table_and_data = then_table roles.Table (λ table. then_data roles.Data (λ properties. Done (table_with table properties)))
 
 abbrev pub table_and_data_roles : List Role
 table_and_data_roles = roles.Table ∷ roles.Data ∷ []
@@ -188,7 +198,7 @@ abbrev pub data_with : Properties → List Relation → DataAndRules
 data_with properties relations = record { properties = properties; relations = relations }
 
 abbrev pub data_and_rules : Reading DataAndRules
-data_and_rules = then_data (λ properties. then_rules properties (λ relations. Done (data_with properties relations)))
+data_and_rules = then_data roles.Data (λ properties. then_rules properties (λ relations. Done (data_with properties relations)))
 
 abbrev pub data_and_rules_roles : List Role
 data_and_rules_roles = roles.Data ∷ roles.Rules ∷ []
@@ -207,7 +217,7 @@ tailor_content base properties relations = record { base = base; properties = pr
 
 -- a table of this role, a data file and rules
 abbrev pub rules_over : Role → Reading TailorContent
-rules_over role = then_table role (λ base. then_data (λ properties. then_rules properties (λ relations.
+rules_over role = then_table role (λ base. then_data roles.Data (λ properties. then_rules properties (λ relations.
     Done (tailor_content base properties relations))))
 
 abbrev pub tailor_files : Reading TailorContent
@@ -220,8 +230,8 @@ tailor_roles = roles.Table ∷ roles.Data ∷ roles.Rules ∷ []
 
 -- the tailoring that they mean together
 abbrev pub audit_files : Reading Tailoring
-audit_files = then_table roles.Base (λ base. then_data (λ properties. then_rules properties (λ relations.
-    then_table roles.Tailored (λ tailored. Then roles.Certificate certificates.Means RefusesCertificate (λ certificate.
+audit_files = then_table roles.Base (λ base. then_data roles.Data (λ properties. then_rules properties (λ relations.
+    then_table roles.Tailored (λ tailored. then_certificate (λ certificate.
     Done (tailoring_of base properties relations tailored certificate))))))
 
 abbrev pub audit_roles : List Role

@@ -5,6 +5,8 @@ use Rattle.uca_values.specs.Content.{Properties}
 use Rattle.uca_text.specs.Texts.{NfdText, nfd_text}
 use Rattle.uca_runs.specs.declared.faults.InputKind.{InputKind}
 use Rattle.uca_runs.specs.declared.faults.InputKind.TheVariants.{Utf8, TooLong, LongRun, Read, Limit, Memory}
+use Rattle.uca_runs.specs.declared.faults.StoredKeyKind.{StoredKeyKind}
+use Rattle.uca_runs.specs.declared.faults.StoredKeyKind.TheVariants as stored_key
 
 -- whether n non-starters come at the front
 unfoldable pub begins_with_marks : ℕ → List ℕ → Bool
@@ -45,3 +47,8 @@ is_input_read_kind TooLong = false
 is_input_read_kind (LongRun place) = false
 is_input_read_kind Limit = false
 is_input_read_kind Memory = false
+
+-- whether an error of a line with a stored key is the reader's
+abbrev pub is_stored_key_read : StoredKeyKind → Bool
+is_stored_key_read stored_key.Read = true
+is_stored_key_read _ = false

@@ -21,3 +21,5 @@ pub mod Print
 pub mod RoleText
 pub mod FaultText
 pub mod PlanFaults
+pub mod ChangeFaultText
+pub mod ChangeFaults

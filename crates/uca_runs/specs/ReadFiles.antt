@@ -5,7 +5,6 @@ use Rattle.uca_weights.specs.Streams.{SourceState}
 use Rattle.uca_values.specs.Content.{Properties, TableContent}
 use Rattle.uca_rules.specs.declared.relations.Relation.{Relation}
 use Rattle.uca_certificates.specs.Certificates.{CertificateContent}
-use Rattle.uca_certificates.specs.Texts as certificates
 use Rattle.uca_weights.specs.declared.Weighting.{Weighting}
 use Rattle.uca_match.specs.Rows.{Rows}
 use Rattle.uca_match.specs.Collations.{Collation}
@@ -15,7 +14,7 @@ use Rattle.uca_runs.specs.declared.faults.RunFault.{RunFault}
 use Rattle.uca_runs.specs.declared.faults.RunFault.TheVariants.{File}
 use Rattle.uca_runs.specs.declared.faults.Role.{Role}
 use Rattle.uca_runs.specs.declared.faults.Role.TheVariants as roles
-use Rattle.uca_runs.specs.Files.{DataAndRules, HaveFailed, IsStop, Mean, Over, Reading, RefusesCertificate, TableAndData, TailorContent, Done, Then, ended_by_file, tailor_content, then_data, then_rules, then_table}
+use Rattle.uca_runs.specs.Files.{DataAndRules, HaveFailed, IsStop, Mean, Over, Reading, TableAndData, TailorContent, Done, ended_by_file, tailor_content, then_certificate, then_data, then_rules, then_table}
 use Rattle.uca_runs.specs.Keys.{collation, weighting_by}
 
 -- ---- What is read
@@ -39,18 +38,18 @@ pub record ReadsFiles {A C : Type 0} (reading : Reading C) (of : List Role) (old
   pub of_files : ended_by_file result ≡ is_err result
   pub failed : HaveFailed of olds news result
 
--- one file: a table of this role, a data file, rules, or a certificate
+-- one file: a table of this role, a data file of it, rules, or a certificate
 abbrev pub table_file : Role → Reading TableContent
 table_file role = then_table role Done
 
-abbrev pub data_file : Reading Properties
-data_file = then_data Done
+abbrev pub data_file : Role → Reading Properties
+data_file role = then_data role Done
 
 abbrev pub rules_file : Properties → Reading (List Relation)
 rules_file properties = then_rules properties Done
 
 abbrev pub certificate_file : Reading CertificateContent
-certificate_file = Then roles.Certificate certificates.Means RefusesCertificate Done
+certificate_file = then_certificate Done
 
 -- of known bytes that mean a value, this is what is read, unless the reading stops
 abbrev pub ReadsThat : {V : Type 0} → Option (List ℕ) → (List ℕ → V → Type 0) → Result V RunFault → Type 0
@@ -109,7 +108,7 @@ outcome_of tailored certificate = record { tailored = tailored; certificate = ce
 
 -- the table after the tailoring, and its certificate
 abbrev pub outcome_files : Reading OutcomeContent
-outcome_files = then_table roles.Tailored (λ tailored. Then roles.Certificate certificates.Means RefusesCertificate (λ certificate.
+outcome_files = then_table roles.Tailored (λ tailored. then_certificate (λ certificate.
     Done (outcome_of tailored certificate)))
 
 abbrev pub outcome_roles : List Role

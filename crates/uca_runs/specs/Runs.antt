@@ -7,8 +7,8 @@ use Rattle.uca_lines.specs.Lines.{is_lf, Lacks, ended, lines_of}
 use Rattle.uca_runs.specs.declared.faults.InputKind.{InputKind}
 use Rattle.uca_runs.specs.declared.faults.InputKind.TheVariants.{Utf8, TooLong, LongRun, Read, Limit, Memory as InputMemory}
 use Rattle.uca_runs.specs.declared.faults.RunFault.{RunFault}
-use Rattle.uca_runs.specs.declared.faults.RunFault.TheVariants.{Input, Write}
-use Rattle.uca_runs.specs.Input.{cause_of, clean_lines, is_input_read_kind}
+use Rattle.uca_runs.specs.declared.faults.RunFault.TheVariants.{Input, StoredKey, Write}
+use Rattle.uca_runs.specs.Input.{cause_of, clean_lines, is_input_read_kind, is_stored_key_read}
 
 -- ---- The input
 
@@ -51,6 +51,7 @@ IsClean properties bytes = clean_lines properties (lines_of bytes) ≡ lines_of 
 abbrev pub is_input_read : {A : Type 0} → Result A RunFault → Bool
 is_input_read (Ok x) = false
 is_input_read (Err (Input number kind)) = is_input_read_kind kind
+is_input_read (Err (StoredKey number kind)) = is_stored_key_read kind
 is_input_read (Err _) = false
 
 -- ---- The output

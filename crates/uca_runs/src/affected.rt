@@ -1,12 +1,12 @@
-//! The run that prints the lines that rules affect.
+//! The run that prints the lines that rules affect, and its part that others share: printing the lines that are affected.
 
-ghost use Rattle.std.specs.Prelude.{◌≡◌, ◌∷◌, [], ℕ, ◌+◌, ◌-◌, ◌*◌, ◌^◌, ◌<◌, ◌≤◌, ◌||◌, false, List, Option, IfSome, OnOk, length};
+ghost use Rattle.std.specs.Prelude.{◌≡◌, ◌∷◌, [], ℕ, ◌+◌, ◌-◌, ◌*◌, ◌^◌, ◌<◌, ◌≤◌, ◌||◌, false, Bool, List, Option, IfSome, OnOk, length};
 ghost use Rattle.uca_values.specs.Content.{properties_of};
 ghost use Rattle.uca_lines.specs.OutputBuffer.{IsBuffered};
 ghost use Rattle.uca_runs.specs.Runs.{is_input_read, ended_by_output};
 ghost use Rattle.uca_runs.specs.EachLine.{WritesEach, ended_before_input};
 ghost use Rattle.uca_runs.specs.EachLineSoFar.{HasWritten, WritesText, WritesRest};
-ghost use Rattle.uca_runs.specs.AffectedRun.{PrintsAffected, affected_line, if_affected};
+ghost use Rattle.uca_runs.specs.AffectedRun.{PrintsAffected, if_so, is_affected, line_if};
 
 use crate::faults::RunFault;
 use crate::input::InputTexts;
@@ -16,8 +16,27 @@ use std::alloc::{Allocator, Global};
 use std::io::{Read, Write};
 use uca_lines::{LINE_LIMIT, OutputBuffer};
 use uca_rules::Rules;
+use uca_text::Normal;
 use uca_values::Data;
 use uca_weights::{Sink, Source};
+
+/// What affects some texts and no others.
+pub trait Affects {
+    ghost affects: { Self → List ℕ → Bool };
+
+    /// Whether it affects a text.
+    fn affects(&self, text: &Normal) -> bool
+        ensures { result ≡ affects self.now text.now.points };
+}
+
+impl<A: Allocator> Affects for Rules<A> {
+    ghost affects = { λ rules. is_affected rules };
+
+    // A text is affected if a target of the rules occurs in it.
+    fn affects(&self, text: &Normal) -> bool {
+        !self.untouched(text)
+    }
+}
 
 // The lines of the input, and what waits to be written.
 #[derive(Drop)]
@@ -27,10 +46,10 @@ struct AffectedRun<A: Allocator> {
 }
 
 impl<A: Allocator> AffectedRun<A> {
-    // Writes the line that was read, where the rules affect it.
-    fn print_text<R: Allocator, W: Write>(
+    // Writes the line that was read, where it is affected.
+    fn print_text<X: Affects, W: Write>(
         &mut self,
-        rules: &Rules<R>,
+        affects: &X,
         out: &mut Sink<W>,
     ) -> Result<(), RunFault>
         requires few { 0 < self.old.texts.lines.reader.number }
@@ -39,7 +58,7 @@ impl<A: Allocator> AffectedRun<A> {
             ≤ (self.old.texts.lines.reader.number - 1) * 2 ^ 42 }
         ensures prints { (begun : Option (List ℕ)) (before : List ℕ) →
             IsBuffered begun out.old.contents before self.old.output →
-            WritesText begun before (if_affected rules.now self.old.texts.text.points self.old.texts.lines.line)
+            WritesText begun before (if_so (X.affects affects.now) self.old.texts.text.points self.old.texts.lines.line)
             self.old.texts.lines.reader.number self.old.output out.old self.new.output out.new result }
         ensures small { OnOk result (self.new.output.written + length self.new.output.held
             ≤ self.old.texts.lines.reader.number * 2 ^ 42) }
@@ -47,17 +66,17 @@ impl<A: Allocator> AffectedRun<A> {
         ensures not_read { is_input_read result ≡ false }
         ensures failed { out.new.failed ≡ (out.old.failed || ended_by_output result) }
     {
-        if rules.untouched(self.texts.text()) {
+        if !affects.affects(self.texts.text()) {
             return Ok(());
         }
         Ok(write_line(&mut self.output, out, self.texts.line())?)
     }
 
     // Writes those of the lines that are left.
-    fn print_rest<D: Allocator, R: Allocator, I: Read, W: Write>(
+    fn print_rest<D: Allocator, X: Affects, I: Read, W: Write>(
         &mut self,
         properties: &Data<D>,
-        rules: &Rules<R>,
+        affects: &X,
         input: &mut Source<I>,
         out: &mut Sink<W>,
     ) -> Result<(), RunFault>
@@ -65,37 +84,37 @@ impl<A: Allocator> AffectedRun<A> {
             ≤ self.old.texts.lines.reader.number * 2 ^ 42 }
         ensures prints { (start begun : Option (List ℕ)) (before : List (List ℕ)) →
             let points = properties_of properties.now in
-            HasWritten points (affected_line points rules.now) start begun before self.old.texts.lines input.old self.old.output out.old →
-            WritesRest points (affected_line points rules.now) start begun input.new self.new.output out.new result }
+            HasWritten points (line_if (X.affects affects.now) points) start begun before self.old.texts.lines input.old self.old.output out.old →
+            WritesRest points (line_if (X.affects affects.now) points) start begun input.new self.new.output out.new result }
         ensures input_failed { input.new.failed ≡ (input.old.failed || is_input_read result) }
         ensures out_failed { out.new.failed ≡ (out.old.failed || ended_by_output result) }
     {
         while self.texts.next(input, properties)? {
-            self.print_text(rules, out)?;
+            self.print_text(affects, out)?;
         }
         Ok(())
     }
 }
 
-/// Prints the lines of the input that the rules affect, as they are and in their order, until the end of the input or its
-/// first line with an error. A line is affected if a target of the rules occurs in its text in Normalization Form D: all its
-/// code points in their order, whatever is between.
+/// Prints the affected lines of the input, as they are and in their order, until the end of the input or its first line with
+/// an error. A line is affected if its text in Normalization Form D is. Rules affect a text if one of their targets occurs in
+/// it: all its code points in their order, whatever is between.
 ///
 /// # Errors
 ///
 /// - `Input`: the first line with an error. The affected lines before it were written.
 /// - `Write`: the writer failed, also where a later line has an error.
-pub fn print_affected<D: Allocator, R: Allocator, A: Allocator, I: Read, W: Write>(
+pub fn print_affected<D: Allocator, X: Affects, A: Allocator, I: Read, W: Write>(
     alloc: A,
     global: Global,
     properties: &Data<D>,
-    rules: &Rules<R>,
+    affects: &X,
     input: &mut Source<I>,
     out: &mut Sink<W>,
 ) -> Result<(), RunFault>
     ensures writes { IfSome input.old.remaining (λ bytes.
         let points = properties_of properties.now in
-        WritesEach points (affected_line points rules.now) bytes input.new.remaining out.old.contents out.new.contents result) }
+        WritesEach points (line_if (X.affects affects.now) points) bytes input.new.remaining out.old.contents out.new.contents result) }
     ensures of_lines { ended_before_input result ≡ false }
     ensures input_failed { ended_by_output result ≡ false →
         input.new.failed ≡ (input.old.failed || is_input_read result) }
@@ -105,7 +124,7 @@ pub fn print_affected<D: Allocator, R: Allocator, A: Allocator, I: Read, W: Writ
         texts: InputTexts::new(alloc, global),
         output: OutputBuffer::new(),
     };
-    let end = run.print_rest(properties, rules, input, out);
+    let end = run.print_rest(properties, affects, input, out);
     let end = end_output(&mut run.output, out, end);
     drop(run);
     end

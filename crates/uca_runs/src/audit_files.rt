@@ -3,16 +3,16 @@
 ghost use Rattle.std.specs.Prelude.{◌≡◌, ◌∷◌, []};
 ghost use Rattle.uca_tailorings.specs.Inputs.{tailoring_of};
 ghost use Rattle.uca_runs.specs.Files.{audit_files, audit_roles, data_and_rules_roles, rules_over, tailor_content};
-ghost use Rattle.uca_runs.specs.ReadFiles.{ReadsFiles, certificate_file, outcome_files, outcome_of, outcome_roles};
+ghost use Rattle.uca_runs.specs.ReadFiles.{ReadsFiles, outcome_files, outcome_of, outcome_roles};
 ghost use Rattle.uca_values.specs.Content.{properties_of};
 
-use crate::faults::{FileFault, Role, RunFault};
-use crate::files::read_table_file;
+use crate::faults::{Role, RunFault};
+use crate::files::{read_certificate_file, read_table_file};
 use crate::rule_file::read_data_and_rules;
 use crate::tailor_files::TailorFiles;
 use std::alloc::{Allocator, Global};
 use std::io::Read;
-use uca_certificates::{Certificate, read_certificate};
+use uca_certificates::Certificate;
 use uca_rules::Rules;
 use uca_values::{Data, Table};
 use uca_weights::Source;
@@ -131,22 +131,5 @@ fn read_outcome<A: Allocator + Copy, T: Read, C: Read>(
             drop(tailored);
             Err(fault)
         }
-    }
-}
-
-// Reads the certificate, to its end or its first error.
-fn read_certificate_file<A: Allocator + Copy, C: Read>(
-    alloc: A,
-    source: &mut Source<C>,
-) -> Result<Certificate<A>, RunFault>
-    ensures { ReadsFiles certificate_file (Role.Certificate ∷ []) (source.old ∷ []) (source.new ∷ [])
-        (λ certificate. certificate) result }
-{
-    match read_certificate(alloc, source) {
-        Ok(certificate) => Ok(certificate),
-        Err(fault) => Err(RunFault::File {
-            role: Role::Certificate,
-            fault: FileFault::Certificate(fault),
-        }),
     }
 }

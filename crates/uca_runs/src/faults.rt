@@ -2,13 +2,16 @@
 
 ghost use Rattle.std.specs.Prelude.{◌≡◌, ◌≤◌, length, Some};
 ghost use Rattle.uca_runs.specs.RoleText.{role_text};
-ghost use Rattle.uca_runs.specs.FaultText.{input_kind_text, file_fault_text, side_text, tailor_text, fault_text};
+ghost use Rattle.uca_runs.specs.FaultText.{input_kind_text, stored_key_text, file_fault_text, side_text, tailor_text, fault_text};
 ghost use Rattle.uca_runs.specs.PlanFaults.{refused_plan};
+ghost use Rattle.uca_runs.specs.ChangeFaults.{refused_changes};
 ghost use Rattle.uca_runs.specs.declared.faults.RunFault.TheVariants.{Write};
 
+use crate::change_faults::change_message;
 use std::fmt;
 use thiserror::Error;
 use uca_certificates::CertificateFault;
+use uca_changes::ChangeFault;
 use uca_plans::{TailorFault, TailorKind};
 use uca_rules::RuleFault;
 use uca_text::TextFault;
@@ -31,6 +34,16 @@ pub enum Role {
     Base,
     /// The weight table after a tailoring.
     Tailored,
+    /// The weight table before a change.
+    Old,
+    /// The data file before a change.
+    OldData,
+    /// The weight table after a change.
+    New,
+    /// The data file after a change.
+    NewData,
+    /// The file of changes.
+    Changes,
 }
 
 impl Role {
@@ -45,6 +58,11 @@ impl Role {
             Role::Certificate => "certificate",
             Role::Base => "base",
             Role::Tailored => "tailored",
+            Role::Old => "old",
+            Role::OldData => "old-data",
+            Role::New => "new",
+            Role::NewData => "new-data",
+            Role::Changes => "changes",
         }
     }
 }
@@ -101,10 +119,49 @@ impl fmt::Display for InputKind {
     }
 }
 
+/// Why a line of standard input with a stored key is rejected.
+#[derive(Clone, Copy, Debug, PartialEq, Eq, Error)]
+pub enum StoredKeyKind {
+    /// It does not begin with the digits of a key.
+    NoKey,
+    /// Its key has no key under the new table: a weight has no image, or its levels do not fit the weighting and the depth.
+    NoImage,
+    /// It has more bytes than a line may have.
+    TooLong,
+    /// The reader failed.
+    Read,
+    /// An allocation failed.
+    Memory,
+}
+
+impl StoredKeyKind {
+    /// Its name: `NoImage`.
+    pub fn name(self) -> &'static str
+        ensures text { result.now ≡ stored_key_text self }
+        ensures short { length result.now ≤ 40 }
+    {
+        match self {
+            StoredKeyKind::NoKey => "NoKey",
+            StoredKeyKind::NoImage => "NoImage",
+            StoredKeyKind::TooLong => "TooLong",
+            StoredKeyKind::Read => "Read",
+            StoredKeyKind::Memory => "Memory",
+        }
+    }
+}
+
+impl fmt::Display for StoredKeyKind {
+    ghost output = { λ kind. Some (stored_key_text kind) };
+
+    fn fmt<W: fmt::Write>(&self, f: &mut fmt::Formatter<W>) -> fmt::Result {
+        f.write_str(self.name())
+    }
+}
+
 /// Where a file is rejected, and why. Its text follows the name of the role of the file.
 #[derive(Clone, Copy, Debug, PartialEq, Eq, Error)]
 pub enum FileFault {
-    /// In a line of a table or of a data file: `line 7: Range`.
+    /// In a line of a table, of a data file or of a file of changes: `line 7: Range`.
     #[error("{0}")]
     Lines(TableFault),
     /// At a byte of rules: `byte 7: Syntax`.
@@ -155,6 +212,13 @@ pub enum RunFault {
         /// Why it is rejected.
         kind: InputKind,
     },
+    /// A line of the input with a stored key is rejected, or cannot be read.
+    StoredKey {
+        /// The line, counted from 1.
+        line: u64,
+        /// Why it is rejected.
+        kind: StoredKeyKind,
+    },
     /// The writer failed.
     Write {
         /// How many bytes of the whole output went out before.
@@ -171,6 +235,8 @@ pub enum RunFault {
     },
     /// There is no plan, and so no tailored table: `tailor relation 3: Anchor`, `tailor: NoRoom 2`.
     Tailor(TailorFault),
+    /// No change is found that an audit accepts: `changes: OldIllFormed old row 3`.
+    Changes(ChangeFault),
     /// The file of the certificate cannot be made or kept, or its writer failed.
     CertificateWrite {
         /// How many bytes of the certificate went out before its writer failed; 0 where the file cannot be made or kept.
@@ -196,12 +262,19 @@ impl RunFault {
                 .number((*line).into())
                 .text(": ")
                 .text(kind.message().as_str()),
+            RunFault::StoredKey { line, kind } => Message::of("input line ")
+                .number(*line)
+                .text(": ")
+                .text(kind.name()),
             RunFault::Write { .. } => Message::of("output: Write"),
             RunFault::Memory => Message::of("memory"),
             RunFault::Text { right, fault } => Message::of(side_name(*right))
                 .text(": ")
                 .text(fault.message().as_str()),
             RunFault::Tailor(fault) => tailor_message(*fault),
+            RunFault::Changes(fault) => {
+                Message::of("changes: ").text(change_message(*fault).as_str())
+            }
             RunFault::CertificateWrite { .. } => Message::of("certificate: Write"),
             RunFault::Open(role) => Message::of(role.name()).text(": Open"),
             RunFault::SameAs(role) => Message::of("certificate: SameAs ").text(role.name()),
@@ -251,6 +324,17 @@ impl From<TailorFault> for RunFault {
         match fault.kind {
             TailorKind::Memory => RunFault::Memory,
             _ => RunFault::Tailor(fault),
+        }
+    }
+}
+
+impl From<ChangeFault> for RunFault {
+    ghost from_gives = { λ fault e. e ≡ refused_changes fault };
+
+    fn from(fault: ChangeFault) -> RunFault {
+        match fault {
+            ChangeFault::Memory => RunFault::Memory,
+            _ => RunFault::Changes(fault),
         }
     }
 }

@@ -1,11 +1,11 @@
-//! The table and the data file that a run uses.
+//! The files that a run uses: a table and a data file, each of them alone, and a certificate.
 
 ghost use Rattle.std.specs.Prelude.{◌≡◌, ◌∷◌, [], true, IfOk, IfErr, MatchResult};
 ghost use Rattle.uca_values.specs.Content.{properties_of};
 ghost use Rattle.uca_match.specs.Rows.{rows_of};
 ghost use Rattle.uca_key.specs.Lengths.{HasShortRows};
 ghost use Rattle.uca_runs.specs.Files.{HaveFailed, Over, table_and_data, table_and_data_roles, table_with};
-ghost use Rattle.uca_runs.specs.ReadFiles.{IsCollation, ReadsFiles, collation_in, data_file, table_file};
+ghost use Rattle.uca_runs.specs.ReadFiles.{IsCollation, ReadsFiles, certificate_file, collation_in, data_file, table_file};
 ghost use Rattle.uca_runs.specs.EachLine.{ended_before_input};
 ghost use Rattle.uca_match.specs.Collations.{collation_of};
 ghost use Rattle.uca_runs.specs.Keys.{weighting_by};
@@ -13,6 +13,7 @@ ghost use Rattle.uca_runs.specs.Keys.{weighting_by};
 use crate::faults::{FileFault, Role, RunFault};
 use std::alloc::{Allocator, Global};
 use std::io::Read;
+use uca_certificates::{Certificate, read_certificate};
 use uca_key::laws::rows_are_short;
 use uca_match::{Collator, Lookup, Trie};
 use uca_table::{read_data, read_table};
@@ -42,7 +43,7 @@ pub fn read_files<A: Allocator + Copy, T: Read, D: Read>(
         (λ files. table_with files.table (properties_of files.properties)) result }
 {
     let table = read_table_file(alloc, Role::Table, table)?;
-    match read_data_file(alloc, properties) {
+    match read_data_file(alloc, Role::Data, properties) {
         Ok(properties) => Ok(Files { table, properties }),
         Err(fault) => {
             drop(table);
@@ -72,22 +73,44 @@ pub fn read_table_file<A: Allocator + Copy, T: Read>(
     }
 }
 
-/// Reads the data file, to its end or its first error.
+/// Reads a data file that has this role, to its end or its first error.
 ///
 /// # Errors
 ///
-/// `File` with the role `Data`, if it is rejected.
+/// `File` with this role, if it is rejected.
 pub fn read_data_file<A: Allocator + Copy, D: Read>(
     alloc: A,
+    role: Role,
     source: &mut Source<D>,
 ) -> Result<Data<A>, RunFault>
-    ensures { ReadsFiles data_file (Role.Data ∷ []) (source.old ∷ []) (source.new ∷ []) properties_of result }
+    ensures { ReadsFiles (data_file role) (role ∷ []) (source.old ∷ []) (source.new ∷ []) properties_of result }
 {
     match read_data(alloc, source) {
         Ok(properties) => Ok(properties),
         Err(fault) => Err(RunFault::File {
-            role: Role::Data,
+            role,
             fault: FileFault::Lines(fault),
+        }),
+    }
+}
+
+/// Reads a certificate, to its end or its first error.
+///
+/// # Errors
+///
+/// `File` with the role `Certificate`, if it is rejected.
+pub fn read_certificate_file<A: Allocator + Copy, C: Read>(
+    alloc: A,
+    source: &mut Source<C>,
+) -> Result<Certificate<A>, RunFault>
+    ensures { ReadsFiles certificate_file (Role.Certificate ∷ []) (source.old ∷ []) (source.new ∷ [])
+        (λ certificate. certificate) result }
+{
+    match read_certificate(alloc, source) {
+        Ok(certificate) => Ok(certificate),
+        Err(fault) => Err(RunFault::File {
+            role: Role::Certificate,
+            fault: FileFault::Certificate(fault),
         }),
     }
 }

@@ -1,9 +1,10 @@
 //! The runs that need neither the planner nor the auditor: keys of lines, sorting, the lines that rules affect, checking a
-//! table, and comparing two texts. It also reads the files of all runs.
+//! table, and comparing two texts. It also reads the files of these runs and of others, and has the errors of all runs.
 #![tactic(auto)]
 
 pub mod affected;
 pub mod audit_files;
+pub mod change_faults;
 pub mod check;
 pub mod compare;
 pub mod faults;
@@ -21,10 +22,11 @@ mod rule_file;
 pub mod sort;
 pub mod tailor_files;
 
-pub use affected::{print_affected, run_affected, run_affected_in};
+pub use affected::{Affects, print_affected, run_affected, run_affected_in};
 pub use check::run_check;
 pub use compare::{compare_words, run_compare, run_compare_in};
-pub use faults::{FileFault, InputKind, Role, RunFault};
+pub use faults::{FileFault, InputKind, Role, RunFault, StoredKeyKind};
+pub use files::{read_certificate_file, read_data_file, read_table_file};
 pub use keyed_lines::{print_keyed_lines, run_keyed_lines, run_keyed_lines_in};
 pub use keys::{print_keys, run_keys, run_keys_in};
 pub use laws::{

@@ -31,8 +31,12 @@ pub fn write_text<W: Write>(text: &[u8], out: &mut Sink<W>) -> Result<(), RunFau
     Ok(out.write_all(text)?)
 }
 
-/// Writes a line and its LF. An error says how many bytes went out of all that was written to the buffer.
-pub(crate) fn write_line<W: Write>(
+/// Writes a line and its LF.
+///
+/// # Errors
+///
+/// Those of [`OutputBuffer::write`]: an error says how many bytes went out of all that was written to the buffer.
+pub fn write_line<W: Write>(
     output: &mut OutputBuffer,
     out: &mut Sink<W>,
     line: &[u8],
@@ -49,7 +53,7 @@ pub(crate) fn write_line<W: Write>(
 /// # Errors
 ///
 /// Those of `end`; `Write` where the writer fails now.
-pub(crate) fn end_output<W: Write>(
+pub fn end_output<W: Write>(
     output: &mut OutputBuffer,
     out: &mut Sink<W>,
     end: Result<(), RunFault>,

@@ -1,6 +1,6 @@
 use Rattle.std.proofs.lemmas.Result.{on_ok_weaker}
+use Rattle.uca_changes.proofs.SameLists.{accepted_by_same}
 use Rattle.uca_change_maker.specs.Found.{change_with}
-use Rattle.uca_change_maker.proofs.SameLists.{accepted_by_same}
 use Rattle.uca_change_maker.proofs.maker.audit_found.Goals as goal
 
 pub returns-clause-accepted : goal.returns-clause-accepted

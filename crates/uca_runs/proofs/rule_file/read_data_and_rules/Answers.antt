@@ -14,14 +14,14 @@ pub returns-in_err-properties : goal.returns-in_err-properties
 returns-in_err-properties g c =
     let p = err_from_is_err_and c.from_residual.result c.from_residual.ensures.1 in
     let unread = c.args.rules.now in
-    rw (p.1, p.2) (first_rejected data_file rules_file data_with (roles.Data ∷ []) (roles.Rules ∷ [])
+    rw (p.1, p.2) (first_rejected (data_file roles.Data) rules_file data_with (roles.Data ∷ []) (roles.Rules ∷ [])
     (c.args.properties.now ∷ []) (c.read_data_file.new.source ∷ []) (unread ∷ []) (unread ∷ []) properties_of _ (refl, λ points. tt)
     c.in_err-properties.field-0.0 refl (stays unread.failed, tt) c.in_err-properties.ensures)
 
 pub returns-in-Err : goal.returns-in-Err
 returns-in-Err g c =
     let points = properties_of c.in_ok-properties.properties in
-    (second_rejected data_file rules_file data_with (roles.Data ∷ []) (roles.Rules ∷ [])
+    (second_rejected (data_file roles.Data) rules_file data_with (roles.Data ∷ []) (roles.Rules ∷ [])
     (c.args.properties.now ∷ []) (c.read_data_file.new.source ∷ []) (c.args.rules.now ∷ []) (c.read_rule_file.new.source ∷ [])
     properties_of _ (refl, λ points. tt) (λ rules. rules) c.in_ok-properties.properties (λ points. (refl, λ rules. tt)) c.in_ok-properties.ensures
     c.in-Err.fault refl (file_rejected roles.Rules (rule_files.Means points) (RefusesRules points) c.args.rules.now c.read_rule_file.new.source (λ rules. rules)
@@ -30,7 +30,7 @@ returns-in-Err g c =
 pub returns-in-Ok : goal.returns-in-Ok
 returns-in-Ok g c =
     let points = properties_of c.in_ok-properties.properties in
-    both_read data_file rules_file data_with (roles.Data ∷ []) (roles.Rules ∷ [])
+    both_read (data_file roles.Data) rules_file data_with (roles.Data ∷ []) (roles.Rules ∷ [])
     (c.args.properties.now ∷ []) (c.read_data_file.new.source ∷ []) (c.args.rules.now ∷ []) (c.read_rule_file.new.source ∷ [])
     properties_of _ (refl, λ points. tt) (λ rules. rules) c.in_ok-properties.properties (λ points. (refl, λ rules. tt)) c.in_ok-properties.ensures
     c.in-Ok.rules _ refl (file_read roles.Rules (rule_files.Means points) (RefusesRules points) c.args.rules.now c.read_rule_file.new.source (λ rules. rules)

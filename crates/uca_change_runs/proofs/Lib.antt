@@ -1,0 +1,7 @@
+pub mod EditionsRead
+pub mod ChangeVerdicts
+pub mod ChangeFilesRead
+pub mod MarkLaws
+pub mod SearchLaws
+pub mod AffectedTexts
+pub mod FreeTexts

@@ -1,0 +1,135 @@
+//! The run that prints the lines that changes affect.
+
+ghost use Rattle.std.specs.Prelude.{◌≡◌, ◌∷◌, [], true, IfErr, MatchResult};
+ghost use Rattle.uca_values.specs.Content.{properties_of};
+ghost use Rattle.uca_runs.specs.EachLine.{ended_before_input};
+ghost use Rattle.uca_runs.specs.Files.{HaveFailed, Over};
+ghost use Rattle.uca_runs.specs.ReadFiles.{ReadsFiles};
+ghost use Rattle.uca_change_runs.specs.ChangeFiles.{changes_with, data_and_changes, data_and_changes_roles};
+ghost use Rattle.uca_change_runs.specs.AffectedRun.{AffectedByChangesAreTheOthers, PrintsAffectedByChanges};
+
+use crate::files::read_changes_file;
+use crate::index::ChangeIndex;
+use std::alloc::{Allocator, Global};
+use std::io::{Read, Write};
+use uca_change_files::ChangeList;
+use uca_runs::{Role, RunFault, print_affected, read_data_file};
+use uca_values::Data;
+use uca_weights::{Sink, Source};
+
+/// What the two files mean, where the changes are still a list.
+#[derive(Drop)]
+struct DataAndChanges<A: Allocator> {
+    /// The properties of code points.
+    properties: Data<A>,
+    /// The changes.
+    list: ChangeList<A>,
+}
+
+/// What the two files mean, ready for the lines.
+#[derive(Drop)]
+struct DataAndIndex<A: Allocator> {
+    /// The properties of code points.
+    properties: Data<A>,
+    /// The changes.
+    index: ChangeIndex<A>,
+}
+
+/// Prints the lines of `input` that the changes affect, each with LF: those in whose text in Normalization Form D a changed
+/// text occurs in order, or a changed range has a code point. The data file and the file of changes are read first. The lines
+/// are as they are, and in their order. Under each accepted change with these texts and ranges the other lines keep their
+/// order among themselves.
+///
+/// # Errors
+///
+/// - `File`: the data file, or else the file of changes, is rejected. Nothing was written, and nothing of the input was read.
+/// - `Memory`: an allocation failed for looking changes up. Nothing was written, and nothing of the input was read.
+/// - `Input`: the first line with an error. The affected lines before it were written.
+/// - `Write`: the writer failed, also where a later line has an error. The first `written` bytes of the whole output went
+///   out.
+pub fn run_affected_by_changes<D: Read, C: Read, I: Read, W: Write>(
+    alloc: Global,
+    properties: &mut Source<D>,
+    changes: &mut Source<C>,
+    input: &mut Source<I>,
+    out: &mut Sink<W>,
+) -> Result<(), RunFault>
+    ensures { PrintsAffectedByChanges (properties.old ∷ changes.old ∷ []) (properties.new ∷ changes.new ∷ [])
+        input.old input.new out.old out.new result }
+{
+    run_affected_by_changes_in(alloc, alloc, properties, changes, input, out)
+}
+
+/// As [`run_affected_by_changes`], with the two files and the lines in memory of any allocator. Texts in Normalization Form D
+/// are in `global`.
+///
+/// # Errors
+///
+/// Those of [`run_affected_by_changes`].
+pub fn run_affected_by_changes_in<A: Allocator + Copy, D: Read, C: Read, I: Read, W: Write>(
+    alloc: A,
+    global: Global,
+    properties: &mut Source<D>,
+    changes: &mut Source<C>,
+    input: &mut Source<I>,
+    out: &mut Sink<W>,
+) -> Result<(), RunFault>
+    ensures { PrintsAffectedByChanges (properties.old ∷ changes.old ∷ []) (properties.new ∷ changes.new ∷ [])
+        input.old input.new out.old out.new result }
+{
+    let files = read_data_and_index(alloc, properties, changes)?;
+    let end = print_affected(alloc, global, &files.properties, &files.index, input, out);
+    drop(files);
+    end
+}
+
+/// A run of the lines that changes affect prints all lines but those that a change with these texts and ranges leaves as they
+/// are. In the text of each a changed text occurs in order, or a code point lies in a changed range. In no other line that is
+/// so.
+pub fn affected_by_changes_are_the_others()
+    ensures { AffectedByChangesAreTheOthers }
+{}
+
+// Reads the data file, and then the file of changes, and makes the changes ready to be looked up. The error is `File` if one
+// of them is rejected, the first if both are. It is `Memory` if an allocation failed after that.
+fn read_data_and_index<A: Allocator + Copy, D: Read, C: Read>(
+    alloc: A,
+    properties: &mut Source<D>,
+    changes: &mut Source<C>,
+) -> Result<DataAndIndex<A>, RunFault>
+    ensures read { Over data_and_changes (properties.old ∷ changes.old ∷ []) (properties.new ∷ changes.new ∷ [])
+        (λ content. MatchResult result
+        (λ files. changes_with (properties_of files.properties) files.index ≡ content) (λ fault. fault ≡ RunFault.Memory)) result }
+    ensures before_input { IfErr result (λ _. ended_before_input result ≡ true) }
+    ensures failed { HaveFailed data_and_changes_roles (properties.old ∷ changes.old ∷ [])
+        (properties.new ∷ changes.new ∷ []) result }
+{
+    let DataAndChanges { properties, list } = read_data_and_changes(alloc, properties, changes)?;
+    match ChangeIndex::new(alloc, list) {
+        Ok(index) => Ok(DataAndIndex { properties, index }),
+        Err(_) => {
+            drop(properties);
+            Err(RunFault::Memory)
+        }
+    }
+}
+
+// Reads the data file, and then the file of changes, each to its end or its first error. The error is `File` if one of them is
+// rejected, the first if both are.
+fn read_data_and_changes<A: Allocator + Copy, D: Read, C: Read>(
+    alloc: A,
+    properties: &mut Source<D>,
+    changes: &mut Source<C>,
+) -> Result<DataAndChanges<A>, RunFault>
+    ensures { ReadsFiles data_and_changes data_and_changes_roles (properties.old ∷ changes.old ∷ []) (properties.new ∷ changes.new ∷ [])
+        (λ files. changes_with (properties_of files.properties) files.list) result }
+{
+    let properties = read_data_file(alloc, Role::Data, properties)?;
+    match read_changes_file(alloc, changes) {
+        Ok(list) => Ok(DataAndChanges { properties, list }),
+        Err(fault) => {
+            drop(properties);
+            Err(fault)
+        }
+    }
+}

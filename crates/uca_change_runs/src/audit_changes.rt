@@ -1,0 +1,167 @@
+//! The run that audits a change.
+
+ghost use Rattle.std.specs.Prelude.{◌≡◌, ◌⊎◌, ◌||◌, ◌∷◌, [], Err, IfErr, OnOk, MatchResult};
+ghost use Rattle.uca_changes.specs.Changes.{Change, IsAcceptedChange};
+ghost use Rattle.uca_change_audit.specs.ChangeInputs.{MeansUnaffectedTextsStay};
+ghost use Rattle.uca_change_audit.specs.ChangeRefusals.{IsFirstRefusal};
+ghost use Rattle.uca_runs.specs.Runs.{ended_by_output};
+ghost use Rattle.uca_runs.specs.Verdicts.{WritesVerdict};
+ghost use Rattle.uca_change_runs.specs.ReadChanges.{change_by, change_of};
+ghost use Rattle.uca_change_runs.specs.AuditRun.{AuditsChanges, IsVerdict, RunsAudit};
+
+use crate::files::{ChangeFiles, read_change_files};
+use std::alloc::{Allocator, Global};
+use std::io::{Read, Write};
+use uca_change_audit::{ChangeFault, ChangeInputs, audit_change};
+use uca_change_lists::Changes;
+use uca_change_maker::changes_of;
+use uca_runs::RunFault;
+use uca_runs::change_faults::change_verdict;
+use uca_runs::output::write_text;
+use uca_weights::{Sink, Source};
+
+/// Audits a change: whether texts that it does not affect compare by the new table and data file as by the old ones. Their
+/// stored keys are those that the certificate's maps make of the old ones. Returns whether the change is accepted. Writes the
+/// verdict as a line: `accepted`, or the first condition that is not met and the first position where it is not, such as
+/// `refused 5 RowChanged old row 3`. The files are read in turn, each to its end or its first error.
+///
+/// # Errors
+///
+/// `File` for the first file that is rejected, and `Memory` if an allocation failed in the audit: nothing was written.
+/// `Write` if the writer failed: the first `written` bytes of the verdict went out.
+pub fn run_audit_changes<A: Read, B: Read, C: Read, D: Read, E: Read, F: Read, W: Write>(
+    alloc: Global,
+    old: &mut Source<A>,
+    old_data: &mut Source<B>,
+    new: &mut Source<C>,
+    new_data: &mut Source<D>,
+    changes: &mut Source<E>,
+    certificate: &mut Source<F>,
+    out: &mut Sink<W>,
+) -> Result<bool, RunFault>
+    ensures { AuditsChanges (old.old ∷ old_data.old ∷ new.old ∷ new_data.old ∷ changes.old ∷ certificate.old ∷ [])
+        (old.new ∷ old_data.new ∷ new.new ∷ new_data.new ∷ changes.new ∷ certificate.new ∷ []) out.old out.new result }
+{
+    run_audit_changes_in(
+        alloc,
+        old,
+        old_data,
+        new,
+        new_data,
+        changes,
+        certificate,
+        out,
+    )
+}
+
+/// As [`run_audit_changes`], with memory of any allocator.
+///
+/// # Errors
+///
+/// Those of [`run_audit_changes`].
+pub fn run_audit_changes_in<
+    M: Allocator + Copy,
+    A: Read,
+    B: Read,
+    C: Read,
+    D: Read,
+    E: Read,
+    F: Read,
+    W: Write,
+>(
+    alloc: M,
+    old: &mut Source<A>,
+    old_data: &mut Source<B>,
+    new: &mut Source<C>,
+    new_data: &mut Source<D>,
+    changes: &mut Source<E>,
+    certificate: &mut Source<F>,
+    out: &mut Sink<W>,
+) -> Result<bool, RunFault>
+    ensures { AuditsChanges (old.old ∷ old_data.old ∷ new.old ∷ new_data.old ∷ changes.old ∷ certificate.old ∷ [])
+        (old.new ∷ old_data.new ∷ new.new ∷ new_data.new ∷ changes.new ∷ certificate.new ∷ []) out.old out.new result }
+{
+    let files = read_change_files(alloc, old, old_data, new, new_data, changes, certificate);
+    audit_read(alloc, files, out)
+}
+
+// Audits what was read. An error of the reading is returned, and then nothing is written.
+fn audit_read<M: Allocator + Copy, W: Write>(
+    alloc: M,
+    read: Result<ChangeFiles<M>, RunFault>,
+    out: &mut Sink<W>,
+) -> Result<bool, RunFault>
+    ensures runs { MatchResult read (λ files. RunsAudit out.old out.new result (change_of files)) (λ fault. (result ≡ Err fault) × (out.new ≡ out.old)) }
+    ensures failed { MatchResult read (λ _. out.new.failed ≡ (out.old.failed || ended_by_output result)) (λ _. out.new ≡ out.old) }
+{
+    match read {
+        Ok(files) => {
+            // All files are dropped in one step: that keeps the proof short.
+            let verdict = write_verdict(alloc, &files, out);
+            drop(files);
+            verdict
+        }
+        Err(fault) => Err(fault),
+    }
+}
+
+// Audits what the files mean, and writes the verdict as a line.
+fn write_verdict<M: Allocator + Copy, W: Write>(
+    alloc: M,
+    files: &ChangeFiles<M>,
+    out: &mut Sink<W>,
+) -> Result<bool, RunFault>
+    ensures runs { RunsAudit out.old out.new result (change_of files.now) }
+    ensures failed { out.new.failed ≡ (out.old.failed || ended_by_output result) }
+{
+    match audit_files(alloc, files) {
+        Ok(()) => end_verdict(true, b"accepted\n", out),
+        Err(ChangeFault::Memory) => Err(RunFault::Memory),
+        Err(fault) => end_verdict(
+            false,
+            change_verdict(fault).text("\n").as_str().as_bytes(),
+            out,
+        ),
+    }
+}
+
+// Writes the line of a verdict, and returns the verdict.
+fn end_verdict<W: Write>(verdict: bool, line: &[u8], out: &mut Sink<W>) -> Result<bool, RunFault>
+    ensures runs { (change : Change) → IsVerdict change verdict line.now → RunsAudit out.old out.new result change }
+    ensures failed { out.new.failed ≡ (out.old.failed || ended_by_output result) }
+{
+    write_text(line, out)?;
+    Ok(verdict)
+}
+
+// Audits the change that the files mean.
+fn audit_files<M: Allocator + Copy>(alloc: M, files: &ChangeFiles<M>) -> Result<(), ChangeFault>
+    ensures accepted { OnOk result (IsAcceptedChange (change_of files.now)) }
+    ensures meaning { OnOk result (MeansUnaffectedTextsStay (change_of files.now)) }
+    ensures refused { IfErr result (λ fault. IsFirstRefusal (change_of files.now) fault ⊎ (fault ≡ ChangeFault.Memory)) }
+{
+    let changes = changes_of(alloc, &files.listed.list)?;
+    audit_listed(alloc, files, &changes)
+}
+
+// Audits the change with other lists in place of the file of changes.
+fn audit_listed<M: Allocator + Copy>(
+    alloc: M,
+    files: &ChangeFiles<M>,
+    changes: &Changes<M>,
+) -> Result<(), ChangeFault>
+    ensures accepted { OnOk result (IsAcceptedChange (change_by files.now changes.now)) }
+    ensures meaning { OnOk result (MeansUnaffectedTextsStay (change_by files.now changes.now)) }
+    ensures refused { IfErr result (λ fault. IsFirstRefusal (change_by files.now changes.now) fault ⊎ (fault ≡ ChangeFault.Memory)) }
+{
+    let editions = &files.editions;
+    let inputs = ChangeInputs {
+        old: &editions.old.table,
+        old_data: &editions.old.properties,
+        new: &editions.new.table,
+        new_data: &editions.new.properties,
+        changes,
+        certificate: &files.listed.certificate,
+    };
+    audit_change(alloc, &inputs)
+}

@@ -1,0 +1,83 @@
+//! The run that finds what changes from one edition to another.
+
+ghost use Rattle.std.specs.Prelude.{◌≡◌, ◌∷◌, [], Err, MatchResult};
+ghost use Rattle.uca_change_runs.specs.ReadChanges.{editions_of};
+ghost use Rattle.uca_change_runs.specs.ChangesRun.{FindsChanges, RunsChanges};
+
+use crate::files::{EditionFiles, read_editions};
+use std::alloc::{Allocator, Global};
+use std::io::Read;
+use uca_change_maker::{Editions, FoundChanges, find_changes};
+use uca_runs::RunFault;
+use uca_weights::Source;
+
+/// Finds what changes from an old table and its data file to new ones: texts, ranges of code points, and the images of the old
+/// table's weights. An audit accepts what is found. The files are read in turn, each to its end or its first error.
+///
+/// # Errors
+///
+/// `File` for the first file that is rejected. `Changes` if a table is not well-formed, or if an audit rejects what was found.
+/// `Memory` if an allocation failed after the files were read.
+pub fn run_changes<A: Read, B: Read, C: Read, D: Read>(
+    alloc: Global,
+    old: &mut Source<A>,
+    old_data: &mut Source<B>,
+    new: &mut Source<C>,
+    new_data: &mut Source<D>,
+) -> Result<FoundChanges, RunFault>
+    ensures { FindsChanges (old.old ∷ old_data.old ∷ new.old ∷ new_data.old ∷ []) (old.new ∷ old_data.new ∷ new.new ∷ new_data.new ∷ []) result }
+{
+    run_changes_in(alloc, old, old_data, new, new_data)
+}
+
+/// As [`run_changes`], with memory of any allocator.
+///
+/// # Errors
+///
+/// Those of [`run_changes`].
+pub fn run_changes_in<M: Allocator + Copy, A: Read, B: Read, C: Read, D: Read>(
+    alloc: M,
+    old: &mut Source<A>,
+    old_data: &mut Source<B>,
+    new: &mut Source<C>,
+    new_data: &mut Source<D>,
+) -> Result<FoundChanges<M>, RunFault>
+    ensures { FindsChanges (old.old ∷ old_data.old ∷ new.old ∷ new_data.old ∷ []) (old.new ∷ old_data.new ∷ new.new ∷ new_data.new ∷ []) result }
+{
+    let files = read_editions(alloc, old, old_data, new, new_data);
+    find_in(alloc, files)
+}
+
+// Finds what changes between the editions that were read. An error of the reading is returned.
+fn find_in<M: Allocator + Copy>(
+    alloc: M,
+    read: Result<EditionFiles<M>, RunFault>,
+) -> Result<FoundChanges<M>, RunFault>
+    ensures { MatchResult read (λ files. RunsChanges result (editions_of files)) (λ fault. result ≡ Err fault) }
+{
+    match read {
+        Ok(files) => {
+            // All files are dropped in one step: that keeps the proof short.
+            let found = find_between(alloc, &files);
+            drop(files);
+            found
+        }
+        Err(fault) => Err(fault),
+    }
+}
+
+// Finds what changes from the old edition to the new one.
+fn find_between<M: Allocator + Copy>(
+    alloc: M,
+    files: &EditionFiles<M>,
+) -> Result<FoundChanges<M>, RunFault>
+    ensures { RunsChanges result (editions_of files.now) }
+{
+    let editions = Editions {
+        old: &files.old.table,
+        old_data: &files.old.properties,
+        new: &files.new.table,
+        new_data: &files.new.properties,
+    };
+    Ok(find_changes(alloc, &editions)?)
+}

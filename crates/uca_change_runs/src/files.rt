@@ -1,0 +1,165 @@
+//! The files of changes: two editions, each of them a table and its data file, and then a file of changes and a certificate.
+
+ghost use Rattle.std.specs.Prelude.{◌≡◌, ◌∷◌, [], false};
+ghost use Rattle.uca_runs.specs.Files.{is_role};
+ghost use Rattle.uca_runs.specs.ReadFiles.{ReadsFiles};
+ghost use Rattle.uca_change_runs.specs.ChangeFiles.{change_files, change_roles, editions_files, editions_roles};
+ghost use Rattle.uca_change_runs.specs.ReadChanges.{change_of, changes_file, edition_files, edition_of, editions_of, listed_files, listed_of, listed_roles};
+
+use std::alloc::{Allocator, Global};
+use std::io::Read;
+use uca_certificates::Certificate;
+use uca_change_files::{ChangeList, read_changes};
+use uca_runs::{FileFault, Role, RunFault, read_certificate_file, read_data_file, read_table_file};
+use uca_values::{Data, Table};
+use uca_weights::Source;
+
+/// What a table and its data file mean.
+#[derive(Drop)]
+pub struct Edition<M: Allocator = Global> {
+    /// The weight table.
+    pub table: Table<M>,
+    /// The properties of code points.
+    pub properties: Data<M>,
+}
+
+/// What the files of two editions mean.
+#[derive(Drop)]
+pub struct EditionFiles<M: Allocator = Global> {
+    /// The old table and its data file.
+    pub old: Edition<M>,
+    /// The new table and its data file.
+    pub new: Edition<M>,
+}
+
+/// What a file of changes and a certificate mean.
+#[derive(Drop)]
+pub struct Listed<M: Allocator = Global> {
+    /// The changed texts and the changed ranges of code points.
+    pub list: ChangeList<M>,
+    /// The images of the old table's weights.
+    pub certificate: Certificate<M>,
+}
+
+/// What the files of a change mean.
+#[derive(Drop)]
+pub struct ChangeFiles<M: Allocator = Global> {
+    /// The two editions.
+    pub editions: EditionFiles<M>,
+    /// What changes from the one to the other.
+    pub listed: Listed<M>,
+}
+
+/// Reads the files of a change, in turn, each to its end or its first error.
+///
+/// # Errors
+///
+/// `File` for the first that is rejected.
+pub fn read_change_files<M: Allocator + Copy, A: Read, B: Read, C: Read, D: Read, E: Read, F: Read>(
+    alloc: M,
+    old: &mut Source<A>,
+    old_data: &mut Source<B>,
+    new: &mut Source<C>,
+    new_data: &mut Source<D>,
+    changes: &mut Source<E>,
+    certificate: &mut Source<F>,
+) -> Result<ChangeFiles<M>, RunFault>
+    ensures { ReadsFiles change_files change_roles (old.old ∷ old_data.old ∷ new.old ∷ new_data.old ∷ changes.old ∷ certificate.old ∷ [])
+        (old.new ∷ old_data.new ∷ new.new ∷ new_data.new ∷ changes.new ∷ certificate.new ∷ []) (λ files. change_of files) result }
+{
+    let editions = read_editions(alloc, old, old_data, new, new_data)?;
+    match read_listed(alloc, changes, certificate) {
+        Ok(listed) => Ok(ChangeFiles { editions, listed }),
+        Err(fault) => {
+            drop(editions);
+            Err(fault)
+        }
+    }
+}
+
+/// Reads the files of two editions, in turn, each to its end or its first error.
+///
+/// # Errors
+///
+/// `File` for the first that is rejected.
+pub fn read_editions<M: Allocator + Copy, A: Read, B: Read, C: Read, D: Read>(
+    alloc: M,
+    old: &mut Source<A>,
+    old_data: &mut Source<B>,
+    new: &mut Source<C>,
+    new_data: &mut Source<D>,
+) -> Result<EditionFiles<M>, RunFault>
+    ensures { ReadsFiles editions_files editions_roles (old.old ∷ old_data.old ∷ new.old ∷ new_data.old ∷ [])
+        (old.new ∷ old_data.new ∷ new.new ∷ new_data.new ∷ []) (λ files. editions_of files) result }
+{
+    let old = read_edition(alloc, Role::Old, Role::OldData, old, old_data)?;
+    match read_edition(alloc, Role::New, Role::NewData, new, new_data) {
+        Ok(new) => Ok(EditionFiles { old, new }),
+        Err(fault) => {
+            drop(old);
+            Err(fault)
+        }
+    }
+}
+
+// Reads a table and its data file, which have these roles, each to its end or its first error.
+fn read_edition<M: Allocator + Copy, A: Read, B: Read>(
+    alloc: M,
+    role: Role,
+    data_role: Role,
+    table: &mut Source<A>,
+    properties: &mut Source<B>,
+) -> Result<Edition<M>, RunFault>
+    requires table_apart { is_role data_role role ≡ false }
+    requires data_apart { is_role role data_role ≡ false }
+    ensures { ReadsFiles (edition_files role data_role) (role ∷ data_role ∷ []) (table.old ∷ properties.old ∷ [])
+        (table.new ∷ properties.new ∷ []) (λ edition. edition_of edition) result }
+{
+    let table = read_table_file(alloc, role, table)?;
+    match read_data_file(alloc, data_role, properties) {
+        Ok(properties) => Ok(Edition { table, properties }),
+        Err(fault) => {
+            drop(table);
+            Err(fault)
+        }
+    }
+}
+
+// Reads a file of changes, and then a certificate, each to its end or its first error.
+fn read_listed<M: Allocator + Copy, A: Read, B: Read>(
+    alloc: M,
+    changes: &mut Source<A>,
+    certificate: &mut Source<B>,
+) -> Result<Listed<M>, RunFault>
+    ensures { ReadsFiles listed_files listed_roles (changes.old ∷ certificate.old ∷ []) (changes.new ∷ certificate.new ∷ [])
+        (λ listed. listed_of listed) result }
+{
+    let list = read_changes_file(alloc, changes)?;
+    match read_certificate_file(alloc, certificate) {
+        Ok(certificate) => Ok(Listed { list, certificate }),
+        Err(fault) => {
+            drop(list);
+            Err(fault)
+        }
+    }
+}
+
+/// Reads a file of changes, to its end or its first error.
+///
+/// # Errors
+///
+/// `File` with the role `Changes`, if it is rejected.
+pub fn read_changes_file<M: Allocator + Copy, A: Read>(
+    alloc: M,
+    source: &mut Source<A>,
+) -> Result<ChangeList<M>, RunFault>
+    ensures { ReadsFiles changes_file (Role.Changes ∷ []) (source.old ∷ []) (source.new ∷ []) (λ list. list) result }
+{
+    match read_changes(alloc, source) {
+        Ok(list) => Ok(list),
+        Err(fault) => Err(RunFault::File {
+            role: Role::Changes,
+            fault: FileFault::Lines(fault),
+        }),
+    }
+}

@@ -1,0 +1,18 @@
+//! The runs over changes from an old table and its data file to new ones: finding what changes, auditing a change, and
+//! printing the lines that a change affects.
+#![tactic(auto)]
+
+pub mod affected;
+pub mod audit_changes;
+pub mod changes;
+mod files;
+mod index;
+mod marks;
+mod searches;
+
+pub use affected::{
+    affected_by_changes_are_the_others, run_affected_by_changes, run_affected_by_changes_in,
+};
+pub use audit_changes::{run_audit_changes, run_audit_changes_in};
+pub use changes::{run_changes, run_changes_in};
+pub use index::ChangeIndex;

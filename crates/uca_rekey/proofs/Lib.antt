@@ -1,0 +1,3 @@
+pub mod LineKeys
+pub mod Places
+pub mod LinesRead
