@@ -52,29 +52,29 @@ module _ (change : Change) (texts : List (List ℕ)) (ranges : List CodePointRan
     fails.0,
     fails.1,
     first_by_same (IsCoveredIfUnlisted change.maps (IsChangedText change)) (IsCoveredIfUnlisted change.maps (Contains texts)) change.old.rows fails.0
-    (λ row covered other. covered (other_unlisted row.key other)) (λ row covered other. covered (own_unlisted row.key other)) fails.2,
+        (λ row covered other. covered (other_unlisted row.key other)) (λ row covered other. covered (own_unlisted row.key other)) fails.2,
   )
   fails_by_same RowChanged place fails = (
     fails.0,
     fails.1,
     first_by_same (IsKeptRow change.maps (IsChangedText change) (rows_of change.new.rows)) (IsKeptRow change.maps (Contains texts) (rows_of change.new.rows))
-    change.old.rows fails.0
-    (λ row kept other. kept (other_unlisted row.key other)) (λ row kept other. kept (own_unlisted row.key other)) fails.2,
+        change.old.rows fails.0
+        (λ row kept other. kept (other_unlisted row.key other)) (λ row kept other. kept (own_unlisted row.key other)) fails.2,
   )
   fails_by_same RowMissing place fails = (
     fails.0,
     fails.1,
     first_by_same (IsPresentIfUnlisted (IsChangedText change) (rows_of change.new.rows)) (IsPresentIfUnlisted (Contains texts) (rows_of change.new.rows))
-    change.old.rows fails.0
-    (λ row present other. present (other_unlisted row.key other)) (λ row present other. present (own_unlisted row.key other)) fails.2,
+        change.old.rows fails.0
+        (λ row present other. present (other_unlisted row.key other)) (λ row present other. present (own_unlisted row.key other)) fails.2,
   )
   fails_by_same RowExtra place fails = (
     fails.0,
     fails.1,
     first_by_same (IsKnownRow (IsChangedText change) (rows_of change.old.rows)) (IsKnownRow (Contains texts) (rows_of change.old.rows))
-    change.new.rows fails.0
-    (λ row. ⊎_elim (λ key. inl key) (λ listed. inr ((same_texts row.key).0 listed)))
-    (λ row. ⊎_elim (λ key. inl key) (λ listed. inr ((same_texts row.key).1 listed))) fails.2,
+        change.new.rows fails.0
+        (λ row. ⊎_elim (λ key. inl key) (λ listed. inr ((same_texts row.key).0 listed)))
+        (λ row. ⊎_elim (λ key. inl key) (λ listed. inr ((same_texts row.key).1 listed))) fails.2,
   )
   fails_by_same PointChanged place fails =
       subst (λ (all : List CodePointRange). At CodePoint place (IsFirstOutsideWithout all (IsSamePoint change.old_properties change.new_properties))) same_ranges

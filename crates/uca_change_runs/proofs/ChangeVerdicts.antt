@@ -1,5 +1,5 @@
 -- What a run of audit-changes returns for a change, and what went out of its line.
-use Rattle.std.specs.Prelude.{◌≡◌, ℕ, Bool, List, true, false, Option, Result, Ok, Err}
+use Rattle.std.specs.Prelude.{◌≡◌, ℕ, Bool, List, true, false, Result, Ok, Err}
 use Rattle.std.proofs.Common.{refl, subst, sym, true≢false}
 use Rattle.uca_weights.specs.Streams.{SinkState}
 use Rattle.uca_changes.specs.Changes.{Change, IsAcceptedChange}

@@ -20,9 +20,9 @@ use uca_runs::change_faults::change_verdict;
 use uca_runs::output::write_text;
 use uca_weights::{Sink, Source};
 
-/// Audits a change: whether all texts that it does not affect compare by the new table and data file as by the old ones, with
-/// their stored keys put through the maps of the certificate. Returns whether the change is accepted. Writes the verdict as a
-/// line: `accepted`, or the first condition that is not met and the first position where it is not, such as
+/// Audits a change: whether texts that it does not affect compare by the new table and data file as by the old ones. Their
+/// stored keys are those that the certificate's maps make of the old ones. Returns whether the change is accepted. Writes the
+/// verdict as a line: `accepted`, or the first condition that is not met and the first position where it is not, such as
 /// `refused 5 RowChanged old row 3`. The files are read in turn, each to its end or its first error.
 ///
 /// # Errors

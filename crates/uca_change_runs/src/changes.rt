@@ -11,9 +11,8 @@ use uca_change_maker::{Editions, FoundChanges, find_changes};
 use uca_runs::RunFault;
 use uca_weights::Source;
 
-/// Finds what changes from an old table and its data file to new ones: a list of texts and of ranges of code points, and a
-/// certificate of the old table's weights. An audit accepts them. The files are read in turn, each to its end or its first
-/// error.
+/// Finds what changes from an old table and its data file to new ones: texts, ranges of code points, and the images of the old
+/// table's weights. An audit accepts what is found. The files are read in turn, each to its end or its first error.
 ///
 /// # Errors
 ///

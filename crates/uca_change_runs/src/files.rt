@@ -10,9 +10,7 @@ use std::alloc::{Allocator, Global};
 use std::io::Read;
 use uca_certificates::Certificate;
 use uca_change_files::{ChangeList, read_changes};
-use uca_runs::{
-    FileFault, Role, RunFault, read_certificate_file, read_data_file, read_table_file,
-};
+use uca_runs::{FileFault, Role, RunFault, read_certificate_file, read_data_file, read_table_file};
 use uca_values::{Data, Table};
 use uca_weights::Source;
 
@@ -57,15 +55,7 @@ pub struct ChangeFiles<M: Allocator = Global> {
 /// # Errors
 ///
 /// `File` for the first that is rejected.
-pub fn read_change_files<
-    M: Allocator + Copy,
-    A: Read,
-    B: Read,
-    C: Read,
-    D: Read,
-    E: Read,
-    F: Read,
->(
+pub fn read_change_files<M: Allocator + Copy, A: Read, B: Read, C: Read, D: Read, E: Read, F: Read>(
     alloc: M,
     old: &mut Source<A>,
     old_data: &mut Source<B>,
