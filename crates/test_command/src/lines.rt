@@ -5,10 +5,13 @@ use std::io::{ErrorKind, Write};
 use std::test::Fail;
 use test_kit::{Calls, Failure, FakeWriter, Pace, holds, same};
 use uca_certificates::{CertificateFault, CertificateFaultKind};
+use uca_changes::{ChangeCondition, ChangeFault, ChangePlace};
 use uca_cli::{FileFault, InputKind, Role, RunFault, report};
 use uca_lines::files::{FaultKind, TableFault};
 use uca_plans::{TailorFault, TailorKind};
 use uca_rules::{RuleFault, RuleFaultKind};
+use uca_runs::StoredKeyKind;
+use uca_runs::change_faults::change_verdict;
 use uca_text::TextFault;
 use uca_weights::{Level, MapFault, MapFaultKind, Sink};
 use uca_words::WordFault;
@@ -237,18 +240,114 @@ fn refused_plans(rt: HostRuntime) -> Result<(), Fail> {
     Ok(())
 }
 
+// An error of a change, whose verdict is this.
+fn check_change(
+    alloc: Global,
+    (condition, place): (ChangeCondition, ChangePlace),
+    text: &str,
+    verdict: &str,
+) -> Result<(), Fail> {
+    let fault = ChangeFault::NotMet(condition, place);
+    check(alloc, &RunFault::Changes(fault), text, 1)?;
+    same(change_verdict(fault).as_str(), verdict, verdict)
+}
+
+/// A condition on changes, where it is not met, what is said, and the verdict of an audit. The last line is the longest.
+const CHANGES: [(ChangeCondition, ChangePlace, &str, &str); 11] = [
+    (
+        ChangeCondition::OldIllFormed,
+        ChangePlace::OldRow(3),
+        "changes: OldIllFormed old row 3\n",
+        "refused 1 OldIllFormed old row 3",
+    ),
+    (
+        ChangeCondition::NewIllFormed,
+        ChangePlace::NewRow(12),
+        "changes: NewIllFormed new row 12\n",
+        "refused 2 NewIllFormed new row 12",
+    ),
+    (
+        ChangeCondition::RangeChanged,
+        ChangePlace::CodePoint('\u{FFFF}'),
+        "changes: RangeChanged code point FFFF\n",
+        "refused 3 RangeChanged code point FFFF",
+    ),
+    (
+        ChangeCondition::RangeChanged,
+        ChangePlace::CodePoint('\u{10000}'),
+        "changes: RangeChanged code point 10000\n",
+        "refused 3 RangeChanged code point 10000",
+    ),
+    (
+        ChangeCondition::Uncovered,
+        ChangePlace::OldRow(1),
+        "changes: Uncovered old row 1\n",
+        "refused 4 Uncovered old row 1",
+    ),
+    (
+        ChangeCondition::RowChanged,
+        ChangePlace::OldRow(200_000),
+        "changes: RowChanged old row 200000\n",
+        "refused 5 RowChanged old row 200000",
+    ),
+    (
+        ChangeCondition::RowMissing,
+        ChangePlace::OldRow(4),
+        "changes: RowMissing old row 4\n",
+        "refused 6 RowMissing old row 4",
+    ),
+    (
+        ChangeCondition::RowExtra,
+        ChangePlace::NewRow(5),
+        "changes: RowExtra new row 5\n",
+        "refused 7 RowExtra new row 5",
+    ),
+    (
+        ChangeCondition::PointChanged,
+        ChangePlace::CodePoint('\0'),
+        "changes: PointChanged code point 0000\n",
+        "refused 8 PointChanged code point 0000",
+    ),
+    (
+        ChangeCondition::PointChanged,
+        ChangePlace::CodePoint('\u{E9}'),
+        "changes: PointChanged code point 00E9\n",
+        "refused 8 PointChanged code point 00E9",
+    ),
+    (
+        ChangeCondition::PointChanged,
+        ChangePlace::CodePoint('\u{10FFFD}'),
+        "changes: PointChanged code point 10FFFD\n",
+        "refused 8 PointChanged code point 10FFFD",
+    ),
+];
+
+#[test]
+fn refused_changes(rt: HostRuntime) -> Result<(), Fail> {
+    for (condition, place, text, verdict) in CHANGES {
+        check_change(rt.alloc(), (condition, place), text, verdict)?;
+    }
+    let memory = RunFault::from(ChangeFault::Memory);
+    check(rt.alloc(), &memory, "memory\n", 4)
+}
+
 // A file that does not open.
 fn check_open(alloc: Global, role: Role, text: &str) -> Result<(), Fail> {
     check(alloc, &RunFault::Open(role), text, 3)
 }
 
-const UNOPENED: [(Role, &str); 6] = [
+const UNOPENED: [(Role, &str); 11] = [
     (Role::Table, "table: Open\n"),
     (Role::Data, "data: Open\n"),
     (Role::Rules, "rules: Open\n"),
     (Role::Certificate, "certificate: Open\n"),
     (Role::Base, "base: Open\n"),
     (Role::Tailored, "tailored: Open\n"),
+    (Role::Old, "old: Open\n"),
+    (Role::OldData, "old-data: Open\n"),
+    (Role::New, "new: Open\n"),
+    (Role::NewData, "new-data: Open\n"),
+    (Role::Changes, "changes: Open\n"),
 ];
 
 #[test]
@@ -306,6 +405,39 @@ const LINES: [(u32, InputKind, &str, u8); 7] = [
 fn faults_of_lines(rt: HostRuntime) -> Result<(), Fail> {
     for (line, kind, text, status) in LINES {
         check_line(rt.alloc(), (line, kind), text, status)?;
+    }
+    Ok(())
+}
+
+// An error of a line with a stored key.
+fn check_stored_key(
+    alloc: Global,
+    (line, kind): (u64, StoredKeyKind),
+    text: &str,
+    status: u8,
+) -> Result<(), Fail> {
+    check(alloc, &RunFault::StoredKey { line, kind }, text, status)
+}
+
+/// A line with a stored key, its error, what is said, and the status. The last line is the longest of all.
+const STORED_KEYS: [(u64, StoredKeyKind, &str, u8); 6] = [
+    (1, StoredKeyKind::NoKey, "input line 1: NoKey\n", 1),
+    (7, StoredKeyKind::NoImage, "input line 7: NoImage\n", 1),
+    (8, StoredKeyKind::TooLong, "input line 8: TooLong\n", 1),
+    (9, StoredKeyKind::Read, "input line 9: Read\n", 3),
+    (10, StoredKeyKind::Memory, "input line 10: Memory\n", 4),
+    (
+        18_446_744_073_709_551_615,
+        StoredKeyKind::NoImage,
+        "input line 18446744073709551615: NoImage\n",
+        1,
+    ),
+];
+
+#[test]
+fn faults_of_stored_keys(rt: HostRuntime) -> Result<(), Fail> {
+    for (line, kind, text, status) in STORED_KEYS {
+        check_stored_key(rt.alloc(), (line, kind), text, status)?;
     }
     Ok(())
 }

@@ -1,13 +1,15 @@
--- The lines that rules affect.
-use Rattle.std.proofs.Common.{◌≡◌, ℕ, ◌^◌, ◌<◌, ◌≤◌, false, List, [], ◌∷◌, length, if◌then◌else◌, ◌==◌, ◌&&◌, true≢false, refl, ap, sym, arith, length-append}
+-- The lines that are affected, and those that rules affect.
+use Rattle.std.proofs.Common.{◌≡◌, ℕ, ◌^◌, ◌<◌, ◌≤◌, Bool, true, false, List, [], ◌∷◌, length, if◌then◌else◌, ◌==◌, ◌&&◌, true≢false, refl, ap, sym, ◌∙◌, arith, length-append}
+use Rattle.std.specs.Prelude.{◌↔◌, IsTrue, not}
 use Rattle.std.specs.Bool.{Decides}
 use Rattle.std.proofs.lemmas.Bool.{or_from, or_parts}
 use Rattle.std.proofs.lemmas.Bool.Decides.{Decides-eqb, Decides-and, Decides-or, not_from_Decides}
 use Rattle.uca_text.specs.Occurring.{OccursInOrder}
+use Rattle.uca_text.specs.Texts.{NfdText}
 use Rattle.uca_lines.specs.Lines.{ended}
 use Rattle.uca_rules.specs.declared.relations.Relation.{Relation}
 use Rattle.uca_rules.specs.Relations.{IsUntouched}
-use Rattle.uca_runs.specs.AffectedRun.{occurs_in_order, is_affected, if_affected, AffectedTextsAreTheOthers}
+use Rattle.uca_runs.specs.AffectedRun.{occurs_in_order, is_affected, if_so, AffectedTextsAreTheOthers}
 use Rattle.uca_weights.proofs.Tests.{by_cases}
 
 -- the test finds what occurs in order
@@ -36,15 +38,25 @@ leaves_others (r ∷ relations) text none =
 pub affected_are_the_others : AffectedTextsAreTheOthers
 affected_are_the_others relations text = (leaves_others relations text, affects_none relations text)
 
--- nothing is written of an untouched text
-pub nothing_affected : (relations : List Relation) (text line : List ℕ) → IsUntouched relations text → if_affected relations text line ≡ []
-nothing_affected relations text line none = ap (λ b. if b then ended line else []) (affects_none relations text none)
+-- what a test of a text gives, where its answer is known
+pub test_gives : (is_so : List ℕ → Bool) (text : NfdText) (points : List ℕ) (answer told : Bool) → answer ≡ is_so text.points → answer ≡ told
+    → text.points ≡ points → is_so points ≡ told
+test_gives is_so text points answer told is same at = ap is_so (sym at) ∙ sym is ∙ same
 
--- the line is written of another one
-pub line_affected : (relations : List Relation) (text line : List ℕ) → ¬ (IsUntouched relations text) → if_affected relations text line ≡ ended line
-line_affected relations text line affected =
-    ap (λ b. if b then ended line else [])
-    (by_cases (is_affected relations text) (λ is. is) (λ none. absurd (affected (leaves_others relations text none))))
+-- rules affect a text unless they leave it as it is
+pub affected_unless : (relations : List Relation) (text : List ℕ) (untouched : Bool) → (IsTrue untouched ↔ IsUntouched relations text) →
+    not untouched ≡ is_affected relations text
+affected_unless relations text true same = sym (affects_none relations text (same.0 refl))
+affected_unless relations text false same =
+    sym (by_cases (is_affected relations text) (λ is. is) (λ none. absurd (true≢false (sym (same.1 (leaves_others relations text none))))))
+
+-- nothing is written of a line that is not affected
+pub nothing_affected : (is_so : List ℕ → Bool) (text line : List ℕ) → is_so text ≡ false → if_so is_so text line ≡ []
+nothing_affected is_so text line none = ap (λ b. if b then ended line else []) none
+
+-- another line is written whole
+pub line_affected : (is_so : List ℕ → Bool) (text line : List ℕ) → is_so text ≡ true → if_so is_so text line ≡ ended line
+line_affected is_so text line so = ap (λ b. if b then ended line else []) so
 
 -- a line is short
 pub affected_is_short : (line : List ℕ) → length line ≤ 4194304 → length (ended line) < 2 ^ 42

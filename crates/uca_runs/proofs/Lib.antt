@@ -25,3 +25,4 @@ pub mod StoredLines
 pub mod GroupKeys
 pub mod WholeRuns
 pub mod AffectedLines
+pub mod PointTexts

@@ -48,7 +48,7 @@ is_input_read_kind (LongRun place) = false
 is_input_read_kind Limit = false
 is_input_read_kind Memory = false
 
--- the same of a line with a stored key
+-- whether an error of a line with a stored key is the reader's
 abbrev pub is_stored_key_read : StoredKeyKind → Bool
 is_stored_key_read stored_key.Read = true
 is_stored_key_read _ = false

@@ -96,9 +96,9 @@ impl<A: Allocator> AffectedRun<A> {
     }
 }
 
-/// Prints the lines of the input whose texts in Normalization Form D are affected, as they are and in their order, until the
-/// end of the input or its first line with an error. Rules affect a text if one of their targets occurs in it: all its code
-/// points in their order, whatever is between.
+/// Prints the affected lines of the input, as they are and in their order, until the end of the input or its first line with
+/// an error. A line is affected if its text in Normalization Form D is. Rules affect a text if one of their targets occurs in
+/// it: all its code points in their order, whatever is between.
 ///
 /// # Errors
 ///

@@ -16,7 +16,9 @@ pub fn change_message(fault: ChangeFault) -> Message
     ensures short { length result ≤ 80 }
 {
     match fault {
-        ChangeFault::NotMet(condition, place) => Message::of(condition_name(condition)).text(place_message(place).as_str()),
+        ChangeFault::NotMet(condition, place) => Message::of(condition_name(condition)).text(
+            place_message(place).as_str(),
+        ),
         ChangeFault::Memory => Message::of("out of memory"),
     }
 }
@@ -24,10 +26,13 @@ pub fn change_message(fault: ChangeFault) -> Message
 /// The verdict of an audit that rejects a change: `refused 5 RowChanged old row 3`.
 pub fn change_verdict(fault: ChangeFault) -> Message
     ensures text { result ≡ change_verdict_text fault }
-    ensures short { length result ≤ 100 }
+    ensures short { length result ≤ 120 }
 {
     match fault {
-        ChangeFault::NotMet(condition, _) => Message::of("refused ").number(condition_number(condition)).text(" ").text(change_message(fault).as_str()),
+        ChangeFault::NotMet(condition, _) => Message::of("refused ")
+            .number(condition_number(condition))
+            .text(" ")
+            .text(change_message(fault).as_str()),
         ChangeFault::Memory => change_message(fault),
     }
 }

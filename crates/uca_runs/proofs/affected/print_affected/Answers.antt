@@ -1,14 +1,14 @@
 -- What went out, from what was written.
 use Rattle.std.proofs.Common.{◌≡◌, ◌||◌, [], subst, sym}
 use Rattle.uca_values.specs.Content.{properties_of}
-use Rattle.uca_runs.specs.AffectedRun.{affected_line}
+use Rattle.uca_runs.specs.AffectedRun.{line_if}
 use Rattle.uca_runs.proofs.Finishing.{started, of_lines}
 use Rattle.uca_runs.proofs.affected.print_affected.Goals as goal
 
 pub returns-clause-writes : goal.returns-clause-writes
 returns-clause-writes g c =
     let properties = properties_of c.args.properties.now in
-    let bytes_of = affected_line properties c.args.rules.now in
+    let bytes_of = line_if (g.X.Affects.affects c.args.affects.now) properties in
     let input = c.args.input.now in
     let out = c.args.out.now in
     let begin = started properties bytes_of c.new.result.lines input c.new-2.result out (c.new.ensures.read properties input) c.new-2.ensures.held c.new-2.ensures.written in
@@ -17,7 +17,7 @@ returns-clause-writes g c =
 pub returns-clause-of_lines : goal.returns-clause-of_lines
 returns-clause-of_lines g c =
     let properties = properties_of c.args.properties.now in
-    let bytes_of = affected_line properties c.args.rules.now in
+    let bytes_of = line_if (g.X.Affects.affects c.args.affects.now) properties in
     let input = c.args.input.now in
     let out = c.args.out.now in
     let begin = started properties bytes_of c.new.result.lines input c.new-2.result out (c.new.ensures.read properties input) c.new-2.ensures.held c.new-2.ensures.written in

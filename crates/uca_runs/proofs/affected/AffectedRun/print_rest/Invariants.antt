@@ -1,13 +1,13 @@
 -- The affected lines so far were written, and neither reader nor writer has failed since.
 use Rattle.std.proofs.Common.{◌≡◌, ℕ, ◌+◌, ◌-◌, ◌*◌, ◌^◌, ◌≤◌, List, Option, length}
 use Rattle.uca_values.specs.Content.{properties_of}
-use Rattle.uca_runs.specs.AffectedRun.{affected_line}
+use Rattle.uca_runs.specs.AffectedRun.{line_if}
 use Rattle.uca_runs.specs.EachLineSoFar.{HasWritten}
 use Rattle.uca_runs.proofs.affected.AffectedRun.print_rest.Given as goal
 
 abbrev pub invariant-loop-self : goal.invariant-loop-self
 invariant-loop-self g l =
-    let bytes_of = affected_line (properties_of l.properties) l.rules in
+    let bytes_of = line_if (g.X.Affects.affects l.affects) (properties_of l.properties) in
     record {
       small : l.self.output.written + length l.self.output.held ≤ l.self.texts.lines.reader.number * 2 ^ 42;
       written : (start begun : Option (List ℕ)) (before : List (List ℕ)) →
