@@ -189,7 +189,7 @@ class Lines(ProgramTest):
 
     def test_names_that_look_like_options(self):
         """After `--` all are names or texts."""
-        for name in "--weighting", "--identical", "--lines", "help":
+        for name in "--weighting", "--identical", "--lines", "--changes", "help":
             with open(f"{self.folder}/{name}", "w", encoding="utf-8") as file:
                 file.write(DATA)
             key = "1C47 0000 0020 0000 0002 0000 FFFF\n"
