@@ -117,11 +117,10 @@ fn write_verdict<M: Allocator + Copy, W: Write>(
     match audit_files(alloc, files) {
         Ok(()) => end_verdict(true, b"accepted\n", out),
         Err(ChangeFault::Memory) => Err(RunFault::Memory),
-        Err(fault) => end_verdict(
-            false,
-            change_verdict(fault).text("\n").as_str().as_bytes(),
-            out,
-        ),
+        Err(ChangeFault::NotMet(condition, place)) => {
+            let verdict = change_verdict(ChangeFault::NotMet(condition, place));
+            end_verdict(false, verdict.text("\n").as_str().as_bytes(), out)
+        }
     }
 }
 
