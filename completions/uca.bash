@@ -23,16 +23,19 @@ _uca_options_of() {
     case $1 in
         '') echo "-h --help -V --version" ;;
         keys) echo "--weighting --identical --lines -h --help" ;;
-        sort | compare) echo "--weighting --identical -h --help" ;;
-        check | tailor | audit | affected) echo "-h --help" ;;
+        sort | compare | rekey) echo "--weighting --identical -h --help" ;;
+        affected) echo "--changes -h --help" ;;
+        check | tailor | audit | changes | audit-changes) echo "-h --help" ;;
     esac
 }
 
 _uca_file_count() {
     case $1 in
+        rekey) echo 1 ;;
         check | keys | sort | compare | affected) echo 2 ;;
         tailor) echo 4 ;;
-        audit) echo 5 ;;
+        audit | changes) echo 5 ;;
+        audit-changes) echo 6 ;;
         *) echo 0 ;;
     esac
 }
@@ -57,7 +60,8 @@ _uca_read() {
 
 _uca() {
     local current=${COMP_WORDS[COMP_CWORD]} before=" ${COMP_WORDS[*]:0:COMP_CWORD} " command count ended
-    local commands="check keys sort compare tailor audit affected help" weightings="non-ignorable shifted"
+    local commands="check keys sort compare tailor audit affected changes audit-changes rekey help"
+    local weightings="non-ignorable shifted"
     COMPREPLY=()
     _uca_read
     case $before in

@@ -5,7 +5,7 @@ import random
 from program import DATA, TABLE, ProgramTest
 
 HELP = os.path.join(os.path.dirname(os.path.realpath(__file__)), "help")
-COMMANDS = ["check", "keys", "sort", "compare", "tailor", "audit", "affected"]
+COMMANDS = ["check", "keys", "sort", "compare", "tailor", "audit", "affected", "changes", "audit-changes", "rekey"]
 MORE = "For more information, try '--help'.\n"
 
 
@@ -40,10 +40,13 @@ class Help(ProgramTest):
             return f"error: the argument '{option}' cannot be used multiple times\n\nUsage: uca {usage}\n\n"
 
         none = "error: 'uca' requires a subcommand but one was not provided\n"
-        none += "  [subcommands: check, keys, sort, compare, tailor, audit, affected, help]\n\nUsage: uca <COMMAND>\n\n"
+        none += f"  [subcommands: {', '.join(COMMANDS)}, help]\n\nUsage: uca <COMMAND>\n\n"
         other = "error: unrecognized subcommand 'other'\n\nUsage: uca <COMMAND>\n\n"
         keys, sort = "keys [OPTIONS] <TABLE> <DATA>", "sort [OPTIONS] <TABLE> <DATA>"
         tailor = "tailor <TABLE> <DATA> <RULES> <CERTIFICATE>"
+        affected = "affected [OPTIONS] <DATA> <RULES>"
+        changes = "changes <OLD> <OLD-DATA> <NEW> <NEW-DATA> <CERTIFICATE>"
+        similar = "error: unrecognized subcommand 'change'\n\n  tip: a similar subcommand exists: 'changes'\n\nUsage: uca <COMMAND>\n\n"
         cases = [
             ("", none),
             ("other t d", other),
@@ -51,12 +54,18 @@ class Help(ProgramTest):
             ("keys t", missing("DATA", "keys <TABLE> <DATA>")),
             ("tailor t d r", missing("CERTIFICATE", tailor)),
             ("affected d", missing("RULES", "affected <DATA> <RULES>")),
+            ("changes o d n e", missing("CERTIFICATE", changes)),
+            ("rekey", missing("CERTIFICATE", "rekey <CERTIFICATE>")),
+            ("change o d n e c", similar),
             ("keys t d l", unexpected("l", keys)),
             ("tailor t d r c l", unexpected("l", tailor)),
             ("keys --other t d", unexpected("--other", keys)),
             ("sort --lines t d", unexpected("--lines", sort)),
+            ("changes --changes o d n e c", unexpected("--changes", changes)),
+            ("rekey --lines c", unexpected("--lines", "rekey [OPTIONS] <CERTIFICATE>")),
             ("sort --weighting x --weighting x t d", twice("--weighting <W>", sort)),
             ("sort --identical --identical t d", twice("--identical", sort)),
+            ("affected --changes --changes d c", twice("--changes", affected)),
             ("keys --weighting", "error: a value is required for '--weighting <W>' but none was supplied\n\n"),
         ]
         for arguments, said in cases:
@@ -74,7 +83,10 @@ class Model:
         "compare": (4, ["--weighting", "--identical"]),
         "tailor": (4, []),
         "audit": (5, []),
-        "affected": (2, []),
+        "affected": (2, ["--changes"]),
+        "changes": (5, []),
+        "audit-changes": (6, []),
+        "rekey": (1, ["--weighting", "--identical"]),
     }
 
     def __init__(self, line):
@@ -120,17 +132,22 @@ compare t d a b
 compare --identical t d --weighting non-ignorable -- -a --b
 tailor t d r -- c
 audit b d r t c
-affected d r""".splitlines()
+affected d r
+affected --changes d h
+changes b d t d c
+audit-changes b d t d h c
+rekey --weighting shifted c --identical""".splitlines()
 
-PUT_IN = """check keys sort compare tailor audit affected help order t - -- --- --weighting --weighting= --weighting=shifted
---weightings shifted non-ignorable Shifted --identical --identical= --lines --linest -i -h --help -V --version é =""".split()
+PUT_IN = """check keys sort compare tailor audit affected changes audit-changes rekey help order t - -- ---
+--weighting --weighting= --weighting=shifted --weightings shifted non-ignorable Shifted --identical --identical= --lines --linest
+--changes --changes= --change -i -h --help -V --version é =""".split()
 
 
 class Lines(ProgramTest):
     def setUp(self):
         super().setUp()
         # so that a line that is taken opens no file by chance
-        self.write(t=TABLE, d=DATA, b=TABLE, r="", c="")
+        self.write(t=TABLE, d=DATA, b=TABLE, r="", c="", h="@changes 1\n")
 
     def judge(self, line):
         """A line is taken, or rejected, as the model says. One that is taken asks for the same in another spelling."""

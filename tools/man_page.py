@@ -42,8 +42,8 @@ def usage(text):
     """A usage: `<TABLE>` as an argument in italics, all else in bold."""
     words = []
     for word in text.split():
-        name = re.fullmatch(r"<(\w+)>", word)
-        words.append(rf"\fI{name[1]}\fR" if name else word if word == "[OPTIONS]" else rf"\fB{plain(word)}\fR")
+        name = re.fullmatch(r"<([\w-]+)>", word)
+        words.append(rf"\fI{plain(name[1])}\fR" if name else word if word == "[OPTIONS]" else rf"\fB{plain(word)}\fR")
     return " ".join(words)
 
 
@@ -67,7 +67,7 @@ def last_words(lines):
 
 
 def command_section(name, text, help_text):
-    made = [f".SS uca {name}", prose(f"{text}."), ".PP", usage(help_text.usage), *paragraphs(help_text.about)]
+    made = [f".SS uca {plain(name)}", prose(f"{text}."), ".PP", usage(help_text.usage), *paragraphs(help_text.about)]
     made += items(help_text.lists["Arguments"], usage)
     made += items([it for it in help_text.lists["Options"] if "--help" not in it[0]], option)
     return made + last_words(help_text.last)
@@ -93,7 +93,7 @@ def page(program):
         if command in commands:
             made += command_section(command, text, commands[command])
         else:
-            made += [f".SS uca {command}", prose(f"{text}.")]
+            made += [f".SS uca {plain(command)}", prose(f"{text}.")]
     with open(f"{TOP}/man/sections.roff", encoding="utf-8") as file:
         sections = file.read()
     return "\n".join(made) + "\n" + sections + ".SH VERSION\n" + prose(version) + "\n"

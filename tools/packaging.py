@@ -35,9 +35,9 @@ INSTALLED = [
 
 # How each completion names the commands, and the long options.
 NAMES = {
-    "uca.bash": (r'commands="([a-z ]+)"', r"(?<![\w-])--([a-z][\w-]*)"),
-    "_uca": (r"^ +'([a-z]+):", r"(?<![\w-])--([a-z][\w-]*)"),
-    "uca.fish": (r"-n __fish_use_subcommand -a (\w+)", r"^complete .* -l (\w+)"),
+    "uca.bash": (r'commands="([a-z -]+)"', r"(?<![\w-])--([a-z][\w-]*)"),
+    "_uca": (r"^ +'([a-z-]+):", r"(?<![\w-])--([a-z][\w-]*)"),
+    "uca.fish": (r"-n __fish_use_subcommand -a ([\w-]+)", r"^complete .* -l (\w+)"),
 }
 
 # Lines and what is offered at their ends. Where nothing is typed yet, options that a shell offers too do not count.
@@ -54,6 +54,13 @@ LINES = [
     ("uca tailor table.txt data.txt rules ", FILES),
     ("uca tailor table.txt data.txt rules new ", set()),
     ("uca audit table.txt data.txt rules new ", FILES),
+    ("uca affected --ch", {"--changes"}),
+    ("uca affected --changes table.txt ", FILES),
+    ("uca changes table.txt data.txt table.txt data.txt ", FILES),
+    ("uca audit-changes table.txt data.txt table.txt data.txt new ", FILES),
+    ("uca audit-changes table.txt data.txt table.txt data.txt new newer ", set()),
+    ("uca rekey --weighting shifted ", FILES),
+    ("uca rekey new ", set()),
     ("uca sort table.txt data.txt < ", FILES),
     ("uca keys -- table.txt ", FILES),
     ("uca help ke", {"keys"}),
@@ -104,7 +111,7 @@ def check_man_page(counts, program, whole, helps):
     path = f"{TOP}/man/uca.1"
     with open(path, encoding="utf-8") as file:
         page = file.read()
-    sections = dict(re.findall(r"^\.SS uca (\S+)\n(.*?)(?=^\.S[SH] )", page, re.M | re.S))
+    sections = {unescaped(name): text for name, text in re.findall(r"^\.SS uca (\S+)\n(.*?)(?=^\.S[SH] )", page, re.M | re.S)}
     counts.same("man/uca.1: commands", set(sections), set(whole.names("Commands")))
     for name, text in helps.items():
         counts.same(f"man/uca.1: options of {name}", options_in(sections.get(name, "")), text.options() - {"-h", "--help"})

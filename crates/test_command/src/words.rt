@@ -67,10 +67,19 @@ tailor t d r c | Tailor { table: "t", properties: "d", rules: "r", certificate: 
 tailor d c t r | Tailor { table: "d", properties: "c", rules: "t", certificate: "r" }
 tailor t d -- r --identical | Tailor { table: "t", properties: "d", rules: "r", certificate: "--identical" }
 audit b d r t c | Audit { base: "b", properties: "d", rules: "r", tailored: "t", certificate: "c" }
-affected d r | Affected { properties: "d", rules: "r" }
-affected r d | Affected { properties: "r", rules: "d" }
-affected help affected | Affected { properties: "help", rules: "affected" }
-affected -- --lines --version | Affected { properties: "--lines", rules: "--version" }"#;
+affected d r | Affected { changes: false, properties: "d", rules: "r" }
+affected r d | Affected { changes: false, properties: "r", rules: "d" }
+affected help affected | Affected { changes: false, properties: "help", rules: "affected" }
+affected -- --lines --version | Affected { changes: false, properties: "--lines", rules: "--version" }
+affected --changes d h | Affected { changes: true, properties: "d", rules: "h" }
+affected d h --changes | Affected { changes: true, properties: "d", rules: "h" }
+affected d -- --changes | Affected { changes: false, properties: "d", rules: "--changes" }
+changes o d n e c | Changes { old: "o", old_data: "d", new: "n", new_data: "e", certificate: "c" }
+changes c e -- n d --changes | Changes { old: "c", old_data: "e", new: "n", new_data: "d", certificate: "--changes" }
+audit-changes o d n e h c | AuditChanges { old: "o", old_data: "d", new: "n", new_data: "e", changes: "h", certificate: "c" }
+rekey c | Rekey { weighting: None, depth: Weights, certificate: "c" }
+rekey --identical c --weighting shifted | Rekey { weighting: Some(Shifted), depth: Identical, certificate: "c" }
+rekey --weighting=non-ignorable -- --identical | Rekey { weighting: Some(NonIgnorable), depth: Weights, certificate: "--identical" }"#;
 
 #[test]
 fn words_that_are_read(rt: HostRuntime) -> Result<(), Fail> {
@@ -81,6 +90,7 @@ fn words_that_are_read(rt: HostRuntime) -> Result<(), Fail> {
 const NO_WEIGHTINGS: &str = r#"keys --weighting x t d | Weighting
 sort --weighting Shifted t d | Weighting
 compare --weighting=shift t d a b | Weighting
+rekey --weighting x c | Weighting
 keys --weighting= t d | Weighting
 sort --weighting x no-such-table no-such-data | Weighting
 keys --weighting x t | MissingRequiredArgument

@@ -1,17 +1,21 @@
 -- What the whole command does: it reads its arguments, opens the files that they name in their order, runs over them,
 -- and ends with a status.
-use Rattle.std.specs.Prelude.{◌≡◌, ◌≢◌, ◌⊎◌, ◌<◌, ℕ, List, [], ◌∷◌, ◌||◌, Bool, true, false, Option, Result, Ok, Err, IfErr, is_err, length}
+use Rattle.std.specs.Prelude.{◌≡◌, ◌≢◌, ◌⊎◌, ◌<◌, ℕ, List, [], ◌∷◌, ◌||◌, Bool, true, false, Option, Result, Ok, Err, IfErr, is_err, length, unwrap_or}
+use Rattle.std.specs.Global.{Global}
 use Rattle.uca_weights.specs.declared.Depth.{Depth}
 use Rattle.uca_weights.specs.declared.streams.sink.WriteFault.{WriteFault}
 use Rattle.uca_weights.specs.declared.Weighting.{Weighting}
+use Rattle.uca_weights.specs.declared.Weighting.TheVariants.{Shifted}
 use Rattle.uca_weights.specs.Streams.{SourceState, SinkState}
 use Rattle.uca_weights.specs.Writes.{Writes}
 use Rattle.uca_values.specs.Content.{TableContent}
 use Rattle.uca_table.specs.Canonical.{canonical}
 use Rattle.uca_certificates.specs.Certificates.{CertificateContent}
 use Rattle.uca_certificates.specs.Texts.{certificate_text}
+use Rattle.uca_change_files.specs.ChangeTexts.{changes_text}
+use Rattle.uca_change_maker.specs.declared.found.FoundChanges.{FoundChanges}
 use Rattle.uca_words.specs.declared.Words.{Words as WordsType}
-use Rattle.uca_words.specs.declared.Words.TheVariants.{Check, Keys, Sort, Compare, Tailor, Audit, Affected}
+use Rattle.uca_words.specs.declared.Words.TheVariants.{Check, Keys, Sort, Compare, Tailor, Audit, Affected, Changes, AuditChanges, Rekey}
 use Rattle.uca_words.specs.Words.{AreRead, IsFaultOf}
 use Rattle.uca_words.specs.declared.WordFault.{WordFault}
 use Rattle.uca_runs.specs.declared.faults.Role.{Role}
@@ -23,6 +27,10 @@ use Rattle.uca_runs.specs.CompareRun.{Compares, Comparing, comparing}
 use Rattle.uca_runs.specs.KeysRun.{PrintsKeys, PrintsKeyedLines}
 use Rattle.uca_runs.specs.AffectedRun.{PrintsAffected}
 use Rattle.uca_runs.specs.SortRun.{SortsLines}
+use Rattle.uca_change_runs.specs.ChangesRun.{FindsChanges}
+use Rattle.uca_change_runs.specs.AuditRun.{AuditsChanges}
+use Rattle.uca_change_runs.specs.AffectedRun.{PrintsAffectedByChanges}
+use Rattle.uca_rekey.specs.RekeyRun.{RekeysLines}
 use Rattle.uca_cli.specs.declared.command.OpenFault.{OpenFault}
 use Rattle.uca_cli.specs.declared.command.MakeFault.{MakeFault}
 use Rattle.uca_cli.specs.declared.command.MakeFault.TheVariants as make_fault
@@ -76,28 +84,47 @@ pub record NamedFile : Type 0 where
   pub role : Role
   pub name : List ℕ
 
+-- the same from its parts
+abbrev pub file_for : Role → List ℕ → NamedFile
+file_for role name = record { role = role; name = name }
+
 -- the two files of most subcommands
 abbrev pub table_and_data : List ℕ → List ℕ → List NamedFile
-table_and_data table properties =
-    record { role = roles.Table; name = table } ∷ record { role = roles.Data; name = properties } ∷ []
+table_and_data table properties = file_for roles.Table table ∷ file_for roles.Data properties ∷ []
 
 -- the three files that `tailor` reads
 abbrev pub tailor_files : List ℕ → List ℕ → List ℕ → List NamedFile
 tailor_files table properties rules =
-    record { role = roles.Table; name = table } ∷ record { role = roles.Data; name = properties }
-    ∷ record { role = roles.Rules; name = rules } ∷ []
+    file_for roles.Table table ∷ file_for roles.Data properties ∷ file_for roles.Rules rules ∷ []
+
+-- what the second file of `affected` is: changes with `--changes`, else rules
+abbrev pub affected_role : Bool → Role
+affected_role true = roles.Changes
+affected_role false = roles.Rules
 
 -- the two files that `affected` reads
-abbrev pub data_and_rules : List ℕ → List ℕ → List NamedFile
-data_and_rules properties rules =
-    record { role = roles.Data; name = properties } ∷ record { role = roles.Rules; name = rules } ∷ []
+abbrev pub affected_files : Bool → List ℕ → List ℕ → List NamedFile
+affected_files changes properties rules =
+    file_for roles.Data properties ∷ file_for (affected_role changes) rules ∷ []
 
 -- the five files of `audit`
 abbrev pub audit_files : List ℕ → List ℕ → List ℕ → List ℕ → List ℕ → List NamedFile
 audit_files base properties rules tailored certificate =
-    record { role = roles.Base; name = base } ∷ record { role = roles.Data; name = properties }
-    ∷ record { role = roles.Rules; name = rules } ∷ record { role = roles.Tailored; name = tailored }
-    ∷ record { role = roles.Certificate; name = certificate } ∷ []
+    file_for roles.Base base ∷ file_for roles.Data properties ∷ file_for roles.Rules rules
+    ∷ file_for roles.Tailored tailored ∷ file_for roles.Certificate certificate ∷ []
+
+-- the four files that `changes` reads
+abbrev pub edition_files : List ℕ → List ℕ → List ℕ → List ℕ → List NamedFile
+edition_files before before_data after after_data =
+    file_for roles.Old before ∷ file_for roles.OldData before_data
+    ∷ file_for roles.New after ∷ file_for roles.NewData after_data ∷ []
+
+-- the six files of `audit-changes`
+abbrev pub change_files : List ℕ → List ℕ → List ℕ → List ℕ → List ℕ → List ℕ → List NamedFile
+change_files before before_data after after_data changes certificate =
+    file_for roles.Old before ∷ file_for roles.OldData before_data
+    ∷ file_for roles.New after ∷ file_for roles.NewData after_data
+    ∷ file_for roles.Changes changes ∷ file_for roles.Certificate certificate ∷ []
 
 -- ---- Opened files
 
@@ -262,54 +289,70 @@ abbrev pub KeepsCertificate : {O F M : Type 0} → FileSystem O F M → O → O 
 KeepsCertificate files old new name certificate result =
     DoesNotMake files old new name result ⊎ WritesFile files old new name certificate result
 
--- ---- Tailor
+-- ---- Tailor and changes
 
--- the status of a table that was written, or the error
-abbrev pub table_result : Result (Unit {0}) WriteFault → Result ℕ RunFault
-table_result (Ok done) = Ok 0
-table_result (Err fault) = Err (Write fault.written)
+-- the status of a text that was written, or the error
+abbrev pub printed_result : Result (Unit {0}) WriteFault → Result ℕ RunFault
+printed_result (Ok done) = Ok 0
+printed_result (Err fault) = Err (Write fault.written)
 
--- the table was written, or as much of it as a writer that fails leaves
-pub record WritesTable (table : TableContent) (out out_new : SinkState) (result : Result ℕ RunFault) : Type 0 where
+-- the text was written, or as much of it as a writer that fails leaves
+pub record PrintsText (text : List ℕ) (out out_new : SinkState) (result : Result ℕ RunFault) : Type 0 where
   pub written : Result (Unit {0}) WriteFault
-  pub writes : Writes out.contents out_new.contents (canonical table) written
-  pub not_all : IfErr written (λ fault. fault.written < length (canonical table))
+  pub writes : Writes out.contents out_new.contents text written
+  pub not_all : IfErr written (λ fault. fault.written < length text)
   pub failed : out_new.failed ≡ (out.failed || is_err written)
-  pub status : result ≡ table_result written
+  pub status : result ≡ printed_result written
 
--- the table is written where the certificate was kept, and nothing where it was not
-abbrev pub WritesAfter : TableContent → Result (Unit {0}) RunFault → SinkState → SinkState → Result ℕ RunFault → Type 0
-WritesAfter table (Ok done) out out_new result = WritesTable table out out_new result
-WritesAfter table (Err fault) out out_new result = (result ≡ Err fault) × (out_new ≡ out)
+-- the text is written where the certificate was kept, and nothing where it was not
+abbrev pub PrintsAfter : List ℕ → Result (Unit {0}) RunFault → SinkState → SinkState → Result ℕ RunFault → Type 0
+PrintsAfter text (Ok done) out out_new result = PrintsText text out out_new result
+PrintsAfter text (Err fault) out out_new result = (result ≡ Err fault) × (out_new ≡ out)
 
--- the certificate is kept, and then the table is written
-pub record KeepsAndWrites {O F M : Type 0} (files : FileSystem O F M) (old new : O) (name : List ℕ) (table : TableContent)
-    (certificate : CertificateContent) (out out_new : SinkState) (result : Result ℕ RunFault) : Type 0 where
+-- What such a run makes: the text that goes to the output, and the certificate that goes to its file.
+pub record Made : Type 0 where
+  pub text : List ℕ
+  pub certificate : CertificateContent
+
+-- what `tailor` makes: the canonical text of the table, and the certificate
+abbrev pub made_table : TableContent × CertificateContent → Made
+made_table answer = record { text = canonical answer.0; certificate = answer.1 }
+
+-- what `changes` makes: the text of the changes, and the certificate
+abbrev pub made_changes : {T : Type 0} → FoundChanges T → Made
+made_changes found = record { text = changes_text found.list; certificate = found.certificate }
+
+-- the certificate is kept, and then the text is written
+pub record KeepsAndPrints {O F M : Type 0} (files : FileSystem O F M) (old new : O) (name : List ℕ) (made : Made)
+    (out out_new : SinkState) (result : Result ℕ RunFault) : Type 0 where
   pub kept : Result (Unit {0}) RunFault
-  pub keeps : KeepsCertificate files old new name certificate kept
-  pub writes : WritesAfter table kept out out_new result
+  pub keeps : KeepsCertificate files old new name made.certificate kept
+  pub prints : PrintsAfter made.text kept out out_new result
 
--- What is done with the result of a run of tailor. Its error is that of the command, and no file is made. Or the certificate
--- is kept, where it can be, and the table is written.
-abbrev pub KeepsTailored : {O F M : Type 0} → FileSystem O F M → O → O → List ℕ → SinkState → SinkState
-    → Result (TableContent × CertificateContent) RunFault → Result ℕ RunFault → Type 0
-KeepsTailored files old new name out out_new (Err fault) result = (result ≡ Err fault) × (new ≡ old) × (out_new ≡ out)
-KeepsTailored files old new name out out_new (Ok answer) result =
-    KeepsAndWrites files old new name answer.0 answer.1 out out_new result
+-- What is done with the result of such a run. Its error is that of the command, and no file is made. Or the certificate
+-- is kept, where it can be, and the text is written.
+abbrev pub KeepsMade : {O F M A : Type 0} → FileSystem O F M → O → O → List ℕ → SinkState → SinkState → (A → Made)
+    → Result A RunFault → Result ℕ RunFault → Type 0
+KeepsMade files old new name out out_new made_of (Err fault) result =
+    (result ≡ Err fault) × (new ≡ old) × (out_new ≡ out)
+KeepsMade files old new name out out_new made_of (Ok answer) result =
+    KeepsAndPrints files old new name (made_of answer) out out_new result
 
--- a run of tailor, and what is done with its result
-pub record Tailors {O F M : Type 0} (files : FileSystem O F M) (between end : O) (certificate : List ℕ)
+-- such a run, and what is done with its result
+pub record Makes {O F M A : Type 0} (files : FileSystem O F M) (between end : O) (certificate : List ℕ)
+    (Runs : List SourceState → List SourceState → Result A RunFault → Type 0) (made_of : A → Made)
     (out out_new : SinkState) (result : Result ℕ RunFault) (olds news : List SourceState) : Type 0 where
-  pub run : Result (TableContent × CertificateContent) RunFault
-  pub runs : TailorsFiles olds news run
-  pub keeps : KeepsTailored files between end certificate out out_new run result
+  pub run : Result A RunFault
+  pub runs : Runs olds news run
+  pub keeps : KeepsMade files between end certificate out out_new made_of run result
 
--- the files of `tailor` are opened and run over, and the certificate is none of them
-abbrev pub TailorsOpened : {O F M : Type 0} → FileSystem O F M → O → O → List NamedFile → List ℕ
+-- the files are opened and run over, and the certificate is none of them
+abbrev pub MakesOpened : {O F M A : Type 0} → FileSystem O F M → O → O → List NamedFile → List ℕ
+    → (List SourceState → List SourceState → Result A RunFault → Type 0) → (A → Made)
     → SinkState → SinkState → Result ℕ RunFault → Type 0
-TailorsOpened {O = O} files old new named certificate out out_new result = (between : O)
+MakesOpened {O = O} files old new named certificate Runs made_of out out_new result = (between : O)
     × OpensAndRuns files old between named ((new ≡ between) × (out_new ≡ out))
-    (Tailors files between new certificate out out_new result) result
+    (Makes files between new certificate Runs made_of out out_new result) result
 
 -- the certificate would be written over the file of this role: nothing was opened, and nothing was written
 abbrev pub RejectsCertificate : {O F M : Type 0} → FileSystem O F M → O → O → List NamedFile → List ℕ
@@ -317,21 +360,32 @@ abbrev pub RejectsCertificate : {O F M : Type 0} → FileSystem O F M → O → 
 RejectsCertificate files old new named certificate out out_new result = (role : Role)
     × IsFirstSame files old new named certificate role × (result ≡ Err (SameAs role)) × (out_new ≡ out)
 
--- what `tailor` does with these files: the certificate is first looked for among them
-abbrev pub TailorsNamed : {O F M : Type 0} → FileSystem O F M → O → O → List NamedFile → List ℕ
+-- what such a subcommand does with these files: the certificate is first looked for among them
+abbrev pub MakesNamed : {O F M A : Type 0} → FileSystem O F M → O → O → List NamedFile → List ℕ
+    → (List SourceState → List SourceState → Result A RunFault → Type 0) → (A → Made)
     → SinkState → SinkState → Result ℕ RunFault → Type 0
-TailorsNamed {O = O} files old new named certificate out out_new result =
+MakesNamed {O = O} files old new named certificate Runs made_of out out_new result =
     RejectsCertificate files old new named certificate out out_new result
     ⊎ ((looked : O) × AreOthers files old looked named certificate
-    × TailorsOpened files looked new named certificate out out_new result)
+    × MakesOpened files looked new named certificate Runs made_of out out_new result)
 
 -- what `tailor` does
 abbrev pub DoesTailor : {O F M : Type 0} → FileSystem O F M → O → O → List ℕ → List ℕ → List ℕ → List ℕ
     → SinkState → SinkState → Result ℕ RunFault → Type 0
 DoesTailor files old new table properties rules certificate out out_new result =
-    TailorsNamed files old new (tailor_files table properties rules) certificate out out_new result
+    MakesNamed files old new (tailor_files table properties rules) certificate TailorsFiles made_table out out_new result
 
--- ---- Audit
+-- a run of changes, with what it finds in the memory of the command
+abbrev pub Finds : List SourceState → List SourceState → Result (FoundChanges Global) RunFault → Type 0
+Finds olds news run = FindsChanges olds news run
+
+-- what `changes` does with the four files that it reads
+abbrev pub DoesChanges : {O F M : Type 0} → FileSystem O F M → O → O → List NamedFile → List ℕ
+    → SinkState → SinkState → Result ℕ RunFault → Type 0
+DoesChanges files old new named certificate out out_new result =
+    MakesNamed files old new named certificate Finds made_changes out out_new result
+
+-- ---- Audits
 
 -- what `audit` does
 abbrev pub DoesAudit : {O F M : Type 0} → FileSystem O F M → O → O → List ℕ → List ℕ → List ℕ → List ℕ → List ℕ
@@ -340,15 +394,38 @@ DoesAudit files old new base properties rules tailored certificate out out_new r
     OpensAndRuns files old new (audit_files base properties rules tailored certificate) (out_new ≡ out)
     (λ olds news. Ran check_result (Audits olds news out out_new) result) result
 
+-- what `audit-changes` does with its six files
+abbrev pub DoesAuditChanges : {O F M : Type 0} → FileSystem O F M → O → O → List NamedFile
+    → SinkState → SinkState → Result ℕ RunFault → Type 0
+DoesAuditChanges files old new named out out_new result = OpensAndRuns files old new named (out_new ≡ out)
+    (λ olds news. Ran check_result (AuditsChanges olds news out out_new) result) result
+
 -- ---- Affected
 
+-- which lines `affected` prints: with `--changes` those that the changes affect, else those that the rules affect
+abbrev pub PrintsLines : Bool → List SourceState → List SourceState → SourceState → SourceState
+    → SinkState → SinkState → Result (Unit {0}) RunFault → Type 0
+PrintsLines true olds news input input_new out out_new run =
+    PrintsAffectedByChanges olds news input input_new out out_new run
+PrintsLines false olds news input input_new out out_new run = PrintsAffected olds news input input_new out out_new run
+
 -- what `affected` does
-abbrev pub DoesAffected : {O F M : Type 0} → FileSystem O F M → O → O → List ℕ → List ℕ → Streams → Streams
+abbrev pub DoesAffected : {O F M : Type 0} → FileSystem O F M → O → O → Bool → List ℕ → List ℕ → Streams → Streams
     → Result ℕ RunFault → Type 0
-DoesAffected files old new properties rules start end result =
-    OpensAndRuns files old new (data_and_rules properties rules) (end ≡ start)
+DoesAffected files old new changes properties rules start end result =
+    OpensAndRuns files old new (affected_files changes properties rules) (end ≡ start)
     (λ olds news. Ran (done_result {A = Unit {0}})
-    (PrintsAffected olds news start.input end.input start.out end.out) result) result
+    (PrintsLines changes olds news start.input end.input start.out end.out) result) result
+
+-- ---- Rekey
+
+-- what `rekey` does: the weighting is the one that is asked for, or else shifted
+abbrev pub DoesRekey : {O F M : Type 0} → FileSystem O F M → O → O → Option Weighting → Depth → List ℕ
+    → Streams → Streams → Result ℕ RunFault → Type 0
+DoesRekey files old new weighting depth certificate start end result =
+    OpensAndRuns files old new (file_for roles.Certificate certificate ∷ []) (end ≡ start)
+    (λ olds news. Ran (done_result {A = Unit {0}})
+    (RekeysLines (unwrap_or weighting Shifted) depth olds news start.input end.input start.out end.out) result) result
 
 -- ---- The command
 
@@ -371,8 +448,19 @@ DoesWords files old new (Tailor table properties rules certificate) start end re
 DoesWords files old new (Audit base properties rules tailored certificate) start end result =
     (end.input ≡ start.input)
     × DoesAudit files old new base.now properties.now rules.now tailored.now certificate.now start.out end.out result
-DoesWords files old new (Affected properties rules) start end result =
-    DoesAffected files old new properties.now rules.now start end result
+DoesWords files old new (Affected changes properties rules) start end result =
+    DoesAffected files old new changes properties.now rules.now start end result
+DoesWords files old new (Changes before before_data after after_data certificate) start end result =
+    (end.input ≡ start.input)
+    × DoesChanges files old new (edition_files before.now before_data.now after.now after_data.now) certificate.now
+    start.out end.out result
+DoesWords files old new (AuditChanges before before_data after after_data changes certificate) start end result =
+    (end.input ≡ start.input)
+    × DoesAuditChanges files old new
+    (change_files before.now before_data.now after.now after_data.now changes.now certificate.now)
+    start.out end.out result
+DoesWords files old new (Rekey weighting depth certificate) start end result =
+    DoesRekey files old new weighting depth certificate.now start end result
 
 -- how the command ends after a run: with its status, or with what its error reports
 abbrev pub EndsWith : Result ℕ RunFault → ℕ → SinkState → SinkState → SinkState → SinkState → Type 0

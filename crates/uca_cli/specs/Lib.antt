@@ -3,3 +3,4 @@ pub mod TailorRun
 pub mod Statuses
 pub mod Reports
 pub mod Command
+pub mod EditionNames

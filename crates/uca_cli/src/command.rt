@@ -1,20 +1,24 @@
 //! The command: it reads its arguments, opens the files that they name, and calls the run.
 
-ghost use Rattle.std.specs.Prelude.{◌∷◌, [], ⊤, ℕ, Bool, List, Result, MatchResult, ◌≡◌};
+ghost use Rattle.std.specs.Prelude.{◌∷◌, [], ⊤, ℕ, Bool, List, Result, ◌≡◌};
 ghost use Rattle.clap.specs.Walk.{texts};
-ghost use Rattle.uca_cli.specs.Command.{AreOpened, DoesAffected, DoesAudit, DoesCheck, DoesCommand, DoesCompare, DoesKeys, DoesNotOpen, DoesSort, DoesTailor, DoesWords, KeepsAndWrites, KeepsTailored, Prints, TailorsOpened, audit_files, check_result, data_and_rules, done_result, file_system, streams, table_and_data, tailor_files};
+ghost use Rattle.uca_cli.specs.Command.{DoesAffected, DoesAudit, DoesCheck, DoesCommand, DoesCompare, DoesKeys, DoesSort, DoesTailor, DoesWords, KeepsAndPrints, KeepsMade, MakesOpened, Prints, PrintsLines, affected_role, file_system, made_table, streams, tailor_files};
+ghost use Rattle.uca_cli.specs.TailorRun.{TailorsFiles};
 ghost use Rattle.uca_runs.specs.CompareRun.{comparing};
 ghost use Rattle.uca_cli.specs.declared.command.OpenFault.{OpenFault};
 ghost use Rattle.uca_cli.specs.declared.command.MakeFault.{MakeFault};
 
 use crate::audit::run_audit;
+use crate::change_commands::{audit_changes, changes, rekey};
 use crate::keeping::{find_certificate, keep_certificate, print_table};
-use crate::reporting::{DONE, REFUSED, report};
+use crate::opening::{EditionNames, open_audit_files, open_files, open_three, open_two};
+use crate::reporting::{checked, done, report};
 use crate::tailor::run_tailor;
 use std::alloc::Global;
 use std::io::{Read, Write};
 use thiserror::Error;
 use uca_certificates::Certificate;
+use uca_change_runs::run_affected_by_changes;
 use uca_runs::faults::{Role, RunFault};
 use uca_runs::{run_affected, run_check, run_compare, run_keyed_lines, run_keys, run_sort};
 use uca_values::Table;
@@ -95,141 +99,6 @@ pub trait Opens {
     /// Closes a file that was made, and removes it.
     fn remove(&mut self, file: Self::Made)
         ensures { remove_gives self.old file self.new };
-}
-
-// The sources of a table file and of a data file, which are opened in this order, or the first that does
-// not open.
-fn open_files<O: Opens>(
-    opener: &mut O,
-    table: &str,
-    properties: &str,
-) -> Result<(Source<O::File>, Source<O::File>), Role>
-    ensures { MatchResult result
-        (λ files. AreOpened (file_system O.open_gives O.same_gives O.create_gives O.keep_gives O.remove_gives O.File.remaining O.Made.contents)
-        opener.old opener.new (table_and_data table.now properties.now) (files.0 ∷ files.1 ∷ []))
-        (DoesNotOpen (file_system O.open_gives O.same_gives O.create_gives O.keep_gives O.remove_gives O.File.remaining O.Made.contents)
-        opener.old opener.new (table_and_data table.now properties.now)) }
-{
-    let Ok(table) = opener.open(table) else {
-        return Err(Role::Table);
-    };
-    let Ok(properties) = opener.open(properties) else {
-        return Err(Role::Data);
-    };
-    Ok((Source::new(table), Source::new(properties)))
-}
-
-// The sources of a table file, of a data file and of a file of rules, which are opened in this order, or the first that does
-// not open.
-fn open_tailor_files<O: Opens>(
-    opener: &mut O,
-    table: &str,
-    properties: &str,
-    rules: &str,
-) -> Result<(Source<O::File>, Source<O::File>, Source<O::File>), Role>
-    ensures { MatchResult result
-        (λ files. AreOpened (file_system O.open_gives O.same_gives O.create_gives O.keep_gives O.remove_gives O.File.remaining O.Made.contents)
-        opener.old opener.new (tailor_files table.now properties.now rules.now) (files.0 ∷ files.1 ∷ files.2 ∷ []))
-        (DoesNotOpen (file_system O.open_gives O.same_gives O.create_gives O.keep_gives O.remove_gives O.File.remaining O.Made.contents)
-        opener.old opener.new (tailor_files table.now properties.now rules.now)) }
-{
-    let (table, properties) = open_files(opener, table, properties)?;
-    let Ok(file) = opener.open(rules) else {
-        return Err(Role::Rules);
-    };
-    Ok((table, properties, Source::new(file)))
-}
-
-// The sources of a data file and of a file of rules, which are opened in this order, or the first that does not open.
-fn open_data_and_rules<O: Opens>(
-    opener: &mut O,
-    properties: &str,
-    rules: &str,
-) -> Result<(Source<O::File>, Source<O::File>), Role>
-    ensures { MatchResult result
-        (λ files. AreOpened (file_system O.open_gives O.same_gives O.create_gives O.keep_gives O.remove_gives O.File.remaining O.Made.contents)
-        opener.old opener.new (data_and_rules properties.now rules.now) (files.0 ∷ files.1 ∷ []))
-        (DoesNotOpen (file_system O.open_gives O.same_gives O.create_gives O.keep_gives O.remove_gives O.File.remaining O.Made.contents)
-        opener.old opener.new (data_and_rules properties.now rules.now)) }
-{
-    let Ok(data_file) = opener.open(properties) else {
-        return Err(Role::Data);
-    };
-    let Ok(rules) = opener.open(rules) else {
-        return Err(Role::Rules);
-    };
-    Ok((Source::new(data_file), Source::new(rules)))
-}
-
-// The sources of the files of an audit.
-#[derive(Drop)]
-struct OpenedFiles<F: Read + Drop> {
-    base: Source<F>,
-    properties: Source<F>,
-    rules: Source<F>,
-    tailored: Source<F>,
-    certificate: Source<F>,
-}
-
-// The sources of the files of an audit, which are opened in the order of the arguments, or the first that does not
-// open.
-fn open_audit_files<O: Opens>(
-    opener: &mut O,
-    base: &str,
-    data_file: &str,
-    rules: &str,
-    tailored: &str,
-    certificate: &str,
-) -> Result<OpenedFiles<O::File>, Role>
-    ensures { MatchResult result
-        (λ files. AreOpened (file_system O.open_gives O.same_gives O.create_gives O.keep_gives O.remove_gives O.File.remaining O.Made.contents)
-        opener.old opener.new (audit_files base.now data_file.now rules.now tailored.now certificate.now) (files.base ∷ files.properties ∷ files.rules ∷ files.tailored ∷ files.certificate ∷ []))
-        (DoesNotOpen (file_system O.open_gives O.same_gives O.create_gives O.keep_gives O.remove_gives O.File.remaining O.Made.contents)
-        opener.old opener.new (audit_files base.now data_file.now rules.now tailored.now certificate.now)) }
-{
-    let Ok(base) = opener.open(base) else {
-        return Err(Role::Base);
-    };
-    let Ok(data_file) = opener.open(data_file) else {
-        return Err(Role::Data);
-    };
-    let Ok(rules) = opener.open(rules) else {
-        return Err(Role::Rules);
-    };
-    let Ok(tailored) = opener.open(tailored) else {
-        return Err(Role::Tailored);
-    };
-    let Ok(certificate) = opener.open(certificate) else {
-        return Err(Role::Certificate);
-    };
-    Ok(OpenedFiles {
-        base: Source::new(base),
-        properties: Source::new(data_file),
-        rules: Source::new(rules),
-        tailored: Source::new(tailored),
-        certificate: Source::new(certificate),
-    })
-}
-
-// The status of a run that was done.
-fn done(run: Result<(), RunFault>) -> Result<u8, RunFault>
-    ensures { result ≡ done_result run }
-{
-    match run {
-        Ok(()) => Ok(DONE),
-        Err(fault) => Err(fault),
-    }
-}
-
-// The status of a check that was done.
-fn checked(run: Result<bool, RunFault>) -> Result<u8, RunFault>
-    ensures { result ≡ check_result run }
-{
-    match run {
-        Ok(true) => Ok(DONE),
-        Ok(false) => Ok(REFUSED),
-        Err(fault) => Err(fault),
-    }
 }
 
 // `check`.
@@ -395,12 +264,18 @@ fn tailor_files<O: Opens, W: Write>(
     certificate: &str,
     out: &mut Sink<W>,
 ) -> Result<u8, RunFault>
-    ensures { TailorsOpened (file_system O.open_gives O.same_gives O.create_gives O.keep_gives O.remove_gives O.File.remaining O.Made.contents)
+    ensures { MakesOpened (file_system O.open_gives O.same_gives O.create_gives O.keep_gives O.remove_gives O.File.remaining O.Made.contents)
         opener.old opener.new (tailor_files table.now properties.now rules.now) certificate.now
-        out.old out.new result }
+        TailorsFiles made_table out.old out.new result }
 {
-    let (mut table, mut properties, mut rules) = match open_tailor_files(
-        opener, table, properties, rules,
+    let (mut table, mut properties, mut rules) = match open_three(
+        opener,
+        Role::Table,
+        table,
+        Role::Data,
+        properties,
+        Role::Rules,
+        rules,
     ) {
         Ok(files) => files,
         Err(role) => return Err(RunFault::Open(role)),
@@ -416,8 +291,8 @@ fn keep_run<O: Opens, W: Write>(
     name: &str,
     out: &mut Sink<W>,
 ) -> Result<u8, RunFault>
-    ensures { KeepsTailored (file_system O.open_gives O.same_gives O.create_gives O.keep_gives O.remove_gives O.File.remaining O.Made.contents)
-        opener.old opener.new name.now out.old out.new run result }
+    ensures { KeepsMade (file_system O.open_gives O.same_gives O.create_gives O.keep_gives O.remove_gives O.File.remaining O.Made.contents)
+        opener.old opener.new name.now out.old out.new made_table run result }
 {
     match run {
         Ok(answer) => {
@@ -437,8 +312,8 @@ fn keep_tailored<O: Opens, W: Write>(
     name: &str,
     out: &mut Sink<W>,
 ) -> Result<u8, RunFault>
-    ensures { KeepsAndWrites (file_system O.open_gives O.same_gives O.create_gives O.keep_gives O.remove_gives O.File.remaining O.Made.contents)
-        opener.old opener.new name.now table.now certificate.now out.old out.new result }
+    ensures { KeepsAndPrints (file_system O.open_gives O.same_gives O.create_gives O.keep_gives O.remove_gives O.File.remaining O.Made.contents)
+        opener.old opener.new name.now (made_table (table.now, certificate.now)) out.old out.new result }
 {
     keep_certificate(opener, certificate, name)?;
     print_table(table, out)
@@ -478,20 +353,53 @@ fn audit<O: Opens, W: Write>(
 fn affected<O: Opens, I: Read, W: Write>(
     alloc: Global,
     opener: &mut O,
+    changes: bool,
     properties: &str,
     rules: &str,
     input: &mut Source<I>,
     out: &mut Sink<W>,
 ) -> Result<u8, RunFault>
     ensures { DoesAffected (file_system O.open_gives O.same_gives O.create_gives O.keep_gives O.remove_gives O.File.remaining O.Made.contents)
-        opener.old opener.new properties.now rules.now
+        opener.old opener.new changes properties.now rules.now
         (streams input.old out.old) (streams input.new out.new) result }
 {
-    let (mut properties, mut rules) = match open_data_and_rules(opener, properties, rules) {
+    let (mut properties, mut rules) = match open_two(
+        opener,
+        Role::Data,
+        properties,
+        affected_role(changes),
+        rules,
+    ) {
         Ok(files) => files,
         Err(role) => return Err(RunFault::Open(role)),
     };
-    done(run_affected(alloc, &mut properties, &mut rules, input, out))
+    done(print_lines(alloc, changes, &mut properties, &mut rules, input, out))
+}
+
+// What the second file of `affected` is.
+fn affected_role(changes: bool) -> Role
+    ensures { result ≡ affected_role changes }
+{
+    if changes { Role::Changes } else { Role::Rules }
+}
+
+// The run of `affected`: by changes, or by rules.
+fn print_lines<D: Read, U: Read, I: Read, W: Write>(
+    alloc: Global,
+    changes: bool,
+    properties: &mut Source<D>,
+    rules: &mut Source<U>,
+    input: &mut Source<I>,
+    out: &mut Sink<W>,
+) -> Result<(), RunFault>
+    ensures { PrintsLines changes (properties.old ∷ rules.old ∷ []) (properties.new ∷ rules.new ∷ [])
+        input.old input.new out.old out.new result }
+{
+    if changes {
+        run_affected_by_changes(alloc, properties, rules, input, out)
+    } else {
+        run_affected(alloc, properties, rules, input, out)
+    }
 }
 
 // Does what the arguments say, and returns the status of what was done.
@@ -557,16 +465,61 @@ fn run_words<O: Opens, I: Read, W: Write>(
             certificate,
             out,
         ),
-        Words::Affected { properties, rules } => {
-            affected(alloc, opener, properties, rules, input, out)
-        }
+        Words::Affected {
+            changes,
+            properties,
+            rules,
+        } => affected(alloc, opener, changes, properties, rules, input, out),
+        Words::Changes {
+            old,
+            old_data,
+            new,
+            new_data,
+            certificate,
+        } => changes(
+            alloc,
+            opener,
+            &EditionNames {
+                old,
+                old_data,
+                new,
+                new_data,
+            },
+            certificate,
+            out,
+        ),
+        Words::AuditChanges {
+            old,
+            old_data,
+            new,
+            new_data,
+            changes,
+            certificate,
+        } => audit_changes(
+            alloc,
+            opener,
+            &EditionNames {
+                old,
+                old_data,
+                new,
+                new_data,
+            },
+            changes,
+            certificate,
+            out,
+        ),
+        Words::Rekey {
+            weighting,
+            depth,
+            certificate,
+        } => rekey(alloc, opener, weighting, depth, certificate, input, out),
     }
 }
 
 /// Runs a command line, whose first argument is the program's name, and returns the exit status. It reads the
 /// arguments, opens all files that they name, in the order of the arguments, and then runs over them. It reports an
-/// error. If it rejects the arguments, it opens and reads nothing. It does the same if `tailor` is to write the
-/// certificate over a file that it reads. No other command makes a file.
+/// error. If it rejects the arguments, it opens and reads nothing. It does the same if `tailor` or `changes` is to write
+/// the certificate over a file that it reads. No other command makes a file.
 pub fn run_command<'a, O: Opens, I: Read, W: Write, E: Write>(
     alloc: Global,
     opener: &mut O,

@@ -1,12 +1,17 @@
 //! The file of a certificate: it is none of the files that are read, and it is kept only as a whole.
 
 ghost use Rattle.std.specs.Prelude.{MatchResult, Result, ◌≡◌};
-ghost use Rattle.uca_cli.specs.Command.{AreOthers, EndsFile, IsCertificate, IsFirstSame, KeepsCertificate, WritesTable, file_system, make_fault_of, tailor_files};
+ghost use Rattle.uca_cli.specs.Command.{AreOthers, EndsFile, IsCertificate, IsFirstSame, KeepsCertificate, PrintsText, file_system, make_fault_of, tailor_files};
+ghost use Rattle.uca_cli.specs.EditionNames.{edition_files_of};
+ghost use Rattle.uca_table.specs.Canonical.{canonical};
+ghost use Rattle.uca_change_files.specs.ChangeTexts.{changes_text};
 
 use crate::command::{MakeFault, Opens};
+use crate::opening::EditionNames;
 use crate::reporting::DONE;
 use std::io::Write;
 use uca_certificates::{Certificate, write_certificate};
+use uca_change_files::{ChangeList, write_changes};
 use uca_runs::faults::{Role, RunFault};
 use uca_table::write_table;
 use uca_values::Table;
@@ -20,7 +25,7 @@ fn is_certificate<O: Opens>(opener: &mut O, name: &str, certificate: &str) -> bo
     name == certificate || opener.is_same(name, certificate)
 }
 
-// Looks for the certificate among the files that `tailor` reads. An error is the role of the first that it is.
+/// Looks for the certificate among the files that `tailor` reads. An error is the role of the first that it is.
 pub(crate) fn find_certificate<O: Opens>(
     opener: &mut O,
     table: &str,
@@ -42,6 +47,33 @@ pub(crate) fn find_certificate<O: Opens>(
     }
     if is_certificate(opener, rules, certificate) {
         return Err(Role::Rules);
+    }
+    Ok(())
+}
+
+/// The same, among the files that `changes` reads.
+pub(crate) fn find_certificate_of_editions<O: Opens>(
+    opener: &mut O,
+    names: &EditionNames,
+    certificate: &str,
+) -> Result<(), Role>
+    ensures { MatchResult result
+        (λ done. AreOthers (file_system O.open_gives O.same_gives O.create_gives O.keep_gives O.remove_gives O.File.remaining O.Made.contents)
+        opener.old opener.new (edition_files_of names.now) certificate.now)
+        (IsFirstSame (file_system O.open_gives O.same_gives O.create_gives O.keep_gives O.remove_gives O.File.remaining O.Made.contents)
+        opener.old opener.new (edition_files_of names.now) certificate.now) }
+{
+    if is_certificate(opener, names.old, certificate) {
+        return Err(Role::Old);
+    }
+    if is_certificate(opener, names.old_data, certificate) {
+        return Err(Role::OldData);
+    }
+    if is_certificate(opener, names.new, certificate) {
+        return Err(Role::New);
+    }
+    if is_certificate(opener, names.new_data, certificate) {
+        return Err(Role::NewData);
     }
     Ok(())
 }
@@ -75,7 +107,7 @@ fn end_file<O: Opens>(
     }
 }
 
-// Writes the certificate to a file that is made for this name, and keeps the file if it is whole.
+/// Writes the certificate to a file that is made for this name, and keeps the file if it is whole.
 pub(crate) fn keep_certificate<O: Opens>(
     opener: &mut O,
     certificate: &Certificate,
@@ -93,11 +125,21 @@ pub(crate) fn keep_certificate<O: Opens>(
     end_file(opener, sink.into_inner(), name, written)
 }
 
-// Writes the tailored table, and returns the status of a run that was done.
+/// Writes the tailored table, and returns the status of a run that was done.
 pub(crate) fn print_table<W: Write>(table: &Table, out: &mut Sink<W>) -> Result<u8, RunFault>
-    ensures { WritesTable table.now out.old out.new result }
+    ensures { PrintsText (canonical table.now) out.old out.new result }
 {
     match write_table(table, out) {
+        Ok(()) => Ok(DONE),
+        Err(WriteFault { written }) => Err(RunFault::Write { written }),
+    }
+}
+
+/// Writes the changes that were found, and returns the status of a run that was done.
+pub(crate) fn print_changes<W: Write>(list: &ChangeList, out: &mut Sink<W>) -> Result<u8, RunFault>
+    ensures { PrintsText (changes_text list.now) out.old out.new result }
+{
+    match write_changes(list, out) {
         Ok(()) => Ok(DONE),
         Err(WriteFault { written }) => Err(RunFault::Write { written }),
     }

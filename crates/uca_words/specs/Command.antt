@@ -22,9 +22,13 @@ flag_rule id = record (new_rule id) { long = Some id; action = Some SetTrue }
 abbrev pub with_files : App → App
 with_files app = with_rule (with_rule app (word_rule (codes "table"))) (word_rule (codes "data"))
 
+-- `[--weighting W] [--identical]` come next
+abbrev pub with_settings : App → App
+with_settings app = with_rule (with_rule app weighting_rule) (flag_rule (codes "identical"))
+
 -- `[--weighting W] [--identical] TABLE DATA` come next
 abbrev pub with_options : App → App
-with_options app = with_files (with_rule (with_rule app weighting_rule) (flag_rule (codes "identical")))
+with_options app = with_files (with_settings app)
 
 abbrev pub check_app : App
 check_app = with_files (new_app (codes "check"))
@@ -51,9 +55,25 @@ with_audit_files app = with_rule (with_rule (with_rule (with_rule (with_rule app
 abbrev pub audit_app : App
 audit_app = with_audit_files (new_app (codes "audit"))
 
--- `affected DATA RULES`
+-- `affected [--changes] DATA RULES`
 abbrev pub affected_app : App
-affected_app = with_rule (with_rule (new_app (codes "affected")) (word_rule (codes "data"))) (word_rule (codes "rules"))
+affected_app = with_rule (with_rule (with_rule (new_app (codes "affected")) (flag_rule (codes "changes"))) (word_rule (codes "data"))) (word_rule (codes "rules"))
+
+-- `OLD OLD-DATA NEW NEW-DATA` come next
+abbrev pub with_editions : App → App
+with_editions app = with_rule (with_rule (with_rule (with_rule app (word_rule (codes "old"))) (word_rule (codes "old-data"))) (word_rule (codes "new"))) (word_rule (codes "new-data"))
+
+-- `changes OLD OLD-DATA NEW NEW-DATA CERTIFICATE`
+abbrev pub changes_app : App
+changes_app = with_rule (with_editions (new_app (codes "changes"))) (word_rule (codes "certificate"))
+
+-- `audit-changes OLD OLD-DATA NEW NEW-DATA CHANGES CERTIFICATE`
+abbrev pub audit_changes_app : App
+audit_changes_app = with_rule (with_rule (with_editions (new_app (codes "audit-changes"))) (word_rule (codes "changes"))) (word_rule (codes "certificate"))
+
+-- `rekey [--weighting W] [--identical] CERTIFICATE`
+abbrev pub rekey_app : App
+rekey_app = with_rule (with_settings (new_app (codes "rekey"))) (word_rule (codes "certificate"))
 
 -- The command before its subcommands: one of them has to be named. It has a version, so `clap` adds `--version`, and it
 -- adds the subcommand `help`, which is always an error.
@@ -62,7 +82,7 @@ bare_app = on_top (λ s. record s { subcommand_required = true; has_version = tr
 
 -- the subcommands, in the order of the help
 abbrev pub subcommands : List App
-subcommands = check_app ∷ keys_app ∷ sort_app ∷ compare_app ∷ tailor_app ∷ audit_app ∷ affected_app ∷ []
+subcommands = check_app ∷ keys_app ∷ sort_app ∷ compare_app ∷ tailor_app ∷ audit_app ∷ affected_app ∷ changes_app ∷ audit_changes_app ∷ rekey_app ∷ []
 
 abbrev pub uca_app : App
 uca_app = fold (λ app sub. with_subcommand app sub.top) bare_app subcommands
@@ -70,6 +90,10 @@ uca_app = fold (λ app sub. with_subcommand app sub.top) bare_app subcommands
 -- the command with its first four subcommands: only private contracts cite this
 abbrev pub line_app : App
 line_app = with_subcommand (with_subcommand (with_subcommand (with_subcommand bare_app check_app.top) keys_app.top) sort_app.top) compare_app.top
+
+-- and with those of tailorings after them: only private contracts cite this
+abbrev pub rules_app : App
+rules_app = with_subcommand (with_subcommand (with_subcommand line_app tailor_app.top) audit_app.top) affected_app.top
 
 -- a parse reads the command so, and no argument of it is global: only private contracts cite this
 pub record StandsFor (app : App) (command : Command) : Type 0 where

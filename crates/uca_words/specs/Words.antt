@@ -14,7 +14,7 @@ use Rattle.uca_words.specs.declared.WordFault.{WordFault}
 use Rattle.uca_words.specs.declared.WordFault.TheVariants.{Refused, Weighting, Memory}
 use Rattle.uca_words.specs.Command.{uca_app}
 use Rattle.uca_words.specs.declared.Words.{Words}
-use Rattle.uca_words.specs.declared.Words.TheVariants.{Check, Keys, Sort, Compare, Tailor, Audit, Affected}
+use Rattle.uca_words.specs.declared.Words.TheVariants.{Check, Keys, Sort, Compare, Tailor, Audit, Affected, Changes, AuditChanges, Rekey}
 
 -- `--weighting` is given this value, or is not given
 abbrev pub HasWeighting : List Row → Option WeightingType → Type 0
@@ -32,6 +32,11 @@ HasWord rows id word = first_of id rows ≡ Some word.now
 abbrev pub HasFiles : List Row → Bor Text → Bor Text → Type 0
 HasFiles rows table properties = HasWord rows (codes "table") table × HasWord rows (codes "data") properties
 
+-- the old table, its data file, the new table and its data file
+abbrev pub HasEditions : List Row → Bor Text → Bor Text → Bor Text → Bor Text → Type 0
+HasEditions rows old old_data new new_data =
+    HasWord rows (codes "old") old × HasWord rows (codes "old-data") old_data × HasWord rows (codes "new") new × HasWord rows (codes "new-data") new_data
+
 -- the subcommand of this name, with these rows of its arguments, says these `Words`
 abbrev pub Says : Text → List Row → Words → Type 0
 Says name rows (Check table properties) = (name ≡ codes "check") × HasFiles rows table properties
@@ -47,8 +52,15 @@ Says name rows (Tailor table properties rules certificate) =
 Says name rows (Audit base properties rules tailored certificate) =
     (name ≡ codes "audit") × HasWord rows (codes "base") base × HasWord rows (codes "data") properties × HasWord rows (codes "rules") rules
     × HasWord rows (codes "tailored") tailored × HasWord rows (codes "certificate") certificate
-Says name rows (Affected properties rules) =
-    (name ≡ codes "affected") × HasWord rows (codes "data") properties × HasWord rows (codes "rules") rules
+Says name rows (Affected changes properties rules) =
+    (name ≡ codes "affected") × (is_given (codes "changes") rows ≡ changes) × HasWord rows (codes "data") properties × HasWord rows (codes "rules") rules
+Says name rows (Changes old old_data new new_data certificate) =
+    (name ≡ codes "changes") × HasEditions rows old old_data new new_data × HasWord rows (codes "certificate") certificate
+Says name rows (AuditChanges old old_data new new_data changes certificate) =
+    (name ≡ codes "audit-changes") × HasEditions rows old old_data new new_data
+    × HasWord rows (codes "changes") changes × HasWord rows (codes "certificate") certificate
+Says name rows (Rekey weighting depth certificate) =
+    (name ≡ codes "rekey") × HasWeighting rows weighting × HasDepth rows depth × HasWord rows (codes "certificate") certificate
 
 -- the subcommand that was met, with the rows of its arguments, says these `Words`
 abbrev pub SayWords : Option (Text × List Row) → Words → Type 0

@@ -2,7 +2,7 @@
 
 ghost use Rattle.std.specs.Prelude.{◌≡◌, codes, false, Ok, IfOk, IfSome};
 ghost use Rattle.clap.specs.Words.{App, new_app, rule_of, with_rule, with_subcommand};
-ghost use Rattle.uca_words.specs.Command.{StandsFor, word_rule, weighting_rule, flag_rule, with_files, with_options, with_audit_files, check_app, keys_app, sort_app, compare_app, tailor_app, audit_app, affected_app, bare_app, line_app, uca_app};
+ghost use Rattle.uca_words.specs.Command.{StandsFor, word_rule, weighting_rule, flag_rule, with_files, with_settings, with_options, with_audit_files, with_editions, check_app, keys_app, sort_app, compare_app, tailor_app, audit_app, affected_app, changes_app, audit_changes_app, rekey_app, bare_app, line_app, rules_app, uca_app};
 
 use clap::{Arg, ArgAction, Command};
 use std::alloc::{AllocError, Global};
@@ -21,14 +21,14 @@ fn word<'a>(alloc: Global, id: &'a str, name: &'a str, help: &'a str) -> Arg<'a>
         .help(help)
 }
 
-fn weighting_option<'a>(alloc: Global) -> Arg<'a>
+fn weighting_option<'a>(alloc: Global, help: &'a str) -> Arg<'a>
     ensures rule { rule_of result ≡ weighting_rule }
     ensures local { result.global ≡ false }
 {
     Arg::new(alloc, "weighting")
         .long("weighting")
         .value_name("W")
-        .help("non-ignorable or shifted [default: what the table's @variable says, else shifted]")
+        .help(help)
 }
 
 // An option without a value.
@@ -124,6 +124,19 @@ fn take_rules<'a>(
     take_word(alloc, command, "rules", "RULES", "The tailoring rules")
 }
 
+// `[--weighting W] [--identical]` come next, with these help texts.
+fn take_settings<'a>(
+    alloc: Global,
+    command: Result<Command<'a>, AllocError>,
+    weighting: &'a str,
+    identical: &'a str,
+) -> Result<Command<'a>, AllocError>
+    ensures { (app : App) → IfOk command.entry (StandsFor app) → IfOk result (StandsFor (with_settings app)) }
+{
+    let command = take_argument(command, weighting_option(alloc, weighting));
+    take_flag(alloc, command, "identical", identical)
+}
+
 // `[--weighting W] [--identical] TABLE DATA` come next.
 fn take_options<'a>(
     alloc: Global,
@@ -131,9 +144,10 @@ fn take_options<'a>(
 ) -> Result<Command<'a>, AllocError>
     ensures { (app : App) → IfOk command.entry (StandsFor app) → IfOk result (StandsFor (with_options app)) }
 {
-    let command = take_argument(command, weighting_option(alloc));
+    let weighting =
+        "non-ignorable or shifted [default: what the table's @variable says, else shifted]";
     let identical = "Compare texts that weigh the same by their code points too";
-    take_files(alloc, take_flag(alloc, command, "identical", identical))
+    take_files(alloc, take_settings(alloc, command, weighting, identical))
 }
 
 // A subcommand before its arguments: its name, what it does in one line and in full, and an example.
@@ -278,13 +292,95 @@ fn affected_command<'a>(alloc: Global) -> Result<Command<'a>, AllocError>
     let affected = named(
         alloc,
         "affected",
-        "Print the lines of standard input that rules may move",
+        "Print the lines of standard input that rules or changes may move",
         "Prints those lines of standard input in which a target of RULES occurs, as they are. Other characters\n\
          may be between those of the target: `bh` occurs in `bach`. These lines may move when a table is\n\
-         tailored by RULES. All other lines keep their order among themselves.",
-        "Example: uca affected data.txt rules.txt < lines.txt > moved.txt",
+         tailored by RULES. All other lines keep their order among themselves. With `--changes` RULES is a file\n\
+         of changes, as `uca changes` prints it, and DATA is the new data file. Then it prints the lines in\n\
+         which a changed text occurs so, and those with a code point of a changed range.",
+        "Examples:\n\
+         \x20 uca affected data.txt rules.txt < lines.txt > moved.txt\n\
+         \x20 uca affected --changes new-data.txt changes.txt < lines.txt > changed.txt",
     );
-    take_rules(alloc, take_data(alloc, Ok(affected)))
+    let changes = "RULES is a file of changes, and DATA the new data file";
+    let affected = take_flag(alloc, Ok(affected), "changes", changes);
+    take_rules(alloc, take_data(alloc, affected))
+}
+
+// `OLD OLD-DATA NEW NEW-DATA` come next.
+fn take_editions<'a>(
+    alloc: Global,
+    command: Result<Command<'a>, AllocError>,
+) -> Result<Command<'a>, AllocError>
+    ensures { (app : App) → IfOk command.entry (StandsFor app) → IfOk result (StandsFor (with_editions app)) }
+{
+    let old = "The weight table before the change";
+    let command = take_word(alloc, command, "old", "OLD", old);
+    let old_data = "The data file of OLD";
+    let command = take_word(alloc, command, "old-data", "OLD-DATA", old_data);
+    let new = "The weight table after the change";
+    let command = take_word(alloc, command, "new", "NEW", new);
+    let new_data = "The data file of NEW";
+    take_word(alloc, command, "new-data", "NEW-DATA", new_data)
+}
+
+fn changes_command<'a>(alloc: Global) -> Result<Command<'a>, AllocError>
+    ensures { IfOk result (StandsFor changes_app) }
+{
+    let changes = named(
+        alloc,
+        "changes",
+        "Find what changes from an old weight table to a new one",
+        "Finds which texts and code points change from the table OLD to the table NEW, each with its data file.\n\
+         First it writes the old and the new weights of OLD to the file CERTIFICATE. A file of that name is\n\
+         replaced, unless it is one that `changes` reads. Then it prints the changes. `uca audit-changes` checks\n\
+         both. All texts in which none of the changes occurs keep their order among themselves, and `uca rekey`\n\
+         mends their stored keys.",
+        "Example: uca changes old.txt old-data.txt new.txt new-data.txt certificate.txt > changes.txt",
+    );
+    let changes = take_editions(alloc, Ok(changes));
+    let certificate = "The file that the certificate is written to";
+    take_word(alloc, changes, "certificate", "CERTIFICATE", certificate)
+}
+
+fn audit_changes_command<'a>(alloc: Global) -> Result<Command<'a>, AllocError>
+    ensures { IfOk result (StandsFor audit_changes_app) }
+{
+    let audit = named(
+        alloc,
+        "audit-changes",
+        "Say whether changes and their certificate are right",
+        "Says whether CHANGES has all that changes from the table OLD to the table NEW, each with its data file,\n\
+         with the weights moved as CERTIFICATE says. Prints `accepted`, or the first condition that fails and\n\
+         where, such as `refused 5 RowChanged old row 3`, with status 1. If it accepts, all texts in which none\n\
+         of the changes occurs compare as under OLD, and `uca rekey` mends their stored keys.",
+        "Example: uca audit-changes old.txt old-data.txt new.txt new-data.txt changes.txt certificate.txt",
+    );
+    let audit = take_editions(alloc, Ok(audit));
+    let changes = "The changes, as `uca changes` prints them";
+    let audit = take_word(alloc, audit, "changes", "CHANGES", changes);
+    let certificate = "The certificate of the changes";
+    take_word(alloc, audit, "certificate", "CERTIFICATE", certificate)
+}
+
+fn rekey_command<'a>(alloc: Global) -> Result<Command<'a>, AllocError>
+    ensures { IfOk result (StandsFor rekey_app) }
+{
+    let rekey = named(
+        alloc,
+        "rekey",
+        "Mend the stored keys on standard input by a certificate",
+        "Reads lines as `uca keys` or `uca keys --lines` prints them, and prints each with its key put through\n\
+         the maps of CERTIFICATE: each old weight becomes its new one. The rest of the line stays. So a text in\n\
+         which no change occurs gets its key under the new table. `--weighting` and `--identical` have to be\n\
+         those that made the keys.",
+        "Example: uca rekey certificate.txt < keyed.tsv > mended.tsv",
+    );
+    let weighting = "non-ignorable or shifted, as the keys were made [default: shifted]";
+    let identical = "The keys were made with --identical";
+    let rekey = take_settings(alloc, Ok(rekey), weighting, identical);
+    let certificate = "The certificate of the changes, or of a tailoring";
+    take_word(alloc, rekey, "certificate", "CERTIFICATE", certificate)
 }
 
 // One more subcommand.
@@ -307,7 +403,7 @@ fn bare_command<'a>(alloc: Global) -> Command<'a>
 {
     Command::new(alloc, "uca")
         .about(
-            "Unicode collation (UTS #10): prints sort keys, sorts and compares by a table of weights; tailors and audits tables",
+            "Unicode collation (UTS #10): prints sort keys, sorts and compares by a table of weights; tailors and audits tables, mends stored keys",
         )
         .after_help("`uca COMMAND --help` says more of each, with an example.")
         .version(VERSION)
@@ -324,11 +420,20 @@ fn line_commands<'a>(alloc: Global) -> Result<Command<'a>, AllocError>
     take_subcommand(command, compare_command(alloc))
 }
 
-/// The command with all its subcommands.
-pub(crate) fn uca_command<'a>(alloc: Global) -> Result<Command<'a>, AllocError>
-    ensures { IfOk result (StandsFor uca_app) }
+// And with those of tailorings after them.
+fn rules_commands<'a>(alloc: Global) -> Result<Command<'a>, AllocError>
+    ensures { IfOk result (StandsFor rules_app) }
 {
     let command = take_subcommand(line_commands(alloc), tailor_command(alloc));
     let command = take_subcommand(command, audit_command(alloc));
     take_subcommand(command, affected_command(alloc))
+}
+
+/// The command with all its subcommands.
+pub(crate) fn uca_command<'a>(alloc: Global) -> Result<Command<'a>, AllocError>
+    ensures { IfOk result (StandsFor uca_app) }
+{
+    let command = take_subcommand(rules_commands(alloc), changes_command(alloc));
+    let command = take_subcommand(command, audit_changes_command(alloc));
+    take_subcommand(command, rekey_command(alloc))
 }

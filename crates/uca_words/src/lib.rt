@@ -3,7 +3,8 @@
 //! `read_words` is proved against the specification of `clap`, which says what a command accepts:
 //!
 //! - At `Ok` the command accepts the arguments, and the result has those of the subcommand that they name. The depth is
-//!   `Identical` exactly where `--identical` is given, and `lines` is true exactly where `--lines` is given.
+//!   `Identical` exactly where `--identical` is given. `lines` is true exactly where `--lines` is given, and `changes`
+//!   where `--changes` is.
 //! - `Refused` has an error of a kind that the specification gives for the arguments. It is never returned for arguments
 //!   that the command accepts.
 //! - `Weighting` is returned only for arguments that the command accepts and whose weighting has no known name.
@@ -14,7 +15,7 @@ ghost use Rattle.std.specs.Prelude.{◌≡◌, Some, IfOk, IfErr, IfSome, IfNone
 ghost use Rattle.clap.specs.Words.{found_of, rows_of, first_of};
 ghost use Rattle.clap.specs.Takes.{is_given};
 ghost use Rattle.clap.specs.Walk.{texts};
-ghost use Rattle.uca_words.specs.Command.{check_app, keys_app, sort_app, compare_app, tailor_app, audit_app, affected_app};
+ghost use Rattle.uca_words.specs.Command.{check_app, keys_app, sort_app, compare_app, tailor_app, audit_app, affected_app, changes_app, audit_changes_app, rekey_app};
 ghost use Rattle.uca_words.specs.Met.{has_words, is_met, IsWeightingFault};
 ghost use Rattle.uca_words.specs.Words.{HasFiles, HasWord, HasWeighting, HasDepth, Says, AreRead, IsFaultOf};
 
@@ -101,12 +102,53 @@ pub enum Words<'a> {
         /// The name of the file of the certificate.
         certificate: &'a str,
     },
-    /// `affected DATA RULES`: print the lines of standard input in which a target of the rules occurs.
+    /// `affected [--changes] DATA RULES`: print the lines of standard input in which a target of the rules occurs, or what
+    /// is listed in a file of changes.
     Affected {
-        /// The name of the data file.
+        /// Whether `rules` names a file of changes: `--changes` is given.
+        changes: bool,
+        /// The name of the data file, with `--changes` of the new one.
         properties: &'a str,
-        /// The name of the file of rules.
+        /// The name of the file of rules, with `--changes` of the file of changes.
         rules: &'a str,
+    },
+    /// `changes OLD OLD-DATA NEW NEW-DATA CERTIFICATE`: find what changes from an old table to a new one.
+    Changes {
+        /// The name of the file of the old table.
+        old: &'a str,
+        /// The name of the old table's data file.
+        old_data: &'a str,
+        /// The name of the file of the new table.
+        new: &'a str,
+        /// The name of the new table's data file.
+        new_data: &'a str,
+        /// The name of the file that the certificate is written to.
+        certificate: &'a str,
+    },
+    /// `audit-changes OLD OLD-DATA NEW NEW-DATA CHANGES CERTIFICATE`: say whether changes and their certificate are right.
+    AuditChanges {
+        /// The name of the file of the old table.
+        old: &'a str,
+        /// The name of the old table's data file.
+        old_data: &'a str,
+        /// The name of the file of the new table.
+        new: &'a str,
+        /// The name of the new table's data file.
+        new_data: &'a str,
+        /// The name of the file of changes.
+        changes: &'a str,
+        /// The name of the file of the certificate.
+        certificate: &'a str,
+    },
+    /// `rekey [--weighting W] [--identical] CERTIFICATE`: put the key of each line of standard input through the maps of a
+    /// certificate.
+    Rekey {
+        /// The weighting that made the keys, if one is given.
+        weighting: Option<Weighting>,
+        /// The depth that made the keys: `Identical` if `--identical` is given.
+        depth: Depth,
+        /// The name of the file of the certificate.
+        certificate: &'a str,
     },
 }
 
@@ -292,9 +334,49 @@ fn affected_words<'a>(found: &ArgMatches<'a>) -> Words<'a>
     ensures { Says (codes "affected") (rows_of (found_of found.now)) result }
 {
     Words::Affected {
+        changes: is_in_words(found, "changes"),
         properties: word_of(found, "data"),
         rules: word_of(found, "rules"),
     }
+}
+
+fn changes_words<'a>(found: &ArgMatches<'a>) -> Words<'a>
+    requires { has_words changes_app (rows_of (found_of found.now)) ≡ true }
+    ensures { Says (codes "changes") (rows_of (found_of found.now)) result }
+{
+    Words::Changes {
+        old: word_of(found, "old"),
+        old_data: word_of(found, "old-data"),
+        new: word_of(found, "new"),
+        new_data: word_of(found, "new-data"),
+        certificate: word_of(found, "certificate"),
+    }
+}
+
+fn audit_changes_words<'a>(found: &ArgMatches<'a>) -> Words<'a>
+    requires { has_words audit_changes_app (rows_of (found_of found.now)) ≡ true }
+    ensures { Says (codes "audit-changes") (rows_of (found_of found.now)) result }
+{
+    Words::AuditChanges {
+        old: word_of(found, "old"),
+        old_data: word_of(found, "old-data"),
+        new: word_of(found, "new"),
+        new_data: word_of(found, "new-data"),
+        changes: word_of(found, "changes"),
+        certificate: word_of(found, "certificate"),
+    }
+}
+
+fn rekey_words<'a>(found: &ArgMatches<'a>) -> Result<Words<'a>, WordFault>
+    requires { has_words rekey_app (rows_of (found_of found.now)) ≡ true }
+    ensures ok { IfOk result (Says (codes "rekey") (rows_of (found_of found.now))) }
+    ensures err { IfErr result (IsWeightingFault (rows_of (found_of found.now))) }
+{
+    Ok(Words::Rekey {
+        weighting: given_weighting(found)?,
+        depth: given_depth(found),
+        certificate: word_of(found, "certificate"),
+    })
 }
 
 // The arguments of the subcommand of this name.
@@ -311,6 +393,9 @@ fn subcommand_words<'a>(name: &str, found: &ArgMatches<'a>) -> Result<Words<'a>,
         "tailor" => Ok(tailor_words(found)),
         "audit" => Ok(audit_words(found)),
         "affected" => Ok(affected_words(found)),
+        "changes" => Ok(changes_words(found)),
+        "audit-changes" => Ok(audit_changes_words(found)),
+        "rekey" => rekey_words(found),
         _ => unreachable!(),
     }
 }

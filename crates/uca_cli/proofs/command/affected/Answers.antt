@@ -1,11 +1,14 @@
--- Both files are opened, and then run over.
-use Rattle.std.proofs.Common.{[], ◌∷◌, inr}
+-- A file does not open; or both are opened, and then run over.
+use Rattle.std.proofs.Common.{[], ◌∷◌, inl, inr, refl}
 use Rattle.uca_cli.proofs.command.affected.Goals as goal
+
+pub returns-in-Err : goal.returns-in-Err
+returns-in-Err g c = inl (c.in-Err.role, refl, rw c.affected_role.ensures at c.in-Err.ensures, refl)
 
 pub returns : goal.returns
 returns g c = inr (record {
   before = c.in-Ok.files.0 ∷ c.in-Ok.files.1 ∷ [];
-  after = c.run_affected.new.properties ∷ c.run_affected.new.rules ∷ [];
+  after = c.print_lines.new.properties ∷ c.print_lines.new.rules ∷ [];
   opened = c.in-Ok.ensures;
-  runs = record { run = c.run_affected.result; runs = c.run_affected.ensures; status = c.done.ensures };
+  runs = record { run = c.print_lines.result; runs = c.print_lines.ensures; status = c.done.ensures };
 })

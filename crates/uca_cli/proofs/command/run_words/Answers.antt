@@ -22,3 +22,12 @@ returns-in-Audit g c = rw c.in-Audit.is (refl, c.audit.ensures)
 
 pub returns-in-Affected : goal.returns-in-Affected
 returns-in-Affected g c = rw c.in-Affected.is c.affected.ensures
+
+pub returns-in-Changes : goal.returns-in-Changes
+returns-in-Changes g c = rw c.in-Changes.is (refl, c.changes.ensures)
+
+pub returns-in-AuditChanges : goal.returns-in-AuditChanges
+returns-in-AuditChanges g c = rw c.in-AuditChanges.is (refl, c.audit_changes.ensures)
+
+pub returns-in-Rekey : goal.returns-in-Rekey
+returns-in-Rekey g c = rw c.in-Rekey.is c.rekey.ensures

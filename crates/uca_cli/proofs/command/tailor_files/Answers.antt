@@ -3,13 +3,13 @@ use Rattle.std.proofs.Common.{[], ◌∷◌, inl, inr, refl}
 use Rattle.uca_cli.proofs.command.tailor_files.Goals as goal
 
 pub returns-in-Err : goal.returns-in-Err
-returns-in-Err g c = (c.open_tailor_files.new.opener, inl (c.in-Err.role, refl, c.in-Err.ensures, (refl, refl)))
+returns-in-Err g c = (c.open_three.new.opener, inl (c.in-Err.role, refl, c.in-Err.ensures, (refl, refl)))
 
 pub returns : goal.returns
 returns g c =
     let files = c.in-Ok.files in
     let new = c.run_tailor-run.new in (
-      c.open_tailor_files.new.opener,
+      c.open_three.new.opener,
       inr (record {
         before = files.0 ∷ files.1 ∷ files.2 ∷ [];
         after = new.base ∷ new.properties ∷ new.rules ∷ [];

@@ -1,0 +1,142 @@
+//! The subcommands that work with changes from a table and its data file to others: `changes`, `audit-changes` and `rekey`.
+
+ghost use Rattle.uca_cli.specs.Command.{DoesAuditChanges, DoesChanges, DoesRekey, Finds, KeepsAndPrints, KeepsMade, MakesOpened, file_system, made_changes, streams};
+ghost use Rattle.uca_cli.specs.EditionNames.{change_files_of, edition_files_of};
+
+use crate::command::Opens;
+use crate::keeping::{find_certificate_of_editions, keep_certificate, print_changes};
+use crate::opening::{EditionNames, open_change_files, open_editions, open_one};
+use crate::reporting::{checked, done};
+use std::alloc::Global;
+use std::io::{Read, Write};
+use uca_change_maker::FoundChanges;
+use uca_change_runs::{run_audit_changes, run_changes};
+use uca_rekey::run_rekey;
+use uca_runs::faults::{Role, RunFault};
+use uca_weights::{Depth, Sink, Source, Weighting};
+
+/// `changes`.
+pub(crate) fn changes<O: Opens, W: Write>(
+    alloc: Global,
+    opener: &mut O,
+    names: &EditionNames,
+    certificate: &str,
+    out: &mut Sink<W>,
+) -> Result<u8, RunFault>
+    ensures { DoesChanges (file_system O.open_gives O.same_gives O.create_gives O.keep_gives O.remove_gives O.File.remaining O.Made.contents)
+        opener.old opener.new (edition_files_of names.now) certificate.now out.old out.new result }
+{
+    if let Err(role) = find_certificate_of_editions(opener, names, certificate) {
+        return Err(RunFault::SameAs(role));
+    }
+    change_files(alloc, opener, names, certificate, out)
+}
+
+// The same, where the certificate is none of the files that are read.
+fn change_files<O: Opens, W: Write>(
+    alloc: Global,
+    opener: &mut O,
+    names: &EditionNames,
+    certificate: &str,
+    out: &mut Sink<W>,
+) -> Result<u8, RunFault>
+    ensures { MakesOpened (file_system O.open_gives O.same_gives O.create_gives O.keep_gives O.remove_gives O.File.remaining O.Made.contents)
+        opener.old opener.new (edition_files_of names.now) certificate.now Finds made_changes out.old out.new result }
+{
+    let mut files = match open_editions(opener, names) {
+        Ok(files) => files,
+        Err(role) => return Err(RunFault::Open(role)),
+    };
+    let run = run_changes(
+        alloc,
+        &mut files.old,
+        &mut files.old_data,
+        &mut files.new,
+        &mut files.new_data,
+    );
+    keep_run(opener, run, certificate, out)
+}
+
+// Keeps what a run of changes returned. An error of the run is returned, and then nothing is made.
+fn keep_run<O: Opens, W: Write>(
+    opener: &mut O,
+    run: Result<FoundChanges, RunFault>,
+    name: &str,
+    out: &mut Sink<W>,
+) -> Result<u8, RunFault>
+    ensures { KeepsMade (file_system O.open_gives O.same_gives O.create_gives O.keep_gives O.remove_gives O.File.remaining O.Made.contents)
+        opener.old opener.new name.now out.old out.new made_changes run result }
+{
+    match run {
+        Ok(found) => {
+            let kept = keep_found(opener, &found, name, out);
+            drop(found);
+            kept
+        }
+        Err(fault) => Err(fault),
+    }
+}
+
+// Keeps the certificate, and writes the changes where the certificate is kept.
+fn keep_found<O: Opens, W: Write>(
+    opener: &mut O,
+    found: &FoundChanges,
+    name: &str,
+    out: &mut Sink<W>,
+) -> Result<u8, RunFault>
+    ensures { KeepsAndPrints (file_system O.open_gives O.same_gives O.create_gives O.keep_gives O.remove_gives O.File.remaining O.Made.contents)
+        opener.old opener.new name.now (made_changes found.now) out.old out.new result }
+{
+    keep_certificate(opener, &found.certificate, name)?;
+    print_changes(&found.list, out)
+}
+
+/// `audit-changes`.
+pub(crate) fn audit_changes<O: Opens, W: Write>(
+    alloc: Global,
+    opener: &mut O,
+    names: &EditionNames,
+    changes: &str,
+    certificate: &str,
+    out: &mut Sink<W>,
+) -> Result<u8, RunFault>
+    ensures { DoesAuditChanges (file_system O.open_gives O.same_gives O.create_gives O.keep_gives O.remove_gives O.File.remaining O.Made.contents)
+        opener.old opener.new (change_files_of names.now changes.now certificate.now) out.old out.new result }
+{
+    let mut files = match open_change_files(opener, names, changes, certificate) {
+        Ok(files) => files,
+        Err(role) => return Err(RunFault::Open(role)),
+    };
+    checked(run_audit_changes(
+        alloc,
+        &mut files.editions.old,
+        &mut files.editions.old_data,
+        &mut files.editions.new,
+        &mut files.editions.new_data,
+        &mut files.changes,
+        &mut files.certificate,
+        out,
+    ))
+}
+
+/// `rekey`.
+pub(crate) fn rekey<O: Opens, I: Read, W: Write>(
+    alloc: Global,
+    opener: &mut O,
+    weighting: Option<Weighting>,
+    depth: Depth,
+    certificate: &str,
+    input: &mut Source<I>,
+    out: &mut Sink<W>,
+) -> Result<u8, RunFault>
+    ensures { DoesRekey (file_system O.open_gives O.same_gives O.create_gives O.keep_gives O.remove_gives O.File.remaining O.Made.contents)
+        opener.old opener.new weighting depth certificate.now
+        (streams input.old out.old) (streams input.new out.new) result }
+{
+    let mut certificate = match open_one(opener, Role::Certificate, certificate) {
+        Ok(file) => file,
+        Err(role) => return Err(RunFault::Open(role)),
+    };
+    let weighting = weighting.unwrap_or(Weighting::Shifted);
+    done(run_rekey(alloc, &mut certificate, input, out, weighting, depth))
+}

@@ -1,0 +1,157 @@
+-- Where lines lie in a buffer.
+use Rattle.std.proofs.Common.{◌≡◌, ℕ, ◌+◌, ◌-◌, ◌^◌, ◌<◌, ◌≤◌, true, List, [], ◌∷◌, ◌++◌, length, take, drop, get_or, Option, Some, None, Ok, Err, refl, ap, sym, subst, ◌∙◌, append_assoc, arith, take-append-drop, length-append, length-take}
+use Rattle.std.specs.Io.KnownBytes.{Consumes, IsAtEnd, Keeps, prepend_known}
+use Rattle.std.proofs.KnownBytes.{prepend_known-end}
+use Rattle.std.specs.List.{before_first, position_or_len, slice_range}
+use Rattle.std.proofs.lemmas.Bool.{eqb-true}
+use borrow.Rule.Slice.PartMut.{put_mid, post_of}
+use Rattle.std.proofs.lemmas.List.{drop-drop, drop-take, drop_at, get_or-drop, take-take, take-append-le, length-drop, length-take-le}
+use Rattle.std.proofs.lemmas.Slice.{drop-put_mid, take-put_mid_below}
+use Rattle.memchr.specs.Find.{IsFirstByte, is_byte}
+use Rattle.uca_weights.proofs.Lists.{split_at}
+use Rattle.uca_lines.specs.Lines.{is_lf, Lacks, ended}
+use Rattle.uca_lines.proofs.LineLemmas.{line_end-memchr, before_lf-all, Lacks-append, Lacks-before_first}
+use Rattle.uca_lines.specs.NextLine.{BeginsLonger, HasBytes}
+use Rattle.uca_lines.specs.declared.lines.NextLine.{NextLine}
+use Rattle.uca_lines.specs.declared.lines.NextLine.TheVariants.{Terminated, Unterminated, EndOfInput}
+use Rattle.uca_runs.specs.declared.faults.StoredKeyKind.{StoredKeyKind}
+use Rattle.uca_runs.specs.declared.faults.StoredKeyKind.TheVariants as kinds
+use Rattle.uca_rekey.specs.LinesInPlace.{BeginsLine, EndsAs, FindsLine, IsFillFault, IsLast}
+
+-- ---- Parts of lists
+
+-- the first members of a list, part by part
+take_sum : (m n : ℕ) (xs : List ℕ) → take (m + n) xs ≡ take m xs ++ take n (drop m xs)
+take_sum m n xs = sym (take-append-drop m (take (m + n) xs)) ∙ rw (take-take m (m + n) xs (omega arith), drop-take m n xs) refl
+
+-- what is left of a range
+pub rest_of_range : (xs : List ℕ) (start n end : ℕ) → start + n ≤ end → slice_range xs (start + n) end ≡ drop n (slice_range xs start end)
+rest_of_range xs start n end within =
+    let parts : n + (end - (start + n)) ≡ end - start = omega arith in
+    ap (take (end - (start + n))) (sym (drop-drop n start xs)) ∙ sym (drop-take n (end - (start + n)) (drop start xs)) ∙ ap (λ k. drop n (take k (drop start xs))) parts
+
+-- what lies after a part stays where the part is written
+pub range_after : (a k : ℕ) (xs ys : List ℕ) (start end : ℕ) → a + k ≤ start → a ≤ length xs → length ys ≡ k
+    → slice_range (put_mid a k xs ys) start end ≡ slice_range xs start end
+range_after a k xs ys start end after within long = ap (take (end - start)) (drop-put_mid a k xs ys start after within long)
+
+-- what a part begins with that is written after some members
+pub range_filled : (xs ys : List ℕ) (e n : ℕ) → e ≤ length xs → n ≤ length ys
+    → slice_range (put_mid e (length xs - e) xs ys) 0 (e + n) ≡ take e xs ++ take n ys
+range_filled xs ys e n within few =
+    let all = put_mid e (length xs - e) xs ys in
+    let post = post_of e (length xs - e) xs in
+    let whole : e + n - 0 ≡ e + n = omega arith in
+    ap (λ m. take m all) whole ∙ take_sum e n all
+    ∙ ap (λ l. l ++ take n (drop e all)) (take-put_mid_below e (length xs - e) xs ys e (omega arith) within)
+    ∙ ap (λ l. take e xs ++ take n l) (drop_at (take e xs) (ys ++ post) e (length-take-le e xs within))
+    ∙ ap (λ l. take e xs ++ l) (take-append-le n ys post few)
+
+-- ---- The first line
+
+module _ (bytes rest : List ℕ) (seen : ℕ) (is : rest ≡ drop seen bytes) (lacks : Lacks is_lf (take seen bytes)) where
+  -- an LF was found after bytes without one
+  pub line_found : (at : ℕ) → seen ≤ length bytes → IsFirstByte (is_byte 10) rest (Some at) → BeginsLine bytes (seen + at)
+  line_found at within found =
+      let place = line_end-memchr rest (Some at) found in
+      let inside : seen + at < length bytes = omega (arith, place.1, ap length is, length-drop seen bytes) in
+      let lf : get_or bytes (seen + at) 0 ≡ 10 =
+      sym (ap (λ l. get_or l at 0) is ∙ get_or-drop seen bytes at 0) ∙ eqb-true _ _ found.1 in
+      let line : take (seen + at) bytes ≡ take seen bytes ++ before_first is_lf rest =
+      take_sum seen at bytes ∙ ap (λ l. take seen bytes ++ take at l) (sym is) ∙ ap (λ n. take seen bytes ++ take n rest) (sym place.0) in
+      record {
+        parts = split_at bytes (seen + at) 0 inside ∙ ap (λ b. take (seen + at) bytes ++ b ∷ drop (seen + at + 1) bytes) lf
+            ∙ sym (append_assoc (take (seen + at) bytes) (10 ∷ []) (drop (seen + at + 1) bytes));
+        lacks = subst (Lacks is_lf) (sym line) (Lacks-append is_lf (take seen bytes) (before_first is_lf rest) lacks (Lacks-before_first is_lf rest));
+        within = inside;
+      }
+
+  -- none was
+  pub none_found : IsFirstByte (is_byte 10) rest None → Lacks is_lf bytes
+  none_found found =
+      let none = line_end-memchr rest None found in
+      let whole : before_first is_lf rest ≡ drop seen bytes = before_lf-all rest (omega (arith, none)) ∙ is in
+      subst (Lacks is_lf) (take-append-drop seen bytes)
+      (Lacks-append is_lf (take seen bytes) (drop seen bytes) lacks (subst (Lacks is_lf) whole (Lacks-before_first is_lf rest)))
+
+-- ---- More bytes
+
+-- bytes that were read wait after the others
+pub filled : (old new : Option (List ℕ)) (pending later part : List ℕ) → Consumes old new part → later ≡ pending ++ part
+    → Keeps (prepend_known pending old) (prepend_known later new)
+filled None new pending later part takes is = tt
+filled (Some x) None pending later part takes is = absurd takes
+filled (Some x) (Some y) pending later part takes is =
+    ap (λ l. l ++ y) is ∙ append_assoc pending part y ∙ ap (λ l. pending ++ l) (sym takes)
+
+-- ---- What was found
+
+longer : (line more : List ℕ) → Lacks is_lf line → length line ≤ position_or_len is_lf (line ++ more)
+longer [] more lacks = omega arith
+longer (b ∷ line) more lacks = rw lacks.0 (omega (arith, longer line more lacks.1))
+
+module _ (old : Option (List ℕ)) (pending : List ℕ) (rest : Option (List ℕ)) (kept : Keeps old (prepend_known pending rest)) where
+  -- the bytes begin with a long line
+  pub long_line : (front more : List ℕ) → pending ≡ front ++ more → Lacks is_lf front → 2 ^ 30 < length front → BeginsLonger old (2 ^ 30)
+  long_line front more is lacks long = go old rest kept
+    where
+      go : (known left : Option (List ℕ)) → Keeps known (prepend_known pending left) → BeginsLonger known (2 ^ 30)
+      go None left same = tt
+      go (Some xs) None same = absurd same
+      go (Some xs) (Some ys) same =
+          let whole : front ++ (more ++ ys) ≡ xs = sym (append_assoc front more ys) ∙ ap (λ l. l ++ ys) (sym is) ∙ same in
+          omega (arith, longer front (more ++ ys) lacks, ap (position_or_len is_lf) whole)
+
+  -- a line and its LF were taken
+  pub line_taken : (len : ℕ) (line later : List ℕ) → BeginsLine pending len → line ≡ take len pending → later ≡ drop (len + 1) pending
+      → Consumes old (prepend_known later rest) (ended line) × Lacks is_lf line
+  line_taken len line later begins is after = (go old rest kept, subst (Lacks is_lf) (sym is) begins.lacks)
+    where
+      go : (known left : Option (List ℕ)) → Keeps known (prepend_known pending left) → Consumes known (prepend_known later left) (ended line)
+      go None left same = tt
+      go (Some xs) None same = absurd same
+      go (Some xs) (Some ys) same =
+          sym same ∙ ap (λ l. l ++ ys) (begins.parts ∙ ap (λ l. ended l ++ drop (len + 1) pending) (sym is) ∙ ap (λ l. ended line ++ l) (sym after))
+          ∙ append_assoc (ended line) later ys
+
+  -- the rest was, at the end
+  pub rest_taken : (line later : List ℕ) (unread : Option (List ℕ)) (next : NextLine) → Lacks is_lf pending → IsAtEnd rest → line ≡ pending → later ≡ []
+      → IsLast pending next → FindsLine old (prepend_known later rest) unread line (Ok next)
+  rest_taken line later unread Terminated lacks end is none last = absurd last
+  rest_taken line later unread Unterminated lacks end is none last =
+      (go old rest kept end, subst (Lacks is_lf) (sym is) lacks, at_end rest end, omega (arith, ap length is, last))
+    where
+      go : (known left : Option (List ℕ)) → Keeps known (prepend_known pending left) → IsAtEnd left → Consumes known (prepend_known later left) line
+      go None left same ends = tt
+      go (Some xs) None same ends = absurd same
+      go (Some xs) (Some ys) same ends =
+          sym same ∙ ap (λ l. l ++ ys) (sym is) ∙ ap (λ l. line ++ (l ++ ys)) (sym none)
+      at_end : (left : Option (List ℕ)) → IsAtEnd left → IsAtEnd (prepend_known later left)
+      at_end None ends = tt
+      at_end (Some ys) ends = ap (λ l. l ++ ys) none ∙ ends
+  rest_taken line later unread EndOfInput lacks end is none last = prepend_known-end old rest pending kept last end
+
+  -- no more was read
+  pub fill_failed : (new : Option (List ℕ)) (line : List ℕ) (kind : StoredKeyKind) → Lacks is_lf pending → IsFillFault pending kind
+      → FindsLine old new rest line (Err kind)
+  fill_failed new line kinds.NoKey lacks fault = absurd fault
+  fill_failed new line kinds.NoImage lacks fault = absurd fault
+  fill_failed new line kinds.TooLong lacks fault = absurd fault
+  fill_failed new line kinds.Read lacks fault = (pending, go old rest kept, lacks)
+    where
+      go : (known left : Option (List ℕ)) → Keeps known (prepend_known pending left) → Consumes known left pending
+      go None left same = tt
+      go (Some xs) None same = absurd same
+      go (Some xs) (Some ys) same = sym same
+  fill_failed new line kinds.Memory lacks fault = go old rest kept
+    where
+      go : (known left : Option (List ℕ)) → Keeps known (prepend_known pending left) → HasBytes known
+      go None left same = tt
+      go (Some xs) None same = absurd same
+      go (Some xs) (Some ys) same = omega (arith, fault, ap length same, length-append pending ys)
+
+-- at the end of the source no LF was found
+pub ends_last : (pending : List ℕ) (next : NextLine) → IsLast pending next → EndsAs true (Ok next)
+ends_last pending Terminated last = absurd last
+ends_last pending Unterminated last = refl
+ends_last pending EndOfInput last = tt

@@ -1,0 +1,26 @@
+-- Only the line changes.
+use Rattle.std.proofs.Common.{◌≡◌, ◌-◌, List, ℕ, IfErr, length, ap, subst, ◌∙◌, arith, rules}
+use Rattle.std.specs.List.{slice_range}
+use Rattle.std.proofs.lemmas.List.{places, with_items_is}
+use borrow.Rule.Slice.PartMut.{put_mid}
+use Rattle.uca_rekey.specs.LinesInPlace.{LinesState}
+use Rattle.uca_rekey.specs.RekeyRun.{IsLineCause}
+use Rattle.uca_rekey.specs.RekeySoFar.{moved_by}
+use Rattle.uca_rekey.proofs.Places.{range_after}
+use Rattle.uca_rekey.proofs.lines.KeyLines.rekey.Goals as goal
+
+pub returns-clause-cause : goal.returns-clause-cause
+returns-clause-cause g c = λ before.
+    let i = c.self.inside in
+    subst (λ (line : List ℕ). IfErr c.rekey_line.result (IsLineCause (moved_by c.args.mover.now) before line))
+    (ap (λ b. slice_range b i.start i.stop) c.deref_mut.ensures.value ∙ ap (λ (s : LinesState). s.line) c.self.view_is) (c.rekey_line.ensures.cause before)
+
+pub returns-clause-pending : goal.returns-clause-pending
+returns-clause-pending g c =
+    let i = c.self.inside in
+    let xs = c.deref_mut.result.now in
+    let ys = c.rekey_line.new.line in
+    let long : length (put_mid i.start (i.stop - i.start) xs ys) ≡ i.buffer.len = search (rules, places) in
+    ap (λ b. slice_range b i.next i.end) (with_items_is i.buffer (put_mid i.start (i.stop - i.start) xs ys) long)
+    ∙ range_after i.start (i.stop - i.start) xs ys i.next i.end (omega arith) (omega arith) (omega arith)
+    ∙ ap (λ b. slice_range b i.next i.end) c.deref_mut.ensures.value ∙ ap (λ (s : LinesState). s.pending) c.self.view_is

@@ -1,0 +1,16 @@
+-- What waits after the line and its LF.
+use Rattle.std.proofs.Common.{◌≡◌, ◌+◌, ◌-◌, drop, ap, ◌∙◌, arith, length, length-take}
+use Rattle.std.specs.List.{slice_range}
+use Rattle.uca_rekey.specs.LinesInPlace.{LinesState}
+use Rattle.uca_rekey.proofs.Places.{rest_of_range}
+use Rattle.uca_rekey.proofs.lines.KeyLines.take_line.Goals as goal
+
+pub returns-clause-pending : goal.returns-clause-pending
+returns-clause-pending g c =
+    let old = c.self.inside in
+    let bytes = old.buffer.items in
+    let place : old.next + c.args.len + 1 ≡ old.next + (c.args.len + 1) = omega arith in
+    let long = ap (λ (s : LinesState). length s.pending) c.self.view_is in
+    ap (λ k. slice_range bytes k old.end) place
+    ∙ rest_of_range bytes old.next (c.args.len + 1) old.end (omega (arith, c.requires.within, long, length-take (old.end - old.next) (drop old.next bytes)))
+    ∙ ap (λ (s : LinesState). drop (c.args.len + 1) s.pending) c.self.view_is

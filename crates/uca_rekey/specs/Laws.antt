@@ -1,0 +1,32 @@
+-- What becomes of the lines of a text whose key moves.
+use Rattle.std.specs.Prelude.{◌≡◌, ℕ, ◌<◌, List, Some}
+use Rattle.std.specs.List.{AllByRecursion}
+use Rattle.uca_weights.specs.declared.Depth.{Depth}
+use Rattle.uca_weights.specs.declared.Weighting.{Weighting}
+use Rattle.uca_lines.specs.Lines.{ended}
+use Rattle.uca_key.specs.Levels.{key_bytes}
+use Rattle.uca_key.specs.Depths.{ReadText, key_at}
+use Rattle.uca_tailorings.specs.Images.{Maps}
+use Rattle.uca_tailorings.specs.Moves.{KeyMoves}
+use Rattle.uca_runs.specs.Print.{keyed_line_of, print_line_at}
+use Rattle.uca_rekey.specs.RekeyedLines.{rekeyed}
+
+-- each is a number below 256
+abbrev pub AreBytes : List ℕ → Type 0
+AreBytes bytes = AllByRecursion (λ b. b < 256) bytes
+
+-- The old line of a text becomes its new line: both lines as they are printed, but without their LF.
+pub record LinesMove (maps : Maps) (old new : ReadText) : Type 0 where
+  -- the key before a line
+  pub keyed : (depth : Depth) (weighting : Weighting) → AreBytes (key_at depth weighting old) → (line before after : List ℕ) →
+      ended before ≡ keyed_line_of (key_at depth weighting old) line → ended after ≡ keyed_line_of (key_at depth weighting new) line →
+      rekeyed maps depth weighting before ≡ Some after
+  -- the key alone, in groups
+  pub printed : (depth : Depth) (weighting : Weighting) → AreBytes (key_at depth weighting old) → (before after : List ℕ) →
+      ended before ≡ print_line_at depth (key_bytes weighting old.elements) old.points →
+      ended after ≡ print_line_at depth (key_bytes weighting new.elements) new.points →
+      rekeyed maps depth weighting before ≡ Some after
+
+-- This is so of each text whose key moves by the maps.
+abbrev pub LinesMoveWithKeys : Type 0
+LinesMoveWithKeys = (maps : Maps) (old new : ReadText) → KeyMoves maps old new → LinesMove maps old new

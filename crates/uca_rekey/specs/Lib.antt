@@ -1,0 +1,5 @@
+pub mod RekeyedLines
+pub mod RekeyRun
+pub mod LinesInPlace
+pub mod RekeySoFar
+pub mod Laws

@@ -1,0 +1,167 @@
+//! A line that begins with the digits of a key, with other digits in their place.
+
+ghost use Rattle.std.specs.Prelude.{◌≡◌, ℕ, List, Option, [], ◌∷◌, ◌++◌, Some, OnOk, IfErr, MatchOption, ◌≤◌, ◌<◌, length, take, drop};
+ghost use Rattle.std.specs.List.{flat_map};
+ghost use Rattle.uca_lines.specs.Numbers.{hex_of, upper_digit};
+ghost use Rattle.uca_lines.specs.DigitValues.{value_or_more};
+ghost use Rattle.uca_runs.specs.Print.{byte_digits};
+ghost use Rattle.uca_rekey.specs.RekeyedLines.{digits_of, key_in, rekeyed_by, with_digits, with_key};
+ghost use Rattle.uca_rekey.specs.RekeyRun.{IsLineCause};
+ghost use Rattle.uca_rekey.specs.RekeySoFar.{moved_by};
+
+use std::alloc::Allocator;
+use uca_moved_keys::KeyMover;
+use uca_runs::StoredKeyKind;
+
+/// Puts the key of a line through the maps, in place. The bytes of the key need room, which is used again.
+///
+/// # Errors
+///
+/// `NoKey` if the line begins with no key, and `NoImage` if nothing becomes of its key. `Memory` if an allocation failed. The line is
+/// then as it was.
+pub(crate) fn rekey_line<M: Allocator, A: Allocator>(
+    mover: &KeyMover<M>,
+    line: &mut [u8],
+    key: &mut Vec<u8, A>,
+) -> Result<(), StoredKeyKind>
+    ensures rekeyed { OnOk result (rekeyed_by (moved_by mover.now) line.old ≡ Some line.new) }
+    ensures cause { (before : List (List ℕ)) → IfErr result (IsLineCause (moved_by mover.now) before line.old) }
+{
+    read_key(line, key)?;
+    if !mover.move_key(key.as_mut_slice()) {
+        return Err(StoredKeyKind::NoImage);
+    }
+    write_key(line, key);
+    Ok(())
+}
+
+// Reads the key of a line over the bytes that were there.
+fn read_key<A: Allocator>(line: &[u8], key: &mut Vec<u8, A>) -> Result<(), StoredKeyKind>
+    ensures key { OnOk result (key_in line.now ≡ Some key.new.items) }
+    ensures cause { (moved : List ℕ → Option (List ℕ)) (before : List (List ℕ)) → IfErr result (IsLineCause moved before line.now) }
+{
+    key.clear();
+    let mut text = line;
+    while let Some((high, rest)) = next_digit(text) {
+        let Some((low, rest)) = next_digit(rest) else {
+            return Err(StoredKeyKind::NoKey);
+        };
+        let Some(byte) = byte_of(high, low) else {
+            return Err(StoredKeyKind::NoKey);
+        };
+        if key.push(byte).is_err() {
+            return Err(StoredKeyKind::Memory);
+        }
+        text = rest;
+    }
+    Ok(())
+}
+
+// The next byte of a key's field that is no space, and what follows it. There is none at the end of the field.
+#[inline]
+fn next_digit(text: &[u8]) -> Option<(u8, &[u8])>
+    ensures digits { MatchOption result (digits_of text.now ≡ []) (λ next. digits_of text.now ≡ next.0 ∷ digits_of next.1.now) }
+    ensures shorter { MatchOption result (length text.now ≤ length text.now) (λ next. length next.1.now < length text.now) }
+{
+    let mut text = text;
+    while let [byte, rest @ ..] = text {
+        if *byte == b'\t' {
+            return None;
+        }
+        if *byte != b' ' {
+            return Some((*byte, rest));
+        }
+        text = rest;
+    }
+    None
+}
+
+// The byte that two digits stand for.
+#[inline]
+fn byte_of(high: u8, low: u8) -> Option<u8>
+    ensures { result ≡ hex_of (high ∷ low ∷ []) }
+{
+    let number = value(high) * 16 + value(low);
+    if number >= NO {
+        return None;
+    }
+    Some(number as u8)
+}
+
+// The value of a digit. That of another byte is `NO`.
+#[inline]
+fn value(byte: u8) -> u32
+    ensures value { result ≡ value_or_more byte }
+    ensures small { result ≤ NO }
+{
+    VALUES[byte as usize]
+}
+
+// The value of a byte that is no digit.
+const NO: u32 = 0x100_0000;
+
+// The value of each byte.
+#[rattlefmt::skip]
+static VALUES: [u32; 256] = [
+    NO, NO, NO, NO, NO, NO, NO, NO, NO, NO, NO, NO, NO, NO, NO, NO,
+    NO, NO, NO, NO, NO, NO, NO, NO, NO, NO, NO, NO, NO, NO, NO, NO,
+    NO, NO, NO, NO, NO, NO, NO, NO, NO, NO, NO, NO, NO, NO, NO, NO,
+    0, 1, 2, 3, 4, 5, 6, 7, 8, 9, NO, NO, NO, NO, NO, NO,
+    NO, 10, 11, 12, 13, 14, 15, NO, NO, NO, NO, NO, NO, NO, NO, NO,
+    NO, NO, NO, NO, NO, NO, NO, NO, NO, NO, NO, NO, NO, NO, NO, NO,
+    NO, NO, NO, NO, NO, NO, NO, NO, NO, NO, NO, NO, NO, NO, NO, NO,
+    NO, NO, NO, NO, NO, NO, NO, NO, NO, NO, NO, NO, NO, NO, NO, NO,
+    NO, NO, NO, NO, NO, NO, NO, NO, NO, NO, NO, NO, NO, NO, NO, NO,
+    NO, NO, NO, NO, NO, NO, NO, NO, NO, NO, NO, NO, NO, NO, NO, NO,
+    NO, NO, NO, NO, NO, NO, NO, NO, NO, NO, NO, NO, NO, NO, NO, NO,
+    NO, NO, NO, NO, NO, NO, NO, NO, NO, NO, NO, NO, NO, NO, NO, NO,
+    NO, NO, NO, NO, NO, NO, NO, NO, NO, NO, NO, NO, NO, NO, NO, NO,
+    NO, NO, NO, NO, NO, NO, NO, NO, NO, NO, NO, NO, NO, NO, NO, NO,
+    NO, NO, NO, NO, NO, NO, NO, NO, NO, NO, NO, NO, NO, NO, NO, NO,
+    NO, NO, NO, NO, NO, NO, NO, NO, NO, NO, NO, NO, NO, NO, NO, NO,
+];
+
+// Writes the digits of a key in place of those of a line's key.
+fn write_key(line: &mut [u8], key: &[u8])
+    ensures { line.new ≡ with_key line.old key.now }
+{
+    let mut at = 0;
+    for byte in key {
+        at = write_digit(line, at, *byte / 16);
+        at = write_digit(line, at, *byte % 16);
+    }
+}
+
+// Writes the next digit of a line's key, from a position on, and returns the position after it. At the end of the key's field nothing is
+// written.
+#[inline]
+fn write_digit(line: &mut [u8], at: usize, value: u8) -> usize
+    requires within { at ≤ length line.old }
+    requires small { value < 16 }
+    ensures within { result ≤ length line.new }
+    ensures written { (digits : List ℕ) → take at line.old ++ with_digits (drop at line.old) (upper_digit value ∷ digits)
+        ≡ take result line.new ++ with_digits (drop result line.new) digits }
+{
+    let mut at = at;
+    while at < line.len() && line[at] == b' ' {
+        at += 1;
+    }
+    if at == line.len() || line[at] == b'\t' {
+        return at;
+    }
+    line[at] = digit(value);
+    at + 1
+}
+
+// The digit of a value.
+#[inline]
+fn digit(value: u8) -> u8
+    requires { value < 16 }
+    ensures { result ≡ upper_digit value }
+{
+    DIGITS[value as usize]
+}
+
+static DIGITS: [u8; 16] = [
+    b'0', b'1', b'2', b'3', b'4', b'5', b'6', b'7', b'8', b'9', b'A', b'B', b'C', b'D', b'E', b'F',
+];

@@ -1,0 +1,164 @@
+//! The run that puts the stored keys of lines through the maps of a certificate.
+
+ghost use Rattle.std.specs.Prelude.{◌≡◌, ◌∷◌, [], ℕ, ◌^◌, ◌≤◌, ◌||◌, true, false, List, Option, OnOk, IfErr, MatchResult};
+ghost use Rattle.uca_weights.specs.Streams.{SinkState};
+ghost use Rattle.uca_runs.specs.EachLine.{ended_before_input};
+ghost use Rattle.uca_runs.specs.Files.{HaveFailed, Over};
+ghost use Rattle.uca_runs.specs.ReadFiles.{certificate_file};
+ghost use Rattle.uca_runs.specs.Runs.{ended_by_output, is_input_read};
+ghost use Rattle.uca_rekey.specs.RekeyRun.{RekeysLines};
+ghost use Rattle.uca_rekey.specs.RekeySoFar.{HasRekeyed, RekeysLine, RekeysRest, IsBegun, mover_of, moved_by};
+
+use crate::lines::KeyLines;
+use crate::written::WrittenLines;
+use std::alloc::{Allocator, Global};
+use std::io::{Read, Write};
+use uca_certificates::Certificate;
+use uca_moved_keys::KeyMover;
+use uca_runs::{Role, RunFault, read_certificate_file};
+use uca_weights::{Depth, Sink, Source, Weighting};
+
+// What becomes of keys, the lines of the input, and those that were written.
+#[derive(Drop)]
+struct RekeyRun<A: Allocator> {
+    mover: KeyMover<A>,
+    lines: KeyLines<A>,
+    // room for the bytes of a key
+    key: Vec<u8, A>,
+    written: WrittenLines,
+}
+
+impl<A: Allocator> RekeyRun<A> {
+    // Reads the next line and rekeys it, and returns whether there was a line.
+    fn next<I: Read>(&mut self, input: &mut Source<I>) -> Result<bool, RunFault>
+        ensures rekeys { (start begun : Option (List ℕ)) (before new : List (List ℕ)) (out : SinkState) →
+            HasRekeyed (moved_by self.old.mover) start begun before new self.old.lines input.old self.old.written out →
+            RekeysLine (moved_by self.old.mover) start before self.new.lines input.new result }
+        ensures mover { self.new.mover ≡ self.old.mover }
+        ensures written { self.new.written ≡ self.old.written }
+        ensures few { self.old.written.number ≤ 2 ^ 63 }
+        ensures of_lines { ended_before_input result ≡ false }
+        ensures not_write { ended_by_output result ≡ false }
+        ensures failed { input.new.failed ≡ (input.old.failed || is_input_read result) }
+    {
+        let line = self.written.number() + 1;
+        match self.lines.next(input) {
+            Ok(true) => match self.lines.rekey(&self.mover, &mut self.key) {
+                Ok(()) => Ok(true),
+                Err(kind) => Err(RunFault::StoredKey { line, kind }),
+            },
+            Ok(false) => Ok(false),
+            Err(kind) => Err(RunFault::StoredKey { line, kind }),
+        }
+    }
+
+    // Rekeys all lines that are left, and writes them.
+    fn rekey_rest<I: Read, W: Write>(
+        &mut self,
+        input: &mut Source<I>,
+        out: &mut Sink<W>,
+    ) -> Result<(), RunFault>
+        ensures rekeys { (start begun : Option (List ℕ)) (before new : List (List ℕ)) →
+            HasRekeyed (moved_by self.old.mover) start begun before new self.old.lines input.old self.old.written out.old →
+            RekeysRest (moved_by self.old.mover) start begun input.new self.new.written.buffer out.new result }
+        ensures of_lines { ended_before_input result ≡ false }
+        ensures input_failed { input.new.failed ≡ (input.old.failed || is_input_read result) }
+        ensures out_failed { out.new.failed ≡ (out.old.failed || ended_by_output result) }
+    {
+        while self.next(input)? {
+            self.written.write(out, self.lines.line())?;
+        }
+        Ok(())
+    }
+}
+
+// Reads the certificate, and begins a run by it.
+fn begin<A: Allocator + Copy, C: Read>(
+    alloc: A,
+    certificate: &mut Source<C>,
+    weighting: Weighting,
+    depth: Depth,
+) -> Result<RekeyRun<A>, RunFault>
+    ensures begun { Over certificate_file (certificate.old ∷ []) (certificate.new ∷ [])
+        (λ content. MatchResult result (λ run. IsBegun (mover_of content depth weighting) run.mover run.lines run.written)
+        (λ fault. fault ≡ RunFault.Memory)) result }
+    ensures before_input { IfErr result (λ _. ended_before_input result ≡ true) }
+    ensures failed { HaveFailed (Role.Certificate ∷ []) (certificate.old ∷ []) (certificate.new ∷ []) result }
+{
+    let certificate = read_certificate_file(alloc, certificate)?;
+    begin_by(alloc, certificate, weighting, depth)
+}
+
+// Begins a run by a certificate.
+fn begin_by<A: Allocator + Copy>(
+    alloc: A,
+    certificate: Certificate<A>,
+    weighting: Weighting,
+    depth: Depth,
+) -> Result<RekeyRun<A>, RunFault>
+    ensures { MatchResult result (λ run. IsBegun (mover_of certificate depth weighting) run.mover run.lines run.written)
+        (λ fault. fault ≡ RunFault.Memory) }
+{
+    let Ok(mover) = KeyMover::new(alloc, certificate, depth, weighting) else {
+        return Err(RunFault::Memory);
+    };
+    let Ok(lines) = KeyLines::new(alloc) else {
+        return Err(RunFault::Memory);
+    };
+    Ok(RekeyRun {
+        mover,
+        lines,
+        key: Vec::new(alloc),
+        written: WrittenLines::new(),
+    })
+}
+
+/// Puts the stored keys of the lines of `input` through the maps of a certificate, for keys that were made at this depth and under this
+/// weighting. The certificate is read first.
+///
+/// A line begins with the upper-case hexadecimal digits of its key. They end before the first tab, or with the line, and there may be spaces
+/// among them. So a line may be one that [`run_keys`](uca_runs::run_keys) or [`run_keyed_lines`](uca_runs::run_keyed_lines) printed. It is
+/// written with the digits of the new key in their place, and with LF; all else of it stays. Memory grows with the longest line
+/// alone.
+///
+/// # Errors
+///
+/// - `File`: the certificate is rejected.
+/// - `Memory`: an allocation failed for the maps. In both cases nothing was written, and nothing of the input was read.
+/// - `StoredKey`: the first line with an error, for `NoKey` or `NoImage`, or for `TooLong` by its bytes or by those of all lines. `Read` if the source
+///   failed, and `Memory` if an allocation failed. The lines before it were written with their new keys.
+/// - `Write`: the writer failed, also where a later line has an error. The first `written` bytes of the whole output went out.
+pub fn run_rekey<C: Read, I: Read, W: Write>(
+    alloc: Global,
+    certificate: &mut Source<C>,
+    input: &mut Source<I>,
+    out: &mut Sink<W>,
+    weighting: Weighting,
+    depth: Depth,
+) -> Result<(), RunFault>
+    ensures { RekeysLines weighting depth (certificate.old ∷ []) (certificate.new ∷ []) input.old input.new out.old out.new result }
+{
+    run_rekey_in(alloc, certificate, input, out, weighting, depth)
+}
+
+/// As [`run_rekey`], with the certificate, its maps and the lines in memory of any allocator.
+///
+/// # Errors
+///
+/// Those of [`run_rekey`].
+pub fn run_rekey_in<A: Allocator + Copy, C: Read, I: Read, W: Write>(
+    alloc: A,
+    certificate: &mut Source<C>,
+    input: &mut Source<I>,
+    out: &mut Sink<W>,
+    weighting: Weighting,
+    depth: Depth,
+) -> Result<(), RunFault>
+    ensures { RekeysLines weighting depth (certificate.old ∷ []) (certificate.new ∷ []) input.old input.new out.old out.new result }
+{
+    let mut run = begin(alloc, certificate, weighting, depth)?;
+    let end = run.rekey_rest(input, out);
+    let end = run.written.end(out, end);
+    drop(run);
+    end
+}
