@@ -1,5 +1,5 @@
 -- The texts that changes affect: what the tests of texts and of code points say together.
-use Rattle.std.proofs.Common.{◌≡◌, ℕ, ◌<◌, false, true, Bool, List, [], ◌∷◌, ◌==◌, ◌&&◌, ◌||◌, length, get_or, Contains, IsTrue, true≢false, refl, ap, sym, ◌∙◌, subst}
+use Rattle.std.proofs.Common.{◌≡◌, ℕ, ◌<◌, false, true, Bool, List, [], ◌∷◌, ◌==◌, ◌&&◌, ◌||◌, length, get_or, Contains, IsTrue, true≢false, refl, ap, sym, subst}
 use Rattle.std.specs.Bool.{Decides}
 use Rattle.std.specs.List.{AllByRecursion, list_any}
 use Rattle.std.proofs.lemmas.Bool.{or_from, or_parts, or_right}

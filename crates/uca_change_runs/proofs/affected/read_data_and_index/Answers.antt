@@ -9,8 +9,8 @@ use Rattle.uca_change_runs.proofs.affected.read_data_and_index.Goals as goal
 
 pub returns-in-Ok-clause-read : goal.returns-in-Ok-clause-read
 returns-in-Ok-clause-read g c =
-    let files = c.in_ok-read_data_and_changes.files in
+    let files = c.in_ok-properties.field-0 in
     runs_over_all {A = ⊤} {B = ⊤} data_and_changes (c.args.properties.now ∷ c.args.changes.now ∷ []) (c.read_data_and_changes.new.properties ∷ c.read_data_and_changes.new.changes ∷ [])
     (λ content. changes_with (properties_of files.properties) files.list ≡ content) _ tt (Ok tt) refl
     (λ content same. ap (λ (list : ChangeContent). changes_with (properties_of files.properties) list) c.in-Ok.ensures ∙ same)
-    c.in_ok-read_data_and_changes.ensures.read
+    c.in_ok-properties.ensures.read
