@@ -1,5 +1,5 @@
 -- The lines of texts whose keys move.
-use Rattle.std.proofs.Common.{◌≡◌, ℕ, zero, suc, ◌+◌, ◌*◌, ◌/◌, ◌%◌, ◌<◌, ◌≤◌, Bool, true, false, List, [], ◌∷◌, ◌++◌, map, length, Option, Some, None, nat_eq, nat_lt, refl, ap, ap₂, sym, subst, ◌∙◌, append_assoc, append-nil, arith, length-append}
+use Rattle.std.proofs.Common.{◌≡◌, ℕ, zero, suc, ◌+◌, ◌*◌, ◌/◌, ◌%◌, ◌<◌, ◌≤◌, false, List, [], ◌∷◌, ◌++◌, map, length, Option, Some, None, nat_eq, nat_lt, refl, ap, ap₂, sym, ◌∙◌, append_assoc, append-nil, arith, length-append}
 use Rattle.std.specs.Prelude.{◌==◌}
 use Rattle.std.specs.List.{flat_map, join_with_byte}
 use Rattle.std.specs.Option.{option_map, option_and_then}
@@ -16,10 +16,10 @@ use Rattle.uca_lines.proofs.DigitLemmas.{hex_of-digits}
 use Rattle.uca_key.specs.Levels.{key_bytes, level_count, weight_bytes}
 use Rattle.uca_key.specs.Depths.{ReadText, key_at, point_bytes, points_bytes}
 use Rattle.uca_tailorings.specs.Images.{Maps}
-use Rattle.uca_tailorings.specs.Moves.{KeyMoves, ended as ended_at, level_images, moved_from, moved_key, weight_before}
-use Rattle.uca_runs.specs.Print.{byte_digits, groups, identical_level, keyed_line_of, print_line_at, printed_behind, printed_groups, spaced_point}
-use Rattle.uca_rekey.specs.Laws.{AreBytes, LinesMove, LinesMoveWithKeys}
-use Rattle.uca_rekey.specs.RekeyedLines.{byte_before, bytes_of, digits_of, key_in, rekeyed, rekeyed_by, with_digits, with_key}
+use Rattle.uca_tailorings.specs.Moves.{KeyMoves, level_images, moved_from, moved_key, weight_before}
+use Rattle.uca_runs.specs.Print.{byte_digits, groups, keyed_line_of, print_line_at, printed_behind, printed_groups, spaced_point}
+use Rattle.uca_rekey.specs.Laws.{AreBytes, LinesMoveWithKeys}
+use Rattle.uca_rekey.specs.RekeyedLines.{byte_before, bytes_of, digits_of, rekeyed, with_digits, with_key}
 use Rattle.uca_rekey.proofs.LineKeys.{with_no_digits}
 
 -- ---- The digits of a key
@@ -270,8 +270,15 @@ module _ (maps : Maps) (old new : ReadText) (moves : KeyMoves maps old new) wher
       let now = key_bytes weighting new.elements in
       let weights : length was ≡ length now = long_key Weights weighting in
       let many : length old.points ≡ length new.points =
-      omega (arith, long_key Identical weighting, weights, length-append was (0 ∷ 0 ∷ points_bytes old.points), length-append now (0 ∷ 0 ∷ points_bytes new.points),
-      length-points old.points, length-points new.points) in
+      omega (
+        arith,
+        long_key Identical weighting,
+        weights,
+        length-append was (0 ∷ 0 ∷ points_bytes old.points),
+        length-append now (0 ∷ 0 ∷ points_bytes new.points),
+        length-points old.points,
+        length-points new.points,
+      ) in
       map-append length (pairs was) ((0 ∷ 0 ∷ []) ∷ map point_bytes old.points)
       ∙ ap₂ ◌++◌ (same_pairs was now weights) (ap (λ l. 2 ∷ l) (same_points old.points new.points many))
       ∙ sym (map-append length (pairs now) ((0 ∷ 0 ∷ []) ∷ map point_bytes new.points))
