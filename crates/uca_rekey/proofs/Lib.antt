@@ -2,3 +2,4 @@ pub mod LineKeys
 pub mod Places
 pub mod LinesRead
 pub mod Rekeying
+pub mod MovedLines

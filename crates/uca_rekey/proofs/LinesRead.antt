@@ -3,10 +3,9 @@ use Rattle.std.proofs.Common.{◌≡◌, ℕ, suc, ◌^◌, ◌<◌, Bool, true,
 use Rattle.std.specs.Prelude.{⊤}
 use Rattle.std.specs.Io.KnownBytes.{Consumes, IsAtEnd}
 use Rattle.std.specs.List.{flat_map, position_or_len}
-use Rattle.std.proofs.lemmas.Bool.{MatchBool-at_true, MatchBool-at_false}
+use Rattle.std.proofs.lemmas.Bool.{MatchBool-at_false}
 use Rattle.std.proofs.lemmas.Grind.{flat_map-append}
 use Rattle.uca_lines.specs.Lines.{is_lf, Lacks, ended, lines_of}
-use Rattle.uca_lines.specs.declared.lines.NextLine.{NextLine}
 use Rattle.uca_runs.specs.declared.faults.StoredKeyKind.{StoredKeyKind}
 use Rattle.uca_runs.specs.declared.faults.StoredKeyKind.TheVariants as kinds
 use Rattle.uca_runs.specs.LinesSoFar.{OnKnown}
@@ -70,26 +69,6 @@ module _ (start old : Option (List ℕ)) (at_end : Bool) (before : List (List �
       go (Some bytes) (Some xs) None after takes none = absurd takes
       go (Some bytes) (Some xs) (Some ys) after takes none =
           subst (λ (e : Bool). IsAfter bytes ys e (before ++ line ∷ [])) (sym end) (cut_after bytes xs at_end before line ys after takes found.1 none found.3)
-
-  -- nothing is left
-  pub all_read : IsAtEnd old → IfSome start (λ bytes. lines_of bytes ≡ before)
-  all_read = go start old read
-    where
-      go : (s o : Option (List ℕ)) → OnKnown s o (λ bytes left. IsAfter bytes left at_end before) → IsAtEnd o → IfSome s (λ bytes. lines_of bytes ≡ before)
-      go None o after none = tt
-      go (Some bytes) None after none = absurd after
-      go (Some bytes) (Some xs) after none = after.lines ∙ ap (λ l. before ++ lines_of l) none ∙ append-nil before
-
-  -- the last line was found before
-  pub all_read_before : at_end ≡ true → IfSome start (λ bytes. lines_of bytes ≡ before)
-  all_read_before end = go start old read
-    where
-      go : (s o : Option (List ℕ)) → OnKnown s o (λ bytes left. IsAfter bytes left at_end before) → IfSome s (λ bytes. lines_of bytes ≡ before)
-      go None o after = tt
-      go (Some bytes) None after = absurd after
-      go (Some bytes) (Some xs) after =
-          let none : xs ≡ [] = MatchBool-at_true _ _ end after.parts in
-          after.lines ∙ ap (λ l. before ++ lines_of l) none ∙ append-nil before
 
 -- ---- A line that is not read
 

@@ -1,7 +1,6 @@
 -- Where lines lie in a buffer.
-use Rattle.std.proofs.Common.{◌≡◌, ℕ, ◌+◌, ◌-◌, ◌^◌, ◌<◌, ◌≤◌, true, List, [], ◌∷◌, ◌++◌, length, take, drop, get_or, Option, Some, None, Ok, Err, refl, ap, sym, subst, ◌∙◌, append_assoc, arith, take-append-drop, length-append, length-take}
-use Rattle.std.specs.Io.KnownBytes.{Consumes, IsAtEnd, Keeps, prepend_known}
-use Rattle.std.proofs.KnownBytes.{prepend_known-end}
+use Rattle.std.proofs.Common.{◌≡◌, ℕ, ◌+◌, ◌-◌, ◌^◌, ◌<◌, ◌≤◌, List, [], ◌∷◌, ◌++◌, length, take, drop, get_or, Option, Some, None, refl, ap, sym, subst, ◌∙◌, append_assoc, arith, take-append-drop}
+use Rattle.std.specs.Io.KnownBytes.{Consumes, Keeps, prepend_known}
 use Rattle.std.specs.List.{before_first, position_or_len, slice_range}
 use Rattle.std.proofs.lemmas.Bool.{eqb-true}
 use borrow.Rule.Slice.PartMut.{put_mid, post_of}
@@ -9,14 +8,10 @@ use Rattle.std.proofs.lemmas.List.{drop-drop, drop-take, drop_at, get_or-drop, t
 use Rattle.std.proofs.lemmas.Slice.{drop-put_mid, take-put_mid_below}
 use Rattle.memchr.specs.Find.{IsFirstByte, is_byte}
 use Rattle.uca_weights.proofs.Lists.{split_at}
-use Rattle.uca_lines.specs.Lines.{is_lf, Lacks, ended}
+use Rattle.uca_lines.specs.Lines.{is_lf, Lacks}
 use Rattle.uca_lines.proofs.LineLemmas.{line_end-memchr, before_lf-all, Lacks-append, Lacks-before_first}
-use Rattle.uca_lines.specs.NextLine.{BeginsLonger, HasBytes}
-use Rattle.uca_lines.specs.declared.lines.NextLine.{NextLine}
-use Rattle.uca_lines.specs.declared.lines.NextLine.TheVariants.{Terminated, Unterminated, EndOfInput}
-use Rattle.uca_runs.specs.declared.faults.StoredKeyKind.{StoredKeyKind}
-use Rattle.uca_runs.specs.declared.faults.StoredKeyKind.TheVariants as kinds
-use Rattle.uca_rekey.specs.LinesInPlace.{BeginsLine, EndsAs, FindsLine, IsFillFault, IsLast}
+use Rattle.uca_lines.specs.NextLine.{BeginsLonger}
+use Rattle.uca_rekey.specs.LinesInPlace.{BeginsLine}
 
 -- ---- Parts of lists
 
@@ -101,57 +96,3 @@ module _ (old : Option (List ℕ)) (pending : List ℕ) (rest : Option (List ℕ
       go (Some xs) (Some ys) same =
           let whole : front ++ (more ++ ys) ≡ xs = sym (append_assoc front more ys) ∙ ap (λ l. l ++ ys) (sym is) ∙ same in
           omega (arith, longer front (more ++ ys) lacks, ap (position_or_len is_lf) whole)
-
-  -- a line and its LF were taken
-  pub line_taken : (len : ℕ) (line later : List ℕ) → BeginsLine pending len → line ≡ take len pending → later ≡ drop (len + 1) pending
-      → Consumes old (prepend_known later rest) (ended line) × Lacks is_lf line
-  line_taken len line later begins is after = (go old rest kept, subst (Lacks is_lf) (sym is) begins.lacks)
-    where
-      go : (known left : Option (List ℕ)) → Keeps known (prepend_known pending left) → Consumes known (prepend_known later left) (ended line)
-      go None left same = tt
-      go (Some xs) None same = absurd same
-      go (Some xs) (Some ys) same =
-          sym same ∙ ap (λ l. l ++ ys) (begins.parts ∙ ap (λ l. ended l ++ drop (len + 1) pending) (sym is) ∙ ap (λ l. ended line ++ l) (sym after))
-          ∙ append_assoc (ended line) later ys
-
-  -- the rest was, at the end
-  pub rest_taken : (line later : List ℕ) (unread : Option (List ℕ)) (next : NextLine) → Lacks is_lf pending → IsAtEnd rest → line ≡ pending → later ≡ []
-      → IsLast pending next → FindsLine old (prepend_known later rest) unread line (Ok next)
-  rest_taken line later unread Terminated lacks end is none last = absurd last
-  rest_taken line later unread Unterminated lacks end is none last =
-      (go old rest kept end, subst (Lacks is_lf) (sym is) lacks, at_end rest end, omega (arith, ap length is, last))
-    where
-      go : (known left : Option (List ℕ)) → Keeps known (prepend_known pending left) → IsAtEnd left → Consumes known (prepend_known later left) line
-      go None left same ends = tt
-      go (Some xs) None same ends = absurd same
-      go (Some xs) (Some ys) same ends =
-          sym same ∙ ap (λ l. l ++ ys) (sym is) ∙ ap (λ l. line ++ (l ++ ys)) (sym none)
-      at_end : (left : Option (List ℕ)) → IsAtEnd left → IsAtEnd (prepend_known later left)
-      at_end None ends = tt
-      at_end (Some ys) ends = ap (λ l. l ++ ys) none ∙ ends
-  rest_taken line later unread EndOfInput lacks end is none last = prepend_known-end old rest pending kept last end
-
-  -- no more was read
-  pub fill_failed : (new : Option (List ℕ)) (line : List ℕ) (kind : StoredKeyKind) → Lacks is_lf pending → IsFillFault pending kind
-      → FindsLine old new rest line (Err kind)
-  fill_failed new line kinds.NoKey lacks fault = absurd fault
-  fill_failed new line kinds.NoImage lacks fault = absurd fault
-  fill_failed new line kinds.TooLong lacks fault = absurd fault
-  fill_failed new line kinds.Read lacks fault = (pending, go old rest kept, lacks)
-    where
-      go : (known left : Option (List ℕ)) → Keeps known (prepend_known pending left) → Consumes known left pending
-      go None left same = tt
-      go (Some xs) None same = absurd same
-      go (Some xs) (Some ys) same = sym same
-  fill_failed new line kinds.Memory lacks fault = go old rest kept
-    where
-      go : (known left : Option (List ℕ)) → Keeps known (prepend_known pending left) → HasBytes known
-      go None left same = tt
-      go (Some xs) None same = absurd same
-      go (Some xs) (Some ys) same = omega (arith, fault, ap length same, length-append pending ys)
-
--- at the end of the source no LF was found
-pub ends_last : (pending : List ℕ) (next : NextLine) → IsLast pending next → EndsAs true (Ok next)
-ends_last pending Terminated last = absurd last
-ends_last pending Unterminated last = refl
-ends_last pending EndOfInput last = tt

@@ -1,5 +1,5 @@
 -- The lines that were rekeyed so far, and the next one.
-use Rattle.std.proofs.Common.{◌≡◌, ℕ, suc, ◌+◌, ◌^◌, ◌<◌, ◌≤◌, Bool, false, List, [], ◌∷◌, ◌++◌, map, length, drop, Option, Some, None, IfSome, IfErr, Result, Ok, Err, inr, refl, ap, sym, subst, subst₂, ◌∙◌, append_assoc, append-nil, arith, length-append}
+use Rattle.std.proofs.Common.{◌≡◌, ℕ, suc, ◌+◌, Bool, false, List, [], ◌∷◌, ◌++◌, map, length, Option, Some, None, IfSome, Result, Ok, Err, inr, refl, ap, sym, subst, subst₂, ◌∙◌, append_assoc, append-nil, arith, length-append}
 use Rattle.std.specs.Prelude.{◌==◌, MatchBool}
 use Rattle.std.specs.Io.KnownBytes.{prepend_known}
 use Rattle.std.specs.List.{flat_map}
@@ -12,7 +12,7 @@ use Rattle.uca_weights.specs.declared.Weighting.{Weighting}
 use Rattle.uca_weights.specs.Streams.{SourceState, SinkState}
 use Rattle.uca_weights.specs.Writes.{WentOut}
 use Rattle.uca_weights.proofs.Tests.{map_some}
-use Rattle.uca_lines.specs.Buffered.{HasWrittenThrough, FailsToWriteThrough, count_of}
+use Rattle.uca_lines.specs.Buffered.{HasWrittenThrough, count_of}
 use Rattle.uca_lines.specs.Lines.{ended, lines_of}
 use Rattle.uca_lines.specs.OutputBuffer.{BufferState, IsBuffered}
 use Rattle.uca_lines.proofs.BufferedLemmas.{none_buffered}
@@ -97,8 +97,15 @@ module _ (moved : List ℕ → Option (List ℕ)) where
   same_lengths (line ∷ lines) (n ∷ new) are =
       let first : rekeyed_by moved line ≡ Some n = cc in
       let rest : AreRekeyed moved lines new = cc in
-      omega (arith, same_length line n first, same_lengths lines new rest, length-append (ended n) (flat_map ended new), length-append (ended line) (flat_map ended lines),
-      length-append n (10 ∷ []), length-append line (10 ∷ []))
+      omega (
+        arith,
+        same_length line n first,
+        same_lengths lines new rest,
+        length-append (ended n) (flat_map ended new),
+        length-append (ended line) (flat_map ended lines),
+        length-append n (10 ∷ []),
+        length-append line (10 ∷ []),
+      )
 
   -- ---- The next line
 
@@ -200,8 +207,7 @@ module _ (moved : List ℕ → Option (List ℕ)) where
           let too_long : IsLineCause moved before next.0 kind =
           subst (λ (k : StoredKeyKind). IsLineCause moved before next.0 k) (sym stops.1)
           (inr (omega (arith, stops.2, all, same_lengths before new so_far.rekeyed, long, length-append after.line (10 ∷ []), length-append next.0 (10 ∷ [])))) in
-          let text = subst (λ (w : WrittenState). IsBuffered begun out.contents (flat_map ended new) w.buffer) (sym stops.3) so_far.text in
-          (
+          let text = subst (λ (w : WrittenState). IsBuffered begun out.contents (flat_map ended new) w.buffer) (sym stops.3) so_far.text in (
             before,
             new,
             line_fault start before next.0 after now number kind next.1 too_long (stops.0 ∙ ap suc so_far.count),

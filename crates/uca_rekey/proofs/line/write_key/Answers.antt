@@ -1,5 +1,5 @@
 -- All digits were written.
-use Rattle.std.proofs.Common.{sym, ◌∙◌, arith}
+use Rattle.std.proofs.Common.{sym, ◌∙◌}
 use Rattle.uca_rekey.proofs.LineKeys.{all_written}
 use Rattle.uca_rekey.proofs.line.write_key.Goals as goal
 

@@ -1,6 +1,6 @@
 -- The whole run, from what its certificate means and what is written of its lines.
 use Rattle.std.specs.Prelude.{⊤}
-use Rattle.std.proofs.Common.{◌≡◌, ◌||◌, [], ◌∷◌, ℕ, List, Option, sym, subst}
+use Rattle.std.proofs.Common.{◌≡◌, ◌||◌, [], ◌∷◌, sym, subst}
 use Rattle.uca_runs.specs.ReadFiles.{certificate_file}
 use Rattle.uca_runs.specs.declared.faults.Role.TheVariants as roles
 use Rattle.uca_runs.proofs.WholeRuns.{ended_by_lines}

@@ -1,8 +1,8 @@
 -- A line that is too long, before its LF was found or after.
-use Rattle.std.proofs.Common.{◌∷◌, ◌++◌, [], ◌+◌, ◌∙◌, take, drop, length, ap, sym, append_assoc, append-nil, arith, subst}
+use Rattle.std.proofs.Common.{◌∷◌, [], ◌+◌, ◌∙◌, take, drop, length, ap, sym, append_assoc, append-nil, arith, subst}
 use Rattle.std.proofs.lemmas.List.{length-take-le}
 use Rattle.uca_lines.specs.Lines.{is_lf, Lacks}
-use Rattle.uca_rekey.specs.LinesInPlace.{BeginsLine, IsFirstLine, left_of}
+use Rattle.uca_rekey.specs.LinesInPlace.{BeginsLine, left_of}
 use Rattle.uca_rekey.proofs.Places.{long_line}
 use Rattle.uca_rekey.proofs.lines.KeyLines.find.Goals as goal
 

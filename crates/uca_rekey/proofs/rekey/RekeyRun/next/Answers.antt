@@ -1,6 +1,5 @@
 -- The line that was read, and why none was.
 use Rattle.std.proofs.Common.{[], ◌≡◌, suc, ◌+◌, ◌||◌, length, sym, ap, subst, ◌∙◌, arith, IfSome}
-use Rattle.std.proofs.lemmas.Bool.{MatchBool-at_true, MatchBool-at_false}
 use Rattle.uca_rekey.specs.RekeyRun.{IsLineFault}
 use Rattle.uca_rekey.specs.RekeySoFar.{moved_by}
 use Rattle.uca_rekey.proofs.Rekeying.{cause_of_line, line_fault, read_stays}

@@ -1,6 +1,6 @@
 -- The next line, where it was written, and why not.
 use Rattle.std.specs.Prelude.{⊤}
-use Rattle.std.proofs.Common.{[], ◌∷◌, ◌++◌, ℕ, Bool, List, Option, true, false, Result, Ok, Err, sym, subst, subst₂, ◌∙◌}
+use Rattle.std.proofs.Common.{[], ◌∷◌, ◌++◌, ℕ, Bool, List, true, false, Ok, Err, sym, subst, subst₂, ◌∙◌}
 use Rattle.std.proofs.Math.Bool.{or-false}
 use Rattle.std.proofs.lemmas.Result.{err_from_is_err_and}
 use Rattle.uca_moved_keys.specs.Moving.{MoverState}
@@ -41,8 +41,7 @@ loop-self-preserved g c =
           (next.rekeys start begun i.0 i.1 c.loop-self.out
           (subst (λ (m : MoverState). HasRekeyed (moved_by m) start begun i.0 i.1 old.lines c.loop-self.input old.written c.loop-self.out) (sym same) i.2)) in
           let writes = subst₂ (λ (l : List ℕ) (w : WrittenState). WritesLine {A = ⊤} l w c.write.new.self c.loop-self.out c.write.new.out (Ok tt)) c.line.ensures.value next.written
-          c.in_ok-write.ensures.writes in
-          (
+          c.in_ok-write.ensures.writes in (
             i.0 ++ found.0 ∷ [],
             i.1 ++ now.lines.line ∷ [],
             line_rekeyed (moved_by c.args.self.now.mover) start begun i.0 i.1 old.lines c.loop-self.input old.written c.loop-self.out i.2 now.lines c.next.new.input found
