@@ -1,3 +1,4 @@
 pub mod LineKeys
 pub mod Places
 pub mod LinesRead
+pub mod Rekeying

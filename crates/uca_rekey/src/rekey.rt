@@ -37,6 +37,7 @@ impl<A: Allocator> RekeyRun<A> {
         ensures mover { self.new.mover ≡ self.old.mover }
         ensures written { self.new.written ≡ self.old.written }
         ensures few { self.old.written.number ≤ 2 ^ 63 }
+        ensures of_lines { ended_before_input result ≡ false }
         ensures not_write { ended_by_output result ≡ false }
         ensures failed { input.new.failed ≡ (input.old.failed || is_input_read result) }
     {

@@ -1,6 +1,6 @@
 //! The lines that a run writes: how many there are, and how many bytes they have.
 
-ghost use Rattle.std.specs.Prelude.{◌≡◌, ◌^◌, ◌≤◌, ◌||◌, [], ℕ, List, Option, IfSome, false, length};
+ghost use Rattle.std.specs.Prelude.{◌≡◌, ◌^◌, ◌≤◌, ◌||◌, [], ℕ, Bool, List, Option, IfSome, false, length};
 ghost use Rattle.uca_weights.specs.Streams.{SourceState};
 ghost use Rattle.uca_runs.specs.EachLine.{ended_before_input};
 ghost use Rattle.uca_runs.specs.Runs.{ended_by_output, is_input_read};
@@ -66,7 +66,7 @@ impl WrittenLines {
     /// # Errors
     ///
     /// - `StoredKey` with the number of the line and `TooLong`, if all lines would have more bytes than `LIMIT`. Nothing was written.
-    /// - `Write` if the writer failed.
+    /// - `Write` if the writer failed. The lines are then gone.
     pub fn write<W: Write>(&mut self, out: &mut Sink<W>, line: &[u8]) -> Result<(), RunFault>
         ensures writes { WritesLine line.now self.old self.new out.old out.new result }
         ensures not_read { is_input_read result ≡ false }
@@ -79,10 +79,18 @@ impl WrittenLines {
                 kind: StoredKeyKind::TooLong,
             });
         }
-        write_line(&mut self.output, out, line)?;
-        self.size += len + 1;
-        self.number += 1;
-        Ok(())
+        match write_line(&mut self.output, out, line) {
+            Ok(()) => {
+                self.size += len + 1;
+                self.number += 1;
+                Ok(())
+            }
+            Err(fault) => {
+                // What waits is not written any more.
+                *self = WrittenLines::new();
+                Err(RunFault::from(fault))
+            }
+        }
     }
 
     /// Ends a run that returns `end`: what waits is written, where the writer has not failed.
@@ -100,7 +108,8 @@ impl WrittenLines {
             IfSome start (λ bytes. WritesRekeyed moved bytes input.remaining begun out.new.contents result) }
         ensures of_lines { ended_before_input end ≡ false → ended_before_input result ≡ false }
         ensures not_read { ended_by_output result ≡ false → is_input_read result ≡ is_input_read end }
-        ensures failed { out.new.failed ≡ (out.old.failed || ended_by_output result) }
+        ensures failed { (before : Bool) → out.old.failed ≡ (before || ended_by_output end) →
+            out.new.failed ≡ (before || ended_by_output result) }
     {
         if let Err(RunFault::Write { .. }) = end {
             return end;

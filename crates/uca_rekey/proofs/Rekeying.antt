@@ -1,0 +1,211 @@
+-- The lines that were rekeyed so far, and the next one.
+use Rattle.std.proofs.Common.{◌≡◌, ℕ, suc, ◌+◌, ◌^◌, ◌<◌, ◌≤◌, Bool, false, List, [], ◌∷◌, ◌++◌, map, length, drop, Option, Some, None, IfSome, IfErr, Result, Ok, Err, inr, refl, ap, sym, subst, subst₂, ◌∙◌, append_assoc, append-nil, arith, length-append}
+use Rattle.std.specs.Prelude.{◌==◌, MatchBool}
+use Rattle.std.specs.Io.KnownBytes.{prepend_known}
+use Rattle.std.specs.List.{flat_map}
+use Rattle.std.specs.Option.{option_and_then}
+use Rattle.std.proofs.lemmas.Bool.{cond_both}
+use Rattle.std.proofs.lemmas.Grind.{flat_map-append}
+use Rattle.std.proofs.lemmas.List.{length-drop, map_push}
+use Rattle.uca_weights.specs.declared.Depth.{Depth}
+use Rattle.uca_weights.specs.declared.Weighting.{Weighting}
+use Rattle.uca_weights.specs.Streams.{SourceState, SinkState}
+use Rattle.uca_weights.specs.Writes.{WentOut}
+use Rattle.uca_weights.proofs.Tests.{map_some}
+use Rattle.uca_lines.specs.Buffered.{HasWrittenThrough, FailsToWriteThrough, count_of}
+use Rattle.uca_lines.specs.Lines.{ended, lines_of}
+use Rattle.uca_lines.specs.OutputBuffer.{BufferState, IsBuffered}
+use Rattle.uca_lines.proofs.BufferedLemmas.{none_buffered}
+use Rattle.uca_certificates.specs.Certificates.{CertificateContent}
+use Rattle.uca_moved_keys.specs.Moving.{MoverState}
+use Rattle.uca_runs.specs.EachLine.{ended_before_input}
+use Rattle.uca_runs.specs.declared.faults.RunFault.{RunFault}
+use Rattle.uca_runs.specs.declared.faults.RunFault.TheVariants.{File, Memory, StoredKey, Write}
+use Rattle.uca_runs.specs.declared.faults.StoredKeyKind.{StoredKeyKind}
+use Rattle.uca_runs.specs.declared.faults.StoredKeyKind.TheVariants as kinds
+use Rattle.uca_runs.specs.Input.{is_stored_key_read}
+use Rattle.uca_runs.specs.LinesSoFar.{OnKnown}
+use Rattle.uca_rekey.specs.RekeyedLines.{key_in, rekeyed_by, with_digits, with_key}
+use Rattle.uca_rekey.specs.RekeyRun.{AreRekeyed, HasCause, IsLineCause, IsLineFault, RunsRekey, WritesRekeyed}
+use Rattle.uca_rekey.specs.LinesInPlace.{LinesState, HasRead, IsAfter, left_of}
+use Rattle.uca_rekey.specs.RekeySoFar.{mover_of, moved_by, IsBegun, HasNextLine, HasRekeyed, RekeysLine, RekeysRest, WritesLine, WrittenState}
+
+-- ---- The beginning
+
+-- nothing was read and nothing written
+pub begun_so : (by mover : MoverState) (lines : LinesState) (written : WrittenState) (input : SourceState) (out : SinkState) → IsBegun by mover lines written
+    → HasRekeyed (moved_by by) input.remaining out.contents [] [] lines input written out
+begun_so by mover lines written input out begun = record {
+  read = go input.remaining;
+  rekeyed = refl;
+  text = none_buffered out.contents written.buffer begun.held begun.count;
+  count = begun.number;
+}
+  where
+    go : (known : Option (List ℕ)) → OnKnown known (prepend_known lines.pending known) (λ bytes left. IsAfter bytes left lines.at_end [])
+    go None = tt
+    go (Some xs) =
+        let none : xs ≡ lines.pending ++ xs = ap (λ l. l ++ xs) (sym begun.pending) in
+        record {
+          parts = subst (λ (e : Bool). MatchBool e (lines.pending ++ xs ≡ []) (xs ≡ lines.pending ++ xs)) (sym begun.at_end) none;
+          lines = ap lines_of none;
+        }
+
+-- the run goes by the maps of its certificate
+pub by_same : (by mover : MoverState) → mover ≡ by → (P : (List ℕ → Option (List ℕ)) → Type 0) → P (moved_by by) → P (moved_by mover)
+by_same by mover same P h = subst (λ (m : MoverState). P (moved_by m)) (sym same) h
+
+-- what a run returns that ended by its lines
+pub runs_rekey : {A : Type 0} (weighting : Weighting) (depth : Depth) (input input_new : SourceState) (out out_new : SinkState) (result : Result A RunFault)
+    (certificate : CertificateContent) → ended_before_input result ≡ false
+    → IfSome input.remaining (λ bytes. WritesRekeyed (moved_by (mover_of certificate depth weighting)) bytes input_new.remaining out.contents out_new.contents result)
+    → RunsRekey weighting depth input input_new out out_new result certificate
+runs_rekey weighting depth input input_new out out_new (Ok x) certificate lines writes = writes
+runs_rekey weighting depth input input_new out out_new (Err Memory) certificate lines writes = tt
+runs_rekey weighting depth input input_new out out_new (Err _) certificate lines writes = writes
+
+-- an error of a line is none before the input
+pub not_before : (A B : Type 0) (fault : RunFault) → ended_before_input {A = A} (Err fault) ≡ false → ended_before_input {A = B} (Err fault) ≡ false
+not_before A B (File role cause) h = h
+not_before A B Memory h = h
+not_before A B _ h = refl
+
+-- ---- Lengths
+
+pub length-with_digits : (line digits : List ℕ) → length (with_digits line digits) ≡ length line
+length-with_digits [] digits = refl
+length-with_digits (b ∷ line) [] = refl
+length-with_digits (b ∷ line) (d ∷ digits) =
+    cond_both (b == 9) _ _ (λ l. length l ≡ suc (length line)) (λ tab. refl)
+    (λ no_tab. cond_both (b == 32) _ _ (λ l. length l ≡ suc (length line)) (λ space. ap suc (length-with_digits line (d ∷ digits))) (λ no_space. ap suc (length-with_digits line digits)))
+
+-- a buffer counts the bytes of its text
+count_is : (begun now : Option (List ℕ)) (text : List ℕ) (buffer : BufferState) → IsBuffered begun now text buffer → length text ≡ count_of buffer
+count_is begun now text buffer h = omega (arith, h.went_out.1, ap length h.held, length-drop buffer.written text)
+
+module _ (moved : List ℕ → Option (List ℕ)) where
+  -- a new line is as long as the line
+  same_length : (line new : List ℕ) → rekeyed_by moved line ≡ Some new → length new ≡ length line
+  same_length line new is =
+      let made = map_some (with_key line) (option_and_then moved (key_in line)) new is in
+      ap length (sym made.2) ∙ length-with_digits line _
+
+  same_lengths : (lines new : List (List ℕ)) → AreRekeyed moved lines new → length (flat_map ended new) ≡ length (flat_map ended lines)
+  same_lengths [] [] are = refl
+  same_lengths [] (n ∷ new) are = cc
+  same_lengths (line ∷ lines) [] are = cc
+  same_lengths (line ∷ lines) (n ∷ new) are =
+      let first : rekeyed_by moved line ≡ Some n = cc in
+      let rest : AreRekeyed moved lines new = cc in
+      omega (arith, same_length line n first, same_lengths lines new rest, length-append (ended n) (flat_map ended new), length-append (ended line) (flat_map ended lines),
+      length-append n (10 ∷ []), length-append line (10 ∷ []))
+
+  -- ---- The next line
+
+  -- what was read stays while the line changes
+  pub read_stays : (start : Option (List ℕ)) (before : List (List ℕ)) (lines now : LinesState) (input : SourceState) → now.pending ≡ lines.pending
+      → now.at_end ≡ lines.at_end → HasRead start before lines input → HasRead start before now input
+  read_stays start before lines now input pending at_end read =
+      subst₂ (λ (p : List ℕ) (e : Bool). HasRead start before (record { line = now.line; pending = p; at_end = e }) input) (sym pending) (sym at_end) read
+
+  cause_there : (bytes : List ℕ) (left : Option (List ℕ)) (before later : List (List ℕ)) (line : List ℕ) (kind : StoredKeyKind) → IsLineCause moved before line kind
+      → HasCause moved bytes left before (line ∷ later) kind
+  cause_there bytes left before later line kinds.NoKey cause = cause
+  cause_there bytes left before later line kinds.NoImage cause = cause
+  cause_there bytes left before later line kinds.TooLong cause = cause
+  cause_there bytes left before later line kinds.Read cause = absurd cause
+  cause_there bytes left before later line kinds.Memory cause = cause
+
+  -- no such cause is the reader's
+  pub cause_of_line : (before : List (List ℕ)) (line : List ℕ) (kind : StoredKeyKind) → IsLineCause moved before line kind → is_stored_key_read kind ≡ false
+  cause_of_line before line kinds.NoKey cause = refl
+  cause_of_line before line kinds.NoImage cause = refl
+  cause_of_line before line kinds.TooLong cause = refl
+  cause_of_line before line kinds.Read cause = absurd cause
+  cause_of_line before line kinds.Memory cause = refl
+
+  -- the line that was read is not rekeyed
+  pub line_fault : (start : Option (List ℕ)) (before : List (List ℕ)) (line : List ℕ) (lines : LinesState) (input : SourceState) (number : ℕ) (kind : StoredKeyKind)
+      → HasRead start (before ++ line ∷ []) lines input → IsLineCause moved before line kind → number ≡ suc (length before)
+      → IfSome start (λ bytes. IsLineFault moved bytes input.remaining before number kind)
+  line_fault start before line lines input number kind read cause place = go start (left_of lines input) read
+    where
+      go : (s o : Option (List ℕ)) → OnKnown s o (λ bytes left. IsAfter bytes left lines.at_end (before ++ line ∷ []))
+          → IfSome s (λ bytes. IsLineFault moved bytes input.remaining before number kind)
+      go None o after = tt
+      go (Some bytes) None after = absurd after
+      go (Some bytes) (Some xs) after = record {
+        rest = line ∷ lines_of xs;
+        lines = after.lines ∙ append_assoc before (line ∷ []) (lines_of xs);
+        place = place;
+        cause = cause_there bytes input.remaining before (lines_of xs) line kind cause;
+      }
+
+  -- some lines come first
+  begins_with : (start : Option (List ℕ)) (before : List (List ℕ)) (lines : LinesState) (input : SourceState) → HasRead start before lines input
+      → IfSome start (λ bytes. (rest : List (List ℕ)) × (lines_of bytes ≡ before ++ rest))
+  begins_with start before lines input read = go start (left_of lines input) read
+    where
+      go : (s o : Option (List ℕ)) → OnKnown s o (λ bytes left. IsAfter bytes left lines.at_end before) → IfSome s (λ bytes. (rest : List (List ℕ)) × (lines_of bytes ≡ before ++ rest))
+      go None o after = tt
+      go (Some bytes) None after = absurd after
+      go (Some bytes) (Some xs) after = (lines_of xs, after.lines)
+
+  module _ (start begun : Option (List ℕ)) (before new : List (List ℕ)) (lines : LinesState) (input : SourceState) (written : WrittenState) (out : SinkState)
+      (so_far : HasRekeyed moved start begun before new lines input written out) where
+    -- no line is left
+    pub all_rekeyed : (now : SourceState) → IfSome start (λ bytes. lines_of bytes ≡ before) → RekeysRest {A = Unit {0}} moved start begun now written.buffer out (Ok tt)
+    all_rekeyed now all = (before, new, all, so_far.rekeyed, so_far.text)
+
+    -- the next line is not rekeyed
+    pub none_rekeyed : (after : LinesState) (now : SourceState) (held : WrittenState) (fault : RunFault) → held ≡ written → RekeysLine moved start before after now (Err fault)
+        → RekeysRest {A = Unit {0}} moved start begun now held.buffer out (Err fault)
+    none_rekeyed after now held (StoredKey number kind) same fault =
+        (before, new, fault, so_far.rekeyed, subst (λ (w : WrittenState). IsBuffered begun out.contents (flat_map ended new) w.buffer) (sym same) so_far.text)
+    none_rekeyed after now held _ same fault = absurd fault
+
+    module _ (after : LinesState) (now : SourceState) (next : HasNextLine moved start before after now) where
+      -- the new lines with one more
+      rekeyed_more : AreRekeyed moved (before ++ next.0 ∷ []) (new ++ after.line ∷ [])
+      rekeyed_more =
+          map_push (rekeyed_by moved) before next.0 ∙ ap (λ ls. ls ++ rekeyed_by moved next.0 ∷ []) so_far.rekeyed
+          ∙ ap (λ l. map (λ line. Some line) new ++ l ∷ []) next.2 ∙ sym (map_push (λ (line : List ℕ). Some line) new after.line)
+
+      text_more : flat_map ended new ++ ended after.line ≡ flat_map ended (new ++ after.line ∷ [])
+      text_more = sym (flat_map-append ended new (after.line ∷ []) ∙ ap (λ l. flat_map ended new ++ l) (append-nil (ended after.line)))
+
+      -- it was written
+      pub line_rekeyed : (held : WrittenState) (sink : SinkState) → HasWrittenThrough (ended after.line) written.buffer held.buffer out sink → held.number ≡ written.number + 1
+          → HasRekeyed moved start begun (before ++ next.0 ∷ []) (new ++ after.line ∷ []) after now held sink
+      line_rekeyed held sink writes number = record {
+        read = next.1;
+        rekeyed = rekeyed_more;
+        text = subst (λ (text : List ℕ). IsBuffered begun sink.contents text held.buffer) text_more (writes.writes begun (flat_map ended new) so_far.text);
+        count = omega (arith, number, so_far.count, length-append before (next.0 ∷ []));
+      }
+
+      -- it was not
+      pub line_not_written : (held : WrittenState) (sink : SinkState) (fault : RunFault) → WritesLine {A = Unit {0}} after.line written held out sink (Err fault)
+          → RekeysRest {A = Unit {0}} moved start begun now held.buffer sink (Err fault)
+      line_not_written held sink (Write count) stops = (
+        before ++ next.0 ∷ [],
+        new ++ after.line ∷ [],
+        begins_with start (before ++ next.0 ∷ []) after now next.1,
+        rekeyed_more,
+        subst (λ (text : List ℕ). WentOut begun sink.contents text count) text_more (stops.went_out begun (flat_map ended new) so_far.text),
+      )
+      line_not_written held sink (StoredKey number kind) stops =
+          let long = same_length next.0 after.line next.2 in
+          let all = count_is begun out.contents (flat_map ended new) written.buffer so_far.text in
+          let too_long : IsLineCause moved before next.0 kind =
+          subst (λ (k : StoredKeyKind). IsLineCause moved before next.0 k) (sym stops.1)
+          (inr (omega (arith, stops.2, all, same_lengths before new so_far.rekeyed, long, length-append after.line (10 ∷ []), length-append next.0 (10 ∷ [])))) in
+          let text = subst (λ (w : WrittenState). IsBuffered begun out.contents (flat_map ended new) w.buffer) (sym stops.3) so_far.text in
+          (
+            before,
+            new,
+            line_fault start before next.0 after now number kind next.1 too_long (stops.0 ∙ ap suc so_far.count),
+            so_far.rekeyed,
+            subst (λ (s : SinkState). IsBuffered begun s.contents (flat_map ended new) held.buffer) (sym stops.4) text,
+          )
+      line_not_written held sink _ stops = absurd stops

@@ -1,0 +1,32 @@
+-- The whole run, from what its certificate means and what is written of its lines.
+use Rattle.std.specs.Prelude.{⊤}
+use Rattle.std.proofs.Common.{◌≡◌, ◌||◌, [], ◌∷◌, ℕ, List, Option, sym, subst}
+use Rattle.uca_runs.specs.ReadFiles.{certificate_file}
+use Rattle.uca_runs.specs.declared.faults.Role.TheVariants as roles
+use Rattle.uca_runs.proofs.WholeRuns.{ended_by_lines}
+use Rattle.uca_rekey.specs.RekeyRun.{RunsRekey}
+use Rattle.uca_rekey.specs.RekeySoFar.{HasRekeyed, IsBegun, RekeysRest, moved_by, mover_of}
+use Rattle.uca_rekey.proofs.Rekeying.{begun_so, by_same, runs_rekey}
+use Rattle.uca_rekey.proofs.rekey.run_rekey_in.Goals as goal
+
+pub returns : goal.returns
+returns g c =
+    let run = c.in_ok-run.run' in
+    let input = c.args.input.now in
+    let out = c.args.out.now in
+    let input_new = c.rekey_rest-end.new.input in
+    let lines = c.end-end.ensures.of_lines c.rekey_rest-end.ensures.of_lines in
+    ended_by_lines certificate_file (roles.Certificate ∷ []) (λ content. IsBegun (mover_of content c.args.depth c.args.weighting) run.mover run.lines run.written)
+    (RunsRekey c.args.weighting c.args.depth input input_new out c.end-end.new.out c.end-end.result)
+    (c.args.certificate.now ∷ []) (c.begin.new.certificate ∷ []) {B = ⊤} input input_new out c.end-end.new.out tt c.end-end.result lines
+    (λ content begun.
+    let by = mover_of content c.args.depth c.args.weighting in
+    let begin = by_same by run.mover begun.same (λ moved. HasRekeyed moved input.remaining out.contents [] [] run.lines input run.written out)
+    (begun_so by run.mover run.lines run.written input out begun) in
+    let rest = by_same run.mover by (sym begun.same) (λ moved. RekeysRest moved input.remaining out.contents input_new c.rekey_rest-end.new.self.written.buffer c.rekey_rest-end.new.out c.rekey_rest-end.result)
+    (c.rekey_rest-end.ensures.rekeys input.remaining out.contents [] [] begin) in
+    runs_rekey c.args.weighting c.args.depth input input_new out c.end-end.new.out c.end-end.result content lines
+    (c.end-end.ensures.writes (moved_by by) input.remaining out.contents input_new rest))
+    c.in_ok-run.ensures.begun c.in_ok-run.ensures.failed
+    (λ none. subst (λ b. input_new.failed ≡ (input.failed || b)) (sym (c.end-end.ensures.not_read none)) c.rekey_rest-end.ensures.input_failed)
+    (c.end-end.ensures.failed out.failed c.rekey_rest-end.ensures.out_failed)
