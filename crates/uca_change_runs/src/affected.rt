@@ -35,10 +35,10 @@ struct DataAndIndex<A: Allocator> {
     index: ChangeIndex<A>,
 }
 
-/// Prints the lines of `input` that the changes affect, each with LF: those in whose text in Normalization Form D a changed
-/// text occurs in order, or a changed range has a code point. The data file and the file of changes are read first. The lines
-/// are as they are, and in their order. Under each accepted change with these texts and ranges the other lines keep their
-/// order among themselves.
+/// Prints the lines of `input` that the changes affect, each with LF. A line is affected if a changed text occurs in order in
+/// its text in Normalization Form D, or a changed range has a code point of that text. The data file and the file of changes
+/// are read first. The lines are as they are, and in their order. Under each accepted change with these texts and ranges the
+/// other lines keep their order among themselves.
 ///
 /// # Errors
 ///
