@@ -11,13 +11,15 @@ First prove and build the static library: `tools/build.py uca_c`. Then this scri
 - the names that libuca.so.1 exports, which have to be those of uca.h, and the header as C++;
 - a program that is compiled by what pkg-config says of a temporary installation, and the programs of docs/BINDINGS.md;
 - the tests of the module for Python, and statements of SQLite with the extension;
-- statements of PostgreSQL with its extension. The server has a folder of its own, listens on a Unix socket there, and is stopped afterwards.
+- statements of PostgreSQL with its extension. The server has a folder of its own, listens on a Unix socket there, and is stopped afterwards;
+- all four over Unicode's table, and over that table tailored for Danish: 100,000 words of nine languages have the keys of `uca keys` and the order of `uca sort`.
 
-Debian's packages are gcc, g++, make, pkgconf, valgrind, sqlite3, libsqlite3-dev, postgresql and postgresql-server-dev-15. What needs a command or a program that is not here is not run, and a line
-says so. The last line is `N passed, M failed`, and how many were not run if there are any.
+Debian's packages are gcc, g++, make, pkgconf, valgrind, sqlite3, libsqlite3-dev, postgresql and postgresql-server-dev-15, and for the last checks unicode-data and the word lists of WORDS. What needs a command,
+a program or a file that is not here is not run, and a line says so. The last line is `N passed, M failed`, and how many were not run if there are any.
 """
 import argparse
 import os
+import random
 import re
 import shutil
 import subprocess
@@ -314,6 +316,77 @@ def postgresql_like(program):
     return check
 
 
+WORDS = ("american-english-large", "ngerman", "french", "spanish", "polish", "portuguese", "swedish", "danish", "catalan")
+
+
+def words(count):
+    """So many words, as many of each language as there are, shuffled."""
+    lists = []
+    for name in WORDS:
+        path = f"/usr/share/dict/{name}"
+        if not os.path.exists(path):
+            raise NotHere(f"there is no {path}")
+        lists.append(content(path).decode().split())
+    chosen = random.Random(1)
+    found = {word for it in lists for word in chosen.sample(it, min(len(it), count // len(lists) + 1000))}
+    return chosen.sample(sorted(found), count)
+
+
+def unicode_files(work, program):
+    """Unicode's table and data file, and the table that is tailored for Danish."""
+    if not os.path.exists(program):
+        raise NotHere(f"there is no {program}")
+    if not os.path.exists("/usr/share/unicode/allkeys.txt"):
+        raise NotHere("there is no /usr/share/unicode/allkeys.txt")
+    for kind in ("table", "data"):
+        made = run([sys.executable, f"{TOP}/tools/unicode_files.py", kind])
+        with open(f"{work}/{kind}.txt", "wb") as it:
+            it.write(made)
+    made = run([program, "tailor", f"{work}/table.txt", f"{work}/data.txt", f"{EXAMPLES}/rules_danish.txt", f"{work}/certificate.txt"])
+    with open(f"{work}/tailored.txt", "wb") as it:
+        it.write(made)
+    return f"{work}/data.txt", [f"{work}/table.txt", f"{work}/tailored.txt"]
+
+
+def over_unicode(program, tried):
+    """One of the four over Unicode's table and over a tailored one, with 100,000 words."""
+
+    def check(work):
+        data, tables = unicode_files(work, program)
+        text = "".join(it + "\n" for it in words(100_000)).encode()
+        with open(f"{work}/words.txt", "wb") as it:
+            it.write(text)
+        for table in tables:
+            keys, order = (run([program, command, "--weighting", "shifted", table, data], input=text) for command in ("keys", "sort"))
+            tried(work, table, data, keys, order)
+
+    return check
+
+
+def c_words(work, table, data, keys, order):
+    same(run([f"{C}/out/keys", table, data, "shifted"], input=content(f"{work}/words.txt")), keys, f"keys over {table}")
+
+
+def python_words(work, table, data, keys, order):
+    said = run([sys.executable, "-c", SORTER, table, data, "shifted", ""], input=content(f"{work}/words.txt"), env=python_environment())
+    same(said, order, f"order over {table}")
+
+
+def sqlite_words(work, table, data, keys, order):
+    load = f"SELECT uca_load('{table}', '{data}', 'shifted');"
+    made = ["CREATE TABLE words(word TEXT);", ".mode tabs", f".import {work}/words.txt words", ".mode list", "CREATE INDEX by_key ON words(uca_key(word));"]
+    for after in ("uca_key(word), rowid", "word COLLATE uca, rowid"):
+        same(sqlite_says(work, *made, f"SELECT word FROM words ORDER BY {after};", load=load), order.decode(), f"order by {after} over {table}")
+    same(sqlite_says(work, *made, "SELECT hex(uca_key(word)) FROM words ORDER BY rowid;", load=load), keys.decode().replace(" ", ""), f"keys over {table}")
+
+
+def postgresql_words(work, table, data, keys, order):
+    with postgresql_server(work, table, data) as (_, says, _):
+        says(f"CREATE TABLE words(id serial, word text); COPY words(word) FROM STDIN;\n{content(f'{work}/words.txt').decode()}\\.\nCREATE INDEX by_key ON words(uca_key(word), id);")
+        same(says("SELECT word FROM words ORDER BY uca_key(word), id;"), order.decode(), f"order over {table}")
+        same(says("SELECT upper(encode(uca_key(word), 'hex')) FROM words ORDER BY id;"), keys.decode().replace(" ", ""), f"keys over {table}")
+
+
 def main():
     parser = argparse.ArgumentParser(description=__doc__, formatter_class=argparse.RawDescriptionHelpFormatter)
     parser.add_argument("--uca", default=f"{TOP}/crates/uca/out/uca")
@@ -323,6 +396,8 @@ def main():
     checks = [("make", make), ("valgrind", valgrind), ("sanitizers", sanitizers), ("header in C++", header), ("exported names", exports),
               ("installation", installed), ("stored run", stored_run), ("docs/BINDINGS.md", page), ("keys", keys_like(program)), ("Python", python), ("sort", sorted_like(program)), ("SQLite", sqlite),
               ("SQLite's orders", sqlite_like(program)), ("PostgreSQL", postgresql), ("PostgreSQL's orders", postgresql_like(program))]
+    tried = {"C": c_words, "Python": python_words, "SQLite": sqlite_words, "PostgreSQL": postgresql_words}
+    checks += [(f"100,000 words in {name}", over_unicode(program, it)) for name, it in tried.items()]
     passed = failed = skipped = 0
     with tempfile.TemporaryDirectory() as work:
         for name, check in checks:

@@ -202,6 +202,51 @@ static void check_threads(uca_collator *it)
     }
 }
 
+#define THREADS 8
+#define TURNS 2000
+
+/* What a thread of several does with a collator that they share: calls under one lock. */
+typedef struct worker {
+    pthread_t thread;
+    pthread_mutex_t *lock;
+    uca_collator *collator;
+    int number;
+    int right;
+} worker;
+
+static void *work(void *given)
+{
+    worker *it = given;
+    for (int turn = 0; turn < TURNS; turn++) {
+        bool holds;
+        pthread_mutex_lock(it->lock);
+        if ((turn + it->number) % 2) {
+            holds = IS_KEY(it->collator, "a", "\x1C\x47\0\0\0\x20\0\0\0\x02");
+        } else {
+            holds = COMPARES(it->collator, "ab", "Ab", -1, 3);
+        }
+        pthread_mutex_unlock(it->lock);
+        it->right += holds;
+    }
+    return NULL;
+}
+
+/* Several threads at once: a lock orders the calls. */
+static void check_lock(uca_collator *it)
+{
+    pthread_mutex_t lock = PTHREAD_MUTEX_INITIALIZER;
+    worker workers[THREADS];
+    for (int i = 0; i < THREADS; i++) {
+        workers[i] = (worker){.lock = &lock, .collator = it, .number = i, .right = 0};
+        if (pthread_create(&workers[i].thread, NULL, work, &workers[i])) {
+            abort();
+        }
+    }
+    for (int i = 0; i < THREADS; i++) {
+        CHECK(pthread_join(workers[i].thread, NULL) == 0 && workers[i].right == TURNS);
+    }
+}
+
 static void check_identical(void)
 {
     uca_collator it = UCA_CLOSED_COLLATOR;
@@ -226,6 +271,7 @@ int main(void)
     check_stored_keys();
     check_limits(&it);
     check_threads(&it);
+    check_lock(&it);
     check_moved(&it);
     check_identical();
     printf("%d passed, %d failed\n", passed, failed);
