@@ -235,7 +235,7 @@ fn make_room<A: Allocator>(buffer: &mut Vec<u8, A>, start: usize, end: usize) ->
     ensures room { OnTrue result (end - start < vec_len buffer.new) }
     ensures full { OnFalse result (0 < end - start) }
 {
-    buffer.as_mut_slice().copy_within(start..end, 0);
+    move_to_front(buffer, start, end);
     let len = end - start;
     if len < buffer.len() {
         return true;
@@ -243,6 +243,18 @@ fn make_room<A: Allocator>(buffer: &mut Vec<u8, A>, start: usize, end: usize) ->
     buffer
         .resize((2 * len).min(LONGEST_LINE + CHUNK), 0)
         .is_ok()
+}
+
+// Moves a part of a buffer to its front, unless it lies there.
+fn move_to_front<A: Allocator>(buffer: &mut Vec<u8, A>, start: usize, end: usize)
+    requires order { start ≤ end }
+    requires within { end ≤ vec_len buffer.old }
+    ensures front { take (end - start) buffer.new.items ≡ slice_range buffer.old.items start end }
+    ensures len { vec_len buffer.new ≡ vec_len buffer.old }
+{
+    if start > 0 {
+        buffer.as_mut_slice().copy_within(start..end, 0);
+    }
 }
 
 // The length of the first line, if an LF ends it. The first `seen` bytes have none.
