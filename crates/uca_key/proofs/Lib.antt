@@ -17,6 +17,7 @@ pub mod BeginningSteps
 pub mod SharedSteps
 pub mod PlainComparisons
 pub mod ComparisonLemmas
+pub mod WriterSteps
 pub mod RunSteps
 pub mod LeafReading
 mod PrimarySteps

@@ -1,0 +1,60 @@
+-- What a value that writes keys passes on of the calls that it makes.
+use Rattle.std.proofs.Common.{◌≡◌, ℕ, List, Bool, Result, Ok, Err, true, false, take, ap, subst, sym, ◌∙◌}
+use Rattle.std.proofs.lemmas.Bool.{false≢true}
+use Rattle.std.specs.Result.{OnOk, IfErr, IsErr, IsErrAnd}
+use Rattle.std.specs.Bool.{OnTrue}
+use Rattle.uca_weights.specs.declared.Depth.{Depth}
+use Rattle.uca_weights.specs.declared.Weighting.{Weighting}
+use Rattle.uca_values.specs.Content.{properties_of}
+use Rattle.uca_text.specs.Texts.{NfdText, nfd_text}
+use Rattle.uca_text.specs.Limits.{IsAccepted}
+use Rattle.uca_text.specs.Faults.{IsCause}
+use Rattle.uca_text.specs.declared.normalize.TextFault.{TextFault}
+use Rattle.uca_text.specs.declared.normalize.TextFault.TheVariants.{Memory}
+use Rattle.uca_match.specs.Rows.{Rows}
+use Rattle.uca_key.specs.Depths.{read_text, key_at}
+use Rattle.uca_key.specs.Writers.{WriterState, collation_by}
+
+-- an error has no value
+pub no_value : {T E : Type 0} (r : Result T E) (P : Type 0) → IsErr r → OnOk r P
+no_value (Ok x) P e = absurd (false≢true e)
+no_value (Err x) P e = tt
+
+-- any text may meet an allocation that fails
+pub memory_is_cause : {T : Type 0} (s : NfdText) (r : Result T TextFault) → IsErrAnd r (λ fault. fault ≡ Memory) → IfErr r (IsCause s)
+memory_is_cause s (Ok x) h = tt
+memory_is_cause s (Err fault) h = subst (IsCause s) (sym h) tt
+
+-- what a value says, and what follows from it
+pub with_value : {T E : Type 0} (r : Result T E) (P Q : Type 0) → (P → Q) → OnOk r P → OnOk r Q
+with_value (Ok x) P Q f p = f p
+with_value (Err x) P Q f p = tt
+
+-- the key of a text by a state
+abbrev pub key_by : {L : Type 0} → (L → Rows) → WriterState L → List ℕ → List ℕ
+key_by content w xs = key_at w.depth w.weighting (read_text (collation_by content w) (nfd_text (properties_of w.data_file) xs))
+
+-- the beginning of a key, where it was written
+pub beginning_by : {L : Type 0} (content : L → Rows) (w v : WriterState L) (xs key : List ℕ) (accepted : Bool) → w ≡ v → accepted ≡ true
+    → OnTrue accepted (take 16 key ≡ take 16 (key_by content w xs)) → take 16 key ≡ take 16 (key_by content v xs)
+beginning_by content w v xs key accepted same flag wrote =
+    subst (λ (s : WriterState _). take 16 key ≡ take 16 (key_by content s xs)) same
+    (subst (λ flag. OnTrue flag (take 16 key ≡ take 16 (key_by content w xs))) flag wrote)
+
+-- a whole key begins as it should
+pub beginning_of_whole : {L T E : Type 0} (content : L → Rows) (w v : WriterState L) (depth : Depth) (weighting : Weighting) (xs key : List ℕ) (r : Result T E)
+    → w ≡ v → depth ≡ w.depth → weighting ≡ w.weighting
+    → OnOk r (key ≡ key_at depth weighting (read_text (collation_by content w) (nfd_text (properties_of w.data_file) xs)))
+    → OnOk r (take 16 key ≡ take 16 (key_by content v xs))
+beginning_of_whole content w v depth weighting xs key r same at under =
+    let read = read_text (collation_by content w) (nfd_text (properties_of w.data_file) xs) in
+    with_value r (key ≡ key_at depth weighting read) (take 16 key ≡ take 16 (key_by content v xs))
+    (λ whole. ap (take 16)
+    (whole ∙ (ap (λ d. key_at d weighting read) at ∙ (ap (λ x. key_at w.depth x read) under ∙ ap (λ (s : WriterState _). key_by content s xs) same))))
+
+-- the limits that a text keeps, and why one is rejected
+pub accepted_by : {L : Type 0} (w v : WriterState L) (xs : List ℕ) (accepted : Bool) → w ≡ v → accepted ≡ true
+    → OnTrue accepted (IsAccepted (nfd_text (properties_of w.data_file) xs)) → IsAccepted (nfd_text (properties_of v.data_file) xs)
+accepted_by w v xs accepted same flag keeps =
+    subst (λ (s : WriterState _). IsAccepted (nfd_text (properties_of s.data_file) xs)) same
+    (subst (λ flag. OnTrue flag (IsAccepted (nfd_text (properties_of w.data_file) xs))) flag keeps)
