@@ -58,3 +58,30 @@ pub accepted_by : {L : Type 0} (w v : WriterState L) (xs : List ℕ) (accepted :
 accepted_by w v xs accepted same flag keeps =
     subst (λ (s : WriterState _). IsAccepted (nfd_text (properties_of s.data_file) xs)) same
     (subst (λ flag. OnTrue flag (IsAccepted (nfd_text (properties_of w.data_file) xs))) flag keeps)
+
+-- ---- A text that was normalized
+
+pub fault_goes_on : {T : Type 0} (P : TextFault → Type 0) (r : Result T TextFault) (fault : TextFault) → IsErrAnd r (λ e. e ≡ fault) → P fault → IfErr r P
+fault_goes_on P (Ok x) fault h p = tt
+fault_goes_on P (Err e) fault h p = subst P (sym h) p
+
+pub key_of_normal : {L : Type 0} (content : L → Rows) (w v : WriterState L) (depth : Depth) (weighting : Weighting) (xs key : List ℕ) (text : NfdText)
+    → text ≡ nfd_text (properties_of w.data_file) xs → w ≡ v → depth ≡ w.depth → weighting ≡ w.weighting
+    → key ≡ key_at depth weighting (read_text (collation_by content w) text) → key ≡ key_by content v xs
+key_of_normal content w v depth weighting xs key text found same at under wrote =
+    wrote
+    ∙ (ap (λ d. key_at d weighting (read_text (collation_by content w) text)) at
+    ∙ (ap (λ x. key_at w.depth x (read_text (collation_by content w) text)) under
+    ∙ (ap (λ t. key_at w.depth w.weighting (read_text (collation_by content w) t)) found
+    ∙ ap (λ (s : WriterState _). key_by content s xs) same)))
+
+pub accepted_normal : {L : Type 0} (w v : WriterState L) (xs : List ℕ) (text : NfdText) → text ≡ nfd_text (properties_of w.data_file) xs → w ≡ v
+    → IsAccepted text → IsAccepted (nfd_text (properties_of v.data_file) xs)
+accepted_normal w v xs text found same keeps =
+    subst (λ (s : WriterState _). IsAccepted (nfd_text (properties_of s.data_file) xs)) same (subst IsAccepted found keeps)
+
+-- the whole key, where it was written
+pub key_by_pieces : {L : Type 0} (content : L → Rows) (w v : WriterState L) (xs key : List ℕ) (accepted : Bool) → w ≡ v → accepted ≡ true
+    → OnTrue accepted (key ≡ key_by content w xs) → key ≡ key_by content v xs
+key_by_pieces content w v xs key accepted same flag wrote =
+    subst (λ (s : WriterState _). key ≡ key_by content s xs) same (subst (λ flag. OnTrue flag (key ≡ key_by content w xs)) flag wrote)
