@@ -18,6 +18,7 @@ pub mod SharedSteps
 pub mod PlainComparisons
 pub mod ComparisonLemmas
 pub mod WriterSteps
+pub mod ComparerSteps
 pub mod RunSteps
 pub mod LeafReading
 mod PrimarySteps
