@@ -1,7 +1,6 @@
 -- What a value that compares texts passes on of the calls that it makes.
-use Rattle.std.proofs.Common.{◌≡◌, ◌⊎◌, inl, inr, ℕ, List, Result, Ok, Err, ap, subst, sym, ◌∙◌, min}
-use Rattle.std.proofs.lemmas.Bool.{false≢true}
-use Rattle.std.specs.Result.{IfOk, IfErr, IsErr, IsErrAnd}
+use Rattle.std.proofs.Common.{◌≡◌, ◌⊎◌, inl, inr, ℕ, List, Result, subst, ◌∙◌, min}
+use Rattle.std.specs.Result.{IfErr, IsErrAnd}
 use Rattle.std.specs.declared.cmp.Ordering.{Ordering}
 use Rattle.uca_weights.specs.declared.Depth.{Depth}
 use Rattle.uca_weights.specs.declared.Weighting.{Weighting}
@@ -16,21 +15,13 @@ use Rattle.uca_match.specs.Rows.{Rows}
 use Rattle.uca_key.specs.Depths.{read_text, compared_at}
 use Rattle.uca_key.specs.Fetched.{fetched_left, fetched_right}
 use Rattle.uca_key.specs.Comparers.{ComparerState, collation_by}
-
--- an error has no value
-pub no_result : {T E : Type 0} (r : Result T E) (P : T → Type 0) → IsErr r → IfOk r P
-no_result (Ok x) P e = absurd (false≢true e)
-no_result (Err x) P e = tt
+use Rattle.uca_key.proofs.Results.{fault_is}
 
 -- what the error of a text says of two
 abbrev pub Causes : {L : Type 0} → ComparerState L → List ℕ → List ℕ → TextFault → Type 0
 Causes s xs ys fault =
     IsCause (nfd_text (properties_of s.data_file) xs) fault
     ⊎ (IsAccepted (nfd_text (properties_of s.data_file) xs) × IsCause (nfd_text (properties_of s.data_file) ys) fault)
-
-fault_is : {T : Type 0} (P : TextFault → Type 0) (r : Result T TextFault) (fault : TextFault) → IsErrAnd r (λ e. e ≡ fault) → P fault → IfErr r P
-fault_is P (Ok x) fault h p = tt
-fault_is P (Err e) fault h p = subst P (sym h) p
 
 pub memory_causes : {L T : Type 0} (s : ComparerState L) (xs ys : List ℕ) (r : Result T TextFault) → IsErrAnd r (λ e. e ≡ Memory) → IfErr r (Causes s xs ys)
 memory_causes s xs ys r is = fault_is (Causes s xs ys) r Memory is (inl tt)

@@ -17,6 +17,7 @@ pub mod BeginningSteps
 pub mod SharedSteps
 pub mod PlainComparisons
 pub mod ComparisonLemmas
+pub mod Results
 pub mod WriterSteps
 pub mod ComparerSteps
 pub mod RunSteps

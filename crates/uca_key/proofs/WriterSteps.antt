@@ -1,7 +1,6 @@
 -- What a value that writes keys passes on of the calls that it makes.
-use Rattle.std.proofs.Common.{◌≡◌, ℕ, List, Bool, Result, Ok, Err, true, false, take, ap, subst, sym, ◌∙◌}
-use Rattle.std.proofs.lemmas.Bool.{false≢true}
-use Rattle.std.specs.Result.{OnOk, IfErr, IsErr, IsErrAnd}
+use Rattle.std.proofs.Common.{◌≡◌, ℕ, List, Bool, Result, true, take, ap, subst, ◌∙◌}
+use Rattle.std.specs.Result.{OnOk, IfErr, IsErrAnd}
 use Rattle.std.specs.Bool.{OnTrue}
 use Rattle.uca_weights.specs.declared.Depth.{Depth}
 use Rattle.uca_weights.specs.declared.Weighting.{Weighting}
@@ -14,21 +13,11 @@ use Rattle.uca_text.specs.declared.normalize.TextFault.TheVariants.{Memory}
 use Rattle.uca_match.specs.Rows.{Rows}
 use Rattle.uca_key.specs.Depths.{read_text, key_at}
 use Rattle.uca_key.specs.Writers.{WriterState, collation_by}
-
--- an error has no value
-pub no_value : {T E : Type 0} (r : Result T E) (P : Type 0) → IsErr r → OnOk r P
-no_value (Ok x) P e = absurd (false≢true e)
-no_value (Err x) P e = tt
+use Rattle.uca_key.proofs.Results.{with_value, fault_is}
 
 -- any text may meet an allocation that fails
 pub memory_is_cause : {T : Type 0} (s : NfdText) (r : Result T TextFault) → IsErrAnd r (λ fault. fault ≡ Memory) → IfErr r (IsCause s)
-memory_is_cause s (Ok x) h = tt
-memory_is_cause s (Err fault) h = subst (IsCause s) (sym h) tt
-
--- what a value says, and what follows from it
-pub with_value : {T E : Type 0} (r : Result T E) (P Q : Type 0) → (P → Q) → OnOk r P → OnOk r Q
-with_value (Ok x) P Q f p = f p
-with_value (Err x) P Q f p = tt
+memory_is_cause s r is = fault_is (IsCause s) r Memory is tt
 
 -- the key of a text by a state
 abbrev pub key_by : {L : Type 0} → (L → Rows) → WriterState L → List ℕ → List ℕ
@@ -60,10 +49,6 @@ accepted_by w v xs accepted same flag keeps =
     (subst (λ flag. OnTrue flag (IsAccepted (nfd_text (properties_of w.data_file) xs))) flag keeps)
 
 -- ---- A text that was normalized
-
-pub fault_goes_on : {T : Type 0} (P : TextFault → Type 0) (r : Result T TextFault) (fault : TextFault) → IsErrAnd r (λ e. e ≡ fault) → P fault → IfErr r P
-fault_goes_on P (Ok x) fault h p = tt
-fault_goes_on P (Err e) fault h p = subst P (sym h) p
 
 pub key_of_normal : {L : Type 0} (content : L → Rows) (w v : WriterState L) (depth : Depth) (weighting : Weighting) (xs key : List ℕ) (text : NfdText)
     → text ≡ nfd_text (properties_of w.data_file) xs → w ≡ v → depth ≡ w.depth → weighting ≡ w.weighting

@@ -7,7 +7,8 @@ use Rattle.uca_text.specs.Texts.{nfd_text}
 use Rattle.uca_text.specs.Faults.{IsCause}
 use Rattle.uca_key.specs.Lengths.{HasShortRows}
 use Rattle.uca_key.specs.Writers.{WriterState, collation_by}
-use Rattle.uca_key.proofs.WriterSteps.{no_value, memory_is_cause, fault_goes_on, key_by_pieces, key_of_normal, accepted_by, accepted_normal}
+use Rattle.uca_key.proofs.Results.{no_result, fault_is}
+use Rattle.uca_key.proofs.WriterSteps.{memory_is_cause, key_by_pieces, key_of_normal, accepted_by, accepted_normal}
 use Rattle.uca_key.proofs.key_writer.KeyWriter.write.Goals as goal
 
 pub write_pieces-requires : goal.write_pieces-requires
@@ -20,10 +21,10 @@ invariant_of-self g c = c.write_pieces.ensures.entries
 
 pub returns-in_err-accepted : goal.returns-in_err-accepted
 returns-in_err-accepted g c = record {
-  key = no_value c.from_residual.result _ c.from_residual.ensures.0;
-  accepted = no_value c.from_residual.result _ c.from_residual.ensures.0;
+  key = no_result c.from_residual.result _ c.from_residual.ensures.0;
+  accepted = no_result c.from_residual.result _ c.from_residual.ensures.0;
   fault = memory_is_cause (nfd_text (properties_of c.args.self.now.data_file) (chars c.args.text.now)) c.from_residual.result c.from_residual.ensures.1;
-  short = λ short. no_value c.from_residual.result _ c.from_residual.ensures.0;
+  short = λ short. no_result c.from_residual.result _ c.from_residual.ensures.0;
   collation = ap (collation_by g.L.Lookup.content) c.self.view_is;
   weighting = c.write_pieces.ensures.weighting ∙ ap (λ (w : WriterState _). w.weighting) c.self.view_is;
   depth = c.write_pieces.ensures.depth ∙ ap (λ (w : WriterState _). w.depth) c.self.view_is;
@@ -57,12 +58,12 @@ invariant_of-self-in_err-renew g c = c.write_pieces.ensures.entries
 
 pub returns-in_err-renew : goal.returns-in_err-renew
 returns-in_err-renew g c = record {
-  key = no_value c.from_residual-in_err-renew.result _ c.from_residual-in_err-renew.ensures.0;
-  accepted = no_value c.from_residual-in_err-renew.result _ c.from_residual-in_err-renew.ensures.0;
+  key = no_result c.from_residual-in_err-renew.result _ c.from_residual-in_err-renew.ensures.0;
+  accepted = no_result c.from_residual-in_err-renew.result _ c.from_residual-in_err-renew.ensures.0;
   fault = subst (λ (w : WriterState _). IfErr c.from_residual-in_err-renew.result (IsCause (nfd_text (properties_of w.data_file) (chars c.args.text.now)))) c.self.view_is
-      (fault_goes_on (IsCause (nfd_text (properties_of c.self.inside.collator.data.now) (chars c.args.text.now))) c.from_residual-in_err-renew.result
+      (fault_is (IsCause (nfd_text (properties_of c.self.inside.collator.data.now) (chars c.args.text.now))) c.from_residual-in_err-renew.result
       c.in_err-renew.field-0.0 c.from_residual-in_err-renew.ensures.1 c.in_err-renew.ensures.fault);
-  short = λ short. no_value c.from_residual-in_err-renew.result _ c.from_residual-in_err-renew.ensures.0;
+  short = λ short. no_result c.from_residual-in_err-renew.result _ c.from_residual-in_err-renew.ensures.0;
   collation = ap (collation_by g.L.Lookup.content) c.self.view_is;
   weighting = c.write_pieces.ensures.weighting ∙ ap (λ (w : WriterState _). w.weighting) c.self.view_is;
   depth = c.write_pieces.ensures.depth ∙ ap (λ (w : WriterState _). w.depth) c.self.view_is;
@@ -75,11 +76,11 @@ invariant_of-self-in_err-write_text g c = c.write_pieces.ensures.entries
 
 pub returns-in_err-write_text : goal.returns-in_err-write_text
 returns-in_err-write_text g c = record {
-  key = no_value c.from_residual-in_err-write_text.result _ c.from_residual-in_err-write_text.ensures.0;
-  accepted = no_value c.from_residual-in_err-write_text.result _ c.from_residual-in_err-write_text.ensures.0;
+  key = no_result c.from_residual-in_err-write_text.result _ c.from_residual-in_err-write_text.ensures.0;
+  accepted = no_result c.from_residual-in_err-write_text.result _ c.from_residual-in_err-write_text.ensures.0;
   fault = memory_is_cause (nfd_text (properties_of c.args.self.now.data_file) (chars c.args.text.now)) c.from_residual-in_err-write_text.result
       c.from_residual-in_err-write_text.ensures.1;
-  short = λ short. no_value c.from_residual-in_err-write_text.result _ c.from_residual-in_err-write_text.ensures.0;
+  short = λ short. no_result c.from_residual-in_err-write_text.result _ c.from_residual-in_err-write_text.ensures.0;
   collation = ap (collation_by g.L.Lookup.content) c.self.view_is;
   weighting = c.write_text.ensures.weighting ∙ (c.write_pieces.ensures.weighting ∙ ap (λ (w : WriterState _). w.weighting) c.self.view_is);
   depth = c.write_text.ensures.depth ∙ (c.write_pieces.ensures.depth ∙ ap (λ (w : WriterState _). w.depth) c.self.view_is);

@@ -6,7 +6,8 @@ use Rattle.uca_text.specs.Texts.{nfd_text}
 use Rattle.uca_text.specs.Limits.{IsAccepted}
 use Rattle.uca_text.specs.Faults.{IsCause}
 use Rattle.uca_key.specs.Writers.{WriterState, collation_by}
-use Rattle.uca_key.proofs.WriterSteps.{no_value, memory_is_cause, beginning_by, beginning_of_whole, accepted_by}
+use Rattle.uca_key.proofs.Results.{no_result}
+use Rattle.uca_key.proofs.WriterSteps.{memory_is_cause, beginning_by, beginning_of_whole, accepted_by}
 use Rattle.uca_key.proofs.key_writer.KeyWriter.write_beginning.Goals as goal
 
 pub write_beginning-requires : goal.write_beginning-requires
@@ -17,8 +18,8 @@ invariant_of-self g c = c.write_beginning.ensures.entries
 
 pub returns-in_err-accepted : goal.returns-in_err-accepted
 returns-in_err-accepted g c = record {
-  beginning = no_value c.from_residual.result _ c.from_residual.ensures.0;
-  accepted = no_value c.from_residual.result _ c.from_residual.ensures.0;
+  beginning = no_result c.from_residual.result _ c.from_residual.ensures.0;
+  accepted = no_result c.from_residual.result _ c.from_residual.ensures.0;
   fault = memory_is_cause (nfd_text (properties_of c.args.self.now.data_file) (chars c.args.text.now)) c.from_residual.result c.from_residual.ensures.1;
   collation = ap (collation_by g.L.Lookup.content) c.self.view_is;
   weighting = c.write_beginning.ensures.weighting ∙ ap (λ (w : WriterState _). w.weighting) c.self.view_is;

@@ -10,7 +10,8 @@ use Rattle.uca_key.specs.Comparers.{ComparerState, collation_by}
 use Rattle.uca_key.specs.Shared.{ComparesAccepted}
 use Rattle.uca_key.proofs.SharedSteps.{counted_from_none}
 use Rattle.uca_key.proofs.ComparisonLemmas.{compares_at, same_decides, itself_and_same}
-use Rattle.uca_key.proofs.ComparerSteps.{no_result, memory_causes, left_causes, right_causes, both_accepted, normals_accepted, compares_by, fetches_by, normals_compare, normals_fetch}
+use Rattle.uca_key.proofs.Results.{no_result}
+use Rattle.uca_key.proofs.ComparerSteps.{memory_causes, left_causes, right_causes, both_accepted, normals_accepted, compares_by, fetches_by, normals_compare, normals_fetch}
 use Rattle.uca_key.proofs.text_comparer.TextComparer.compare.Goals as goal
 
 pub compare-requires : goal.compare-requires
