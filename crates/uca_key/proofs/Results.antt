@@ -1,5 +1,5 @@
 -- What the result of a call says to the caller that passes it on.
-use Rattle.std.proofs.Common.{◌≡◌, Bool, true, false, Result, Ok, Err, subst, sym}
+use Rattle.std.proofs.Common.{◌≡◌, Result, Ok, Err, Option, None, IfSome, subst, sym}
 use Rattle.std.proofs.lemmas.Bool.{false≢true}
 use Rattle.std.specs.Result.{IfOk, OnOk, IfErr, IsErr, IsErrAnd}
 
@@ -17,3 +17,7 @@ with_value (Err x) P Q f p = tt
 pub fault_is : {T E : Type 0} (P : E → Type 0) (r : Result T E) (fault : E) → IsErrAnd r (λ e. e ≡ fault) → P fault → IfErr r P
 fault_is P (Ok x) fault h p = tt
 fault_is P (Err e) fault h p = subst P (sym h) p
+
+-- nothing is said of no value
+pub no_value : {T : Type 0} (o : Option T) (P : T → Type 0) → o ≡ None → IfSome o P
+no_value o P none = subst (λ o. IfSome o P) (sym none) tt
