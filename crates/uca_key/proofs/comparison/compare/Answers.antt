@@ -2,8 +2,7 @@ use Rattle.std.proofs.Common.{◌≡◌, rules}
 use Rattle.uca_weights.specs.declared.Depth.TheVariants.{Weights, Identical}
 use Rattle.uca_match.specs.Collations.{collation_of}
 use Rattle.uca_key.specs.Depths.{read_text}
-use Rattle.uca_key.proofs.SharedSteps.{counted_from_none}
-use Rattle.uca_key.proofs.ComparisonLemmas.{compares_at, points_decide, weights_decide, fetches_all}
+use Rattle.uca_key.proofs.ComparisonLemmas.{points_decide, weights_decide, fetches_all}
 use Rattle.uca_key.proofs.comparison.compare.Goals as goal
 
 -- the code points decide

@@ -38,7 +38,7 @@ pub put_run-requires : goal.put_run-requires
 put_run-requires g c = record {
   few = c.requires;
   room = room_in _ c.self.inside.counts _ _ _ _ _ _ _ _ c.as_mut_slice.ensures.value c.as_mut_slice-2.ensures.value c.as_mut_slice-3.ensures.value
-    c.as_mut_slice-4.ensures.value c.in_ok-make_rooms.ensures.room;
+      c.as_mut_slice-4.ensures.value c.in_ok-make_rooms.ensures.room;
 }
 
 pub invariant_of-self-2 : goal.invariant_of-self-2
