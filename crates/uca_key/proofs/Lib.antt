@@ -17,9 +17,9 @@ pub mod BeginningSteps
 pub mod SharedSteps
 pub mod PlainComparisons
 pub mod ComparisonLemmas
-pub mod Results
-pub mod WriterSteps
-pub mod ComparerSteps
+mod Results
+mod WriterSteps
+mod ComparerSteps
 pub mod RunSteps
 pub mod LeafReading
 mod PrimarySteps
