@@ -96,6 +96,16 @@ pub less_room : (more less : ℕ) (counts : Counts) (primary secondary tertiary 
 less_room more less counts primary secondary tertiary quaternary fewer room =
     record { primary = omega arith; secondary = omega arith; tertiary = omega arith; quaternary = omega arith }
 
+-- the same places have the same room
+pub room_in : (more : ℕ) (counts : Counts) (p s t q primary secondary tertiary quaternary : List (List ℕ))
+    → primary ≡ p → secondary ≡ s → tertiary ≡ t → quaternary ≡ q → HasRoom more counts p s t q → HasRoom more counts primary secondary tertiary quaternary
+room_in more counts p s t q primary secondary tertiary quaternary same_primary same_secondary same_tertiary same_quaternary room = record {
+  primary = subst (λ l. counts.primary + more ≤ length l) (sym same_primary) room.primary;
+  secondary = subst (λ l. counts.secondary + more ≤ length l) (sym same_secondary) room.secondary;
+  tertiary = subst (λ l. counts.tertiary + more ≤ length l) (sym same_tertiary) room.tertiary;
+  quaternary = subst (λ l. counts.quaternary + more ≤ length l) (sym same_quaternary) room.quaternary;
+}
+
 -- the levels do not change where only places are added
 pub same_levels : (flag : Bool) (counts : Counts) (p s t q primary secondary tertiary quaternary : List (List ℕ)) (key : List ℕ)
     → held primary counts.primary ≡ held p counts.primary → held secondary counts.secondary ≡ held s counts.secondary

@@ -1,17 +1,20 @@
 -- What the levels of the weights decide of two texts at either depth.
-use Rattle.std.proofs.Common.{◌≡◌, ℕ, ◌+◌, List, [], ◌∷◌, length, refl, sym, ap, subst, ◌∙◌}
+use Rattle.std.proofs.Common.{◌≡◌, ℕ, suc, ◌+◌, List, [], ◌∷◌, length, min, refl, sym, ap, subst, ◌∙◌, arith}
 use Rattle.std.specs.Str.{chars}
 use Rattle.std.specs.declared.cmp.Ordering.{Ordering}
 use Rattle.std.specs.declared.cmp.Ordering.TheVariants.{Less, Equal, Greater}
 use Rattle.uca_weights.specs.declared.Depth.{Depth}
 use Rattle.uca_weights.specs.declared.Depth.TheVariants.{Weights, Identical}
+use Rattle.uca_weights.specs.declared.Element.{Element}
 use Rattle.uca_weights.specs.declared.Weighting.{Weighting}
 use Rattle.uca_text.specs.Texts.{NfdText, nfd_text}
 use Rattle.uca_match.specs.Collations.{Collation, elements_of}
 use Rattle.uca_key.specs.declared.walk.Walked.{Walked}
 use Rattle.uca_key.specs.Levels.{Comparison, level_lists, level_count, weighted, decided, compare_from, compared}
 use Rattle.uca_key.specs.Depths.{ReadText, compared_at}
-use Rattle.uca_key.specs.Comparisons.{ComparesLevels, NothingElseDecides}
+use Rattle.uca_key.specs.Comparisons.{ComparesLevels, NothingElseDecides, compared_points}
+use Rattle.uca_key.specs.Fetched.{fetched_left, fetched_right}
+use Rattle.uca_key.proofs.SharedSteps.{counted_from_none}
 use Rattle.uca_key.proofs.KeyOrder.{level_zero, lexicographic_itself}
 use Rattle.uca_key.proofs.LevelSteps.{then_levels, compare_append, length_levels, decided_here}
 
@@ -83,3 +86,34 @@ pub itself_and_same : (c : Collation) (weighting : Weighting) (text : NfdText) (
 itself_and_same c weighting text left right w is same compares =
     subst (λ (l : List ℕ). ComparesLevels weighting (elements_of c (nfd_text c.properties (chars left))) (elements_of c (nfd_text c.properties (chars l))) w) same
     (subst (λ (t : NfdText). ComparesLevels weighting (elements_of c t) (elements_of c t) w) is compares)
+
+-- ---- At either depth
+
+-- the code points decide after equal levels
+pub points_decide : (depth : Depth) (weighting : Weighting) (left right : ReadText) (w : Walked) → depth ≡ Identical → w.order ≡ Equal
+    → ComparesLevels weighting left.elements right.elements w → (order : Ordering) (level : ℕ)
+    → (order ≡ (compared_points weighting left.points right.points).order) × (level ≡ (compared_points weighting left.points right.points).level)
+    → (order ≡ (compared_at depth weighting left right).order) × (level ≡ (compared_at depth weighting left right).level)
+points_decide depth weighting left right w identical equal levels order level points =
+    let count = level_count weighting in
+    let more : ℕ → Comparison = λ n. compare_from n (left.points ∷ []) (right.points ∷ []) in
+    let next : 1 + count ≡ suc count = omega arith in
+    let all : compared_at depth weighting left right ≡ compared_points weighting left.points right.points =
+    ap (λ d. compared_at d weighting left right) identical
+    ∙ (identical_is weighting left right
+    ∙ (ap (λ n. then_levels (compared weighting left.elements right.elements) (more (1 + n))) (length_levels 1 count (weighted weighting left.elements))
+    ∙ (ap (λ o. decided o (compared weighting left.elements right.elements).level (more (1 + count))) (sym levels.order_is ∙ equal)
+    ∙ ap more next))) in
+    (points.0 ∙ ap (λ (a : Comparison). a.order) (sym all), points.1 ∙ ap (λ (a : Comparison). a.level) (sym all))
+
+-- at `Weights` no level is left
+pub weights_decide : (depth : Depth) (weighting : Weighting) (left right : ReadText) (w : Walked) → depth ≡ Weights
+    → ComparesLevels weighting left.elements right.elements w
+    → (w.order ≡ (compared_at depth weighting left right).order) × (w.level ≡ (compared_at depth weighting left right).level)
+weights_decide depth weighting left right w weights levels =
+    subst (λ d. (w.order ≡ (compared_at d weighting left right).order) × (w.level ≡ (compared_at d weighting left right).level)) (sym weights)
+    (levels.order_is, levels.level_is)
+
+pub fetches_all : (weighting : Weighting) (es fs : List Element) (w : Walked) → ComparesLevels weighting es fs w
+    → (w.fetched_left ≡ min 18446744073709551615 (fetched_left weighting es fs)) × (w.fetched_right ≡ min 18446744073709551615 (fetched_right weighting es fs))
+fetches_all weighting es fs w levels = (levels.left_is ∙ counted_from_none _, levels.right_is ∙ counted_from_none _)

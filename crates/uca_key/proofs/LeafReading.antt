@@ -2,8 +2,8 @@
 use Rattle.std.proofs.Common.{◌≡◌, ℕ, zero, suc, ◌+◌, ◌<◌, ◌≤◌, List, [], ◌∷◌, ◌++◌, map, length, take, Bool, true, false, cond, not, refl, sym, ap, ap₂, subst, ◌∙◌, arith}
 use Rattle.std.proofs.Common.{append-nil, append_assoc, get_or}
 use Rattle.std.specs.Bool.{OnTrue}
-use Rattle.std.specs.List.{flat_map, AllByRecursion}
-use Rattle.std.proofs.lemmas.Bool.{false_from_ne_true, cases_Bool}
+use Rattle.std.specs.List.{flat_map}
+use Rattle.std.proofs.lemmas.Bool.{false_from_ne_true}
 use Rattle.std.proofs.lemmas.Grind.{flat_map-append}
 use Rattle.std.proofs.lemmas.List.{take_more, take_all}
 use Rattle.uca_weights.proofs.Lists.{each_append}
@@ -11,14 +11,14 @@ use Rattle.uca_weights.specs.declared.Element.{Element}
 use Rattle.uca_weights.specs.declared.Weighting.{Weighting}
 use Rattle.uca_values.specs.Implicit.{implicit}
 use Rattle.uca_text.specs.Texts.{Letter, Text, NfdText, nfd_text, code_points, letters}
-use Rattle.uca_match.specs.Rows.{Rows, Keys, is_key}
+use Rattle.uca_match.specs.Rows.{Keys, is_key}
 use Rattle.uca_match.specs.Lookups.{BeginsNoKeyIn}
 use Rattle.uca_match.specs.Parts.{Part, Row, Implicit, part_elements}
-use Rattle.uca_match.specs.Reading.{is_taken, removed, members, others, longest_key, non_starters_at_front, after_non_starters, row_portion, parts, read}
+use Rattle.uca_match.specs.Reading.{is_taken, removed, members, others, longest_key, non_starters_at_front, after_non_starters, parts}
 use Rattle.uca_match.specs.Collations.{Collation, elements_of}
 use Rattle.uca_match.proofs.RemovedLemmas.{removed_skipped, taken_iff}
 use Rattle.uca_match.proofs.MatchLemmas.{marks-append, no_longer}
-use Rattle.uca_match.proofs.ReadingLemmas.{portion_parts, parts_of_none, parts_of_longest}
+use Rattle.uca_match.proofs.ReadingLemmas.{parts_of_none, parts_of_longest}
 use Rattle.uca_key.specs.LevelBuffers.{LevelState, HoldsLevels}
 use Rattle.uca_key.specs.Leaves.{IsLeaf, AreLeaves, points_elements, leaf_elements}
 

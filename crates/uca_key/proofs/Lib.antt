@@ -17,6 +17,9 @@ pub mod BeginningSteps
 pub mod SharedSteps
 pub mod PlainComparisons
 pub mod ComparisonLemmas
+mod Results
+mod WriterSteps
+mod ComparerSteps
 pub mod RunSteps
 pub mod LeafReading
 mod PrimarySteps

@@ -7,6 +7,7 @@ use Rattle.std.proofs.lemmas.Iterator.Consumers.{YieldsList-end, YieldsList-so_f
 use Rattle.std.proofs.lemmas.List.{map-id}
 use Rattle.uca_match.specs.Collations.{collation_of}
 use Rattle.uca_key.specs.Pieces.{ReadsTo, HasRead}
+use Rattle.uca_key.proofs.Results.{no_result}
 use Rattle.uca_key.proofs.PieceSteps.{begin_text}
 use Rattle.uca_key.proofs.BeginningSteps.{begun_all, begun_early, text_parts}
 use Rattle.uca_key.proofs.beginnings.push_beginning.Goals as goal
@@ -31,8 +32,8 @@ loop-point-preserved g c =
           c.if-not-branch.false (c.in_ok-go_on.ensures c.loop-point.yielded so_far.reads));
     }
 
-pub returns-then-has_beginning-clause-begun : goal.returns-then-has_beginning-clause-begun
-returns-then-has_beginning-clause-begun g c =
+pub returns-then-has_beginning : goal.returns-then-has_beginning
+returns-then-has_beginning g c =
     let collation = collation_of g.L.Lookup.content c.args.collator.now in
     let so_far = c.loop-point.invariant in
     let xs = c.loop-point.yielded in
@@ -45,8 +46,11 @@ returns-then-has_beginning-clause-begun g c =
     (subst
     (λ accepted. OnTrue accepted (ReadsTo collation c.args.weighting (xs ++ c.in_ok-known.known.point ∷ []) c.go_on.new.levels c.go_on.new.self))
     c.if-not-branch.false (c.in_ok-go_on.ensures xs so_far.reads)) in
-    begun_early collation c.args.weighting all (xs ++ c.in-Some.point ∷ []) _ c.go_on.new.levels c.go_on.new.self
-    (text_parts all xs c.in-Some.point before next) reads c.if-has_beginning.ensures
+    record {
+      entries = c.get.ensures.entries;
+      begun = begun_early collation c.args.weighting all (xs ++ c.in-Some.point ∷ []) _ c.go_on.new.levels c.go_on.new.self
+          (text_parts all xs c.in-Some.point before next) reads c.if-has_beginning.ensures;
+    }
 
 pub returns : goal.returns
 returns g c =
@@ -61,3 +65,21 @@ returns g c =
           (subst (λ xs. IfOk c.end.result (λ accepted. OnTrue accepted (HasRead collation c.args.weighting xs c.end.new.levels))) all
           (c.end.ensures c.loop-point.yielded so_far.reads));
     }
+
+pub get-requires : goal.get-requires
+get-requires g c = c.loop-point.invariant.entries
+
+pub go_on-requires : goal.go_on-requires
+go_on-requires g c = c.in_ok-known.ensures.known.1
+
+pub returns-then-not-branch : goal.returns-then-not-branch
+returns-then-not-branch g c = record { entries = c.get.ensures.entries; begun = tt }
+
+pub returns-in_err-known : goal.returns-in_err-known
+returns-in_err-known g c = record { entries = c.get.ensures.entries; begun = no_result c.from_residual.result _ c.from_residual.ensures.0 }
+
+pub returns-in_err-go_on : goal.returns-in_err-go_on
+returns-in_err-go_on g c = record {
+  entries = c.get.ensures.entries;
+  begun = no_result c.from_residual-in_err-go_on.result _ c.from_residual-in_err-go_on.ensures.0;
+}

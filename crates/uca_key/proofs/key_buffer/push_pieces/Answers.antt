@@ -5,6 +5,7 @@ use Rattle.std.specs.Str.{chars}
 use Rattle.uca_match.specs.Collations.{collation_of}
 use Rattle.uca_key.specs.Pieces.{ReadsTo, HasRead}
 use Rattle.uca_key.specs.Runs.{ReadsMore}
+use Rattle.uca_key.proofs.Results.{no_result}
 use Rattle.uca_key.proofs.PieceSteps.{begin_text, next_piece}
 use Rattle.uca_key.proofs.RunSteps.{piece_goes_on, piece_waits, text_ends, less_to_read}
 use Rattle.uca_key.proofs.key_buffer.push_pieces.Goals as goal
@@ -77,8 +78,8 @@ loop-point-smaller g c =
     c.in-Some-2.is (c.in_ok-after.ensures collation (so_far.more ++ point ∷ []) c.end_by.ensures.entries went) in
     less_to_read _ _ _ point ran.more c.in-Some.ensures ran.split
 
-pub returns-in_default-2-clause-read : goal.returns-in_default-2-clause-read
-returns-in_default-2-clause-read g c =
+pub returns-in_default-2 : goal.returns-in_default-2
+returns-in_default-2 g c =
     let collation = collation_of g.L.Lookup.content c.args.collator.now in
     let so_far = c.loop-point.invariant.reads in
     let point = c.in-Some.point in
@@ -93,4 +94,28 @@ returns-in_default-2-clause-read g c =
     (λ (rest : Option (Bor (List ℕ))). MatchOption rest (HasRead collation c.args.weighting ((so_far.more ++ point ∷ []) ++ chars c.in-Some.more.now) c.run_on.new.levels)
     (λ rest. ReadsMore collation c.args.weighting (so_far.more ++ point ∷ []) c.in-Some.more.now rest.now c.run_on.new.levels c.run_on.new.self))
     c.in_default-2.is (c.in_ok-after.ensures collation (so_far.more ++ point ∷ []) c.end_by.ensures.entries went) in
-    text_ends collation c.args.weighting c.args.text.now c.loop-point.rest.now c.in-Some.more.now point _ _ c.loop-point.piece so_far c.in-Some.ensures ran
+    record {
+      entries = c.end_by.ensures.entries;
+      read = text_ends collation c.args.weighting c.args.text.now c.loop-point.rest.now c.in-Some.more.now point _ _ c.loop-point.piece so_far c.in-Some.ensures ran;
+    }
+
+pub get-requires : goal.get-requires
+get-requires g c = c.loop-point.invariant.entries
+
+pub end_by-requires : goal.end_by-requires
+end_by-requires g c = c.get.ensures.entries
+
+pub returns-then-not-branch : goal.returns-then-not-branch
+returns-then-not-branch g c = record { entries = c.end_by.ensures.entries; read = tt }
+
+pub returns-in_err-known : goal.returns-in_err-known
+returns-in_err-known g c = record { entries = c.get.ensures.entries; read = no_result c.from_residual.result _ c.from_residual.ensures.0 }
+
+pub returns-in_err-rest : goal.returns-in_err-rest
+returns-in_err-rest g c = record { entries = c.get.ensures.entries; read = no_result c.from_residual-in_err-rest.result _ c.from_residual-in_err-rest.ensures.0 }
+
+pub returns-in_err-end_by : goal.returns-in_err-end_by
+returns-in_err-end_by g c = record { entries = c.end_by.ensures.entries; read = no_result c.from_residual-in_err-end_by.result _ c.from_residual-in_err-end_by.ensures.0 }
+
+pub returns-in_err-after : goal.returns-in_err-after
+returns-in_err-after g c = record { entries = c.end_by.ensures.entries; read = no_result c.from_residual-in_err-after.result _ c.from_residual-in_err-after.ensures.0 }

@@ -7,8 +7,23 @@ use Rattle.uca_text.specs.Texts.{nfd_text}
 use Rattle.uca_match.specs.Collations.{elements_of}
 use Rattle.uca_key.specs.LevelBuffers.{HoldsLevels, levels_of}
 use Rattle.uca_key.proofs.BufferLemmas.{less_room}
-use Rattle.uca_key.proofs.RunSteps.{read_next, run_ends}
+use Rattle.uca_key.proofs.RunSteps.{run_begins, read_next, run_ends}
 use Rattle.uca_key.proofs.runs.put_run.Goals as goal
+
+pub loop-turn-init : goal.loop-turn-init
+loop-turn-init g c = record {
+  utf8 = c.utf8.text;
+  few = c.requires.few;
+  room = c.requires.room;
+  reads = λ collation key xs entries begins. run_begins collation c.args.weighting xs c.args.text.now _ c.args.first.now begins;
+}
+
+pub all_elements-requires : goal.all_elements-requires
+all_elements-requires g c = c.loop-turn.invariant.few
+
+pub put_elements-counts-requires : goal.put_elements-counts-requires
+put_elements-counts-requires g c =
+    less_room (3 * (65 - c.loop-turn._turn)) _ _ _ _ _ _ (omega (arith, c.all_elements.ensures.few)) c.loop-turn.invariant.room
 
 pub loop-turn-preserved : goal.loop-turn-preserved
 loop-turn-preserved g c =
@@ -29,12 +44,29 @@ loop-turn-preserved g c =
           c.in-Some.ensures.text c.in-Some.ensures.few (c.in-Some.ensures.entry collation entries);
     }
 
-pub returns-clause-reads : goal.returns-clause-reads
-returns-clause-reads g c = λ collation key xs entries begins.
-    let some = c.loop-turn.invariant.reads collation key xs entries begins in
-    let before = elements_of collation (nfd_text collation.properties some.reads.before) in
-    let new = c.put_elements-counts-2.new in
-    let none = ap chars (nil_from_length c.loop-turn.rest.now (grind (arith, nat_tests, c.is_empty.ensures, c.if-not-is_empty.ensures, c.if-not-is_empty.false))) ∙ chars-nil in
-    run_ends collation c.args.weighting xs c.args.text.now _ _ _ c.loop-turn.last.now some none
-    (subst (λ es. HoldsLevels c.args.weighting (before ++ es) (levels_of new.after_variable c.put_elements-counts-2.result new.primary new.secondary new.tertiary new.quaternary key))
-    c.all_elements-2.ensures.value (c.put_elements-counts-2.ensures.holds key before some.reads.read.0))
+pub returns-then-not-is_empty : goal.returns-then-not-is_empty
+returns-then-not-is_empty g c = record {
+  room = less_room (3 * (65 - c.loop-turn._turn)) 0 _ _ _ _ _ (omega arith) c.loop-turn.invariant.room;
+  reads = c.loop-turn.invariant.reads;
+}
+
+pub all_elements-requires-2 : goal.all_elements-requires-2
+all_elements-requires-2 g c = c.loop-turn.invariant.few
+
+pub put_elements-counts-requires-2 : goal.put_elements-counts-requires-2
+put_elements-counts-requires-2 g c =
+    less_room (3 * (65 - c.loop-turn._turn)) _ _ _ _ _ _ (omega (arith, c.all_elements-2.ensures.few)) c.loop-turn.invariant.room
+
+pub returns : goal.returns
+returns g c = record {
+  room = c.put_elements-counts-2.ensures.room 0
+      (less_room (3 * (65 - c.loop-turn._turn)) _ _ _ _ _ _ (omega (arith, c.all_elements-2.ensures.few)) c.loop-turn.invariant.room);
+  reads = λ collation key xs entries begins.
+      let some = c.loop-turn.invariant.reads collation key xs entries begins in
+      let before = elements_of collation (nfd_text collation.properties some.reads.before) in
+      let new = c.put_elements-counts-2.new in
+      let none = ap chars (nil_from_length c.loop-turn.rest.now (grind (arith, nat_tests, c.is_empty.ensures, c.if-not-is_empty.ensures, c.if-not-is_empty.false))) ∙ chars-nil in
+      run_ends collation c.args.weighting xs c.args.text.now _ _ _ c.loop-turn.last.now some none
+      (subst (λ es. HoldsLevels c.args.weighting (before ++ es) (levels_of new.after_variable c.put_elements-counts-2.result new.primary new.secondary new.tertiary new.quaternary key))
+      c.all_elements-2.ensures.value (c.put_elements-counts-2.ensures.holds key before some.reads.read.0));
+}

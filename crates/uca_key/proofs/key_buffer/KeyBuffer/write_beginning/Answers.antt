@@ -1,9 +1,11 @@
-use Rattle.std.proofs.Common.{true, ap, subst, arith}
+use Rattle.std.proofs.Common.{true, refl, ap, subst, arith}
 use Rattle.std.specs.Bool.{OnTrue}
 use Rattle.std.specs.Str.{chars}
 use Rattle.uca_match.specs.Collations.{collation_of}
+use Rattle.uca_key.specs.Buffers.{KeyState}
 use Rattle.uca_key.specs.LevelBuffers.{LevelState}
 use Rattle.uca_key.specs.Beginnings.{HasBegun}
+use Rattle.uca_key.proofs.Results.{no_result}
 use Rattle.uca_key.proofs.PieceSteps.{accepted_if_read}
 use Rattle.uca_key.proofs.BeginningSteps.{accepted_if_short, beginning_if_begun, whole_if_begun}
 use Rattle.uca_key.proofs.key_buffer.KeyBuffer.write_beginning.Goals as goal
@@ -11,32 +13,85 @@ use Rattle.uca_key.proofs.key_buffer.KeyBuffer.write_beginning.Goals as goal
 pub push_beginning-requires-clause-empty : goal.push_beginning-requires-clause-empty
 push_beginning-requires-clause-empty g c = c.clear.ensures c.self.inside.weighting
 
-pub returns-then-has_beginning-clause-beginning : goal.returns-then-has_beginning-clause-beginning
-returns-then-has_beginning-clause-beginning g c =
+pub push_beginning-requires-clause-entries : goal.push_beginning-requires-clause-entries
+push_beginning-requires-clause-entries g c = c.requires
+
+pub has_short_runs-requires : goal.has_short_runs-requires
+has_short_runs-requires g c = c.push_beginning.ensures.entries
+
+pub returns-then-text-gt-SHORT_TEXT : goal.returns-then-text-gt-SHORT_TEXT
+returns-then-text-gt-SHORT_TEXT g c = record { entries = c.requires; beginning = tt; accepted = tt; weighting = refl; depth = refl }
+
+pub returns-then-not-branch : goal.returns-then-not-branch
+returns-then-not-branch g c = record {
+  entries = c.push_beginning.ensures.entries;
+  beginning = tt;
+  accepted = tt;
+  weighting = ap (λ (s : KeyState). s.weighting) c.self.view_is;
+  depth = ap (λ (s : KeyState). s.depth) c.self.view_is;
+}
+
+pub returns-in-Identical : goal.returns-in-Identical
+returns-in-Identical g c = record {
+  entries = c.push_beginning.ensures.entries;
+  beginning = tt;
+  accepted = tt;
+  weighting = ap (λ (s : KeyState). s.weighting) c.self.view_is;
+  depth = ap (λ (s : KeyState). s.depth) c.self.view_is;
+}
+
+pub returns-in_err-push_beginning : goal.returns-in_err-push_beginning
+returns-in_err-push_beginning g c = record {
+  entries = c.push_beginning.ensures.entries;
+  beginning = no_result c.from_residual.result _ c.from_residual.ensures.0;
+  accepted = no_result c.from_residual.result _ c.from_residual.ensures.0;
+  weighting = ap (λ (s : KeyState). s.weighting) c.self.view_is;
+  depth = ap (λ (s : KeyState). s.depth) c.self.view_is;
+}
+
+pub returns-in_err-join_beginning : goal.returns-in_err-join_beginning
+returns-in_err-join_beginning g c = record {
+  entries = c.push_beginning.ensures.entries;
+  beginning = no_result c.from_residual-in_err-join_beginning.result _ c.from_residual-in_err-join_beginning.ensures.0;
+  accepted = no_result c.from_residual-in_err-join_beginning.result _ c.from_residual-in_err-join_beginning.ensures.0;
+  weighting = ap (λ (s : KeyState). s.weighting) c.self.view_is;
+  depth = ap (λ (s : KeyState). s.depth) c.self.view_is;
+}
+
+pub returns-in_err-join-in-Weights : goal.returns-in_err-join-in-Weights
+returns-in_err-join-in-Weights g c = record {
+  entries = c.push_beginning.ensures.entries;
+  beginning = no_result c.from_residual-in_err-join-in-Weights.result _ c.from_residual-in_err-join-in-Weights.ensures.0;
+  accepted = no_result c.from_residual-in_err-join-in-Weights.result _ c.from_residual-in_err-join-in-Weights.ensures.0;
+  weighting = ap (λ (s : KeyState). s.weighting) c.self.view_is;
+  depth = ap (λ (s : KeyState). s.depth) c.self.view_is;
+}
+
+pub returns-then-has_beginning : goal.returns-then-has_beginning
+returns-then-has_beginning g c =
     let collation = collation_of g.L.Lookup.content c.args.collator.now in
     let xs = chars c.args.text.now in
     let levels = c.push_beginning.new.levels in
     let begun = subst (λ accepted. OnTrue accepted (HasBegun collation c.self.inside.weighting xs levels)) c.if-not-branch.false c.in_ok-push_beginning.ensures.begun in
-    beginning_if_begun collation _ c.args.self.now xs _ levels c.has_short_runs.result c.self.view_is begun c.if-has_beginning.ensures
-    (ap (λ (l : LevelState). l.key) c.in_ok-join_beginning.ensures)
+    record {
+      entries = c.has_short_runs.ensures.entries;
+      beginning = beginning_if_begun collation _ c.args.self.now xs _ levels c.has_short_runs.result c.self.view_is begun c.if-has_beginning.ensures
+          (ap (λ (l : LevelState). l.key) c.in_ok-join_beginning.ensures);
+      accepted = accepted_if_short collation c.args.text.now c.has_short_runs.result c.utf8.text (omega arith) c.has_short_runs.ensures.runs;
+      weighting = ap (λ (s : KeyState). s.weighting) c.self.view_is;
+      depth = ap (λ (s : KeyState). s.depth) c.self.view_is;
+    }
 
-pub returns-then-has_beginning-clause-accepted : goal.returns-then-has_beginning-clause-accepted
-returns-then-has_beginning-clause-accepted g c =
-    accepted_if_short (collation_of g.L.Lookup.content c.args.collator.now) c.args.text.now c.has_short_runs.result c.utf8.text (omega arith)
-    c.has_short_runs.ensures.runs
-
-pub returns-in_ok-join-in-Weights-clause-beginning : goal.returns-in_ok-join-in-Weights-clause-beginning
-returns-in_ok-join-in-Weights-clause-beginning g c =
+pub returns-in_ok-join-in-Weights : goal.returns-in_ok-join-in-Weights
+returns-in_ok-join-in-Weights g c =
     let collation = collation_of g.L.Lookup.content c.args.collator.now in
     let xs = chars c.args.text.now in
     let levels = c.push_beginning.new.levels in
     let begun = subst (λ accepted. OnTrue accepted (HasBegun collation c.self.inside.weighting xs levels)) c.if-not-branch.false c.in_ok-push_beginning.ensures.begun in
-    whole_if_begun collation _ c.args.self.now xs _ levels c.self.view_is c.in-Weights.is begun c.if-has_beginning.ensures c.in_ok-join-in-Weights.ensures
-
-pub returns-in_ok-join-in-Weights-clause-accepted : goal.returns-in_ok-join-in-Weights-clause-accepted
-returns-in_ok-join-in-Weights-clause-accepted g c =
-    let collation = collation_of g.L.Lookup.content c.args.collator.now in
-    let levels = c.push_beginning.new.levels in
-    let begun = subst (λ accepted. OnTrue accepted (HasBegun collation c.self.inside.weighting (chars c.args.text.now) levels)) c.if-not-branch.false
-    c.in_ok-push_beginning.ensures.begun in
-    accepted_if_read collation c.self.inside.weighting true c.args.text.now levels c.utf8.text (omega arith) (begun.whole c.if-has_beginning.ensures)
+    record {
+      entries = c.push_beginning.ensures.entries;
+      beginning = whole_if_begun collation _ c.args.self.now xs _ levels c.self.view_is c.in-Weights.is begun c.if-has_beginning.ensures c.in_ok-join-in-Weights.ensures;
+      accepted = accepted_if_read collation c.self.inside.weighting true c.args.text.now levels c.utf8.text (omega arith) (begun.whole c.if-has_beginning.ensures);
+      weighting = ap (λ (s : KeyState). s.weighting) c.self.view_is;
+      depth = ap (λ (s : KeyState). s.depth) c.self.view_is;
+    }

@@ -1,7 +1,8 @@
-use Rattle.std.proofs.Common.{◌++◌, ap, sym, subst, ◌∙◌, arith}
+use Rattle.std.proofs.Common.{◌+◌, ◌++◌, length, ap, sym, subst, ◌∙◌, arith}
 use Rattle.std.proofs.lemmas.List.{with_items_is}
 use Rattle.uca_key.specs.LevelBuffers.{HoldsLevels, held}
-use Rattle.uca_key.proofs.BufferLemmas.{same_levels}
+use Rattle.uca_key.proofs.Results.{no_result}
+use Rattle.uca_key.proofs.BufferLemmas.{less_room, room_in, same_levels}
 use Rattle.uca_key.proofs.level_buffers.LevelBuffers.push_all_by.Goals as goal
 
 pub returns : goal.returns
@@ -22,3 +23,29 @@ returns g c = λ es h.
     subst (HoldsLevels c.args.weighting (es ++ c.args.elements.now)) kept
     (c.put_elements-self-inside.ensures.holds key es
     (subst (HoldsLevels c.args.weighting es) (sym c.self.view_is ∙ same) h))
+
+pub make_rooms-requires : goal.make_rooms-requires
+make_rooms-requires g c = c.self.invariant
+
+pub invariant_of-self : goal.invariant_of-self
+invariant_of-self g c = c.make_rooms.ensures.counts
+
+pub returns-in_err-make_rooms : goal.returns-in_err-make_rooms
+returns-in_err-make_rooms g c = λ es h. no_result c.from_residual.result _ c.from_residual.ensures.0
+
+pub put_elements-self-inside-requires : goal.put_elements-self-inside-requires
+put_elements-self-inside-requires g c =
+    room_in _ c.self.inside.counts _ _ _ _ _ _ _ _ c.as_mut_slice.ensures.value c.as_mut_slice-2.ensures.value c.as_mut_slice-3.ensures.value
+    c.as_mut_slice-4.ensures.value c.in_ok-make_rooms.ensures.room
+
+pub invariant_of-self-2 : goal.invariant_of-self-2
+invariant_of-self-2 g c =
+    let new = c.put_elements-self-inside.new in
+    room_in 0 c.put_elements-self-inside.result new.primary new.secondary new.tertiary new.quaternary _ _ _ _
+    (with_items_is c.make_rooms.new.primary new.primary (omega (arith, c.as_mut_slice.ensures.len)))
+    (with_items_is c.make_rooms.new.secondary new.secondary (omega (arith, c.as_mut_slice-2.ensures.len)))
+    (with_items_is c.make_rooms.new.tertiary new.tertiary (omega (arith, c.as_mut_slice-3.ensures.len)))
+    (with_items_is c.make_rooms.new.quaternary new.quaternary (omega (arith, c.as_mut_slice-4.ensures.len)))
+    (c.put_elements-self-inside.ensures.room 0 (less_room (length c.args.elements.now) (0 + length c.args.elements.now) _ _ _ _ _ (omega arith)
+    (room_in _ c.self.inside.counts _ _ _ _ _ _ _ _ c.as_mut_slice.ensures.value c.as_mut_slice-2.ensures.value c.as_mut_slice-3.ensures.value
+    c.as_mut_slice-4.ensures.value c.in_ok-make_rooms.ensures.room)))

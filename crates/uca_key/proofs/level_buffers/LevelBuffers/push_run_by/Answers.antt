@@ -2,7 +2,8 @@ use Rattle.std.proofs.Common.{ap, sym, subst, ◌∙◌, arith}
 use Rattle.std.proofs.lemmas.List.{with_items_is}
 use Rattle.uca_key.specs.LevelBuffers.{held}
 use Rattle.uca_key.specs.Runs.{ReadsUpTo, RunReads}
-use Rattle.uca_key.proofs.BufferLemmas.{same_levels}
+use Rattle.uca_key.proofs.Results.{no_result}
+use Rattle.uca_key.proofs.BufferLemmas.{room_in, same_levels}
 use Rattle.uca_key.proofs.level_buffers.LevelBuffers.push_run_by.Goals as goal
 
 pub returns : goal.returns
@@ -23,3 +24,29 @@ returns g c = λ collation xs entries reads.
     subst (λ b. RunReads collation c.args.weighting xs c.args.text.now b c.put_run.result.0) kept
     (c.put_run.ensures.reads collation key xs entries
     (subst (λ b. ReadsUpTo collation c.args.weighting xs b c.args.first.now) (sym c.self.view_is ∙ same) reads))
+
+pub make_rooms-requires : goal.make_rooms-requires
+make_rooms-requires g c = c.self.invariant
+
+pub invariant_of-self : goal.invariant_of-self
+invariant_of-self g c = c.make_rooms.ensures.counts
+
+pub returns-in_err-make_rooms : goal.returns-in_err-make_rooms
+returns-in_err-make_rooms g c = λ collation xs entries reads. no_result c.from_residual.result _ c.from_residual.ensures.0
+
+pub put_run-requires : goal.put_run-requires
+put_run-requires g c = record {
+  few = c.requires;
+  room = room_in _ c.self.inside.counts _ _ _ _ _ _ _ _ c.as_mut_slice.ensures.value c.as_mut_slice-2.ensures.value c.as_mut_slice-3.ensures.value
+      c.as_mut_slice-4.ensures.value c.in_ok-make_rooms.ensures.room;
+}
+
+pub invariant_of-self-2 : goal.invariant_of-self-2
+invariant_of-self-2 g c =
+    let new = c.put_run.new in
+    room_in 0 c.put_run.result.1 new.primary new.secondary new.tertiary new.quaternary _ _ _ _
+    (with_items_is c.make_rooms.new.primary new.primary (omega (arith, c.as_mut_slice.ensures.len)))
+    (with_items_is c.make_rooms.new.secondary new.secondary (omega (arith, c.as_mut_slice-2.ensures.len)))
+    (with_items_is c.make_rooms.new.tertiary new.tertiary (omega (arith, c.as_mut_slice-3.ensures.len)))
+    (with_items_is c.make_rooms.new.quaternary new.quaternary (omega (arith, c.as_mut_slice-4.ensures.len)))
+    c.put_run.ensures.room

@@ -4,6 +4,7 @@ use Rattle.std.specs.Str.{chars}
 use Rattle.uca_match.specs.Collations.{collation_of}
 use Rattle.uca_key.specs.declared.shared.Rest.{Rest}
 use Rattle.uca_key.specs.Shared.{IsRest}
+use Rattle.uca_key.proofs.Results.{no_result}
 use Rattle.uca_key.proofs.PlainComparisons.{accepted_found, accepted_compared}
 use Rattle.uca_key.proofs.plain_comparison.PlainComparison.compare.Goals as goal
 
@@ -31,3 +32,27 @@ returns-in-None-clause-compared g c =
     c.in-Some-2.is c.in_ok-rest.ensures.rest in
     accepted_compared collation c.args.weighting c.args.left.now c.args.right.now c.compare_rest.result c.utf8.left c.utf8.right (omega arith) (omega arith)
     (c.compare_rest.ensures.compared xs ys rest)
+
+pub skip_shared-requires : goal.skip_shared-requires
+skip_shared-requires g c = c.requires
+
+pub compare_rest-requires : goal.compare_rest-requires
+compare_rest-requires g c = c.skip_shared.ensures.entries
+
+pub returns-in_err-rest : goal.returns-in_err-rest
+returns-in_err-rest g c = record {
+  entries = c.skip_shared.ensures.entries;
+  compared = no_result c.from_residual.result _ c.from_residual.ensures.0;
+}
+
+pub returns-in_default-2 : goal.returns-in_default-2
+returns-in_default-2 g c = record { entries = c.skip_shared.ensures.entries; compared = tt }
+
+pub returns-in-Some-clause-entries : goal.returns-in-Some-clause-entries
+returns-in-Some-clause-entries g c = c.requires
+
+pub returns-in-Some-compare_primaries-clause-entries : goal.returns-in-Some-compare_primaries-clause-entries
+returns-in-Some-compare_primaries-clause-entries g c = c.skip_shared.ensures.entries
+
+pub returns-in-None-clause-entries : goal.returns-in-None-clause-entries
+returns-in-None-clause-entries g c = c.compare_rest.ensures.entries

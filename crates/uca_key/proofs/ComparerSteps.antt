@@ -1,0 +1,91 @@
+-- What a value that compares texts passes on of the calls that it makes.
+use Rattle.std.proofs.Common.{◌≡◌, ◌⊎◌, inl, inr, ℕ, List, Result, subst, ◌∙◌, min}
+use Rattle.std.specs.Result.{IfErr, IsErrAnd}
+use Rattle.std.specs.declared.cmp.Ordering.{Ordering}
+use Rattle.uca_weights.specs.declared.Depth.{Depth}
+use Rattle.uca_weights.specs.declared.Weighting.{Weighting}
+use Rattle.uca_values.specs.Content.{properties_of}
+use Rattle.uca_text.specs.Texts.{NfdText, nfd_text}
+use Rattle.uca_text.specs.Limits.{IsAccepted}
+use Rattle.uca_text.specs.Faults.{IsCause}
+use Rattle.uca_text.specs.declared.normalize.TextFault.{TextFault}
+use Rattle.uca_text.specs.declared.normalize.TextFault.TheVariants.{Memory}
+use Rattle.uca_match.specs.Collations.{Collation, elements_of}
+use Rattle.uca_match.specs.Rows.{Rows}
+use Rattle.uca_key.specs.Depths.{read_text, compared_at}
+use Rattle.uca_key.specs.Fetched.{fetched_left, fetched_right}
+use Rattle.uca_key.specs.Comparers.{ComparerState, collation_by}
+use Rattle.uca_key.proofs.Results.{fault_is}
+
+-- what the error of a text says of two
+abbrev pub Causes : {L : Type 0} → ComparerState L → List ℕ → List ℕ → TextFault → Type 0
+Causes s xs ys fault =
+    IsCause (nfd_text (properties_of s.data_file) xs) fault
+    ⊎ (IsAccepted (nfd_text (properties_of s.data_file) xs) × IsCause (nfd_text (properties_of s.data_file) ys) fault)
+
+pub memory_causes : {L T : Type 0} (s : ComparerState L) (xs ys : List ℕ) (r : Result T TextFault) → IsErrAnd r (λ e. e ≡ Memory) → IfErr r (Causes s xs ys)
+memory_causes s xs ys r is = fault_is (Causes s xs ys) r Memory is (inl tt)
+
+pub left_causes : {L T : Type 0} (w v : ComparerState L) (xs ys : List ℕ) (r : Result T TextFault) (fault : TextFault) → w ≡ v
+    → IsErrAnd r (λ e. e ≡ fault) → IsCause (nfd_text (properties_of w.data_file) xs) fault → IfErr r (Causes v xs ys)
+left_causes w v xs ys r fault same is cause =
+    fault_is (Causes v xs ys) r fault is (subst (λ (s : ComparerState _). Causes s xs ys fault) same (inl cause))
+
+pub right_causes : {L T : Type 0} (w v : ComparerState L) (xs ys : List ℕ) (text : NfdText) (r : Result T TextFault) (fault : TextFault) → w ≡ v
+    → text ≡ nfd_text (properties_of w.data_file) xs → IsAccepted text
+    → IsErrAnd r (λ e. e ≡ fault) → IsCause (nfd_text (properties_of w.data_file) ys) fault → IfErr r (Causes v xs ys)
+right_causes w v xs ys text r fault same found keeps is cause =
+    fault_is (Causes v xs ys) r fault is (subst (λ (s : ComparerState _). Causes s xs ys fault) same (inr (subst IsAccepted found keeps, cause)))
+
+-- both texts are accepted
+abbrev pub AreAccepted : {L : Type 0} → ComparerState L → List ℕ → List ℕ → Type 0
+AreAccepted s xs ys = IsAccepted (nfd_text (properties_of s.data_file) xs) × IsAccepted (nfd_text (properties_of s.data_file) ys)
+
+pub both_accepted : {L : Type 0} (w v : ComparerState L) (xs ys : List ℕ) → w ≡ v → AreAccepted w xs ys → AreAccepted v xs ys
+both_accepted w v xs ys same keep = subst (λ (s : ComparerState _). AreAccepted s xs ys) same keep
+
+pub normals_accepted : {L : Type 0} (w v : ComparerState L) (xs ys : List ℕ) (s t : NfdText) → w ≡ v → s ≡ nfd_text (properties_of w.data_file) xs
+    → t ≡ nfd_text (properties_of w.data_file) ys → IsAccepted s → IsAccepted t → AreAccepted v xs ys
+normals_accepted w v xs ys s t same found also keeps too = both_accepted w v xs ys same (subst IsAccepted found keeps, subst IsAccepted also too)
+
+-- how they compare, and what is fetched of them
+abbrev pub Compares : Collation → Depth → Weighting → NfdText → NfdText → Ordering → ℕ → Type 0
+Compares c depth weighting s t order level =
+    let answer = compared_at depth weighting (read_text c s) (read_text c t) in (order ≡ answer.order) × (level ≡ answer.level)
+
+abbrev pub Fetches : Collation → Weighting → NfdText → NfdText → ℕ → ℕ → Type 0
+Fetches c weighting s t left right =
+    (left ≡ min 18446744073709551615 (fetched_left weighting (elements_of c s) (elements_of c t)))
+    × (right ≡ min 18446744073709551615 (fetched_right weighting (elements_of c s) (elements_of c t)))
+
+abbrev pub ComparesBy : {L : Type 0} → (L → Rows) → ComparerState L → List ℕ → List ℕ → Ordering → ℕ → Type 0
+ComparesBy content s xs ys = Compares (collation_by content s) s.depth s.weighting (nfd_text (properties_of s.data_file) xs) (nfd_text (properties_of s.data_file) ys)
+
+abbrev pub FetchesBy : {L : Type 0} → (L → Rows) → ComparerState L → List ℕ → List ℕ → ℕ → ℕ → Type 0
+FetchesBy content s xs ys = Fetches (collation_by content s) s.weighting (nfd_text (properties_of s.data_file) xs) (nfd_text (properties_of s.data_file) ys)
+
+pub compares_by : {L : Type 0} (content : L → Rows) (w v : ComparerState L) (xs ys : List ℕ) (order of_walk : Ordering) (level at_walk : ℕ) → w ≡ v
+    → order ≡ of_walk → level ≡ at_walk → ComparesBy content w xs ys of_walk at_walk → ComparesBy content v xs ys order level
+compares_by content w v xs ys order of_walk level at_walk same o l pair =
+    subst (λ (s : ComparerState _). ComparesBy content s xs ys order level) same (o ∙ pair.0, l ∙ pair.1)
+
+pub fetches_by : {L : Type 0} (content : L → Rows) (w v : ComparerState L) (xs ys : List ℕ) (left of_left right of_right : ℕ) → w ≡ v
+    → left ≡ of_left → right ≡ of_right → FetchesBy content w xs ys of_left of_right → FetchesBy content v xs ys left right
+fetches_by content w v xs ys left of_left right of_right same l r pair =
+    subst (λ (s : ComparerState _). FetchesBy content s xs ys left right) same (l ∙ pair.0, r ∙ pair.1)
+
+pub normals_compare : {L : Type 0} (content : L → Rows) (w v : ComparerState L) (xs ys : List ℕ) (s t : NfdText) (order : Ordering) (level : ℕ) → w ≡ v
+    → s ≡ nfd_text (properties_of w.data_file) xs → t ≡ nfd_text (properties_of w.data_file) ys
+    → Compares (collation_by content w) w.depth w.weighting s t order level → ComparesBy content v xs ys order level
+normals_compare content w v xs ys s t order level same found also pair =
+    let says : NfdText → NfdText → Type 0 = λ s t. Compares (collation_by content w) w.depth w.weighting s t order level in
+    subst (λ (s : ComparerState _). ComparesBy content s xs ys order level) same
+    (subst (λ (t : NfdText). says (nfd_text (properties_of w.data_file) xs) t) also (subst (λ (s : NfdText). says s t) found pair))
+
+pub normals_fetch : {L : Type 0} (content : L → Rows) (w v : ComparerState L) (xs ys : List ℕ) (s t : NfdText) (left right : ℕ) → w ≡ v
+    → s ≡ nfd_text (properties_of w.data_file) xs → t ≡ nfd_text (properties_of w.data_file) ys
+    → Fetches (collation_by content w) w.weighting s t left right → FetchesBy content v xs ys left right
+normals_fetch content w v xs ys s t left right same found also pair =
+    let says : NfdText → NfdText → Type 0 = λ s t. Fetches (collation_by content w) w.weighting s t left right in
+    subst (λ (s : ComparerState _). FetchesBy content s xs ys left right) same
+    (subst (λ (t : NfdText). says (nfd_text (properties_of w.data_file) xs) t) also (subst (λ (s : NfdText). says s t) found pair))
