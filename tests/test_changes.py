@@ -105,7 +105,7 @@ class Changes(ProgramTest):
         """Each file is read in the order of the arguments, up to the first that is rejected."""
         good = {"t": TABLE, "d": DATA, "n": TABLE, "e": DATA, "x": listed(), "c": UNMOVED}
         cases = [
-            ("t", "?\n", "old line 1: Line\n"),
+            ("t", "?\n", "old line 1: Order\n"),
             ("d", "@data 2\n", "old-data line 1: Order\n"),
             ("n", "", "new line 1: Order\n"),
             ("e", "", "new-data line 1: Order\n"),

@@ -7,8 +7,8 @@
 It needs Debian's packages unicode-data (the new table, and both data files) and perl-modules-5.36 (the old table, which Perl's Unicode::Collate has).
 Without them it says so and ends with status 2. The data file of 13.0.0 is that of the new edition without the code points that came later.
 
-`uca changes` has to list at most 30 old keys, and `uca audit-changes` to accept. A copy of both programs' view is made here apart from the program:
-which lines are affected, by the definition, and whether 1,000,000 random pairs of other lines compare as before. `uca rekey` has to print what `uca keys`
+`uca changes` has to list at most 30 old keys, and `uca audit-changes` to accept. This script finds the affected lines by the definition, apart from the program,
+and looks whether 1,000,000 random pairs of other lines compare as before. `uca rekey` has to print what `uca keys`
 prints under the new table, byte for byte. `--keep FOLDER` keeps the files. The last line is `N passed, M failed`.
 """
 import argparse

@@ -32,7 +32,7 @@ digits_read a b n is small =
     let read : hex_of (a ∷ b ∷ []) ≡ Some n = hex_read (a ∷ b ∷ []) (omega (arith, same)) ∙ ap (λ m. Some m) same in
     (sym read, hex-lt (a ∷ b ∷ []) n read)
 
--- two bytes of which one is no digit
+-- two bytes, at least one of them no digit
 pub no_digits_read : (a b n : ℕ) → n ≡ value_or_more a * 16 + value_or_more b → 0x100_0000 ≤ n → None ≡ hex_of (a ∷ b ∷ [])
 no_digits_read a b n is large = sym (hex_not_read (a ∷ b ∷ []) (omega arith) (omega (arith, two_values a b, is)))
 

@@ -1,4 +1,4 @@
--- What becomes of the lines of a text whose key moves.
+-- How the lines of a text change whose key moves.
 use Rattle.std.specs.Prelude.{◌≡◌, ℕ, ◌<◌, List, Some}
 use Rattle.std.specs.List.{AllByRecursion}
 use Rattle.uca_weights.specs.declared.Depth.{Depth}

@@ -46,7 +46,7 @@ abbrev pub is_read : {A : Type 0} → Result A StoredKeyKind → Bool
 is_read (Ok x) = false
 is_read (Err kind) = is_stored_key_read kind
 
--- What was found in known bytes, of which others are left then. The source has something left.
+-- What was found at the beginning of known bytes, and what is left after it. The source has something left.
 abbrev pub FindsLine : Option (List ℕ) → Option (List ℕ) → Option (List ℕ) → List ℕ → Result NextLine StoredKeyKind → Type 0
 FindsLine old new unread line (Ok Terminated) = Consumes old new (ended line) × Lacks is_lf line
 FindsLine old new unread line (Ok Unterminated) = Consumes old new line × Lacks is_lf line × IsAtEnd new × (0 < length line)

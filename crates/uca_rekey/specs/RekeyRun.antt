@@ -22,7 +22,7 @@ use Rattle.uca_rekey.specs.RekeyedLines.{key_in, rekeyed_by}
 
 -- ---- Lines that are rekeyed
 
--- What becomes of the keys of lines, by (moved key), makes these new lines of them.
+-- With their keys put through (moved key), the lines are these new lines.
 abbrev pub AreRekeyed : (List ℕ → Option (List ℕ)) → List (List ℕ) → List (List ℕ) → Type 0
 AreRekeyed moved lines new = map (rekeyed_by moved) lines ≡ map (λ line. Some line) new
 

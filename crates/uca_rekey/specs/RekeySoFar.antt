@@ -19,7 +19,7 @@ use Rattle.uca_rekey.specs.RekeyedLines.{rekeyed_by}
 use Rattle.uca_rekey.specs.RekeyRun.{AreRekeyed, IsLineFault}
 use Rattle.uca_rekey.specs.LinesInPlace.{LinesState, HasRead}
 
--- what becomes of a key
+-- the new key of a key, if it has one
 abbrev pub moved_by : MoverState → List ℕ → Option (List ℕ)
 moved_by mover = moved_key (maps_of mover.certificate) mover.depth mover.weighting
 
@@ -41,7 +41,7 @@ pub record IsBegun (by mover : MoverState) (lines : LinesState) (written : Writt
   pub count : written.buffer.written ≡ 0
   pub number : written.number ≡ 0
 
--- What is returned of a line that is to be written: it was, or a part went out of all that was to be written, or it does not fit and nothing
+-- What is returned of a line that is to be written. It was; or a part of all that was to be written went out; or it does not fit, and nothing
 -- changed.
 abbrev pub WritesLine : {A : Type 0} → List ℕ → WrittenState → WrittenState → SinkState → SinkState → Result A RunFault → Type 0
 WritesLine line old new out now (Ok x) = HasWrittenThrough (ended line) old.buffer new.buffer out now × (new.number ≡ old.number + 1)

@@ -45,7 +45,7 @@ with_digits (byte ∷ line) (digit ∷ digits) =
 abbrev pub with_key : List ℕ → List ℕ → List ℕ
 with_key line key = with_digits line (flat_map byte_digits key)
 
--- the line with what becomes of its key, where it has a key and something becomes of it
+-- the line with its new key, where it has a key and that key a new one
 abbrev pub rekeyed_by : (List ℕ → Option (List ℕ)) → List ℕ → Option (List ℕ)
 rekeyed_by moved line = option_map (with_key line) (option_and_then moved (key_in line))
 

@@ -58,7 +58,7 @@ impl<A: Allocator> Model for KeyLines<A> {
 }
 
 impl<A: Allocator> KeyLines<A> {
-    /// The lines of a source of which nothing is read yet.
+    /// The lines of a source before anything of it is read.
     ///
     /// # Errors
     ///
