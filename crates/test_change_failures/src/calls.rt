@@ -1,0 +1,101 @@
+//! The runs, over small files.
+
+use std::alloc::{Allocator, Global};
+use std::io::{Read, Write};
+use test_kit_allocator::Refusing;
+use uca_certificates::write_certificate;
+use uca_change_files::write_changes;
+use uca_change_maker::FoundChanges;
+use uca_change_runs::{run_affected_by_changes_in, run_audit_changes_in, run_changes_in};
+use uca_rekey::run_rekey_in;
+use uca_runs::RunFault;
+use uca_weights::Depth::Weights;
+use uca_weights::Weighting::NonIgnorable;
+use uca_weights::{Sink, Source};
+
+/// What the files of a change are, in their order: one weight moves up, and a letter and the class of an accent are new.
+const FILES: [&str; 6] = [
+    "@version 1\n0061 ; [.1C47.0020.0002]\n0062 ; [.1C60.0020.0002]\n",
+    "@data 1\nccc 0323..0323 220\n",
+    "@version 1\n0061 ; [.1C47.0020.0002]\n0062 ; [.1C61.0020.0002]\n0063 ; [.1C70.0020.0002]\n",
+    "@data 1\nccc 0323..0324 220\n",
+    "@changes 1\ntext 0063\nrange 0324..0324\n",
+    "1 1C47 1C47 0001\n1 1C60 1C61 0001\n2 0020 0020 0001\n3 0002 0002 0001\n",
+];
+
+/// All lines but the last one are affected.
+const LINES: &str = "c\nccccccccc\u{324}\nb\n";
+
+/// Lines with stored keys, and with those that they become.
+pub const KEYS: [&str; 2] = [
+    "1C60 0000 0020 0000 0002\n1C471C60000000200020000000020002\tab\n0000 0000\n",
+    "1C61 0000 0020 0000 0002\n1C471C61000000200020000000020002\tab\n0000 0000\n",
+];
+
+/// How a run ends.
+pub type End = Result<(), RunFault>;
+
+fn file(at: usize) -> Source<&'static [u8]> {
+    match FILES.get(at) {
+        Some(text) => Source::new(text.as_bytes()),
+        None => Source::new(b""),
+    }
+}
+
+// Writes what was found. No writer fails then.
+fn show<A: Allocator>(found: &FoundChanges<A>, out: &mut Sink<Vec<u8>>) {
+    let _ = write_changes(&found.list, out);
+    let _ = write_certificate(&found.certificate, out);
+}
+
+fn changes(tried: &Refusing, out: &mut Sink<Vec<u8>>) -> End {
+    let found = run_changes_in(
+        tried,
+        &mut file(0),
+        &mut file(1),
+        &mut file(2),
+        &mut file(3),
+    )?;
+    show(&found, out);
+    drop(found);
+    Ok(())
+}
+
+fn audit(tried: &Refusing, out: &mut Sink<Vec<u8>>) -> End {
+    let verdict = run_audit_changes_in(
+        tried,
+        &mut file(0),
+        &mut file(1),
+        &mut file(2),
+        &mut file(3),
+        &mut file(4),
+        &mut file(5),
+        out,
+    );
+    match verdict {
+        Ok(_) => Ok(()),
+        Err(fault) => Err(fault),
+    }
+}
+
+/// Rekeys these lines.
+pub fn rekey<A: Allocator + Copy, I: Read, W: Write>(
+    alloc: A,
+    input: &mut Source<I>,
+    out: &mut Sink<W>,
+) -> End {
+    run_rekey_in(alloc, &mut file(5), input, out, NonIgnorable, Weights)
+}
+
+/// The run of this name. Texts in Normalization Form D are in ample memory.
+pub fn call(ample: Global, tried: &Refusing, name: &str, out: &mut Sink<Vec<u8>>) -> End {
+    let mut lines = Source::new(LINES.as_bytes());
+    match name {
+        "changes" => changes(tried, out),
+        "audit" => audit(tried, out),
+        "affected" => {
+            run_affected_by_changes_in(tried, ample, &mut file(1), &mut file(4), &mut lines, out)
+        }
+        _ => rekey(tried, &mut Source::new(KEYS[0].as_bytes()), out),
+    }
+}
