@@ -17,7 +17,7 @@ use uca_runs::StoredKeyKind;
 ///
 /// # Errors
 ///
-/// `NoKey` if the line begins with no key, and `NoImage` if nothing becomes of its key. `Memory` if an allocation failed. The line is
+/// `NoKey` if the line begins with no key, and `NoImage` if there is no new key for it. `Memory` if an allocation failed. The line is
 /// then as it was.
 pub(crate) fn rekey_line<M: Allocator, A: Allocator>(
     mover: &KeyMover<M>,

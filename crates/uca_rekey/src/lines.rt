@@ -92,7 +92,7 @@ impl<A: Allocator> KeyLines<A> {
     ///
     /// # Errors
     ///
-    /// `NoKey` if the line begins with no key, and `NoImage` if nothing becomes of its key. `Memory` if an allocation failed.
+    /// `NoKey` if the line begins with no key, and `NoImage` if there is no new key for it. `Memory` if an allocation failed.
     pub fn rekey<M: Allocator, B: Allocator>(
         &mut self,
         mover: &KeyMover<M>,

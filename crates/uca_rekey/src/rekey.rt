@@ -18,7 +18,7 @@ use uca_moved_keys::KeyMover;
 use uca_runs::{Role, RunFault, read_certificate_file};
 use uca_weights::{Depth, Sink, Source, Weighting};
 
-// What becomes of keys, the lines of the input, and those that were written.
+// The maps of the certificate, the lines of the input, and those that were written.
 #[derive(Drop)]
 struct RekeyRun<A: Allocator> {
     mover: KeyMover<A>,
@@ -124,9 +124,10 @@ fn begin_by<A: Allocator + Copy>(
 /// # Errors
 ///
 /// - `File`: the certificate is rejected.
-/// - `Memory`: an allocation failed for the maps. In both cases nothing was written, and nothing of the input was read.
-/// - `StoredKey`: the first line with an error, for `NoKey` or `NoImage`, or for `TooLong` by its bytes or by those of all lines. `Read` if the source
-///   failed, and `Memory` if an allocation failed. The lines before it were written with their new keys.
+/// - `Memory`: an allocation failed for the maps or for the buffer. In both cases nothing was written, and nothing of the input was read.
+/// - `StoredKey`: the first line with an error. `NoKey` and `NoImage` are about its key. `TooLong` comes if the line has more than 2^30 bytes, or
+///   all lines up to it more than 2^63. `Read` comes if the source failed, and `Memory` if an allocation failed. The lines before it were
+///   written with their new keys.
 /// - `Write`: the writer failed, also where a later line has an error. The first `written` bytes of the whole output went out.
 pub fn run_rekey<C: Read, I: Read, W: Write>(
     alloc: Global,

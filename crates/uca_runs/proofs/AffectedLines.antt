@@ -38,7 +38,7 @@ leaves_others (r ∷ relations) text none =
 pub affected_are_the_others : AffectedTextsAreTheOthers
 affected_are_the_others relations text = (leaves_others relations text, affects_none relations text)
 
--- what a test of a text gives, where its answer is known
+-- what a test of a text gives, where the result is known
 pub test_gives : (is_so : List ℕ → Bool) (text : NfdText) (points : List ℕ) (answer told : Bool) → answer ≡ is_so text.points → answer ≡ told
     → text.points ≡ points → is_so points ≡ told
 test_gives is_so text points answer told is same at = ap is_so (sym at) ∙ sym is ∙ same
