@@ -24,7 +24,7 @@ These endings are allowed:
 - After a file that does not open: status 3 and its role, or `certificate: Write` where it is to be made.
 - After a file that cannot be kept: status 3 and `certificate: Write`.
 
-Where `keys` or `affected` ends at an input line, standard output has what it prints for the lines before. Where another run ends
+Where `keys`, `affected` or `rekey` ends at an input line, standard output has what it prints for the lines before. Where another run ends
 early, it has nothing. A certificate is there just where the whole of it was written, and no temporary file is left. No run ends by a
 signal, or reads or writes again where it failed. Lines that CASES names must come: `memory` for sorting, after the last line of the
 input, and for the text that `clap` makes. What ends otherwise is printed, and the status is then 1. This is no part of the gate: it
@@ -48,6 +48,10 @@ ROLES = {
     "tailor": ("table", "data", "rules"),
     "audit": ("base", "data", "rules", "tailored", "certificate"),
     "affected": ("data", "rules", "input"),
+    "affected --changes": ("data", "changes", "input"),
+    "changes": ("old", "old-data", "new", "new-data"),
+    "audit-changes": ("old", "old-data", "new", "new-data", "changes", "certificate"),
+    "rekey": ("certificate", "input"),
 }
 
 # Each command line, the file of its standard input if it reads one, and what must be among the lines of its failed
@@ -74,6 +78,13 @@ CASES = (
     ("tailor table.txt data.txt late.txt made.txt", None, ""),
     ("audit table.txt data.txt rules.txt tailored.txt certificate.txt", None, ""),
     ("audit table.txt data.txt rules.txt table.txt certificate.txt", None, ""),
+    ("changes table.txt data.txt new.txt new_data.txt made.txt", None, ""),
+    ("changes table.txt data.txt ill-formed.txt new_data.txt made.txt", None, ""),
+    ("audit-changes table.txt data.txt new.txt new_data.txt changes.txt images.txt", None, ""),
+    ("audit-changes table.txt data.txt table.txt new_data.txt changes.txt images.txt", None, ""),
+    ("affected --changes new_data.txt changes.txt", "affected.txt", ""),
+    ("rekey images.txt", "stored.txt", ""),
+    ("rekey images.txt", "wrong.txt", ""),
     ("sort table.txt missing.txt", None, ""),
     ("tailor --help", None, "memory\n"),
     ("keys --weighting none table.txt data.txt", None, "memory\n"),
@@ -105,6 +116,10 @@ def contents():
     for name in ("table.txt", "data.txt", "rules.txt", "tailored.txt", "certificate.txt", "lines.txt"):
         with open(os.path.join("examples", name), "rb") as file:
             files[name] = file.read()
+    for name, file_name in (("new.txt", "table.txt"), ("new_data.txt", "data.txt"), ("changes.txt", "changes.txt"), ("images.txt", "certificate.txt")):
+        with open(os.path.join("examples/editions", file_name), "rb") as file:
+            files[name] = file.read()
+    files["stored.txt"] = b"1C47 0000 0020 0000 0002 0000 FFFF\n1C60000000200000000800000209\tb\n" * 2 + b"0000 0000 0000"
     files["ill-formed.txt"] = files["table.txt"].replace(b"[.0000.0024.0002]", b"[.0000.0020.0002]")
     files["spellings.txt"] = "# spellings\n&[before 1]b < \u1ea1 / ch <<* x-z'q' &\u00e1h <<< \\u00C1h = \uac01".encode()
     files["anchor.txt"] = "&b < bh &\u4e00 < x".encode()
@@ -124,7 +139,8 @@ class Case:
     def __init__(self, words, given, must, files):
         self.words, self.given, self.must = words.split(" "), given, must
         names = [word for word in self.words if word.endswith(".txt") and word != MADE]
-        self.opened = list(zip(ROLES[self.words[0]], names))
+        roles = ROLES[" ".join(self.words[:2])] if "--changes" in self.words else ROLES[self.words[0]]
+        self.opened = list(zip(roles, names))
         read = self.opened + ([("input", given)] if given else [])
         self.read = [(role, files.get(name, b"")) for role, name in read]
         self.plain, self.reached, self.said = None, (0, 0), []
@@ -137,12 +153,12 @@ class Case:
         if self.words[0] == "affected":
             before = self.read[-1][1].split(b"\n")[: line - 1]
             return b"".join(it + b"\n" for it in before if it + b"\n" in printed)
-        return b"".join(printed[: line - 1]) if self.words[0] == "keys" else b""
+        return b"".join(printed[: line - 1]) if self.words[0] in ("keys", "rekey") else b""
 
     def of_memory(self, ending):
         if ending == self.plain:
             return True
-        found = re.fullmatch(r"memory\n|(left|right|rules): Memory\n|(\w+)( line| byte) ([0-9]+): Memory\n", ending.err)
+        found = re.fullmatch(r"memory\n|(left|right|rules): Memory\n|([\w-]+)( line| byte) ([0-9]+): Memory\n", ending.err)
         if not found or ending.status != 4 or ending.made is not None:
             return False
         if found.group(2) is None:
