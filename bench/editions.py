@@ -97,9 +97,9 @@ def streams(measured, folder, count):
     print(f"{count:,} lines, {size:.1f} MB")
     for name, words, given in cases:
         start, _ = measured.least(words)
-        seconds, peak = measured.least(words, given)
+        seconds, _ = measured.least(words, given)
         megabytes = os.path.getsize(folder.file(given)) / 1e6
-        print(f"{name}: {seconds - start:.3f} s for {megabytes:.1f} MB, {megabytes / (seconds - start):.0f} MB a second, start {start:.3f} s, {peak:.1f} MB of memory")
+        print(f"{name}: {seconds - start:.3f} s for {megabytes:.1f} MB, {megabytes / (seconds - start):.0f} MB a second, start {start:.3f} s")
 
 
 def main():
