@@ -28,6 +28,7 @@ def counted(words):
 
 
 def main(words):
+    kit.check_by_one_process(kit.load_rt())
     parts = [counted(["rt", "ci", *words])]
     if not os.access(PROGRAM, os.X_OK):
         counted([f"{kit.TOP}/tools/build.py"])

@@ -39,11 +39,14 @@ def table():
     print("| all | " + " | ".join(f"{sums[part]:.0f}" for part in PARTS) + f" | {sum(sums.values()):.0f} |")
     print(f"processor seconds, user and system; running programs and tests took {sums['runs']:.0f} of them")
     longest = sorted(TIMES.clock.items(), key=lambda it: -it[1])[:8]
+    dearest = sorted(((key, spent) for key, spent in TIMES.processor.items() if len(key) > 2), key=lambda it: -it[1])[:40]
+    print("dearest edits, by their place in the folder: " + ", ".join(f"{name} {number} {spent:.0f}" for (name, _, number), spent in dearest))
     print("longest on the clock: " + ", ".join(f"{' '.join(map(str, key))} {spent:.0f} s" for key, spent in longest))
 
 
 def main():
     rt = kit.load_rt()
+    kit.check_by_one_process(rt)
     TIMES.count(rt, IDLE)
     in_lanes = rt.in_lanes
     rt.in_lanes = lambda tasks: in_lanes({key: (*task[:3], TIMES.task(key, IDLE, task[3])) for key, task in tasks.items()})
