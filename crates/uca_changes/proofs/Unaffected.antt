@@ -14,11 +14,11 @@ use Rattle.uca_match.specs.Rows.{rows_of}
 use Rattle.uca_match.specs.Reading.{read}
 use Rattle.uca_match.specs.Collations.{elements_of}
 use Rattle.uca_match.proofs.RelatedReading.{read_related}
-use Rattle.uca_key.specs.Levels.{lexicographic}
-use Rattle.uca_key.specs.Depths.{read_text, levels_at}
-use Rattle.uca_key.specs.StoredKeys.{stored_level}
-use Rattle.uca_key.specs.Laws.{text_key}
-use Rattle.uca_key.proofs.DepthOrder.{depth_order, depth_level}
+use Rattle.uca_order.specs.Levels.{lexicographic}
+use Rattle.uca_order.specs.Depths.{read_text, levels_at}
+use Rattle.uca_order.specs.StoredKeys.{stored_level}
+use Rattle.uca_order.specs.Laws.{text_key}
+use Rattle.uca_order.proofs.DepthOrder.{depth_order, depth_level}
 use Rattle.uca_tailorings.specs.Images.{AreImages}
 use Rattle.uca_tailorings.specs.Moves.{KeyMoves}
 use Rattle.uca_tailorings.proofs.Images.{images-append}

@@ -2,9 +2,9 @@
 
 ghost use Rattle.std.specs.Prelude.{◌≡◌, ◌-◌, ◌<◌, ◌^◌, length, min, IfOk};
 ghost use Rattle.uca_match.specs.Collations.{Collation, collation_of, elements_of};
-ghost use Rattle.uca_key.specs.Depths.{read_text, key_at, compared_at};
-ghost use Rattle.uca_key.specs.Fetched.{fetched_left, fetched_right};
-ghost use Rattle.uca_key.specs.Lengths.{HasShortRows};
+ghost use Rattle.uca_order.specs.Depths.{read_text, key_at, compared_at};
+ghost use Rattle.uca_order.specs.Fetched.{fetched_left, fetched_right};
+ghost use Rattle.uca_order.specs.Lengths.{HasShortRows};
 
 use crate::Settings;
 use std::alloc::{AllocError, Allocator};

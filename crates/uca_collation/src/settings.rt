@@ -1,9 +1,9 @@
 //! The settings of a comparison.
 
 ghost use Rattle.std.specs.Prelude.{◌≡◌};
-ghost use Rattle.uca_key.specs.Levels.{lexicographic};
-ghost use Rattle.uca_key.specs.Depths.{levels_at};
-ghost use Rattle.uca_key.specs.StoredKeys.{stored_level};
+ghost use Rattle.uca_order.specs.Levels.{lexicographic};
+ghost use Rattle.uca_order.specs.Depths.{levels_at};
+ghost use Rattle.uca_order.specs.StoredKeys.{stored_level};
 
 use std::cmp::Ordering;
 use uca_weights::{Depth, Weighting};

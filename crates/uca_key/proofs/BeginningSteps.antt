@@ -27,8 +27,8 @@ use Rattle.uca_text.proofs.NfdPieces.{pieces_have_no_long_run}
 use Rattle.uca_match.specs.Collations.{Collation, elements_of}
 use Rattle.uca_key.specs.declared.plain.Known.{Known}
 use Rattle.uca_key.specs.declared.pieces.Piece.{Piece}
-use Rattle.uca_key.specs.Levels.{weight_at, level_list, level_lists_from, level_bytes, levels_bytes, weight_bytes, weights_of, weighted, weighted_following, follows_variable, key_bytes}
-use Rattle.uca_key.specs.Depths.{ReadText, read_text, key_at, points_bytes}
+use Rattle.uca_order.specs.Levels.{weight_at, level_list, level_lists_from, level_bytes, levels_bytes, weight_bytes, weights_of, weighted, weighted_following, follows_variable, key_bytes}
+use Rattle.uca_order.specs.Depths.{ReadText, read_text, key_at, points_bytes}
 use Rattle.uca_key.specs.Buffers.{KeyState}
 use Rattle.uca_key.specs.LevelBuffers.{LevelState, HoldsLevels, bytes_of_level}
 use Rattle.uca_key.specs.Pieces.{piece_points, ReadsTo, HasRead}

@@ -13,9 +13,9 @@ use Rattle.std.proofs.iter.runs.Made.{run, to_end}
 use Rattle.uca_weights.specs.declared.Element.{Element}
 use Rattle.uca_weights.specs.declared.Weighting.{Weighting}
 use Rattle.uca_weights.specs.declared.Weighting.TheVariants.{NonIgnorable, Shifted}
-use Rattle.uca_key.specs.Levels.{weight_at, level_list, weighted, weight_bytes, level_bytes, weighted_following}
-use Rattle.uca_key.specs.Levels.{weights_of, follows_variable, key_bytes}
-use Rattle.uca_key.specs.StreamedWeights.{at_four_levels, is_after_variable}
+use Rattle.uca_order.specs.Levels.{weight_at, level_list, weighted, weight_bytes, level_bytes, weighted_following}
+use Rattle.uca_order.specs.Levels.{weights_of, follows_variable, key_bytes}
+use Rattle.uca_order.specs.StreamedWeights.{at_four_levels, is_after_variable}
 use Rattle.uca_key.specs.declared.places.Counts.{Counts}
 use Rattle.uca_key.specs.LevelBuffers.{LevelState, HoldsLevels, HasRoom, IsNextFlag, bytes_of_level, held, levels_of}
 

@@ -12,8 +12,8 @@ use Rattle.uca_text.specs.declared.normalize.TextFault.{TextFault}
 use Rattle.uca_text.specs.declared.normalize.TextFault.TheVariants.{Memory}
 use Rattle.uca_match.specs.Collations.{Collation, elements_of}
 use Rattle.uca_match.specs.Rows.{Rows}
-use Rattle.uca_key.specs.Depths.{read_text, compared_at}
-use Rattle.uca_key.specs.Fetched.{fetched_left, fetched_right}
+use Rattle.uca_order.specs.Depths.{read_text, compared_at}
+use Rattle.uca_order.specs.Fetched.{fetched_left, fetched_right}
 use Rattle.uca_key.specs.Comparers.{ComparerState, collation_by}
 use Rattle.uca_key.proofs.Results.{fault_is}
 

@@ -10,12 +10,12 @@ use Rattle.uca_weights.specs.declared.Weighting.{Weighting}
 use Rattle.uca_text.specs.Texts.{NfdText, nfd_text}
 use Rattle.uca_match.specs.Collations.{Collation, elements_of}
 use Rattle.uca_key.specs.declared.walk.Walked.{Walked}
-use Rattle.uca_key.specs.Levels.{Comparison, level_lists, level_count, weighted, decided, compare_from, compared}
-use Rattle.uca_key.specs.Depths.{ReadText, compared_at}
+use Rattle.uca_order.specs.Levels.{Comparison, level_lists, level_count, weighted, decided, compare_from, compared}
+use Rattle.uca_order.specs.Depths.{ReadText, compared_at}
 use Rattle.uca_key.specs.Comparisons.{ComparesLevels, NothingElseDecides, compared_points}
-use Rattle.uca_key.specs.Fetched.{fetched_left, fetched_right}
+use Rattle.uca_order.specs.Fetched.{fetched_left, fetched_right}
 use Rattle.uca_key.proofs.SharedSteps.{counted_from_none}
-use Rattle.uca_key.proofs.KeyOrder.{level_zero, lexicographic_itself}
+use Rattle.uca_order.proofs.KeyOrder.{level_zero, lexicographic_itself}
 use Rattle.uca_key.proofs.LevelSteps.{then_levels, compare_append, length_levels, decided_here}
 
 -- the levels of the weights, and then the code points

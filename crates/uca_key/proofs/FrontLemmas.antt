@@ -7,12 +7,12 @@ use Rattle.std.specs.declared.cmp.Ordering.TheVariants.{Equal}
 use Rattle.std.proofs.lemmas.Cmp.{ranked, by_ranked}
 use Rattle.uca_weights.specs.declared.Element.{Element}
 use Rattle.uca_weights.specs.declared.Weighting.{Weighting}
-use Rattle.uca_key.specs.Levels.{lexicographic, weight_at}
-use Rattle.uca_key.specs.Fetched.{length_to, shared_length}
-use Rattle.uca_key.specs.StreamedWeights.{weighted_after}
+use Rattle.uca_order.specs.Levels.{lexicographic, weight_at}
+use Rattle.uca_order.specs.Fetched.{length_to, shared_length}
+use Rattle.uca_order.specs.StreamedWeights.{weighted_after}
 use Rattle.uca_key.specs.Fronts.{FrontState, weights_left, weight_here, front_weights, first_of, counted, count_with, fetched, is_empty, is_ended, behind_one, advanced}
 use Rattle.uca_key.specs.Walks.{non_zero, GoOn}
-use Rattle.uca_key.proofs.KeyOrder.{cmp_less, cmp_equal, cmp_greater}
+use Rattle.uca_order.proofs.KeyOrder.{cmp_less, cmp_equal, cmp_greater}
 
 -- ---- Counting
 

@@ -9,7 +9,7 @@ use Rattle.uca_weights.specs.declared.Element.{Element}
 use Rattle.uca_weights.specs.declared.Weighting.{Weighting}
 use Rattle.uca_key.specs.declared.walk.LevelsSoFar.{LevelsSoFar}
 use Rattle.uca_key.specs.declared.walk.Walked.{Walked}
-use Rattle.uca_key.specs.Levels.{Comparison, Weights as WeightsType, level_list, level_lists_from, level_count, weighted, lexicographic, decided, compare_from, compared}
+use Rattle.uca_order.specs.Levels.{Comparison, Weights as WeightsType, level_list, level_lists_from, level_count, weighted, lexicographic, decided, compare_from, compared}
 use Rattle.uca_key.specs.Fronts.{FrontState, fetched, weights_left, is_ended}
 use Rattle.uca_key.specs.Walks.{Stands, Walks, decided_level, compared_levels, order_at, fetched_left_at, fetched_right_at}
 use Rattle.uca_key.specs.Comparisons.{ComparesLevels}

@@ -1,15 +1,8 @@
-pub mod KeyOrder
-pub mod StoredOrder
 pub mod StoredSteps
-pub mod Equivalence
-pub mod WeightLemmas
 pub mod BufferLemmas
-pub mod KeyLength
 pub mod FrontLemmas
 pub mod WalkSteps
 pub mod LevelSteps
-pub mod FetchedLemmas
-pub mod DepthOrder
 pub mod PlainTexts
 pub mod PlainEntries
 pub mod PieceSteps

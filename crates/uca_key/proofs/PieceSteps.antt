@@ -19,15 +19,15 @@ use Rattle.uca_text.proofs.NfdPieces.{pieces_have_no_long_run}
 use Rattle.uca_match.specs.Collations.{Collation, elements_of}
 use Rattle.uca_key.specs.declared.plain.Known.{Known}
 use Rattle.uca_key.specs.declared.pieces.Piece.{Piece}
-use Rattle.uca_key.specs.Levels.{key_bytes}
-use Rattle.uca_key.specs.Depths.{read_text, key_at}
-use Rattle.uca_key.specs.Lengths.{HasShortRows}
+use Rattle.uca_order.specs.Levels.{key_bytes}
+use Rattle.uca_order.specs.Depths.{read_text, key_at}
+use Rattle.uca_order.specs.Lengths.{HasShortRows}
 use Rattle.uca_key.specs.Buffers.{KeyState}
 use Rattle.uca_key.specs.LevelBuffers.{LevelState, HoldsLevels}
 use Rattle.uca_key.specs.Plain.{IsPlain}
 use Rattle.uca_key.specs.PlainPoints.{IsTrueEntry}
 use Rattle.uca_key.specs.Pieces.{points_by, piece_points, IsTrueAlone, ReadsTo, HasRead}
-use Rattle.uca_key.proofs.KeyLength.{keys_short}
+use Rattle.uca_order.proofs.KeyLength.{keys_short}
 use Rattle.uca_key.proofs.PlainTexts.{read_before, plain_texts, plain_no_long_run}
 
 -- a text with one more code point

@@ -14,7 +14,7 @@ use Rattle.uca_text.specs.Texts.{nfd_text}
 use Rattle.uca_text.specs.Limits.{HasNoLongRun, IsAccepted}
 use Rattle.uca_match.specs.Collations.{Collation}
 use Rattle.uca_key.specs.declared.walk.Walked.{Walked}
-use Rattle.uca_key.specs.Levels.{level_count}
+use Rattle.uca_order.specs.Levels.{level_count}
 use Rattle.uca_key.specs.Fronts.{FrontState, begun, counted}
 use Rattle.uca_key.specs.Walks.{Stands, none_decided, decided_level}
 use Rattle.uca_key.specs.Comparisons.{ComparesLevels}

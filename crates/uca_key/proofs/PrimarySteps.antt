@@ -19,8 +19,8 @@ use Rattle.uca_match.specs.Collations.{Collation}
 use Rattle.uca_key.specs.declared.walk.LevelsSoFar.{LevelsSoFar}
 use Rattle.uca_key.specs.declared.walk.Step.TheVariants.{Both, Left, Right}
 use Rattle.uca_key.specs.declared.walk.Walked.{Walked}
-use Rattle.uca_key.specs.Levels.{level_count, weight_at, weights_of, shifted_weights}
-use Rattle.uca_key.specs.StreamedWeights.{is_after_variable}
+use Rattle.uca_order.specs.Levels.{level_count, weight_at, weights_of, shifted_weights}
+use Rattle.uca_order.specs.StreamedWeights.{is_after_variable}
 use Rattle.uca_key.specs.Fronts.{FrontState, begun, counted, weight_here, is_empty, is_ended, fetched}
 use Rattle.uca_key.specs.Walks.{Allows, Stands, Differs, none_decided}
 use Rattle.uca_key.specs.Comparisons.{ComparesLevels}

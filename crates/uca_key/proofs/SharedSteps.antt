@@ -10,7 +10,7 @@ use Rattle.uca_text.specs.Limits.{HasNoLongRun}
 use Rattle.uca_text.proofs.NfdPieces.{pieces_have_no_long_run}
 use Rattle.uca_match.specs.Collations.{Collation}
 use Rattle.uca_key.specs.declared.walk.LevelsSoFar.{LevelsSoFar}
-use Rattle.uca_key.specs.StreamedWeights.{is_after_variable}
+use Rattle.uca_order.specs.StreamedWeights.{is_after_variable}
 use Rattle.uca_key.specs.Fronts.{begun, counted}
 use Rattle.uca_key.specs.Walks.{Stands, none_decided}
 use Rattle.uca_key.specs.Plain.{IsPlain, ArePlain, elements_alone}

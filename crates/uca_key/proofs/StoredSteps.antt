@@ -1,9 +1,9 @@
 -- The loop of `difference_level`: what is left of two slices says what the whole of them does.
 use Rattle.std.proofs.Common.{◌≡◌, ℕ, ◌+◌, ◌<◌, ◌≤◌, List, [], ◌∷◌, length, Bool, true, false, refl, arith, min}
 use Rattle.std.proofs.Common.{bytes_eq}
-use Rattle.uca_key.specs.StoredKeys.{shared_separators}
+use Rattle.uca_order.specs.StoredKeys.{shared_separators}
 use Rattle.uca_weights.proofs.Tests.{other_bytes}
-use Rattle.uca_key.proofs.StoredOrder.{is_separator}
+use Rattle.uca_order.proofs.StoredOrder.{is_separator}
 
 -- `level` counts what came before, from 1 on, up to `levels`
 pub record IsLeftOf (levels level : ℕ) (left right left_rest right_rest : List ℕ) : Type 0 where

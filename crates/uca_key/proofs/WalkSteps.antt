@@ -10,8 +10,8 @@ use Rattle.uca_weights.specs.declared.Weighting.{Weighting}
 use Rattle.uca_key.specs.declared.walk.Step.{Step}
 use Rattle.uca_key.specs.declared.walk.Step.TheVariants.{Either, Both, Left, Right}
 use Rattle.uca_key.specs.declared.walk.LevelsSoFar.{LevelsSoFar}
-use Rattle.uca_key.specs.Levels.{weight_at}
-use Rattle.uca_key.proofs.WeightLemmas.{weighted_after-follows}
+use Rattle.uca_order.specs.Levels.{weight_at}
+use Rattle.uca_order.proofs.WeightLemmas.{weighted_after-follows}
 use Rattle.uca_key.specs.Fronts.{FrontState, weights_left, weight_here, front_weights, first_of, is_ended, begun, advanced, fetched}
 use Rattle.uca_key.specs.Walks.{AllowsWith, Allows, IsTaken, Differs, GoOn, GoesOn, Stands, together, order_at, weights_of_level, fetched_left_at, fetched_right_at}
 use Rattle.uca_key.proofs.FrontLemmas.{weight_is, behind, with_first, left_on, right_on, both_on, decides, front_count, front_ended, advanced_weights, advanced_count, fewer_left, no_more_left}

@@ -7,7 +7,7 @@ use Rattle.uca_weights.specs.declared.Depth.TheVariants.{Identical}
 use Rattle.uca_weights.specs.declared.Element.{Element}
 use Rattle.uca_weights.specs.declared.Weighting.{Weighting}
 use Rattle.uca_key.specs.declared.walk.Walked.{Walked}
-use Rattle.uca_key.specs.Levels.{Comparison, level_count, lexicographic, decided, compared}
+use Rattle.uca_order.specs.Levels.{Comparison, level_count, lexicographic, decided, compared}
 use Rattle.uca_key.specs.Walks.{fetched_left_at, fetched_right_at}
 
 pub record ComparesLevels (weighting : Weighting) (es fs : List Element) (w : Walked) : Type 0 where

@@ -2,8 +2,8 @@
 use Rattle.std.specs.Prelude.{◌≡◌, ℕ, zero, suc, ◌+◌, List, [], ◌∷◌, Bool, true, false, map, min, Option, Some, None}
 use Rattle.uca_weights.specs.declared.Element.{Element}
 use Rattle.uca_weights.specs.declared.Weighting.{Weighting}
-use Rattle.uca_key.specs.Levels.{weight_at}
-use Rattle.uca_key.specs.StreamedWeights.{is_after_variable, weighted_after}
+use Rattle.uca_order.specs.Levels.{weight_at}
+use Rattle.uca_order.specs.StreamedWeights.{is_after_variable, weighted_after}
 
 -- the elements from the front on, whether the nearest one with a primary weight before them is variable, and how many
 -- come before them

@@ -4,8 +4,8 @@ use Rattle.uca_weights.specs.declared.Element.{Element}
 use Rattle.uca_weights.specs.declared.Weighting.{Weighting}
 use Rattle.uca_weights.specs.declared.Weighting.TheVariants.{NonIgnorable, Shifted}
 use Rattle.uca_key.specs.declared.places.Counts.{Counts}
-use Rattle.uca_key.specs.Levels.{follows_variable, weighted, level_list, level_bytes}
-use Rattle.uca_key.specs.StreamedWeights.{is_after_variable}
+use Rattle.uca_order.specs.Levels.{follows_variable, weighted, level_list, level_bytes}
+use Rattle.uca_order.specs.StreamedWeights.{is_after_variable}
 
 -- the bytes of each level, and the key
 pub record LevelState : Type 0 where

@@ -1,8 +1,3 @@
-pub mod Levels
-pub mod Depths
-pub mod Fetched
-pub mod Laws
-pub mod StreamedWeights
 pub mod Buffers
 pub mod Writers
 pub mod Plain
@@ -17,9 +12,4 @@ pub mod Fronts
 pub mod Walks
 pub mod Shared
 pub mod Comparers
-pub mod StoredKeys
-pub mod Lengths
-pub mod WorkedKeys
-pub mod WorkedComparisons
-pub mod WorkedTexts
 pub mod Primaries

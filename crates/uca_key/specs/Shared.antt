@@ -7,7 +7,7 @@ use Rattle.uca_text.specs.Texts.{nfd_text}
 use Rattle.uca_text.specs.Limits.{HasNoLongRun, IsAccepted}
 use Rattle.uca_match.specs.Collations.{Collation, elements_of}
 use Rattle.uca_key.specs.declared.walk.Walked.{Walked}
-use Rattle.uca_key.specs.StreamedWeights.{is_after_variable}
+use Rattle.uca_order.specs.StreamedWeights.{is_after_variable}
 use Rattle.uca_key.specs.Fronts.{counted}
 use Rattle.uca_key.specs.Plain.{IsPlain, ArePlain, elements_alone}
 use Rattle.uca_key.specs.Comparisons.{ComparesLevels}

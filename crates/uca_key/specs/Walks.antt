@@ -11,8 +11,8 @@ use Rattle.uca_key.specs.declared.walk.LevelStep.{LevelStep}
 use Rattle.uca_key.specs.declared.walk.LevelStep.TheVariants.{May, Differ}
 use Rattle.uca_key.specs.declared.walk.LevelsSoFar.{LevelsSoFar}
 use Rattle.uca_key.specs.declared.walk.Walked.{Walked}
-use Rattle.uca_key.specs.Levels.{Comparison, lexicographic, weight_at, weighted, level_list, level_lists_from, compare_from}
-use Rattle.uca_key.specs.Fetched.{shared_length, length_to}
+use Rattle.uca_order.specs.Levels.{Comparison, lexicographic, weight_at, weighted, level_list, level_lists_from, compare_from}
+use Rattle.uca_order.specs.Fetched.{shared_length, length_to}
 use Rattle.uca_key.specs.Fronts.{FrontState, advanced, weights_left, weight_here, is_ended, counted, fetched}
 
 -- ---- What the weights at the fronts allow

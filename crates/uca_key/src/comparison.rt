@@ -2,8 +2,8 @@
 
 ghost use Rattle.std.specs.Prelude.{◌≡◌, ◌-◌, ◌^◌, min};
 ghost use Rattle.uca_match.specs.Collations.{collation_of, elements_of};
-ghost use Rattle.uca_key.specs.Depths.{read_text, compared_at};
-ghost use Rattle.uca_key.specs.Fetched.{fetched_left, fetched_right};
+ghost use Rattle.uca_order.specs.Depths.{read_text, compared_at};
+ghost use Rattle.uca_order.specs.Fetched.{fetched_left, fetched_right};
 ghost use Rattle.uca_key.specs.Comparisons.{ComparesLevels, compared_points};
 
 use crate::stored::level_count;

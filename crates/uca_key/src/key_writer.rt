@@ -5,8 +5,8 @@ ghost use Rattle.uca_text.specs.Texts.{nfd_text};
 ghost use Rattle.uca_text.specs.Limits.{IsAccepted};
 ghost use Rattle.uca_text.specs.Faults.{IsCause};
 ghost use Rattle.uca_match.specs.Collations.{collation_of};
-ghost use Rattle.uca_key.specs.Depths.{read_text, key_at};
-ghost use Rattle.uca_key.specs.Lengths.{HasShortRows};
+ghost use Rattle.uca_order.specs.Depths.{read_text, key_at};
+ghost use Rattle.uca_order.specs.Lengths.{HasShortRows};
 ghost use Rattle.uca_key.specs.Writers.{collation_by};
 
 use crate::KeyBuffer;

@@ -4,9 +4,9 @@ ghost use Rattle.std.specs.Prelude.{◌≡◌, ◌<◌, ◌^◌, length, IfOk};
 ghost use Rattle.std.specs.Iterator.{IsFinite};
 ghost use Rattle.std.specs.Iterator.Runs.{WholeRun};
 ghost use Rattle.uca_match.specs.Collations.{collation_of};
-ghost use Rattle.uca_key.specs.Levels.{key_bytes};
-ghost use Rattle.uca_key.specs.Depths.{read_text, key_at};
-ghost use Rattle.uca_key.specs.Lengths.{HasShortRows};
+ghost use Rattle.uca_order.specs.Levels.{key_bytes};
+ghost use Rattle.uca_order.specs.Depths.{read_text, key_at};
+ghost use Rattle.uca_order.specs.Lengths.{HasShortRows};
 
 use crate::KeyBuffer;
 use crate::level_buffers::LevelBuffers;

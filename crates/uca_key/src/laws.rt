@@ -1,89 +1,15 @@
-//! What is true of the keys of all texts. The functions do nothing: their contracts are the laws.
+//! What is true of the keys of all texts, and of texts that are read code point by code point. The functions do nothing:
+//! their contracts are the laws.
 
-ghost use Rattle.uca_key.specs.Laws.{KeysCompareAsElements, CanonicallyEquivalentTextsHaveEqualKeys, KeysAreShort, RowsAreShort, FindsCompletelyIgnorable, StoredKeysCompareAsElements, KeysCompareAsTexts, StoredKeysCompareAsTexts, IdenticalKeysAreOfEquivalentTexts, CountsAreExact};
 ghost use Rattle.uca_key.specs.Plain.{PlainPointsCutTexts, PlainTextsReadByPoints};
-ghost use Rattle.uca_key.specs.StreamedWeights.{WeightsMayBeStreamed};
-ghost use Rattle.uca_key.specs.WorkedKeys.{WorkedKeys};
-ghost use Rattle.uca_key.specs.WorkedComparisons.{WorkedComparisons};
-ghost use Rattle.uca_key.specs.WorkedTexts.{WorkedTexts};
 
-/// Byte order of keys is multilevel comparison (UTS #10, sections 1.1 and 7.4): under either weighting, the
-/// bytes of two keys compare as the elements do level by level. Two keys are equal exactly if no level differs.
-pub fn keys_compare_as_elements()
-    ensures { KeysCompareAsElements }
-{}
-
-/// Two stored keys of one weighting give the order of their elements and the level at which they differ (UTS
-/// #10, section 1.1), by their bytes alone.
-pub fn stored_keys_compare_as_elements()
-    ensures { StoredKeysCompareAsElements }
-{}
-
-/// The keys of two texts compare as the texts do, at either depth: [`compare`](crate::compare) returns the same for
-/// two texts as [`compare_keys`](crate::compare_keys) returns for their keys, with
-/// [`level_count`](crate::level_count) levels.
-pub fn keys_compare_as_texts()
-    ensures { KeysCompareAsTexts }
-{}
-
-/// Two stored keys of one weighting and one depth give the order of their texts, which are given before normalization, and
-/// the level at which they differ, under any table.
-pub fn stored_keys_compare_as_texts()
-    ensures { StoredKeysCompareAsTexts }
-{}
-
-/// Canonically equivalent texts (UAX #15) have equal keys, under any table, either weighting and at either depth.
-pub fn canonically_equivalent_texts_have_equal_keys()
-    ensures { CanonicallyEquivalentTextsHaveEqualKeys }
-{}
-
-/// With an identical level texts that are not canonically equivalent have different keys.
-pub fn identical_keys_are_of_equivalent_texts()
-    ensures { IdenticalKeysAreOfEquivalentTexts }
-{}
-
-/// The key of a text within the limits has less than 2^40 bytes, if no row has more than 32
-/// elements.
-pub fn keys_are_short()
-    ensures { KeysAreShort }
-{}
-
-/// Under the same rows the counts of [`compare`](crate::compare) are exact: they are far below 2^64.
-pub fn counts_are_exact()
-    ensures { CountsAreExact }
-{}
-
-/// No row of a table has more than 32 elements, also when a lookup finds it.
-pub fn rows_are_short()
-    ensures { RowsAreShort }
-{}
-
-/// The weights of elements may be worked out one at a time (UTS #10, section 4), by
-/// [`weights_of`](crate::weights_of) and [`is_after_variable`](crate::is_after_variable).
-pub fn weights_may_be_streamed()
-    ensures { WeightsMayBeStreamed }
-{}
-
-/// The test of the weighting finds exactly the elements that are completely ignorable (UTS #10, section 3).
-pub fn finds_completely_ignorable()
-    ensures { FindsCompletelyIgnorable }
-{}
-
-/// The definitions give some keys that were worked out by hand.
-pub fn worked_keys()
-    ensures { WorkedKeys }
-{}
-
-/// The definitions compare some keys, and slices that are no keys, as was worked out by hand.
-pub fn worked_comparisons()
-    ensures { WorkedComparisons }
-{}
-
-/// The definitions compare some texts at either depth, count their elements and give their keys with an identical level,
-/// as was worked out by hand.
-pub fn worked_texts()
-    ensures { WorkedTexts }
-{}
+pub use uca_order::laws::{
+    canonically_equivalent_texts_have_equal_keys, counts_are_exact, finds_completely_ignorable,
+    identical_keys_are_of_equivalent_texts, keys_are_short, keys_compare_as_elements,
+    keys_compare_as_texts, rows_are_short, stored_keys_compare_as_elements,
+    stored_keys_compare_as_texts, weights_may_be_streamed, worked_comparisons, worked_keys,
+    worked_texts,
+};
 
 /// A text may be cut before each plain code point: its collation elements are those of the piece before it, and then those
 /// of the piece from it on. A plain code point decomposes into a starter and what follows it. By the data file it is a

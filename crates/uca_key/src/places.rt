@@ -2,7 +2,7 @@
 
 ghost use Rattle.std.specs.Prelude.{◌≡◌, ℕ, ◌++◌, ◌∷◌, [], ◌+◌, ◌<◌, ◌≤◌, ◌==◌, Bool, List, length, OnOk, vec_len, if◌then◌else◌};
 ghost use Rattle.uca_weights.specs.declared.Element.{Element};
-ghost use Rattle.uca_key.specs.Levels.{weight_bytes};
+ghost use Rattle.uca_order.specs.Levels.{weight_bytes};
 ghost use Rattle.uca_key.specs.LevelBuffers.{held, levels_of, HasRoom, IsNextFlag, HoldsLevels};
 
 use crate::weighting::{is_after_variable, weights_of};

@@ -4,7 +4,7 @@ ghost use Rattle.std.specs.Prelude.{◌≡◌, ◌++◌, ℕ, List, chars, flat_
 ghost use Rattle.std.specs.Bool.{OnTrue};
 ghost use Rattle.uca_weights.specs.declared.Element.{Element};
 ghost use Rattle.uca_match.specs.Collations.{Collation, collation_of};
-ghost use Rattle.uca_key.specs.Levels;
+ghost use Rattle.uca_order.specs.Levels;
 ghost use Rattle.uca_key.specs.Comparisons.{ComparesLevels};
 ghost use Rattle.uca_key.specs.Walks.{Stands, none_decided};
 ghost use Rattle.uca_key.specs.Plain.{IsPlain, ArePlain, elements_alone};

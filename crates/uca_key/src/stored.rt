@@ -1,9 +1,9 @@
 //! Stored keys, which give the order of their texts and the level at which they differ.
 
 ghost use Rattle.std.specs.Prelude.{◌≡◌, ◌+◌, min};
-ghost use Rattle.uca_key.specs.Levels.{lexicographic};
-ghost use Rattle.uca_key.specs.Depths.{levels_at};
-ghost use Rattle.uca_key.specs.StoredKeys.{shared_separators, stored_level};
+ghost use Rattle.uca_order.specs.Levels.{lexicographic};
+ghost use Rattle.uca_order.specs.Depths.{levels_at};
+ghost use Rattle.uca_order.specs.StoredKeys.{shared_separators, stored_level};
 
 use crate::level_buffers::SEPARATOR;
 use std::cmp::Ordering;

@@ -6,8 +6,8 @@ ghost use Rattle.uca_text.specs.Texts.{nfd_text};
 ghost use Rattle.uca_text.specs.Limits.{IsAccepted};
 ghost use Rattle.uca_text.specs.Faults.{IsCause};
 ghost use Rattle.uca_match.specs.Collations.{collation_of, elements_of};
-ghost use Rattle.uca_key.specs.Depths.{read_text, compared_at};
-ghost use Rattle.uca_key.specs.Fetched.{fetched_left, fetched_right};
+ghost use Rattle.uca_order.specs.Depths.{read_text, compared_at};
+ghost use Rattle.uca_order.specs.Fetched.{fetched_left, fetched_right};
 ghost use Rattle.uca_key.specs.Comparisons.{NothingElseDecides};
 ghost use Rattle.uca_key.specs.Comparers.{collation_by};
 

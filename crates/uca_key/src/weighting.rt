@@ -1,9 +1,9 @@
 //! The weights of one element, for elements that are read one at a time (UTS #10, section 4).
 
 ghost use Rattle.std.specs.Prelude.{◌≡◌};
-ghost use Rattle.uca_key.specs.Levels;
-ghost use Rattle.uca_key.specs.StreamedWeights;
-ghost use Rattle.uca_key.specs.StreamedWeights.{at_four_levels};
+ghost use Rattle.uca_order.specs.Levels;
+ghost use Rattle.uca_order.specs.StreamedWeights;
+ghost use Rattle.uca_order.specs.StreamedWeights.{at_four_levels};
 
 use uca_weights::{Element, Weighting};
 

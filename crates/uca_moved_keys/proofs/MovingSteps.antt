@@ -7,7 +7,7 @@ use Rattle.uca_weights.specs.declared.Depth.{Depth}
 use Rattle.uca_weights.specs.declared.Level.{Level}
 use Rattle.uca_weights.specs.declared.Weighting.{Weighting}
 use Rattle.uca_weights.specs.Maps.{WeightImages, IsRisingMap}
-use Rattle.uca_key.specs.Levels.{weight_bytes, level_count}
+use Rattle.uca_order.specs.Levels.{weight_bytes, level_count}
 use Rattle.uca_tailorings.specs.Images.{Maps}
 use Rattle.uca_tailorings.specs.Moves.{level_images, weight_before, ended, after_weights, moved_from, moved_key}
 use Rattle.uca_moved_keys.specs.Moving.{IsImageEntry, IsImageTable, HasMoved}

@@ -1,7 +1,7 @@
 //! `KeyMover`: the maps of a certificate, ready for many keys.
 
 ghost use Rattle.std.specs.Prelude.{◌≡◌, ℕ, suc, ◌<◌, ◌≤◌, ◌++◌, List, option_map, if◌then◌else◌, IfOk};
-ghost use Rattle.uca_key.specs.Levels as key_levels;
+ghost use Rattle.uca_order.specs.Levels as key_levels;
 ghost use Rattle.uca_tailorings.specs.Inputs.{maps_of};
 ghost use Rattle.uca_tailorings.specs.Moves.{after_weights, ended, level_images, moved_key};
 ghost use Rattle.uca_moved_keys.specs.Moving.{IsImageTable};

@@ -4,8 +4,8 @@ use Rattle.std.specs.declared.cmp.Ordering.{Ordering}
 use Rattle.std.specs.declared.cmp.Ordering.TheVariants.{Less, Equal, Greater}
 use Rattle.std.specs.Ordering.{ordering_reverse}
 use Rattle.std.proofs.lemmas.Cmp.{nat_list_cmp_total}
-use Rattle.uca_key.specs.Levels.{lexicographic}
-use Rattle.uca_key.specs.Laws.{StoredKeysCompareAsTexts}
+use Rattle.uca_order.specs.Levels.{lexicographic}
+use Rattle.uca_order.specs.Laws.{StoredKeysCompareAsTexts}
 use Rattle.uca_owned.specs.Keyings.{Keying, key_of_bytes}
 use Rattle.uca_owned.specs.Causes.{IsAcceptedText}
 use Rattle.uca_owned.specs.Orders.{IsOrder, OrdersAreTotal}

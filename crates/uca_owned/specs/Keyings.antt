@@ -6,8 +6,8 @@ use Rattle.uca_weights.specs.declared.Weighting.TheVariants.{Shifted}
 use Rattle.uca_values.specs.Content.{TableContent, Properties}
 use Rattle.uca_match.specs.Rows.{rows_of}
 use Rattle.uca_match.specs.Collations.{Collation}
-use Rattle.uca_key.specs.Levels.{Comparison}
-use Rattle.uca_key.specs.Laws.{text_key, texts_compared}
+use Rattle.uca_order.specs.Levels.{Comparison}
+use Rattle.uca_order.specs.Laws.{text_key, texts_compared}
 
 -- what texts are read by, and the weighting and the depth of their keys
 pub record Keying : Type 0 where

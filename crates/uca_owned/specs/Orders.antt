@@ -3,7 +3,7 @@ use Rattle.std.specs.Prelude.{◌≡◌, ℕ, List}
 use Rattle.std.specs.declared.cmp.Ordering.{Ordering}
 use Rattle.std.specs.declared.cmp.Ordering.TheVariants.{Less, Equal, Greater}
 use Rattle.std.specs.Ordering.{ordering_reverse}
-use Rattle.uca_key.specs.Levels.{lexicographic}
+use Rattle.uca_order.specs.Levels.{lexicographic}
 use Rattle.uca_owned.specs.Keyings.{Keying, bytes_compared}
 use Rattle.uca_owned.specs.Causes.{IsAcceptedText}
 

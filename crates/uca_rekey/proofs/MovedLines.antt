@@ -13,8 +13,8 @@ use Rattle.uca_weights.proofs.Tests.{by_cases}
 use Rattle.uca_lines.specs.Lines.{ended}
 use Rattle.uca_lines.specs.Numbers.{digits, hex_of, upper_digit}
 use Rattle.uca_lines.proofs.DigitLemmas.{hex_of-digits}
-use Rattle.uca_key.specs.Levels.{key_bytes, level_count, weight_bytes}
-use Rattle.uca_key.specs.Depths.{ReadText, key_at, point_bytes, points_bytes}
+use Rattle.uca_order.specs.Levels.{key_bytes, level_count, weight_bytes}
+use Rattle.uca_order.specs.Depths.{ReadText, key_at, point_bytes, points_bytes}
 use Rattle.uca_tailorings.specs.Images.{Maps}
 use Rattle.uca_tailorings.specs.Moves.{KeyMoves, level_images, moved_from, moved_key, weight_before}
 use Rattle.uca_runs.specs.Print.{byte_digits, groups, keyed_line_of, print_line_at, printed_behind, printed_groups, spaced_point}

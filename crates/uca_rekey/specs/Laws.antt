@@ -4,8 +4,8 @@ use Rattle.std.specs.List.{AllByRecursion}
 use Rattle.uca_weights.specs.declared.Depth.{Depth}
 use Rattle.uca_weights.specs.declared.Weighting.{Weighting}
 use Rattle.uca_lines.specs.Lines.{ended}
-use Rattle.uca_key.specs.Levels.{key_bytes}
-use Rattle.uca_key.specs.Depths.{ReadText, key_at}
+use Rattle.uca_order.specs.Levels.{key_bytes}
+use Rattle.uca_order.specs.Depths.{ReadText, key_at}
 use Rattle.uca_tailorings.specs.Images.{Maps}
 use Rattle.uca_tailorings.specs.Moves.{KeyMoves}
 use Rattle.uca_runs.specs.Print.{keyed_line_of, print_line_at}

@@ -5,7 +5,7 @@ use Rattle.uca_weights.specs.declared.Depth.TheVariants.{Weights, Identical}
 use Rattle.uca_weights.specs.declared.Weighting.{Weighting}
 use Rattle.uca_match.specs.Collations.{Collation}
 use Rattle.uca_text.specs.Texts.{nfd_text}
-use Rattle.uca_key.specs.Depths.{read_text, key_at}
+use Rattle.uca_order.specs.Depths.{read_text, key_at}
 use Rattle.uca_runs.specs.declared.keys.KeyForm.{KeyForm}
 use Rattle.uca_runs.specs.declared.keys.KeyForm.TheVariants.{Alone, BeforeLine}
 use Rattle.uca_runs.specs.KeyForms.{depth_as, shows_points, printed_as, line_as}

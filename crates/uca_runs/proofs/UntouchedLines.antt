@@ -6,7 +6,7 @@ use Rattle.uca_weights.specs.declared.Weighting.{Weighting}
 use Rattle.uca_values.specs.Content.{HeaderContent}
 use Rattle.uca_text.specs.Texts.{nfd_text}
 use Rattle.uca_text.specs.Limits.{IsNormal}
-use Rattle.uca_key.specs.Depths.{read_text, compared_at, key_at}
+use Rattle.uca_order.specs.Depths.{read_text, compared_at, key_at}
 use Rattle.uca_tailorings.specs.Images.{KeepAllWeights}
 use Rattle.uca_tailorings.specs.Laws.{AcceptedTailoringsAreFaithful}
 use Rattle.uca_tailorings.specs.Meaning.{IsFaithful}

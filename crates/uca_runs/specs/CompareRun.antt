@@ -12,7 +12,7 @@ use Rattle.uca_text.specs.Texts.{nfd_text}
 use Rattle.uca_text.specs.Limits.{IsAccepted}
 use Rattle.uca_text.specs.Faults.{IsCause}
 use Rattle.uca_text.specs.declared.normalize.TextFault.{TextFault}
-use Rattle.uca_key.specs.Levels.{Comparison}
+use Rattle.uca_order.specs.Levels.{Comparison}
 use Rattle.uca_runs.specs.declared.faults.RunFault.{RunFault}
 use Rattle.uca_runs.specs.declared.faults.RunFault.TheVariants.{Write, Memory, Text}
 use Rattle.uca_runs.specs.Files.{TableAndData, Over, HaveFailed, table_and_data, table_and_data_roles}

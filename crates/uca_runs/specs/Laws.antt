@@ -5,8 +5,8 @@ use Rattle.uca_weights.specs.declared.Depth.TheVariants.{Identical}
 use Rattle.uca_weights.specs.declared.Weighting.{Weighting}
 use Rattle.uca_text.specs.Texts.{AreCanonicallyEquivalent, NfdText, nfd_text}
 use Rattle.uca_rules.specs.Relations.{IsUntouched}
-use Rattle.uca_key.specs.Levels.{Comparison, lexicographic}
-use Rattle.uca_key.specs.Depths.{read_text, compared_at}
+use Rattle.uca_order.specs.Levels.{Comparison, lexicographic}
+use Rattle.uca_order.specs.Depths.{read_text, compared_at}
 use Rattle.uca_tailorings.specs.Images.{KeepAllWeights}
 use Rattle.uca_tailorings.specs.Tailorings.{Tailoring, IsTailoring, IsAccepted}
 use Rattle.uca_runs.specs.Input.{cause_of}

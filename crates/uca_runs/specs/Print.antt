@@ -4,7 +4,7 @@ use Rattle.std.specs.List.{join_with_byte, flat_map}
 use Rattle.uca_weights.specs.declared.Depth.{Depth}
 use Rattle.uca_weights.specs.declared.Depth.TheVariants.{Weights, Identical}
 use Rattle.uca_lines.specs.Numbers.{upper_digit}
-use Rattle.uca_key.specs.Depths.{point_bytes}
+use Rattle.uca_order.specs.Depths.{point_bytes}
 
 -- a byte as two upper-case hexadecimal digits
 abbrev pub byte_digits : ℕ → List ℕ

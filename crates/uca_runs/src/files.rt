@@ -3,7 +3,7 @@
 ghost use Rattle.std.specs.Prelude.{◌≡◌, ◌∷◌, [], true, IfOk, IfErr, MatchResult};
 ghost use Rattle.uca_values.specs.Content.{properties_of};
 ghost use Rattle.uca_match.specs.Rows.{rows_of};
-ghost use Rattle.uca_key.specs.Lengths.{HasShortRows};
+ghost use Rattle.uca_order.specs.Lengths.{HasShortRows};
 ghost use Rattle.uca_runs.specs.Files.{HaveFailed, Over, table_and_data, table_and_data_roles, table_with};
 ghost use Rattle.uca_runs.specs.ReadFiles.{IsCollation, ReadsFiles, certificate_file, collation_in, data_file, table_file};
 ghost use Rattle.uca_runs.specs.EachLine.{ended_before_input};
@@ -14,7 +14,7 @@ use crate::faults::{FileFault, Role, RunFault};
 use std::alloc::{Allocator, Global};
 use std::io::Read;
 use uca_certificates::{Certificate, read_certificate};
-use uca_key::laws::rows_are_short;
+use uca_order::laws::rows_are_short;
 use uca_match::{Collator, Lookup, Trie};
 use uca_table::{read_data, read_table};
 use uca_values::{Data, Header, Table};

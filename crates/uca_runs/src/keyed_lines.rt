@@ -2,7 +2,7 @@
 
 ghost use Rattle.std.specs.Prelude.{◌≡◌, ◌∷◌, [], ◌||◌, false, IfSome};
 ghost use Rattle.uca_match.specs.Collations.{collation_of};
-ghost use Rattle.uca_key.specs.Lengths.{HasShortRows};
+ghost use Rattle.uca_order.specs.Lengths.{HasShortRows};
 ghost use Rattle.uca_runs.specs.Keys.{key_settings_of};
 ghost use Rattle.uca_runs.specs.Runs.{is_input_read, ended_by_output};
 ghost use Rattle.uca_runs.specs.EachLine.{ended_before_input};

@@ -8,7 +8,7 @@ ghost use Rattle.uca_lines.specs.OutputBuffer.{IsBuffered};
 ghost use Rattle.uca_lines.specs.Buffered.{HasRoom, WritesThrough};
 ghost use Rattle.uca_text.specs.Texts.{nfd_text};
 ghost use Rattle.uca_match.specs.Collations.{collation_of};
-ghost use Rattle.uca_key.specs.Lengths.{HasShortRows};
+ghost use Rattle.uca_order.specs.Lengths.{HasShortRows};
 ghost use Rattle.uca_key.specs.Writers.{collation_by};
 ghost use Rattle.uca_runs.specs.Keys.{key_settings_of};
 ghost use Rattle.uca_runs.specs.Runs.{is_input_read, ended_by_output};

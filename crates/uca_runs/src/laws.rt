@@ -4,7 +4,7 @@
 ghost use Rattle.uca_runs.specs.AffectedRun.{AffectedTextsAreTheOthers};
 ghost use Rattle.uca_runs.specs.Laws.{LineKeysCompareAsLines, CanonicallyEquivalentLinesHaveOneKeyLine, IdenticalLineKeysAreOfEquivalentLines, KeyOrderIsOne, UntouchedLinesKeepTheirOrder};
 
-use uca_key::laws::{identical_keys_are_of_equivalent_texts, keys_compare_as_texts};
+use uca_order::laws::{identical_keys_are_of_equivalent_texts, keys_compare_as_texts};
 use uca_tailorings::accepted_tailorings_are_faithful;
 
 /// Between two lines of an input the byte order of their keys is the multilevel order of their texts

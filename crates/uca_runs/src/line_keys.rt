@@ -1,7 +1,7 @@
 //! The sort key of a line of the input.
 
 ghost use Rattle.std.specs.Prelude.{◌≡◌, ℕ, ◌<◌, ◌^◌, false, IfErr, OnOk, length, take};
-ghost use Rattle.uca_key.specs.Lengths.{HasShortRows};
+ghost use Rattle.uca_order.specs.Lengths.{HasShortRows};
 ghost use Rattle.uca_key.specs.Writers.{collation_by};
 ghost use Rattle.uca_runs.specs.Input.{cause_of};
 ghost use Rattle.uca_runs.specs.Keys.{line_key};

@@ -14,8 +14,8 @@ use Rattle.uca_weights.specs.declared.Level.TheVariants.{One, Two, Three}
 use Rattle.uca_weights.specs.declared.Weighting.TheVariants.{NonIgnorable}
 use Rattle.uca_weights.specs.Levels.{weight, level_number}
 use Rattle.uca_weights.proofs.Lists.{each_weaker}
-use Rattle.uca_key.specs.Levels.{Comparison, weighted_following, level_list, level_lists, lexicographic, decided, compare_from, compared}
-use Rattle.uca_key.proofs.KeyOrder.{cmp_less, cmp_equal, cmp_greater, then_equal, lexicographic_itself}
+use Rattle.uca_order.specs.Levels.{Comparison, weighted_following, level_list, level_lists, lexicographic, decided, compare_from, compared}
+use Rattle.uca_order.proofs.KeyOrder.{cmp_less, cmp_equal, cmp_greater, then_equal, lexicographic_itself}
 use Rattle.uca_tailorings.specs.Placing.{IsIgnorableTo, placed, reweighted, IsOnSide}
 use Rattle.uca_tailorings.specs.Meaning.{stands}
 

@@ -6,10 +6,10 @@ use Rattle.uca_text.specs.Texts.{NfdText}
 use Rattle.uca_text.specs.Limits.{IsNormal}
 use Rattle.uca_rules.specs.Relations.{IsUntouched}
 use Rattle.uca_match.specs.Collations.{elements_of}
-use Rattle.uca_key.specs.Levels.{lexicographic}
-use Rattle.uca_key.specs.Depths.{read_text, levels_at, key_at}
-use Rattle.uca_key.specs.StoredKeys.{stored_level}
-use Rattle.uca_key.proofs.DepthOrder.{depth_order, depth_level}
+use Rattle.uca_order.specs.Levels.{lexicographic}
+use Rattle.uca_order.specs.Depths.{read_text, levels_at, key_at}
+use Rattle.uca_order.specs.StoredKeys.{stored_level}
+use Rattle.uca_order.proofs.DepthOrder.{depth_order, depth_level}
 use Rattle.uca_tailorings.specs.Moves.{KeyMoves}
 use Rattle.uca_tailorings.specs.Tailorings.{Tailoring, IsTailoring, IsAccepted, base_reading, tailored_reading}
 use Rattle.uca_tailorings.specs.Laws.{IsStoredKey, KeysMove, KeysMoveByMaps}

@@ -8,9 +8,9 @@ use Rattle.uca_weights.specs.declared.Element.{Element}
 use Rattle.uca_weights.specs.declared.Weighting.{Weighting}
 use Rattle.uca_weights.specs.declared.Weighting.TheVariants.{NonIgnorable, Shifted}
 use Rattle.uca_weights.specs.Maps.{WeightImages, Sends}
-use Rattle.uca_key.specs.Levels.{Weights as ElementWeights, weight_at, weighted, level_list, level_lists_from, weight_bytes, level_bytes, levels_bytes, key_bytes}
-use Rattle.uca_key.specs.Depths.{ReadText, points_bytes, key_at}
-use Rattle.uca_key.proofs.KeyOrder.{AreNonZero, kept_non_zero}
+use Rattle.uca_order.specs.Levels.{Weights as ElementWeights, weight_at, weighted, level_list, level_lists_from, weight_bytes, level_bytes, levels_bytes, key_bytes}
+use Rattle.uca_order.specs.Depths.{ReadText, points_bytes, key_at}
+use Rattle.uca_order.proofs.KeyOrder.{AreNonZero, kept_non_zero}
 use Rattle.uca_tailorings.specs.Images.{Maps, AreRisingMaps, IsImage, AreImages}
 use Rattle.uca_tailorings.specs.Moves.{level_images, AreSent, weight_before, moved_from, moved_key, KeyMoves, IsKeptKey}
 use Rattle.uca_tailorings.proofs.WeightedImages.{lists_sent}

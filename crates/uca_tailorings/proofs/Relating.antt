@@ -14,7 +14,7 @@ use Rattle.uca_rules.specs.Relations.{IsRuleText, HasRuleTexts}
 use Rattle.uca_match.specs.Rows.{rows_of}
 use Rattle.uca_match.specs.Collations.{elements_of}
 use Rattle.uca_match.proofs.ReadingLemmas.{key_reads_as_row}
-use Rattle.uca_key.specs.Levels.{compared}
+use Rattle.uca_order.specs.Levels.{compared}
 use Rattle.uca_tailorings.specs.Placing.{IsIgnorableTo, reweighted, placed, IsOnSide}
 use Rattle.uca_tailorings.specs.Tailorings.{Tailoring, IsTailoring, tailored_reading, anchor_elements, expansion_elements, IsTargetRow, IsPlacedAt}
 use Rattle.uca_tailorings.specs.Tailorings.{IsPlacedBy, IsPlaced, IsPairWeight, IsBetween, IsAccepted}

@@ -5,8 +5,8 @@ use Rattle.std.proofs.lemmas.Bool.Decides.{nat_tests}
 use Rattle.std.specs.Ordering.{nat_cmp, ordering_then}
 use Rattle.uca_weights.specs.declared.Level.{Level}
 use Rattle.uca_weights.specs.Maps.{WeightImages, Sends, IsRisingMap}
-use Rattle.uca_key.specs.Levels.{lexicographic}
-use Rattle.uca_key.proofs.KeyOrder.{same_cmp}
+use Rattle.uca_order.specs.Levels.{lexicographic}
+use Rattle.uca_order.proofs.KeyOrder.{same_cmp}
 use Rattle.uca_tailorings.specs.Moves.{AreSent}
 
 module _ (level : Level) (images : WeightImages) (rising : IsRisingMap level images) where

@@ -18,8 +18,8 @@ use Rattle.uca_rules.specs.Relations.{IsTarget, IsUntouched}
 use Rattle.uca_match.specs.Rows.{rows_of}
 use Rattle.uca_match.specs.Collations.{elements_of}
 use Rattle.uca_match.proofs.RelatedReading.{read_related}
-use Rattle.uca_key.specs.Levels.{Weights as ElementWeights, level_list, level_lists_from, weighted, decided, lexicographic, compare_from}
-use Rattle.uca_key.specs.Depths.{compared_at, key_at}
+use Rattle.uca_order.specs.Levels.{Weights as ElementWeights, level_list, level_lists_from, weighted, decided, lexicographic, compare_from}
+use Rattle.uca_order.specs.Depths.{compared_at, key_at}
 use Rattle.uca_tailorings.specs.Images.{Maps, AreRisingMaps, AreImages, KeepAllWeights}
 use Rattle.uca_tailorings.specs.Tailorings.{Tailoring, IsTailoring, IsAccepted, base_reading, tailored_reading}
 use Rattle.uca_tailorings.specs.Meaning.{CompareAsBefore, KeepsKey}

@@ -8,8 +8,8 @@ use Rattle.uca_weights.specs.declared.Level.TheVariants.{One, Two, Three}
 use Rattle.uca_weights.specs.declared.Weighting.{Weighting}
 use Rattle.uca_weights.specs.declared.Weighting.TheVariants.{NonIgnorable, Shifted}
 use Rattle.uca_weights.specs.Maps.{Sends, IsRisingMap}
-use Rattle.uca_key.specs.Levels.{Weights, is_ignorable, is_completely_ignorable, follows_variable, weights_of, weighted_following, weighted}
-use Rattle.uca_key.specs.Levels.{weight_at, level_list, lexicographic}
+use Rattle.uca_order.specs.Levels.{Weights, is_ignorable, is_completely_ignorable, follows_variable, weights_of, weighted_following, weighted}
+use Rattle.uca_order.specs.Levels.{weight_at, level_list, lexicographic}
 use Rattle.uca_tailorings.specs.Images.{Maps, AreRisingMaps, IsImage, AreImages}
 use Rattle.uca_tailorings.specs.Moves.{level_images, AreSent}
 use Rattle.uca_tailorings.proofs.RisingMaps.{sent_zero, sent_order, sent_filter}

@@ -6,9 +6,9 @@ use Rattle.uca_text.specs.Texts.{NfdText}
 use Rattle.uca_text.specs.Limits.{IsNormal}
 use Rattle.uca_rules.specs.Relations.{IsUntouched}
 use Rattle.uca_match.specs.Collations.{Collation}
-use Rattle.uca_key.specs.Levels.{lexicographic}
-use Rattle.uca_key.specs.Depths.{read_text, levels_at, compared_at, key_at}
-use Rattle.uca_key.specs.StoredKeys.{stored_level}
+use Rattle.uca_order.specs.Levels.{lexicographic}
+use Rattle.uca_order.specs.Depths.{read_text, levels_at, compared_at, key_at}
+use Rattle.uca_order.specs.StoredKeys.{stored_level}
 use Rattle.uca_tailorings.specs.Images.{KeepAllWeights}
 use Rattle.uca_tailorings.specs.Moves.{KeyMoves, IsKeptKey}
 use Rattle.uca_tailorings.specs.Tailorings.{Tailoring, IsTailoring, base_reading, tailored_reading, IsAccepted}

@@ -15,8 +15,8 @@ use Rattle.uca_text.specs.Limits.{IsNormal}
 use Rattle.uca_rules.specs.declared.relations.Relation.{Relation}
 use Rattle.uca_rules.specs.Relations.{IsUntouched}
 use Rattle.uca_match.specs.Collations.{elements_of}
-use Rattle.uca_key.specs.Levels.{Comparison, compared}
-use Rattle.uca_key.specs.Depths.{read_text, compared_at, key_at}
+use Rattle.uca_order.specs.Levels.{Comparison, compared}
+use Rattle.uca_order.specs.Depths.{read_text, compared_at, key_at}
 use Rattle.uca_tailorings.specs.Images.{KeepAllWeights}
 use Rattle.uca_tailorings.specs.Tailorings.{Tailoring, base_reading, tailored_reading, anchor_elements, expansion_elements, IsPlacedAt, IsNewWeight, IsFreshWeight, IsBetween, AllRelations}
 

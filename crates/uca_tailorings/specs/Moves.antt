@@ -4,8 +4,8 @@ use Rattle.uca_weights.specs.declared.Depth.{Depth}
 use Rattle.uca_weights.specs.declared.Depth.TheVariants.{Weights, Identical}
 use Rattle.uca_weights.specs.declared.Weighting.{Weighting}
 use Rattle.uca_weights.specs.Maps.{WeightImages, Sends}
-use Rattle.uca_key.specs.Levels.{weighted, level_list, level_count, weight_bytes}
-use Rattle.uca_key.specs.Depths.{ReadText, key_at}
+use Rattle.uca_order.specs.Levels.{weighted, level_list, level_count, weight_bytes}
+use Rattle.uca_order.specs.Depths.{ReadText, key_at}
 use Rattle.uca_tailorings.specs.Images.{Maps, AreImages}
 
 -- ---- Weights of a level

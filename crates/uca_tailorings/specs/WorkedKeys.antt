@@ -5,7 +5,7 @@ use Rattle.uca_weights.specs.declared.Depth.{Depth}
 use Rattle.uca_weights.specs.declared.Depth.TheVariants.{Weights, Identical}
 use Rattle.uca_weights.specs.declared.Weighting.{Weighting}
 use Rattle.uca_weights.specs.declared.Weighting.TheVariants.{NonIgnorable, Shifted}
-use Rattle.uca_key.specs.Levels.{level_bytes}
+use Rattle.uca_order.specs.Levels.{level_bytes}
 use Rattle.uca_tailorings.specs.Inputs.{maps_of}
 use Rattle.uca_tailorings.specs.Moves.{moved_key}
 use Rattle.uca_tailorings.specs.Worked.{moving_runs}

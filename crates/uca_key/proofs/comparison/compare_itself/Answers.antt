@@ -1,7 +1,7 @@
 use Rattle.std.proofs.Common.{◌≡◌, length, ap, ◌∙◌}
 use Rattle.uca_match.specs.Collations.{collation_of, elements_of}
 use Rattle.uca_key.specs.Fronts.{counted}
-use Rattle.uca_key.proofs.KeyLength.{shown}
+use Rattle.uca_order.proofs.KeyLength.{shown}
 use Rattle.uca_key.proofs.SharedSteps.{count_one}
 use Rattle.uca_key.proofs.PlainComparisons.{itself_compared}
 use Rattle.uca_key.proofs.comparison.compare_itself.Goals as goal

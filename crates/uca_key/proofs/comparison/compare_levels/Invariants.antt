@@ -1,6 +1,6 @@
 use Rattle.std.proofs.Common.{◌≡◌, ◌-◌}
 use Rattle.uca_match.specs.Collations.{collation_of, elements_of}
-use Rattle.uca_key.specs.Levels.{level_count}
+use Rattle.uca_order.specs.Levels.{level_count}
 use Rattle.uca_key.specs.Walks.{Walks}
 use Rattle.uca_key.proofs.comparison.compare_levels.Given as goal
 

@@ -1,6 +1,6 @@
 use Rattle.std.proofs.Common.{[], ◌∷◌, ◌++◌, sym, ◌∙◌, subst, append-nil, append_assoc}
 use Rattle.uca_key.specs.LevelBuffers.{HoldsLevels}
-use Rattle.uca_key.proofs.KeyLength.{shown}
+use Rattle.uca_order.proofs.KeyLength.{shown}
 use Rattle.uca_key.proofs.pieces.push_elements.Goals as goal
 
 pub loop-element-init : goal.loop-element-init

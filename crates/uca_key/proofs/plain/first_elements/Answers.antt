@@ -1,6 +1,6 @@
 use Rattle.std.proofs.Common.{◌∙◌, arith}
 use Rattle.std.proofs.lemmas.List.{length-set}
-use Rattle.uca_key.proofs.KeyLength.{shown}
+use Rattle.uca_order.proofs.KeyLength.{shown}
 use Rattle.uca_key.proofs.PlainEntries.{element_kept}
 use Rattle.uca_key.proofs.plain.first_elements.Goals as goal
 

@@ -1,5 +1,5 @@
 use Rattle.std.proofs.Common.{ℕ, inl, inr, sym, subst, ◌∙◌, arith}
-use Rattle.uca_key.specs.Levels.{level_count}
+use Rattle.uca_order.specs.Levels.{level_count}
 use Rattle.uca_key.specs.Fronts.{FrontState}
 use Rattle.uca_key.specs.Walks.{Stands, Walks, none_decided}
 use Rattle.uca_key.proofs.LevelSteps.{all_levels, not_equal}

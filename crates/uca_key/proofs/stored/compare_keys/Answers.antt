@@ -1,5 +1,5 @@
 use Rattle.std.proofs.Common.{arith}
-use Rattle.uca_key.proofs.StoredOrder.{equal_level, differing_level}
+use Rattle.uca_order.proofs.StoredOrder.{equal_level, differing_level}
 use Rattle.uca_key.proofs.stored.compare_keys.Goals as goal
 
 pub returns-in-Equal-clause-level : goal.returns-in-Equal-clause-level

@@ -1,7 +1,7 @@
 -- What went out, from what was written.
 use Rattle.std.proofs.Common.{◌≡◌, ◌||◌, [], length, arith, ap, ap₂, subst, sym, ◌∙◌}
 use Rattle.uca_match.specs.Collations.{Collation}
-use Rattle.uca_key.specs.Lengths.{HasShortRows}
+use Rattle.uca_order.specs.Lengths.{HasShortRows}
 use Rattle.uca_values.specs.Content.{properties_of}
 use Rattle.uca_runs.specs.Keys.{key_settings_of}
 use Rattle.uca_runs.specs.KeyForms.{line_as, settings_at}

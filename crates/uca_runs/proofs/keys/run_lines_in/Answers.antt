@@ -5,7 +5,7 @@ use Rattle.std.proofs.lemmas.Result.{err_from_is_err_and}
 use Rattle.uca_values.specs.Content.{properties_of}
 use Rattle.uca_match.specs.NumberedKeys.{rows_at}
 use Rattle.uca_match.specs.Collations.{collation_of}
-use Rattle.uca_key.specs.Lengths.{HasShortRows}
+use Rattle.uca_order.specs.Lengths.{HasShortRows}
 use Rattle.uca_runs.specs.declared.faults.RunFault.TheVariants.{Memory}
 use Rattle.uca_runs.specs.EachLine.{RunsEach}
 use Rattle.uca_runs.specs.Files.{table_and_data, table_and_data_roles, table_with}

@@ -2,7 +2,7 @@ use Rattle.std.proofs.Common.{ap}
 use Rattle.uca_match.specs.Collations.{collation_of}
 use Rattle.uca_key.specs.Buffers.{KeyState}
 use Rattle.uca_key.proofs.Results.{no_result}
-use Rattle.uca_key.proofs.KeyLength.{weights_short, identical_short}
+use Rattle.uca_order.proofs.KeyLength.{weights_short, identical_short}
 use Rattle.uca_key.proofs.key_buffer.KeyBuffer.write_text.Goals as goal
 
 pub returns-in-Weights-clause-short : goal.returns-in-Weights-clause-short

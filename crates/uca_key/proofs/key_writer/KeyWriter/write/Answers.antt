@@ -5,7 +5,7 @@ use Rattle.std.specs.Str.{chars}
 use Rattle.uca_values.specs.Content.{properties_of}
 use Rattle.uca_text.specs.Texts.{nfd_text}
 use Rattle.uca_text.specs.Faults.{IsCause}
-use Rattle.uca_key.specs.Lengths.{HasShortRows}
+use Rattle.uca_order.specs.Lengths.{HasShortRows}
 use Rattle.uca_key.specs.Writers.{WriterState, collation_by}
 use Rattle.uca_key.proofs.Results.{no_result, fault_is}
 use Rattle.uca_key.proofs.WriterSteps.{memory_is_cause, key_by_pieces, key_of_normal, accepted_by, accepted_normal}

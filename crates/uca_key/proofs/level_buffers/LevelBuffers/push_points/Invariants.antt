@@ -1,5 +1,5 @@
 use Rattle.std.proofs.Common.{◌≡◌, ◌∷◌, ◌++◌, take}
-use Rattle.uca_key.specs.Depths.{points_bytes}
+use Rattle.uca_order.specs.Depths.{points_bytes}
 use Rattle.uca_key.specs.LevelBuffers.{HasRoom}
 use Rattle.uca_key.proofs.level_buffers.LevelBuffers.push_points.Given as goal
 

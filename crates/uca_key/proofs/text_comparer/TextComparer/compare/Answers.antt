@@ -5,7 +5,7 @@ use Rattle.unicode_normalization.specs.Forms.{nfd}
 use Rattle.uca_text.specs.Texts.{nfd_text}
 use Rattle.uca_match.specs.Collations.{collation_of}
 use Rattle.uca_key.specs.declared.walk.Walked.{Walked}
-use Rattle.uca_key.specs.Depths.{read_text}
+use Rattle.uca_order.specs.Depths.{read_text}
 use Rattle.uca_key.specs.Comparers.{ComparerState, collation_by}
 use Rattle.uca_key.specs.Shared.{ComparesAccepted}
 use Rattle.uca_key.proofs.SharedSteps.{counted_from_none}

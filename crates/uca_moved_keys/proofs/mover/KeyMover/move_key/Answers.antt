@@ -1,6 +1,6 @@
 -- Level by level, and then what may follow.
 use Rattle.std.proofs.Common.{suc, ◌+◌, ◌-◌, drop, ap, ◌∙◌, arith}
-use Rattle.uca_key.specs.Levels.{level_count}
+use Rattle.uca_order.specs.Levels.{level_count}
 use Rattle.uca_tailorings.specs.Inputs.{maps_of}
 use Rattle.uca_tailorings.specs.Moves.{moved_key}
 use Rattle.uca_moved_keys.specs.Moving.{MoverState}

@@ -1,5 +1,0 @@
-use Rattle.uca_key.proofs.Equivalence.{equivalent_texts}
-use Rattle.uca_key.proofs.laws.canonically_equivalent_texts_have_equal_keys.Goals as goal
-
-pub returns : goal.returns
-returns c = equivalent_texts

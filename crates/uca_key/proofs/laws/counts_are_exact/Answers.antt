@@ -1,5 +1,0 @@
-use Rattle.uca_key.proofs.FetchedLemmas.{counts_exact}
-use Rattle.uca_key.proofs.laws.counts_are_exact.Goals as goal
-
-pub returns : goal.returns
-returns c = counts_exact

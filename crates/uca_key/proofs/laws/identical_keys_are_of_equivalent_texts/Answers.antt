@@ -1,5 +1,0 @@
-use Rattle.uca_key.proofs.DepthOrder.{identical_texts}
-use Rattle.uca_key.proofs.laws.identical_keys_are_of_equivalent_texts.Goals as goal
-
-pub returns : goal.returns
-returns c = identical_texts

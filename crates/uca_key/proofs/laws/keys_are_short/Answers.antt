@@ -1,5 +1,0 @@
-use Rattle.uca_key.proofs.KeyLength.{keys_short}
-use Rattle.uca_key.proofs.laws.keys_are_short.Goals as goal
-
-pub returns : goal.returns
-returns c = keys_short

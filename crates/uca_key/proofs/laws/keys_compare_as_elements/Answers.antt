@@ -1,5 +1,0 @@
-use Rattle.uca_key.proofs.KeyOrder.{keys_compare}
-use Rattle.uca_key.proofs.laws.keys_compare_as_elements.Goals as goal
-
-pub returns : goal.returns
-returns c = keys_compare

@@ -1,5 +1,0 @@
-use Rattle.uca_key.proofs.DepthOrder.{keys_compare_as_texts}
-use Rattle.uca_key.proofs.laws.keys_compare_as_texts.Goals as goal
-
-pub returns : goal.returns
-returns c = keys_compare_as_texts

@@ -1,0 +1,10 @@
+pub mod Levels
+pub mod Depths
+pub mod Fetched
+pub mod Laws
+pub mod StreamedWeights
+pub mod StoredKeys
+pub mod Lengths
+pub mod WorkedKeys
+pub mod WorkedComparisons
+pub mod WorkedTexts
