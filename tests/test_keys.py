@@ -129,6 +129,83 @@ class Keys(ProgramTest):
         longest = 1_048_576
         self.expect(BY_THREE, "a" * longest, out=key_of(many("1C47", longest), many("0020", longest), many("0002", longest)))
 
+    def test_lines_about_the_length_of_texts_that_are_read_in_pieces(self):
+        """A text of at most 524,288 bytes is read piece by piece."""
+        self.write(t=TABLE, d=DATA)
+        for length in 524_288, 524_289:
+            self.expect(BY_THREE, "a" * length, out=key_of(many("1C47", length), many("0020", length), many("0002", length)))
+
+    def test_code_points_that_read_alone_among_others(self):
+        """`ab` and `c` with an acute accent are contractions, and the data file gives the letter `d` a class."""
+        self.write(
+            t=TABLE.replace("0020 ;", "0063 ; [.1C7A.0020.0002]\n0064 ; [.1C8F.0020.0002]\n0061 0062 ; [.1C50.0020.0002]\n0063 0301 ; [.1C80.0020.0002]\n0020 ;"),
+            d=DATA.replace("ccc 0300", "ccc 0064..0064 220\nccc 0300"),
+        )
+        # a line, its weights of three levels, and those of the first and of the fourth level if they are shifted
+        cases = [
+            ("ac", "1C47 1C7A", "0020 0020", "0002 0002", "1C47 1C7A", "FFFF FFFF"),
+            ("cabc", "1C7A 1C50 1C7A", "0020 0020 0020", "0002 0002 0002", "1C7A 1C50 1C7A", "FFFF FFFF FFFF"),
+            ("ba", "1C60 1C47", "0020 0020", "0002 0002", "1C60 1C47", "FFFF FFFF"),
+            ("a\u0301c", "1C47 1C7A", "0020 0024 0020", "0002 0002 0002", "1C47 1C7A", "FFFF FFFF FFFF"),
+            ("\u00E1c", "1C47 1C7A", "0020 0024 0020", "0002 0002 0002", "1C47 1C7A", "FFFF FFFF FFFF"),
+            ("cd\u0301", "1C80 1C8F", "0020 0020", "0002 0002", "1C80 1C8F", "FFFF FFFF"),
+            ("\uAC00a", "FBC0 9100 FBC0 9161 1C47", "0020 0020 0020", "0002 0002 0002", "FBC0 9100 FBC0 9161 1C47", "FFFF FFFF FFFF FFFF FFFF"),
+            ("ac", "1C47 1C7A", "0020 0020", "0002 0002", "1C47 1C7A", "FFFF FFFF"),
+        ]
+        lines = "".join(f"{it[0]}\n" for it in cases)
+        self.expect(BY_THREE, lines, out="".join(key_of(*it[1:4]) for it in cases))
+        self.expect(BY_FOUR, lines, out="".join(f"{key_of(it[4], *it[2:4]).rstrip()} 0000 {it[5]}\n" for it in cases))
+        # the space is variable, and so no accent follows it
+        self.expect(BY_THREE, " \u0301c", out=key_of("0209 1C7A", "0020 0024 0020", "0002 0002 0002"))
+        self.expect(BY_FOUR, " \u0301c", out="1C7A 0000 0020 0000 0002 0000 0209 FFFF\n")
+
+    def test_each_class(self):
+        """A mark of each class from 1 to 254, after a mark of a higher class: they are put in order."""
+        classes = range(1, 255)
+        self.write(
+            t="@version 1\n0061 ; [.1C47.0020.0002]\n" + "".join(f"{0xE000 + it:04X} ; [.0000.{0x100 + it:04X}.0002]\n" for it in classes),
+            d="@data 1\n" + "".join(f"ccc {0xE000 + it:04X}..{0xE000 + it:04X} {it}\n" for it in classes),
+        )
+        lines = "".join(f"a{chr(0xE0FE)}{chr(0xE000 + it)}\n" for it in classes)
+        keys = [("1C47", f"0020 {0x100 + it:04X} 01FE", "0002 0002 0002") for it in classes]
+        self.expect(BY_THREE, lines, out="".join(key_of(*it) for it in keys))
+        self.expect(BY_FOUR, lines, out="".join(f"{key_of(*it).rstrip()} 0000 FFFF FFFF FFFF\n" for it in keys))
+
+    def test_each_length_of_a_key_and_of_its_row(self):
+        """Keys of 1 to 16 code points, whose rows have 1 to 32 elements."""
+        sizes = [(points, elements) for points in range(1, 17) for elements in range(1, 33)]
+        point = {it: 0xF0000 + 0x100 * it[0] + it[1] for it in sizes}
+        rows = "".join(f"{many(f'{point[it]:04X}', it[0])} ; {'[.1C47.0020.0002]' * it[1]}\n" for it in sizes)
+        self.write(t="@version 1\n" + rows, d=DATA)
+        lines = "".join(chr(point[it]) * it[0] + "\n" for it in sizes)
+        keys = [key_of(*(many(weight, it[1]) for weight in ("1C47", "0020", "0002"))) for it in sizes]
+        self.expect(BY_THREE, lines, out="".join(keys))
+        self.expect(BY_FOUR, lines, out="".join(f"{key.rstrip()} 0000 {many('FFFF', it[1])}\n" for it, key in zip(sizes, keys)))
+
+    def test_greatest_weights_and_rows_without_primary_weights(self):
+        rows = {
+            "a": "[.FFFF.0020.0002]",
+            "b": "[.0000.FFFF.0002]",
+            "c": "[.0000.0000.FFFF]",
+            "d": "[.FFFF.FFFF.FFFF]",
+            "e": "[.0000.0021.0002][.0000.0022.0003][.0000.0023.0004][.0000.0024.0005][.0000.0025.0006]",
+            "f": "[.1C47.0020.0002][.0000.0021.0003][.0000.0022.0004][.0000.0000.0005][.0000.0000.0000]",
+        }
+        self.write(t="@version 1\n" + "".join(f"{ord(it):04X} ; {row}\n" for it, row in rows.items()), d=DATA)
+        # a line, its weights of three levels, and how many elements have FFFF at the fourth
+        cases = [
+            ("a", "FFFF", "0020", "0002", 1),
+            ("b", "", "FFFF", "0002", 1),
+            ("c", "", "", "FFFF", 1),
+            ("d", "FFFF", "FFFF", "FFFF", 1),
+            ("e", "", "0021 0022 0023 0024 0025", "0002 0003 0004 0005 0006", 5),
+            ("f", "1C47", "0020 0021 0022", "0002 0003 0004 0005", 4),
+            ("abcd", "FFFF FFFF", "0020 FFFF FFFF", "0002 0002 FFFF FFFF", 4),
+        ]
+        for text, *weights, count in cases:
+            self.expect(BY_THREE, text, out=key_of(*weights))
+            self.expect(BY_FOUR, text, out=f"{key_of(*weights).rstrip()} 0000 {many('FFFF', count)}\n")
+
     def test_long_runs_of_accents(self):
         """At most 64 accents stand one after another."""
         self.write(t=TABLE, d=DATA)

@@ -8,7 +8,7 @@ use uca_change_files::write_changes;
 use uca_change_maker::FoundChanges;
 use uca_change_runs::{run_affected_by_changes_in, run_audit_changes_in, run_changes_in};
 use uca_rekey::run_rekey_in;
-use uca_runs::RunFault;
+use uca_run_parts::RunFault;
 use uca_weights::Depth::Weights;
 use uca_weights::Weighting::NonIgnorable;
 use uca_weights::{Sink, Source};

@@ -6,7 +6,7 @@ use std::io::ErrorKind;
 use std::test::Fail;
 use test_kit::{Calls, Failure, FakeReader, FakeWriter, Pace, bytes_of, holds, same, thirds};
 use test_kit_allocator::Refusing;
-use uca_runs::RunFault;
+use uca_run_parts::RunFault;
 use uca_weights::{Sink, Source};
 
 /// A run, the files and the other places where its allocations fail, and what it writes if none fails.

@@ -165,7 +165,7 @@ impl<'a> Check for Keys<'a> {
 }
 
 /// Cases of texts over both lookups of a table file.
-pub fn check_texts(
+fn check_texts(
     alloc: Global,
     depth: Depth,
     table: &str,

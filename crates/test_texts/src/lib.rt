@@ -17,15 +17,11 @@ mod key_maps;
 #[cfg(test)]
 mod keys;
 #[cfg(test)]
-mod long_texts;
-#[cfg(test)]
 mod lookups;
 #[cfg(test)]
 mod samples;
 #[cfg(test)]
 mod stored_keys;
-#[cfg(test)]
-mod sweeps;
 #[cfg(test)]
 mod texts;
 #[cfg(test)]

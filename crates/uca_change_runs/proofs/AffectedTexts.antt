@@ -9,7 +9,7 @@ use Rattle.uca_weights.proofs.Tests.{by_cases}
 use Rattle.uca_values.specs.Ranges.{is_within}
 use Rattle.uca_text.specs.Occurring.{OccursInOrder}
 use Rattle.uca_change_files.specs.Changes.{ChangeContent}
-use Rattle.uca_runs.specs.AffectedRun.{occurs_in_order}
+use Rattle.uca_run_parts.specs.AffectedRun.{occurs_in_order}
 use Rattle.uca_change_runs.specs.AffectedRun.{is_affected_by, AffectedByChangesAreTheOthers}
 
 -- the test finds what occurs in order

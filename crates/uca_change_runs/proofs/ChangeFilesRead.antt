@@ -3,11 +3,11 @@ use Rattle.std.specs.Prelude.{MatchResult}
 use Rattle.std.proofs.Common.{◌≡◌, ◌∙◌, ◌||◌, Bool, Ok, Err, Result, List, ap, subst, sym}
 use Rattle.uca_weights.specs.Streams.{SourceState, SinkState}
 use Rattle.uca_changes.specs.Changes.{Change, IsAcceptedChange}
-use Rattle.uca_runs.specs.declared.faults.RunFault.{RunFault}
-use Rattle.uca_runs.specs.ReadFiles.{ReadsFiles}
-use Rattle.uca_runs.specs.Runs.{ended_by_output}
-use Rattle.uca_runs.proofs.FilesLemmas.{ended_by_files, failed_by_files, failed_by_no_file, runs_over_all}
-use Rattle.uca_runs.proofs.Running.{as_before, file_before, no_write_before}
+use Rattle.uca_run_parts.specs.declared.faults.RunFault.{RunFault}
+use Rattle.uca_run_parts.specs.ReadFiles.{ReadsFiles}
+use Rattle.uca_run_parts.specs.Runs.{ended_by_output}
+use Rattle.uca_run_parts.proofs.FilesLemmas.{ended_by_files, failed_by_files, failed_by_no_file, runs_over_all}
+use Rattle.uca_run_parts.proofs.Running.{as_before, file_before, no_write_before}
 use Rattle.uca_change_runs.specs.ChangeFiles.{change_files, change_roles}
 use Rattle.uca_change_runs.specs.AuditRun.{AuditsChanges, RunsAudit}
 use Rattle.uca_change_runs.proofs.ChangeVerdicts.{accepts_accepted, no_file_of_audit, nothing_before}

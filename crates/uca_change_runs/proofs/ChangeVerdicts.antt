@@ -4,10 +4,10 @@ use Rattle.std.proofs.Common.{refl, subst, sym, true≢false}
 use Rattle.uca_weights.specs.Streams.{SinkState}
 use Rattle.uca_changes.specs.Changes.{Change, IsAcceptedChange}
 use Rattle.uca_change_audit.proofs.NotAccepted.{refused_not_accepted}
-use Rattle.uca_runs.specs.declared.faults.RunFault.{RunFault}
-use Rattle.uca_runs.specs.declared.faults.RunFault.TheVariants.{File, Memory, Write}
-use Rattle.uca_runs.specs.Files.{ended_by_file}
-use Rattle.uca_runs.specs.Runs.{FailsToWrite, ended_before_output}
+use Rattle.uca_run_parts.specs.declared.faults.RunFault.{RunFault}
+use Rattle.uca_run_parts.specs.declared.faults.RunFault.TheVariants.{File, Memory, Write}
+use Rattle.uca_run_parts.specs.Files.{ended_by_file}
+use Rattle.uca_run_parts.specs.Runs.{FailsToWrite, ended_before_output}
 use Rattle.uca_change_runs.specs.AuditRun.{AcceptsOrStops, IsVerdict, RunsAudit}
 
 -- the verdict on an accepted change is `true`

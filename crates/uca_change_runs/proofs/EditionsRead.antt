@@ -5,12 +5,12 @@ use Rattle.uca_weights.specs.Streams.{SourceState}
 use Rattle.uca_changes.specs.declared.faults.ChangeFault.{ChangeFault}
 use Rattle.uca_changes.specs.declared.faults.ChangeFault.TheVariants as change_faults
 use Rattle.uca_change_maker.specs.declared.found.FoundChanges.{FoundChanges}
-use Rattle.uca_runs.specs.declared.faults.RunFault.{RunFault}
-use Rattle.uca_runs.specs.declared.faults.RunFault.TheVariants.{File}
-use Rattle.uca_runs.specs.ChangeFaults.{refused_changes}
-use Rattle.uca_runs.specs.Files.{IsStop, ended_by_file}
-use Rattle.uca_runs.specs.ReadFiles.{ReadsFiles}
-use Rattle.uca_runs.proofs.FilesLemmas.{ended_by_files, failed_by_files, failed_by_no_file, runs_over_all}
+use Rattle.uca_run_parts.specs.declared.faults.RunFault.{RunFault}
+use Rattle.uca_run_parts.specs.declared.faults.RunFault.TheVariants.{File}
+use Rattle.uca_run_parts.specs.ChangeFaults.{refused_changes}
+use Rattle.uca_run_parts.specs.Files.{IsStop, ended_by_file}
+use Rattle.uca_run_parts.specs.ReadFiles.{ReadsFiles}
+use Rattle.uca_run_parts.proofs.FilesLemmas.{ended_by_files, failed_by_files, failed_by_no_file, runs_over_all}
 use Rattle.uca_change_runs.specs.ChangeFiles.{EditionsContent, editions_files, editions_roles}
 use Rattle.uca_change_runs.specs.ChangesRun.{FindsChanges, FindsOrStops, IsNotFound, RunsChanges}
 

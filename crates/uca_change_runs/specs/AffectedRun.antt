@@ -5,10 +5,10 @@ use Rattle.uca_weights.specs.Streams.{SourceState, SinkState}
 use Rattle.uca_values.specs.Ranges.{is_within}
 use Rattle.uca_change_files.specs.Changes.{ChangeContent}
 use Rattle.uca_changes.specs.Changes.{Change, IsUnaffected}
-use Rattle.uca_runs.specs.declared.faults.RunFault.{RunFault}
-use Rattle.uca_runs.specs.declared.faults.RunFault.TheVariants.{Memory}
-use Rattle.uca_runs.specs.AffectedRun.{occurs_in_order, line_if}
-use Rattle.uca_runs.specs.EachLine.{RunsEach, PrintsEach}
+use Rattle.uca_run_parts.specs.declared.faults.RunFault.{RunFault}
+use Rattle.uca_run_parts.specs.declared.faults.RunFault.TheVariants.{Memory}
+use Rattle.uca_run_parts.specs.AffectedRun.{occurs_in_order, line_if}
+use Rattle.uca_run_parts.specs.EachLine.{RunsEach, PrintsEach}
 use Rattle.uca_change_runs.specs.ChangeFiles.{DataAndChanges, data_and_changes, data_and_changes_roles}
 
 -- whether a changed text occurs in order in a text, or a changed range has one of its code points

@@ -5,12 +5,12 @@ use Rattle.uca_changes.specs.Changes.{Change, IsAcceptedChange}
 use Rattle.uca_changes.specs.declared.faults.ChangeFault.{ChangeFault}
 use Rattle.uca_change_audit.specs.ChangeInputs.{MeansUnaffectedTextsStay}
 use Rattle.uca_change_audit.specs.ChangeRefusals.{IsFirstRefusal}
-use Rattle.uca_runs.specs.declared.faults.RunFault.{RunFault}
-use Rattle.uca_runs.specs.declared.faults.RunFault.TheVariants.{Memory}
-use Rattle.uca_runs.specs.ChangeFaultText.{change_verdict_text}
-use Rattle.uca_runs.specs.Files.{HaveFailed, IsStop, Mean, Over}
-use Rattle.uca_runs.specs.Runs.{ended_before_output, ended_by_output}
-use Rattle.uca_runs.specs.Verdicts.{WritesVerdict}
+use Rattle.uca_run_parts.specs.declared.faults.RunFault.{RunFault}
+use Rattle.uca_run_parts.specs.declared.faults.RunFault.TheVariants.{Memory}
+use Rattle.uca_run_parts.specs.ChangeFaultText.{change_verdict_text}
+use Rattle.uca_run_parts.specs.Files.{HaveFailed, IsStop, Mean, Over}
+use Rattle.uca_run_parts.specs.Runs.{ended_before_output, ended_by_output}
+use Rattle.uca_run_parts.specs.Verdicts.{WritesVerdict}
 use Rattle.uca_change_runs.specs.ChangeFiles.{change_files, change_roles}
 
 -- the change is accepted, or the run stopped

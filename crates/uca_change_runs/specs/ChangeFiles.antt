@@ -6,9 +6,9 @@ use Rattle.uca_tailorings.specs.Inputs.{maps_of}
 use Rattle.uca_change_files.specs.Changes.{ChangeContent}
 use Rattle.uca_change_files.specs.ChangeTexts as changes
 use Rattle.uca_changes.specs.Changes.{Change}
-use Rattle.uca_runs.specs.declared.faults.Role.{Role}
-use Rattle.uca_runs.specs.declared.faults.Role.TheVariants as roles
-use Rattle.uca_runs.specs.Files.{OfLines, Reading, TableAndData, Done, Then, table_with, then_certificate, then_data, then_table}
+use Rattle.uca_run_parts.specs.declared.faults.Role.{Role}
+use Rattle.uca_run_parts.specs.declared.faults.Role.TheVariants as roles
+use Rattle.uca_run_parts.specs.Files.{OfLines, Reading, TableAndData, Done, Then, table_with, then_certificate, then_data, then_table}
 
 -- ---- A file of changes
 

@@ -8,9 +8,9 @@ use Rattle.uca_changes.specs.declared.faults.ChangeFault.{ChangeFault}
 use Rattle.uca_change_audit.specs.ChangeInputs.{MeansUnaffectedTextsStay}
 use Rattle.uca_change_audit.specs.ChangeRefusals.{IsFirstRefusal}
 use Rattle.uca_change_maker.specs.declared.found.FoundChanges.{FoundChanges}
-use Rattle.uca_runs.specs.declared.faults.RunFault.{RunFault}
-use Rattle.uca_runs.specs.declared.faults.RunFault.TheVariants.{Changes, File, Memory}
-use Rattle.uca_runs.specs.Files.{HaveFailed, IsFileStop, Mean, Over}
+use Rattle.uca_run_parts.specs.declared.faults.RunFault.{RunFault}
+use Rattle.uca_run_parts.specs.declared.faults.RunFault.TheVariants.{Changes, File, Memory}
+use Rattle.uca_run_parts.specs.Files.{HaveFailed, IsFileStop, Mean, Over}
 use Rattle.uca_change_runs.specs.ChangeFiles.{EditionsContent, change_between, editions_files, editions_roles}
 
 -- an audit accepts the list and the certificate as what changes from the old edition to the new one, with all that this means

@@ -5,9 +5,9 @@ use Rattle.uca_certificates.specs.Certificates.{CertificateContent}
 use Rattle.uca_change_files.specs.Changes.{ChangeContent}
 use Rattle.uca_change_lists.specs.ChangeLists.{ChangesContent}
 use Rattle.uca_changes.specs.Changes.{Change}
-use Rattle.uca_runs.specs.declared.faults.Role.{Role}
-use Rattle.uca_runs.specs.declared.faults.Role.TheVariants as roles
-use Rattle.uca_runs.specs.Files.{Reading, TableAndData, Done, table_with, then_certificate, then_data, then_table}
+use Rattle.uca_run_parts.specs.declared.faults.Role.{Role}
+use Rattle.uca_run_parts.specs.declared.faults.Role.TheVariants as roles
+use Rattle.uca_run_parts.specs.Files.{Reading, TableAndData, Done, table_with, then_certificate, then_data, then_table}
 use Rattle.uca_change_runs.specs.ChangeFiles.{EditionsContent, change_between, editions_with, then_changes}
 use Rattle.uca_change_runs.specs.declared.files.Edition.{Edition}
 use Rattle.uca_change_runs.specs.declared.files.EditionFiles.{EditionFiles}

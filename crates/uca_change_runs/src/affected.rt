@@ -2,9 +2,9 @@
 
 ghost use Rattle.std.specs.Prelude.{◌≡◌, ◌∷◌, [], true, IfErr, MatchResult};
 ghost use Rattle.uca_values.specs.Content.{properties_of};
-ghost use Rattle.uca_runs.specs.EachLine.{ended_before_input};
-ghost use Rattle.uca_runs.specs.Files.{HaveFailed, Over};
-ghost use Rattle.uca_runs.specs.ReadFiles.{ReadsFiles};
+ghost use Rattle.uca_run_parts.specs.EachLine.{ended_before_input};
+ghost use Rattle.uca_run_parts.specs.Files.{HaveFailed, Over};
+ghost use Rattle.uca_run_parts.specs.ReadFiles.{ReadsFiles};
 ghost use Rattle.uca_change_runs.specs.ChangeFiles.{changes_with, data_and_changes, data_and_changes_roles};
 ghost use Rattle.uca_change_runs.specs.AffectedRun.{AffectedByChangesAreTheOthers, PrintsAffectedByChanges};
 
@@ -13,7 +13,7 @@ use crate::index::ChangeIndex;
 use std::alloc::{Allocator, Global};
 use std::io::{Read, Write};
 use uca_change_files::ChangeList;
-use uca_runs::{Role, RunFault, print_affected, read_data_file};
+use uca_run_parts::{Role, RunFault, print_affected, read_data_file};
 use uca_values::Data;
 use uca_weights::{Sink, Source};
 

@@ -4,8 +4,8 @@ ghost use Rattle.std.specs.Prelude.{◌≡◌, ◌⊎◌, ◌||◌, ◌∷◌, [
 ghost use Rattle.uca_changes.specs.Changes.{Change, IsAcceptedChange};
 ghost use Rattle.uca_change_audit.specs.ChangeInputs.{MeansUnaffectedTextsStay};
 ghost use Rattle.uca_change_audit.specs.ChangeRefusals.{IsFirstRefusal};
-ghost use Rattle.uca_runs.specs.Runs.{ended_by_output};
-ghost use Rattle.uca_runs.specs.Verdicts.{WritesVerdict};
+ghost use Rattle.uca_run_parts.specs.Runs.{ended_by_output};
+ghost use Rattle.uca_run_parts.specs.Verdicts.{WritesVerdict};
 ghost use Rattle.uca_change_runs.specs.ReadChanges.{change_by, change_of};
 ghost use Rattle.uca_change_runs.specs.AuditRun.{AuditsChanges, IsVerdict, RunsAudit};
 
@@ -15,9 +15,9 @@ use std::io::{Read, Write};
 use uca_change_audit::{ChangeFault, ChangeInputs, audit_change};
 use uca_change_lists::Changes;
 use uca_change_maker::changes_of;
-use uca_runs::RunFault;
-use uca_runs::change_faults::change_verdict;
-use uca_runs::output::write_text;
+use uca_run_parts::RunFault;
+use uca_run_parts::change_faults::change_verdict;
+use uca_run_parts::output::write_text;
 use uca_weights::{Sink, Source};
 
 /// Audits a change: whether texts that it does not affect compare by the new table and data file as by the old ones. Their

@@ -8,7 +8,7 @@ use crate::files::{EditionFiles, read_editions};
 use std::alloc::{Allocator, Global};
 use std::io::Read;
 use uca_change_maker::{Editions, FoundChanges, find_changes};
-use uca_runs::RunFault;
+use uca_run_parts::RunFault;
 use uca_weights::Source;
 
 /// Finds what changes from an old table and its data file to new ones: texts, ranges of code points, and the images of the old

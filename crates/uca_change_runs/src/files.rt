@@ -1,8 +1,8 @@
 //! The files of changes: two editions, each of them a table and its data file, and then a file of changes and a certificate.
 
 ghost use Rattle.std.specs.Prelude.{◌≡◌, ◌∷◌, [], false};
-ghost use Rattle.uca_runs.specs.Files.{is_role};
-ghost use Rattle.uca_runs.specs.ReadFiles.{ReadsFiles};
+ghost use Rattle.uca_run_parts.specs.Files.{is_role};
+ghost use Rattle.uca_run_parts.specs.ReadFiles.{ReadsFiles};
 ghost use Rattle.uca_change_runs.specs.ChangeFiles.{change_files, change_roles, editions_files, editions_roles};
 ghost use Rattle.uca_change_runs.specs.ReadChanges.{change_of, changes_file, edition_files, edition_of, editions_of, listed_files, listed_of, listed_roles};
 
@@ -10,7 +10,7 @@ use std::alloc::{Allocator, Global};
 use std::io::Read;
 use uca_certificates::Certificate;
 use uca_change_files::{ChangeList, read_changes};
-use uca_runs::{FileFault, Role, RunFault, read_certificate_file, read_data_file, read_table_file};
+use uca_run_parts::{FileFault, Role, RunFault, read_certificate_file, read_data_file, read_table_file};
 use uca_values::{Data, Table};
 use uca_weights::Source;
 

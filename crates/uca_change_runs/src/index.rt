@@ -9,7 +9,7 @@ use crate::searches::{is_among, is_held, one_occurs};
 use std::alloc::{AllocError, Allocator, Global};
 use std::marker::Model;
 use uca_change_files::ChangeList;
-use uca_runs::Affects;
+use uca_run_parts::Affects;
 use uca_text::Normal;
 
 /// A list of changes, ready to be looked up in texts. It has a mark for each code point that lies in a changed range or

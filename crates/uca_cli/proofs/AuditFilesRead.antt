@@ -3,11 +3,11 @@ use Rattle.std.specs.Prelude.{⊤, MatchResult, is_err}
 use Rattle.std.proofs.Common.{◌≡◌, ◌∙◌, Bool, true, Ok, Err, Result, List, ap, subst, sym}
 use Rattle.uca_weights.specs.Streams.{SourceState, SinkState}
 use Rattle.uca_tailorings.specs.Tailorings.{Tailoring, IsAccepted}
-use Rattle.uca_runs.specs.declared.faults.RunFault.{RunFault}
-use Rattle.uca_runs.specs.Files.{HaveFailed, Over, audit_files, audit_roles, ended_by_file}
-use Rattle.uca_runs.specs.ReadFiles.{IsRead, ReadsOnly}
-use Rattle.uca_runs.proofs.FilesLemmas.{ended_by_files, failed_by_files, failed_by_no_file, runs_over_all}
-use Rattle.uca_runs.proofs.Running.{as_before, file_before, no_write_before}
+use Rattle.uca_run_parts.specs.declared.faults.RunFault.{RunFault}
+use Rattle.uca_run_parts.specs.Files.{HaveFailed, Over, audit_files, audit_roles, ended_by_file}
+use Rattle.uca_run_parts.specs.ReadFiles.{IsRead, ReadsOnly}
+use Rattle.uca_run_parts.proofs.FilesLemmas.{ended_by_files, failed_by_files, failed_by_no_file, runs_over_all}
+use Rattle.uca_run_parts.proofs.Running.{as_before, file_before, no_write_before}
 use Rattle.uca_cli.specs.AuditRun.{AnswersAudit, Audits, RunsAudit}
 
 -- What was read of the files is T, whose tailoring is given by a function of it.

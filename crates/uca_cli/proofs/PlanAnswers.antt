@@ -8,9 +8,9 @@ use Rattle.uca_plans.specs.declared.faults.TailorKind.{TailorKind}
 use Rattle.uca_plans.specs.declared.faults.TailorKind.TheVariants as kinds
 use Rattle.uca_plans.specs.Plans.{Plan}
 use Rattle.uca_plans.specs.Tailors.{plan_in, certificate_of, IsPlanOf, IsRefusedBy, CauseOf, TailorRefuses}
-use Rattle.uca_runs.specs.Files.{IsStop, ended_by_file, tailor_content}
+use Rattle.uca_run_parts.specs.Files.{IsStop, ended_by_file, tailor_content}
 use Rattle.uca_cli.specs.TailorRun.{RunsTailor}
-use Rattle.uca_runs.specs.PlanFaults.{refused_plan}
+use Rattle.uca_run_parts.specs.PlanFaults.{refused_plan}
 
 -- an error from its parts
 abbrev fault_by : TailorKind → ℕ → TailorFault

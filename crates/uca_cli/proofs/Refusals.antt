@@ -7,10 +7,10 @@ use Rattle.uca_tailorings.specs.Tailorings.{Tailoring, IsAccepted}
 use Rattle.uca_audit.specs.declared.faults.AuditFault.{AuditFault}
 use Rattle.uca_audit.specs.Refusals.{IsFirstRefusal, IsMemory}
 use Rattle.uca_audit.proofs.NotAccepted.{refused_not_accepted}
-use Rattle.uca_runs.specs.declared.faults.RunFault.{RunFault}
-use Rattle.uca_runs.specs.declared.faults.RunFault.TheVariants.{Memory, Write}
-use Rattle.uca_runs.specs.Runs.{FailsToWrite, ended_by_output}
-use Rattle.uca_runs.proofs.Running.{as_before}
+use Rattle.uca_run_parts.specs.declared.faults.RunFault.{RunFault}
+use Rattle.uca_run_parts.specs.declared.faults.RunFault.TheVariants.{Memory, Write}
+use Rattle.uca_run_parts.specs.Runs.{FailsToWrite, ended_by_output}
+use Rattle.uca_run_parts.proofs.Running.{as_before}
 use Rattle.uca_cli.specs.AuditRun.{AnswersAudit, IsVerdict}
 
 -- an error on an accepted tailoring is that an allocation failed

@@ -6,11 +6,11 @@ use Rattle.uca_tailorings.specs.Meaning.{IsFaithful}
 use Rattle.uca_audit.specs.declared.faults.AuditFault.{AuditFault}
 use Rattle.uca_audit.specs.Refusals.{IsFirstRefusal}
 use Rattle.uca_audit.specs.FaultText.{audit_fault_text}
-use Rattle.uca_runs.specs.declared.faults.RunFault.{RunFault}
-use Rattle.uca_runs.specs.declared.faults.RunFault.TheVariants.{Memory}
-use Rattle.uca_runs.specs.Files.{HaveFailed, IsStop, Mean, Over, audit_files, audit_roles, ended_by_file}
-use Rattle.uca_runs.specs.Runs.{ended_before_output, ended_by_output}
-use Rattle.uca_runs.specs.Verdicts.{WritesVerdict}
+use Rattle.uca_run_parts.specs.declared.faults.RunFault.{RunFault}
+use Rattle.uca_run_parts.specs.declared.faults.RunFault.TheVariants.{Memory}
+use Rattle.uca_run_parts.specs.Files.{HaveFailed, IsStop, Mean, Over, audit_files, audit_roles, ended_by_file}
+use Rattle.uca_run_parts.specs.Runs.{ended_before_output, ended_by_output}
+use Rattle.uca_run_parts.specs.Verdicts.{WritesVerdict}
 
 -- the tailoring is accepted, or the run stopped
 abbrev pub AcceptsOrStops : Result Bool RunFault → Type 0

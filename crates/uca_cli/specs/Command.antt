@@ -18,14 +18,14 @@ use Rattle.uca_words.specs.declared.Words.{Words as WordsType}
 use Rattle.uca_words.specs.declared.Words.TheVariants.{Check, Keys, Sort, Compare, Tailor, Audit, Affected, Changes, AuditChanges, Rekey}
 use Rattle.uca_words.specs.Words.{AreRead, IsFaultOf}
 use Rattle.uca_words.specs.declared.WordFault.{WordFault}
-use Rattle.uca_runs.specs.declared.faults.Role.{Role}
-use Rattle.uca_runs.specs.declared.faults.Role.TheVariants as roles
-use Rattle.uca_runs.specs.declared.faults.RunFault.{RunFault}
-use Rattle.uca_runs.specs.declared.faults.RunFault.TheVariants.{CertificateWrite, Memory, Open, SameAs, Words, Write}
-use Rattle.uca_runs.specs.CheckRun.{Checks}
+use Rattle.uca_run_parts.specs.declared.faults.Role.{Role}
+use Rattle.uca_run_parts.specs.declared.faults.Role.TheVariants as roles
+use Rattle.uca_run_parts.specs.declared.faults.RunFault.{RunFault}
+use Rattle.uca_run_parts.specs.declared.faults.RunFault.TheVariants.{CertificateWrite, Memory, Open, SameAs, Words, Write}
+use Rattle.uca_run_parts.specs.CheckRun.{Checks}
 use Rattle.uca_runs.specs.CompareRun.{Compares, Comparing, comparing}
 use Rattle.uca_runs.specs.KeysRun.{PrintsKeys, PrintsKeyedLines}
-use Rattle.uca_runs.specs.AffectedRun.{PrintsAffected}
+use Rattle.uca_run_parts.specs.AffectedRun.{PrintsAffected}
 use Rattle.uca_runs.specs.SortRun.{SortsLines}
 use Rattle.uca_change_runs.specs.ChangesRun.{FindsChanges}
 use Rattle.uca_change_runs.specs.AuditRun.{AuditsChanges}

@@ -11,14 +11,14 @@ use Rattle.uca_certificates.specs.declared.faults.CertificateFaultKind.{Certific
 use Rattle.uca_certificates.specs.declared.faults.CertificateFaultKind.TheVariants as certificate_kinds
 use Rattle.uca_text.specs.declared.normalize.TextFault.{TextFault}
 use Rattle.uca_text.specs.declared.normalize.TextFault.TheVariants as text_fault
-use Rattle.uca_runs.specs.declared.faults.InputKind.{InputKind}
-use Rattle.uca_runs.specs.declared.faults.InputKind.TheVariants as input_kind
-use Rattle.uca_runs.specs.declared.faults.StoredKeyKind.{StoredKeyKind}
-use Rattle.uca_runs.specs.declared.faults.StoredKeyKind.TheVariants as stored_key
-use Rattle.uca_runs.specs.declared.faults.FileFault.{FileFault}
-use Rattle.uca_runs.specs.declared.faults.FileFault.TheVariants.{Lines, Rules, RulesRead, RulesMemory, Certificate}
-use Rattle.uca_runs.specs.declared.faults.RunFault.{RunFault}
-use Rattle.uca_runs.specs.declared.faults.RunFault.TheVariants.{File, Input, StoredKey, Write, Memory, Text, Tailor, Changes, CertificateWrite, Open, SameAs, Words}
+use Rattle.uca_run_parts.specs.declared.faults.InputKind.{InputKind}
+use Rattle.uca_run_parts.specs.declared.faults.InputKind.TheVariants as input_kind
+use Rattle.uca_run_parts.specs.declared.faults.StoredKeyKind.{StoredKeyKind}
+use Rattle.uca_run_parts.specs.declared.faults.StoredKeyKind.TheVariants as stored_key
+use Rattle.uca_run_parts.specs.declared.faults.FileFault.{FileFault}
+use Rattle.uca_run_parts.specs.declared.faults.FileFault.TheVariants.{Lines, Rules, RulesRead, RulesMemory, Certificate}
+use Rattle.uca_run_parts.specs.declared.faults.RunFault.{RunFault}
+use Rattle.uca_run_parts.specs.declared.faults.RunFault.TheVariants.{File, Input, StoredKey, Write, Memory, Text, Tailor, Changes, CertificateWrite, Open, SameAs, Words}
 use Rattle.uca_changes.specs.declared.faults.ChangeFault.{ChangeFault}
 use Rattle.uca_changes.specs.declared.faults.ChangeFault.TheVariants as change_faults
 use Rattle.uca_plans.specs.declared.faults.TailorKind.{TailorKind}

@@ -13,9 +13,9 @@ use Rattle.uca_tailorings.specs.Meaning.{IsFaithful}
 use Rattle.uca_tailorings.specs.Inputs.{tailoring_of}
 use Rattle.uca_plans.specs.declared.faults.TailorKind.TheVariants as kinds
 use Rattle.uca_plans.specs.Tailors.{IsPlanOf, TailorRefuses}
-use Rattle.uca_runs.specs.declared.faults.RunFault.{RunFault}
-use Rattle.uca_runs.specs.declared.faults.RunFault.TheVariants.{Tailor, CertificateWrite, Memory, Write}
-use Rattle.uca_runs.specs.Files.{HaveFailed, IsStop, Mean, Over, TailorContent, tailor_files, tailor_roles}
+use Rattle.uca_run_parts.specs.declared.faults.RunFault.{RunFault}
+use Rattle.uca_run_parts.specs.declared.faults.RunFault.TheVariants.{Tailor, CertificateWrite, Memory, Write}
+use Rattle.uca_run_parts.specs.Files.{HaveFailed, IsStop, Mean, Over, TailorContent, tailor_files, tailor_roles}
 
 -- ---- The result
 

@@ -9,9 +9,9 @@ ghost use Rattle.uca_cli.specs.AuditRun.{AnswersAudit, Audits, IsVerdict};
 use std::alloc::{Allocator, Global};
 use std::io::{Read, Write};
 use uca_audit::audit;
-use uca_runs::audit_files::{AuditFiles, read_audit_files};
-use uca_runs::faults::RunFault;
-use uca_runs::output::write_text;
+use uca_run_parts::audit_files::{AuditFiles, read_audit_files};
+use uca_run_parts::faults::RunFault;
+use uca_run_parts::output::write_text;
 use uca_weights::{Sink, Source};
 
 /// The number that an audit gives to an allocation that failed.

@@ -12,7 +12,7 @@ use std::io::{Read, Write};
 use uca_change_maker::FoundChanges;
 use uca_change_runs::{run_audit_changes, run_changes};
 use uca_rekey::run_rekey;
-use uca_runs::faults::{Role, RunFault};
+use uca_run_parts::faults::{Role, RunFault};
 use uca_weights::{Depth, Sink, Source, Weighting};
 
 /// `changes`.

@@ -12,7 +12,7 @@ use crate::reporting::DONE;
 use std::io::Write;
 use uca_certificates::{Certificate, write_certificate};
 use uca_change_files::{ChangeList, write_changes};
-use uca_runs::faults::{Role, RunFault};
+use uca_run_parts::faults::{Role, RunFault};
 use uca_table::write_table;
 use uca_values::Table;
 use uca_weights::{Sink, WriteFault};

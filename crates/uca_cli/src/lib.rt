@@ -19,12 +19,15 @@ pub use uca_change_runs::{
     run_audit_changes, run_audit_changes_in, run_changes, run_changes_in,
 };
 pub use uca_rekey::{lines_move_with_keys, run_rekey, run_rekey_in};
+pub use uca_run_parts::{
+    Affects, FileFault, InputKind, Role, RunFault, StoredKeyKind, print_affected, run_affected,
+    run_affected_in, run_check,
+};
 pub use uca_runs::{
-    Affects, FileFault, InputKind, Role, RunFault, StoredKeyKind, affected_texts_are_the_others,
-    canonically_equivalent_lines_have_one_key_line, compare_words,
+    affected_texts_are_the_others, canonically_equivalent_lines_have_one_key_line, compare_words,
     identical_line_keys_are_of_equivalent_lines, key_order_is_one, line_keys_compare_as_lines,
-    print_affected, print_keyed_lines, print_keys, run_affected, run_affected_in, run_check,
-    run_compare, run_compare_in, run_keyed_lines, run_keyed_lines_in, run_keys, run_keys_in,
-    run_sort, run_sort_in, sort_lines, untouched_lines_keep_their_order,
+    print_keyed_lines, print_keys, run_compare, run_compare_in, run_keyed_lines,
+    run_keyed_lines_in, run_keys, run_keys_in, run_sort, run_sort_in, sort_lines,
+    untouched_lines_keep_their_order,
 };
 pub use uca_words::{WordFault, Words, read_words};

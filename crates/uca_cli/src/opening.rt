@@ -6,7 +6,7 @@ ghost use Rattle.uca_cli.specs.EditionNames.{change_files_of, edition_files_of};
 
 use crate::command::Opens;
 use std::io::Read;
-use uca_runs::faults::Role;
+use uca_run_parts::faults::Role;
 use uca_weights::Source;
 
 /// The source of a file, or its role if it does not open.

@@ -1,7 +1,7 @@
 //! What an error writes on standard error, and the status that the program ends with.
 
 ghost use Rattle.std.specs.Prelude.{◌≡◌, ◌++◌, ◌∷◌, []};
-ghost use Rattle.uca_runs.specs.FaultText.{fault_text};
+ghost use Rattle.uca_run_parts.specs.FaultText.{fault_text};
 ghost use Rattle.uca_cli.specs.Command.{check_result, done_result};
 ghost use Rattle.uca_cli.specs.Reports.{GoesOut, ReportsRefusal, ReportsWords, Reports};
 ghost use Rattle.uca_cli.specs.Statuses.{line_status, rule_status, certificate_status, file_status, input_status, stored_key_status, text_status, tailor_status, change_status, is_asked_for, IsWordStatus, IsStatus};
@@ -15,7 +15,7 @@ use uca_certificates::CertificateFaultKind;
 use uca_changes::ChangeFault;
 use uca_plans::TailorKind;
 use uca_rules::RuleFaultKind;
-use uca_runs::faults::{FileFault, InputKind, RunFault, StoredKeyKind};
+use uca_run_parts::faults::{FileFault, InputKind, RunFault, StoredKeyKind};
 use uca_text::TextFault;
 use uca_values::FaultKind;
 use uca_weights::Sink;

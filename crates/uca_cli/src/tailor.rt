@@ -1,14 +1,14 @@
 //! The run that tailors a table, and the writing of what it returns.
 
 ghost use Rattle.std.specs.Prelude.{◌≡◌, ◌||◌, ◌∷◌, []};
-ghost use Rattle.uca_runs.specs.Runs.{ended_by_output};
+ghost use Rattle.uca_run_parts.specs.Runs.{ended_by_output};
 ghost use Rattle.uca_cli.specs.TailorRun.{TailorsFiles, WritesTailored, is_certificate_write};
 
 use std::alloc::{Allocator, Global};
 use std::io::{Read, Write};
 use uca_certificates::{Certificate, write_certificate};
-use uca_runs::faults::RunFault;
-use uca_runs::tailor_files::read_tailor_files;
+use uca_run_parts::faults::RunFault;
+use uca_run_parts::tailor_files::read_tailor_files;
 use uca_table::write_table;
 use uca_tailor::tailor;
 use uca_values::Table;

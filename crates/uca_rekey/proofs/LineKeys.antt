@@ -7,7 +7,7 @@ use Rattle.std.proofs.lemmas.List.FromFn.{get_or-map-range_with_len}
 use Rattle.uca_lines.specs.Numbers.{hex_of}
 use Rattle.uca_lines.specs.DigitValues.{value_or_more, number_or_more}
 use Rattle.uca_lines.proofs.DigitValues.{hex_read, hex_not_read, hex-lt}
-use Rattle.uca_runs.specs.Print.{byte_digits}
+use Rattle.uca_run_parts.specs.Print.{byte_digits}
 use Rattle.uca_rekey.specs.declared.line.TheConstants.{VALUES}
 use Rattle.uca_rekey.specs.RekeyedLines.{digits_of, byte_before, bytes_of, key_in, with_digits}
 

@@ -6,10 +6,10 @@ use Rattle.std.specs.List.{flat_map, position_or_len}
 use Rattle.std.proofs.lemmas.Bool.{MatchBool-at_false}
 use Rattle.std.proofs.lemmas.Grind.{flat_map-append}
 use Rattle.uca_lines.specs.Lines.{is_lf, Lacks, ended, lines_of}
-use Rattle.uca_runs.specs.declared.faults.StoredKeyKind.{StoredKeyKind}
-use Rattle.uca_runs.specs.declared.faults.StoredKeyKind.TheVariants as kinds
-use Rattle.uca_runs.specs.LinesSoFar.{OnKnown}
-use Rattle.uca_runs.proofs.LineCuts.{first_line, lines_of-ended, lines_of-last}
+use Rattle.uca_run_parts.specs.declared.faults.StoredKeyKind.{StoredKeyKind}
+use Rattle.uca_run_parts.specs.declared.faults.StoredKeyKind.TheVariants as kinds
+use Rattle.uca_run_parts.specs.LinesSoFar.{OnKnown}
+use Rattle.uca_run_parts.proofs.LineCuts.{first_line, lines_of-ended, lines_of-last}
 use Rattle.uca_rekey.specs.RekeyRun.{Begins, HasCause, IsLineCause, IsLineFault}
 use Rattle.uca_rekey.specs.LinesInPlace.{FindsLine, IsAfter}
 

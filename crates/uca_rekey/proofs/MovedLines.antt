@@ -17,7 +17,7 @@ use Rattle.uca_order.specs.Levels.{key_bytes, level_count, weight_bytes}
 use Rattle.uca_order.specs.Depths.{ReadText, key_at, point_bytes, points_bytes}
 use Rattle.uca_tailorings.specs.Images.{Maps}
 use Rattle.uca_tailorings.specs.Moves.{KeyMoves, level_images, moved_from, moved_key, weight_before}
-use Rattle.uca_runs.specs.Print.{byte_digits, groups, keyed_line_of, print_line_at, printed_behind, printed_groups, spaced_point}
+use Rattle.uca_run_parts.specs.Print.{byte_digits, groups, keyed_line_of, print_line_at, printed_behind, printed_groups, spaced_point}
 use Rattle.uca_rekey.specs.Laws.{AreBytes, LinesMoveWithKeys}
 use Rattle.uca_rekey.specs.RekeyedLines.{byte_before, bytes_of, digits_of, rekeyed, with_digits, with_key}
 use Rattle.uca_rekey.proofs.LineKeys.{with_no_digits}

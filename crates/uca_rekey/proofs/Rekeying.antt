@@ -18,13 +18,13 @@ use Rattle.uca_lines.specs.OutputBuffer.{BufferState, IsBuffered}
 use Rattle.uca_lines.proofs.BufferedLemmas.{none_buffered}
 use Rattle.uca_certificates.specs.Certificates.{CertificateContent}
 use Rattle.uca_moved_keys.specs.Moving.{MoverState}
-use Rattle.uca_runs.specs.EachLine.{ended_before_input}
-use Rattle.uca_runs.specs.declared.faults.RunFault.{RunFault}
-use Rattle.uca_runs.specs.declared.faults.RunFault.TheVariants.{File, Memory, StoredKey, Write}
-use Rattle.uca_runs.specs.declared.faults.StoredKeyKind.{StoredKeyKind}
-use Rattle.uca_runs.specs.declared.faults.StoredKeyKind.TheVariants as kinds
-use Rattle.uca_runs.specs.Input.{is_stored_key_read}
-use Rattle.uca_runs.specs.LinesSoFar.{OnKnown}
+use Rattle.uca_run_parts.specs.EachLine.{ended_before_input}
+use Rattle.uca_run_parts.specs.declared.faults.RunFault.{RunFault}
+use Rattle.uca_run_parts.specs.declared.faults.RunFault.TheVariants.{File, Memory, StoredKey, Write}
+use Rattle.uca_run_parts.specs.declared.faults.StoredKeyKind.{StoredKeyKind}
+use Rattle.uca_run_parts.specs.declared.faults.StoredKeyKind.TheVariants as kinds
+use Rattle.uca_run_parts.specs.Input.{is_stored_key_read}
+use Rattle.uca_run_parts.specs.LinesSoFar.{OnKnown}
 use Rattle.uca_rekey.specs.RekeyedLines.{key_in, rekeyed_by, with_digits, with_key}
 use Rattle.uca_rekey.specs.RekeyRun.{AreRekeyed, HasCause, IsLineCause, IsLineFault, RunsRekey, WritesRekeyed}
 use Rattle.uca_rekey.specs.LinesInPlace.{LinesState, HasRead, IsAfter, left_of}

@@ -8,7 +8,7 @@ use Rattle.uca_order.specs.Levels.{key_bytes}
 use Rattle.uca_order.specs.Depths.{ReadText, key_at}
 use Rattle.uca_tailorings.specs.Images.{Maps}
 use Rattle.uca_tailorings.specs.Moves.{KeyMoves}
-use Rattle.uca_runs.specs.Print.{keyed_line_of, print_line_at}
+use Rattle.uca_run_parts.specs.Print.{keyed_line_of, print_line_at}
 use Rattle.uca_rekey.specs.RekeyedLines.{rekeyed}
 
 -- each is a number below 256

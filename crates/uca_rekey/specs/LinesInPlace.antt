@@ -7,10 +7,10 @@ use Rattle.uca_lines.specs.Lines.{is_lf, Lacks, ended, lines_of}
 use Rattle.uca_lines.specs.NextLine.{BeginsLonger, HasBytes}
 use Rattle.uca_lines.specs.declared.lines.NextLine.{NextLine}
 use Rattle.uca_lines.specs.declared.lines.NextLine.TheVariants.{Terminated, Unterminated, EndOfInput}
-use Rattle.uca_runs.specs.declared.faults.StoredKeyKind.{StoredKeyKind}
-use Rattle.uca_runs.specs.declared.faults.StoredKeyKind.TheVariants as kinds
-use Rattle.uca_runs.specs.Input.{is_stored_key_read}
-use Rattle.uca_runs.specs.LinesSoFar.{OnKnown}
+use Rattle.uca_run_parts.specs.declared.faults.StoredKeyKind.{StoredKeyKind}
+use Rattle.uca_run_parts.specs.declared.faults.StoredKeyKind.TheVariants as kinds
+use Rattle.uca_run_parts.specs.Input.{is_stored_key_read}
+use Rattle.uca_run_parts.specs.LinesSoFar.{OnKnown}
 use Rattle.uca_rekey.specs.RekeyRun.{IsLineFault}
 
 -- ---- Bytes

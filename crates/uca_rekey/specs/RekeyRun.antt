@@ -11,13 +11,13 @@ use Rattle.uca_lines.specs.Lines.{is_lf, Lacks, ended, lines_of}
 use Rattle.uca_certificates.specs.Certificates.{CertificateContent}
 use Rattle.uca_tailorings.specs.Inputs.{maps_of}
 use Rattle.uca_tailorings.specs.Moves.{moved_key}
-use Rattle.uca_runs.specs.declared.faults.Role.TheVariants as roles
-use Rattle.uca_runs.specs.declared.faults.RunFault.{RunFault}
-use Rattle.uca_runs.specs.declared.faults.RunFault.TheVariants.{StoredKey, Write, Memory}
-use Rattle.uca_runs.specs.declared.faults.StoredKeyKind.{StoredKeyKind}
-use Rattle.uca_runs.specs.declared.faults.StoredKeyKind.TheVariants as kinds
-use Rattle.uca_runs.specs.EachLine.{PrintsEach}
-use Rattle.uca_runs.specs.ReadFiles.{certificate_file}
+use Rattle.uca_run_parts.specs.declared.faults.Role.TheVariants as roles
+use Rattle.uca_run_parts.specs.declared.faults.RunFault.{RunFault}
+use Rattle.uca_run_parts.specs.declared.faults.RunFault.TheVariants.{StoredKey, Write, Memory}
+use Rattle.uca_run_parts.specs.declared.faults.StoredKeyKind.{StoredKeyKind}
+use Rattle.uca_run_parts.specs.declared.faults.StoredKeyKind.TheVariants as kinds
+use Rattle.uca_run_parts.specs.EachLine.{PrintsEach}
+use Rattle.uca_run_parts.specs.ReadFiles.{certificate_file}
 use Rattle.uca_rekey.specs.RekeyedLines.{key_in, rekeyed_by}
 
 -- ---- Lines that are rekeyed

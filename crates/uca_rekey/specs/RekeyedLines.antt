@@ -6,7 +6,7 @@ use Rattle.uca_weights.specs.declared.Weighting.{Weighting}
 use Rattle.uca_lines.specs.Numbers.{hex_of}
 use Rattle.uca_tailorings.specs.Images.{Maps}
 use Rattle.uca_tailorings.specs.Moves.{moved_key}
-use Rattle.uca_runs.specs.Print.{byte_digits}
+use Rattle.uca_run_parts.specs.Print.{byte_digits}
 
 -- ---- The key of a line
 

@@ -4,14 +4,14 @@ ghost use Rattle.std.specs.Prelude.{◌≡◌, ℕ, List, Option, [], ◌∷◌,
 ghost use Rattle.std.specs.List.{flat_map};
 ghost use Rattle.uca_lines.specs.Numbers.{hex_of, upper_digit};
 ghost use Rattle.uca_lines.specs.DigitValues.{value_or_more};
-ghost use Rattle.uca_runs.specs.Print.{byte_digits};
+ghost use Rattle.uca_run_parts.specs.Print.{byte_digits};
 ghost use Rattle.uca_rekey.specs.RekeyedLines.{digits_of, key_in, rekeyed_by, with_digits, with_key};
 ghost use Rattle.uca_rekey.specs.RekeyRun.{IsLineCause};
 ghost use Rattle.uca_rekey.specs.RekeySoFar.{moved_by};
 
 use std::alloc::Allocator;
 use uca_moved_keys::KeyMover;
-use uca_runs::StoredKeyKind;
+use uca_run_parts::StoredKeyKind;
 
 /// Puts the key of a line through the maps, in place. The bytes of the key need room, which is used again.
 ///

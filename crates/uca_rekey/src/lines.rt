@@ -17,7 +17,7 @@ use std::io::Read;
 use std::marker::Model;
 use uca_lines::NextLine;
 use uca_moved_keys::KeyMover;
-use uca_runs::StoredKeyKind;
+use uca_run_parts::StoredKeyKind;
 use uca_weights::Source;
 
 /// How many bytes the buffer has room for. It grows where a line is longer.

@@ -2,10 +2,10 @@
 
 ghost use Rattle.std.specs.Prelude.{◌≡◌, ◌∷◌, [], ℕ, ◌^◌, ◌≤◌, ◌||◌, true, false, List, Option, OnOk, IfErr, MatchResult};
 ghost use Rattle.uca_weights.specs.Streams.{SinkState};
-ghost use Rattle.uca_runs.specs.EachLine.{ended_before_input};
-ghost use Rattle.uca_runs.specs.Files.{HaveFailed, Over};
-ghost use Rattle.uca_runs.specs.ReadFiles.{certificate_file};
-ghost use Rattle.uca_runs.specs.Runs.{ended_by_output, is_input_read};
+ghost use Rattle.uca_run_parts.specs.EachLine.{ended_before_input};
+ghost use Rattle.uca_run_parts.specs.Files.{HaveFailed, Over};
+ghost use Rattle.uca_run_parts.specs.ReadFiles.{certificate_file};
+ghost use Rattle.uca_run_parts.specs.Runs.{ended_by_output, is_input_read};
 ghost use Rattle.uca_rekey.specs.RekeyRun.{RekeysLines};
 ghost use Rattle.uca_rekey.specs.RekeySoFar.{HasRekeyed, RekeysLine, RekeysRest, IsBegun, mover_of, moved_by};
 
@@ -15,7 +15,7 @@ use std::alloc::{Allocator, Global};
 use std::io::{Read, Write};
 use uca_certificates::Certificate;
 use uca_moved_keys::KeyMover;
-use uca_runs::{Role, RunFault, read_certificate_file};
+use uca_run_parts::{Role, RunFault, read_certificate_file};
 use uca_weights::{Depth, Sink, Source, Weighting};
 
 // The maps of the certificate, the lines of the input, and those that were written.
@@ -117,7 +117,7 @@ fn begin_by<A: Allocator + Copy>(
 /// weighting. The certificate is read first.
 ///
 /// A line begins with the upper-case hexadecimal digits of its key. They end before the first tab, or with the line, and there may be spaces
-/// among them. So a line may be one that [`run_keys`](uca_runs::run_keys) or [`run_keyed_lines`](uca_runs::run_keyed_lines) printed. It is
+/// among them. So a line may be one that `run_keys` or `run_keyed_lines` of the crate `uca_runs` printed. It is
 /// written with the digits of the new key in their place, and with LF; all else of it stays. Memory grows with the longest line
 /// alone.
 ///

@@ -2,16 +2,16 @@
 
 ghost use Rattle.std.specs.Prelude.{◌≡◌, ◌^◌, ◌≤◌, ◌||◌, [], ℕ, Bool, List, Option, IfSome, false, length};
 ghost use Rattle.uca_weights.specs.Streams.{SourceState};
-ghost use Rattle.uca_runs.specs.EachLine.{ended_before_input};
-ghost use Rattle.uca_runs.specs.Runs.{ended_by_output, is_input_read};
+ghost use Rattle.uca_run_parts.specs.EachLine.{ended_before_input};
+ghost use Rattle.uca_run_parts.specs.Runs.{ended_by_output, is_input_read};
 ghost use Rattle.uca_rekey.specs.RekeyRun.{WritesRekeyed};
 ghost use Rattle.uca_rekey.specs.RekeySoFar.{RekeysRest, WritesLine};
 
 use std::io::Write;
 use std::marker::Model;
 use uca_lines::OutputBuffer;
-use uca_runs::output::write_line;
-use uca_runs::{RunFault, StoredKeyKind};
+use uca_run_parts::output::write_line;
+use uca_run_parts::{RunFault, StoredKeyKind};
 use uca_weights::Sink;
 
 /// How many bytes all lines may have, each with its LF.

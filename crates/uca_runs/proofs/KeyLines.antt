@@ -9,7 +9,7 @@ use Rattle.uca_order.specs.Depths.{read_text, key_at}
 use Rattle.uca_runs.specs.declared.keys.KeyForm.{KeyForm}
 use Rattle.uca_runs.specs.declared.keys.KeyForm.TheVariants.{Alone, BeforeLine}
 use Rattle.uca_runs.specs.KeyForms.{depth_as, shows_points, printed_as, line_as}
-use Rattle.uca_runs.specs.Print.{print_line_at}
+use Rattle.uca_run_parts.specs.Print.{print_line_at}
 
 -- code points that are not printed do not matter
 same_printed : (form : KeyForm) (depth : Depth) (key points others line : List ℕ) → (shows_points form depth ≡ true → points ≡ others)

@@ -21,9 +21,9 @@ use Rattle.unicode_normalization.proofs.OrderLemmas.{list_all-canonical_order}
 use Rattle.uca_values.specs.Content.{Properties}
 use Rattle.uca_text.specs.Texts.{NfdText, nfd_text}
 use Rattle.uca_text.specs.Limits.{IsNormal}
-use Rattle.uca_runs.specs.declared.faults.InputKind.TheVariants.{Utf8, TooLong, LongRun, Limit}
-use Rattle.uca_runs.specs.Input.{first_long_run, text_cause, cause_of}
-use Rattle.uca_runs.proofs.LongRuns.{none_is_long}
+use Rattle.uca_run_parts.specs.declared.faults.InputKind.TheVariants.{Utf8, TooLong, LongRun, Limit}
+use Rattle.uca_run_parts.specs.Input.{first_long_run, text_cause, cause_of}
+use Rattle.uca_run_parts.proofs.LongRuns.{none_is_long}
 
 -- the mapping of a code point has only scalar values
 mapped_scalars : (c : ℕ) → list_all scalar (canonical_decomposition c) ≡ true

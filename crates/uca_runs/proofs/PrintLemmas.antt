@@ -11,7 +11,7 @@ use Rattle.uca_lines.specs.Lines.{ended}
 use Rattle.uca_lines.specs.OutputBuffer.{BufferState}
 use Rattle.uca_lines.specs.Buffered.{HasRoom, HasWrittenThrough}
 use Rattle.uca_lines.proofs.BufferedLemmas.{part, written_none, written_then}
-use Rattle.uca_runs.specs.Print.{byte_digits, groups, printed_groups, spaced_groups, spaced_point, identical_level, printed_behind, print_line_at, keyed_line_of}
+use Rattle.uca_run_parts.specs.Print.{byte_digits, groups, printed_groups, spaced_groups, spaced_point, identical_level, printed_behind, print_line_at, keyed_line_of}
 use Rattle.uca_runs.specs.declared.keys.KeyForm.{KeyForm}
 use Rattle.uca_runs.specs.declared.keys.KeyForm.TheVariants.{Alone, BeforeLine}
 use Rattle.uca_runs.specs.KeyForms.{printed_as}

@@ -13,10 +13,10 @@ use Rattle.uca_text.specs.Limits.{IsAccepted}
 use Rattle.uca_text.specs.Faults.{IsCause}
 use Rattle.uca_text.specs.declared.normalize.TextFault.{TextFault}
 use Rattle.uca_order.specs.Levels.{Comparison}
-use Rattle.uca_runs.specs.declared.faults.RunFault.{RunFault}
-use Rattle.uca_runs.specs.declared.faults.RunFault.TheVariants.{Write, Memory, Text}
-use Rattle.uca_runs.specs.Files.{TableAndData, Over, HaveFailed, table_and_data, table_and_data_roles}
-use Rattle.uca_runs.specs.Runs.{ended_before_output, ended_by_output}
+use Rattle.uca_run_parts.specs.declared.faults.RunFault.{RunFault}
+use Rattle.uca_run_parts.specs.declared.faults.RunFault.TheVariants.{Write, Memory, Text}
+use Rattle.uca_run_parts.specs.Files.{TableAndData, Over, HaveFailed, table_and_data, table_and_data_roles}
+use Rattle.uca_run_parts.specs.Runs.{ended_before_output, ended_by_output}
 use Rattle.uca_runs.specs.Keys.{KeySettings, key_settings}
 use Rattle.uca_runs.specs.Laws.{lines_compared}
 

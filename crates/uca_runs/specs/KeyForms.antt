@@ -9,14 +9,14 @@ use Rattle.uca_text.specs.Texts.{NfdText, nfd_text}
 use Rattle.uca_match.specs.Rows.{Rows}
 use Rattle.uca_order.specs.Depths.{read_text, key_at}
 use Rattle.uca_key.specs.Writers.{WriterState, collation_by}
-use Rattle.uca_runs.specs.declared.faults.RunFault.{RunFault}
+use Rattle.uca_run_parts.specs.declared.faults.RunFault.{RunFault}
 use Rattle.uca_runs.specs.declared.keys.KeyForm.{KeyForm}
 use Rattle.uca_runs.specs.declared.keys.KeyForm.TheVariants.{Alone, BeforeLine}
-use Rattle.uca_runs.specs.EachLine.{PrintsEach}
-use Rattle.uca_runs.specs.Files.{table_and_data, table_and_data_roles}
+use Rattle.uca_run_parts.specs.EachLine.{PrintsEach}
+use Rattle.uca_run_parts.specs.Files.{table_and_data, table_and_data_roles}
 use Rattle.uca_runs.specs.Keys.{KeySettings}
 use Rattle.uca_runs.specs.KeysRun.{RunsUnder}
-use Rattle.uca_runs.specs.Print.{print_line_at, keyed_line_of}
+use Rattle.uca_run_parts.specs.Print.{print_line_at, keyed_line_of}
 
 -- the depth of the key that is made for a form: a key alone shows its identical level otherwise than the weights
 abbrev pub depth_as : KeyForm → Depth → Depth

@@ -3,10 +3,10 @@ use Rattle.std.specs.Prelude.{ℕ, List, Option, Result, Err, ⊤}
 use Rattle.uca_weights.specs.declared.Depth.{Depth}
 use Rattle.uca_weights.specs.declared.Weighting.{Weighting}
 use Rattle.uca_weights.specs.Streams.{SourceState, SinkState}
-use Rattle.uca_runs.specs.declared.faults.RunFault.{RunFault}
-use Rattle.uca_runs.specs.declared.faults.RunFault.TheVariants.{Memory}
-use Rattle.uca_runs.specs.EachLine.{WritesEach, RunsEach, PrintsEach}
-use Rattle.uca_runs.specs.Files.{TableAndData, table_and_data, table_and_data_roles}
+use Rattle.uca_run_parts.specs.declared.faults.RunFault.{RunFault}
+use Rattle.uca_run_parts.specs.declared.faults.RunFault.TheVariants.{Memory}
+use Rattle.uca_run_parts.specs.EachLine.{WritesEach, RunsEach, PrintsEach}
+use Rattle.uca_run_parts.specs.Files.{TableAndData, table_and_data, table_and_data_roles}
 use Rattle.uca_runs.specs.Keys.{KeySettings, key_settings, printed_key, keyed_line}
 
 -- What is written of an input: the key of each line before the first one with an error, or these keys with their lines. The

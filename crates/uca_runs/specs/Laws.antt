@@ -9,7 +9,7 @@ use Rattle.uca_order.specs.Levels.{Comparison, lexicographic}
 use Rattle.uca_order.specs.Depths.{read_text, compared_at}
 use Rattle.uca_tailorings.specs.Images.{KeepAllWeights}
 use Rattle.uca_tailorings.specs.Tailorings.{Tailoring, IsTailoring, IsAccepted}
-use Rattle.uca_runs.specs.Input.{cause_of}
+use Rattle.uca_run_parts.specs.Input.{cause_of}
 use Rattle.uca_runs.specs.Keys.{KeySettings, key_settings, line_key, printed_key}
 use Rattle.uca_runs.specs.SortRun.{IsInKeyOrder}
 

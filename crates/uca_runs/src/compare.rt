@@ -5,13 +5,13 @@ ghost use Rattle.uca_values.specs.Content.{properties_of};
 ghost use Rattle.uca_text.specs.Texts.{nfd_text};
 ghost use Rattle.uca_text.specs.Limits.{IsAccepted};
 ghost use Rattle.uca_runs.specs.Keys.{key_settings_of};
-ghost use Rattle.uca_runs.specs.Files.{ended_by_file};
-ghost use Rattle.uca_runs.specs.Runs.{ended_before_output, ended_by_output};
+ghost use Rattle.uca_run_parts.specs.Files.{ended_by_file};
+ghost use Rattle.uca_run_parts.specs.Runs.{ended_before_output, ended_by_output};
 ghost use Rattle.uca_runs.specs.CompareRun.{comparison_line, RefusesWord, Compares, WritesComparison, comparing};
 
-use crate::faults::RunFault;
-use crate::files::read_collation;
-use crate::output::write_text;
+use uca_run_parts::faults::RunFault;
+use crate::collations::read_collation;
+use uca_run_parts::output::write_text;
 use std::alloc::{Allocator, Global};
 use std::cmp::Ordering;
 use std::io::{Read, Write};

@@ -4,11 +4,11 @@ ghost use Rattle.std.specs.Prelude.{◌≡◌, ◌∷◌, [], ◌||◌, false, I
 ghost use Rattle.uca_match.specs.Collations.{collation_of};
 ghost use Rattle.uca_order.specs.Lengths.{HasShortRows};
 ghost use Rattle.uca_runs.specs.Keys.{key_settings_of};
-ghost use Rattle.uca_runs.specs.Runs.{is_input_read, ended_by_output};
-ghost use Rattle.uca_runs.specs.EachLine.{ended_before_input};
+ghost use Rattle.uca_run_parts.specs.Runs.{is_input_read, ended_by_output};
+ghost use Rattle.uca_run_parts.specs.EachLine.{ended_before_input};
 ghost use Rattle.uca_runs.specs.KeysRun.{PrintsKeyedLines, WritesKeyedLines};
 
-use crate::faults::RunFault;
+use uca_run_parts::faults::RunFault;
 use crate::keys::{KeyForm, print_lines, run_lines_in};
 use std::alloc::{Allocator, Global};
 use std::io::{Read, Write};

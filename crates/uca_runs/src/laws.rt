@@ -1,7 +1,7 @@
 //! What is true of lines and their keys in all runs. The functions at most call the laws of keys that theirs follow
 //! from: their contracts are the laws.
 
-ghost use Rattle.uca_runs.specs.AffectedRun.{AffectedTextsAreTheOthers};
+ghost use Rattle.uca_run_parts.specs.AffectedRun.{AffectedTextsAreTheOthers};
 ghost use Rattle.uca_runs.specs.Laws.{LineKeysCompareAsLines, CanonicallyEquivalentLinesHaveOneKeyLine, IdenticalLineKeysAreOfEquivalentLines, KeyOrderIsOne, UntouchedLinesKeepTheirOrder};
 
 use uca_order::laws::{identical_keys_are_of_equivalent_texts, keys_compare_as_texts};

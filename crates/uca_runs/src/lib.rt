@@ -1,32 +1,19 @@
-//! The runs that need neither the planner nor the auditor: keys of lines, sorting, the lines that rules affect, checking a
-//! table, and comparing two texts. It also reads the files of these runs and of others, and has the errors of all runs.
+//! The runs that make keys or compare texts: keys of lines, sorting, and comparing two texts. `uca_run_parts` has what they share
+//! with the others: errors, and the files and lines that are read.
 #![tactic(auto)]
 
-pub mod affected;
-pub mod audit_files;
-pub mod change_faults;
-pub mod check;
+mod collations;
 pub mod compare;
-pub mod faults;
-mod files;
-mod input;
 mod kept_lines;
 mod key_groups;
 pub mod keyed_lines;
 pub mod keys;
 pub mod laws;
 mod line_keys;
-pub mod output;
 pub mod print;
-mod rule_file;
 pub mod sort;
-pub mod tailor_files;
 
-pub use affected::{Affects, print_affected, run_affected, run_affected_in};
-pub use check::run_check;
 pub use compare::{compare_words, run_compare, run_compare_in};
-pub use faults::{FileFault, InputKind, Role, RunFault, StoredKeyKind};
-pub use files::{read_certificate_file, read_data_file, read_table_file};
 pub use keyed_lines::{print_keyed_lines, run_keyed_lines, run_keyed_lines_in};
 pub use keys::{print_keys, run_keys, run_keys_in};
 pub use laws::{

@@ -3,13 +3,13 @@
 ghost use Rattle.std.specs.Prelude.{◌≡◌, ℕ, ◌<◌, ◌^◌, false, IfErr, OnOk, length, take};
 ghost use Rattle.uca_order.specs.Lengths.{HasShortRows};
 ghost use Rattle.uca_key.specs.Writers.{collation_by};
-ghost use Rattle.uca_runs.specs.Input.{cause_of};
+ghost use Rattle.uca_run_parts.specs.Input.{cause_of};
 ghost use Rattle.uca_runs.specs.Keys.{line_key};
 ghost use Rattle.uca_runs.specs.KeyForms.{settings_at};
-ghost use Rattle.uca_runs.specs.Texts.{HasTextCause, is_read};
+ghost use Rattle.uca_run_parts.specs.Texts.{HasTextCause, is_read};
 
-use crate::faults::InputKind;
-use crate::input::{InputLines, kind_of_text};
+use uca_run_parts::faults::InputKind;
+use uca_run_parts::input::{InputLines, kind_of_text};
 use std::alloc::Allocator;
 use uca_key::KeyWriter;
 use uca_lines::LINE_LIMIT;

@@ -3,10 +3,10 @@
 ghost use Rattle.std.specs.Prelude.{◌≡◌, ◌≤◌, length};
 ghost use Rattle.std.specs.List.{flat_map};
 ghost use Rattle.uca_lines.specs.Buffered.{HasRoom, WritesThrough};
-ghost use Rattle.uca_runs.specs.Print;
-ghost use Rattle.uca_runs.specs.Print.{byte_digits, printed_groups, spaced_groups, identical_level, printed_behind, print_line_at, keyed_line_of};
+ghost use Rattle.uca_run_parts.specs.Print;
+ghost use Rattle.uca_run_parts.specs.Print.{byte_digits, printed_groups, spaced_groups, identical_level, printed_behind, print_line_at, keyed_line_of};
 
-use crate::output::write_line;
+use uca_run_parts::output::write_line;
 use std::io::Write;
 use uca_lines::OutputBuffer;
 use uca_weights::{Depth, Sink, WriteFault};

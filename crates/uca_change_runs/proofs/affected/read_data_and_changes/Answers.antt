@@ -2,10 +2,10 @@
 use Rattle.std.proofs.Common.{[], ◌∷◌, refl}
 use Rattle.std.proofs.lemmas.Result.{err_from_is_err_and}
 use Rattle.uca_values.specs.Content.{properties_of}
-use Rattle.uca_runs.specs.declared.faults.Role.TheVariants as roles
-use Rattle.uca_runs.specs.ReadFiles.{data_file}
-use Rattle.uca_runs.proofs.FilesLemmas.{stays}
-use Rattle.uca_runs.proofs.ReadFilesLemmas.{both_read, first_rejected, second_rejected}
+use Rattle.uca_run_parts.specs.declared.faults.Role.TheVariants as roles
+use Rattle.uca_run_parts.specs.ReadFiles.{data_file}
+use Rattle.uca_run_parts.proofs.FilesLemmas.{stays}
+use Rattle.uca_run_parts.proofs.ReadFilesLemmas.{both_read, first_rejected, second_rejected}
 use Rattle.uca_change_runs.specs.ChangeFiles.{changes_with}
 use Rattle.uca_change_runs.specs.ReadChanges.{changes_file}
 use Rattle.uca_change_runs.proofs.affected.read_data_and_changes.Goals as goal

@@ -3,7 +3,7 @@ use Rattle.std.specs.Prelude.{⊤}
 use Rattle.std.proofs.Common.{◌≡◌, [], ◌∷◌, Ok, refl, ap, ◌∙◌}
 use Rattle.uca_values.specs.Content.{properties_of}
 use Rattle.uca_change_files.specs.Changes.{ChangeContent}
-use Rattle.uca_runs.proofs.FilesLemmas.{runs_over_all}
+use Rattle.uca_run_parts.proofs.FilesLemmas.{runs_over_all}
 use Rattle.uca_change_runs.specs.ChangeFiles.{changes_with, data_and_changes}
 use Rattle.uca_change_runs.proofs.affected.read_data_and_index.Goals as goal
 

@@ -4,11 +4,11 @@ use Rattle.std.proofs.Common.{◌≡◌, false, [], ◌∷◌, Result, Ok, Err, 
 use Rattle.std.proofs.lemmas.Result.{err_from_is_err_and}
 use Rattle.uca_weights.specs.Streams.{SourceState, SinkState}
 use Rattle.uca_values.specs.Content.{properties_of}
-use Rattle.uca_runs.specs.declared.faults.RunFault.{RunFault}
-use Rattle.uca_runs.specs.declared.faults.RunFault.TheVariants.{Memory}
-use Rattle.uca_runs.specs.AffectedRun.{line_if}
-use Rattle.uca_runs.specs.EachLine.{RunsEach, ended_before_input}
-use Rattle.uca_runs.proofs.WholeRuns.{ended_before, ended_by_lines}
+use Rattle.uca_run_parts.specs.declared.faults.RunFault.{RunFault}
+use Rattle.uca_run_parts.specs.declared.faults.RunFault.TheVariants.{Memory}
+use Rattle.uca_run_parts.specs.AffectedRun.{line_if}
+use Rattle.uca_run_parts.specs.EachLine.{RunsEach, ended_before_input}
+use Rattle.uca_run_parts.proofs.WholeRuns.{ended_before, ended_by_lines}
 use Rattle.uca_change_runs.specs.AffectedRun.{RunsAffectedByChanges, is_affected_by}
 use Rattle.uca_change_runs.specs.ChangeFiles.{DataAndChanges, changes_with, data_and_changes, data_and_changes_roles}
 use Rattle.uca_change_runs.proofs.affected.run_affected_by_changes_in.Goals as goal

@@ -1,8 +1,8 @@
 -- Which of the six files is rejected, or what all of them mean.
 use Rattle.std.proofs.Common.{[], ◌∷◌, refl}
 use Rattle.std.proofs.lemmas.Result.{err_from_is_err_and}
-use Rattle.uca_runs.proofs.FilesLemmas.{stays}
-use Rattle.uca_runs.proofs.ReadFilesLemmas.{both_read, first_rejected, second_rejected}
+use Rattle.uca_run_parts.proofs.FilesLemmas.{stays}
+use Rattle.uca_run_parts.proofs.ReadFilesLemmas.{both_read, first_rejected, second_rejected}
 use Rattle.uca_change_runs.specs.ChangeFiles.{editions_files, editions_roles}
 use Rattle.uca_change_runs.specs.ReadChanges.{change_listed, editions_of, listed_files, listed_of, listed_roles}
 use Rattle.uca_change_runs.proofs.files.read_change_files.Goals as goal

@@ -1,11 +1,11 @@
 -- What is read of a file of changes, or why it is rejected.
 use Rattle.std.proofs.Common.{refl}
 use Rattle.uca_change_files.specs.ChangeTexts as changes
-use Rattle.uca_runs.specs.declared.faults.FileFault.TheVariants.{Lines}
-use Rattle.uca_runs.specs.declared.faults.RunFault.TheVariants.{File}
-use Rattle.uca_runs.specs.declared.faults.Role.TheVariants as roles
-use Rattle.uca_runs.specs.Files.{OfLines}
-use Rattle.uca_runs.proofs.ReadFilesLemmas.{file_read, file_rejected}
+use Rattle.uca_run_parts.specs.declared.faults.FileFault.TheVariants.{Lines}
+use Rattle.uca_run_parts.specs.declared.faults.RunFault.TheVariants.{File}
+use Rattle.uca_run_parts.specs.declared.faults.Role.TheVariants as roles
+use Rattle.uca_run_parts.specs.Files.{OfLines}
+use Rattle.uca_run_parts.proofs.ReadFilesLemmas.{file_read, file_rejected}
 use Rattle.uca_change_runs.proofs.files.read_changes_file.Goals as goal
 
 pub returns-in-Ok : goal.returns-in-Ok

@@ -3,10 +3,10 @@ use Rattle.std.proofs.Common.{[], ◌∷◌, ◌&&◌, true, ap, refl}
 use Rattle.std.specs.Prelude.{not}
 use Rattle.std.proofs.lemmas.Result.{err_from_is_err_and}
 use Rattle.uca_values.specs.Content.{properties_of}
-use Rattle.uca_runs.specs.Files.{table_with}
-use Rattle.uca_runs.specs.ReadFiles.{data_file, table_file}
-use Rattle.uca_runs.proofs.FilesLemmas.{stays}
-use Rattle.uca_runs.proofs.ReadFilesLemmas.{both_read, first_rejected, second_rejected}
+use Rattle.uca_run_parts.specs.Files.{table_with}
+use Rattle.uca_run_parts.specs.ReadFiles.{data_file, table_file}
+use Rattle.uca_run_parts.proofs.FilesLemmas.{stays}
+use Rattle.uca_run_parts.proofs.ReadFilesLemmas.{both_read, first_rejected, second_rejected}
 use Rattle.uca_change_runs.proofs.files.read_edition.Goals as goal
 
 pub returns-in_err-table : goal.returns-in_err-table

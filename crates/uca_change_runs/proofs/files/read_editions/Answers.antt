@@ -1,10 +1,10 @@
 -- Which of the four files is rejected, or what all of them mean.
 use Rattle.std.proofs.Common.{List, [], ◌∷◌, refl}
 use Rattle.std.proofs.lemmas.Result.{err_from_is_err_and}
-use Rattle.uca_runs.specs.declared.faults.Role.{Role}
-use Rattle.uca_runs.specs.declared.faults.Role.TheVariants as roles
-use Rattle.uca_runs.proofs.FilesLemmas.{stays}
-use Rattle.uca_runs.proofs.ReadFilesLemmas.{both_read, first_rejected, second_rejected}
+use Rattle.uca_run_parts.specs.declared.faults.Role.{Role}
+use Rattle.uca_run_parts.specs.declared.faults.Role.TheVariants as roles
+use Rattle.uca_run_parts.proofs.FilesLemmas.{stays}
+use Rattle.uca_run_parts.proofs.ReadFilesLemmas.{both_read, first_rejected, second_rejected}
 use Rattle.uca_change_runs.specs.ChangeFiles.{editions_with}
 use Rattle.uca_change_runs.specs.ReadChanges.{edition_files, edition_of}
 use Rattle.uca_change_runs.proofs.files.read_editions.Goals as goal

@@ -1,10 +1,10 @@
 -- Which of the two files is rejected, or what both mean.
 use Rattle.std.proofs.Common.{[], ◌∷◌, refl}
 use Rattle.std.proofs.lemmas.Result.{err_from_is_err_and}
-use Rattle.uca_runs.specs.declared.faults.Role.TheVariants as roles
-use Rattle.uca_runs.specs.ReadFiles.{certificate_file}
-use Rattle.uca_runs.proofs.FilesLemmas.{stays}
-use Rattle.uca_runs.proofs.ReadFilesLemmas.{both_read, first_rejected, second_rejected}
+use Rattle.uca_run_parts.specs.declared.faults.Role.TheVariants as roles
+use Rattle.uca_run_parts.specs.ReadFiles.{certificate_file}
+use Rattle.uca_run_parts.proofs.FilesLemmas.{stays}
+use Rattle.uca_run_parts.proofs.ReadFilesLemmas.{both_read, first_rejected, second_rejected}
 use Rattle.uca_change_runs.specs.ReadChanges.{changes_file, listed_with}
 use Rattle.uca_change_runs.proofs.files.read_listed.Goals as goal
 

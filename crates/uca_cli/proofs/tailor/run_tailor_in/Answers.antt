@@ -6,9 +6,9 @@ use Rattle.uca_values.specs.Content.{TableContent, properties_of}
 use Rattle.uca_certificates.specs.Certificates.{CertificateContent}
 use Rattle.uca_plans.specs.Tailors.{IsPlanOf}
 use Rattle.uca_cli.specs.TailorRun.{RunsTailor}
-use Rattle.uca_runs.specs.Files.{tailor_content, tailor_files, tailor_roles}
-use Rattle.uca_runs.specs.PlanFaults.{refused_plan}
-use Rattle.uca_runs.proofs.FilesLemmas.{ended_by_files, failed_by_files, failed_by_no_file, runs_over_all}
+use Rattle.uca_run_parts.specs.Files.{tailor_content, tailor_files, tailor_roles}
+use Rattle.uca_run_parts.specs.PlanFaults.{refused_plan}
+use Rattle.uca_run_parts.proofs.FilesLemmas.{ended_by_files, failed_by_files, failed_by_no_file, runs_over_all}
 use Rattle.uca_cli.proofs.PlanAnswers.{no_file_of_plan, one_plan, refusal_answered, plan_stops}
 use Rattle.uca_cli.proofs.tailor.run_tailor_in.Goals as goal
 

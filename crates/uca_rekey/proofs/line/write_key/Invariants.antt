@@ -1,7 +1,7 @@
 -- The digits of the bytes so far were written.
 use Rattle.std.proofs.Common.{◌≡◌, ◌≤◌, length, drop}
 use Rattle.std.specs.List.{flat_map}
-use Rattle.uca_runs.specs.Print.{byte_digits}
+use Rattle.uca_run_parts.specs.Print.{byte_digits}
 use Rattle.uca_rekey.specs.RekeyedLines.{with_key}
 use Rattle.uca_rekey.proofs.LineKeys.{written_from}
 use Rattle.uca_rekey.proofs.line.write_key.Given as goal

@@ -1,9 +1,9 @@
 -- The whole run, from what its certificate means and what is written of its lines.
 use Rattle.std.specs.Prelude.{⊤}
 use Rattle.std.proofs.Common.{◌≡◌, ◌||◌, [], ◌∷◌, sym, subst}
-use Rattle.uca_runs.specs.ReadFiles.{certificate_file}
-use Rattle.uca_runs.specs.declared.faults.Role.TheVariants as roles
-use Rattle.uca_runs.proofs.WholeRuns.{ended_by_lines}
+use Rattle.uca_run_parts.specs.ReadFiles.{certificate_file}
+use Rattle.uca_run_parts.specs.declared.faults.Role.TheVariants as roles
+use Rattle.uca_run_parts.proofs.WholeRuns.{ended_by_lines}
 use Rattle.uca_rekey.specs.RekeyRun.{RunsRekey}
 use Rattle.uca_rekey.specs.RekeySoFar.{HasRekeyed, IsBegun, RekeysRest, moved_by, mover_of}
 use Rattle.uca_rekey.proofs.Rekeying.{begun_so, by_same, runs_rekey}

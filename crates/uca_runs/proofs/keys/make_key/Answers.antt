@@ -2,9 +2,9 @@
 use Rattle.std.proofs.Common.{◌≡◌, true, None, subst, sym, chars}
 use Rattle.uca_text.specs.Texts.{nfd_text}
 use Rattle.uca_key.specs.Writers.{collation_by}
-use Rattle.uca_runs.specs.Input.{cause_of}
+use Rattle.uca_run_parts.specs.Input.{cause_of}
 use Rattle.uca_runs.specs.KeyForms.{shows_points}
-use Rattle.uca_runs.specs.Texts.{HasTextCause}
+use Rattle.uca_run_parts.specs.Texts.{HasTextCause}
 use Rattle.uca_runs.proofs.KeyLines.{line_made}
 use Rattle.uca_runs.proofs.keys.make_key.Goals as goal
 

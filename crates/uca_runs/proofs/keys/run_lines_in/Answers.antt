@@ -6,15 +6,16 @@ use Rattle.uca_values.specs.Content.{properties_of}
 use Rattle.uca_match.specs.NumberedKeys.{rows_at}
 use Rattle.uca_match.specs.Collations.{collation_of}
 use Rattle.uca_order.specs.Lengths.{HasShortRows}
-use Rattle.uca_runs.specs.declared.faults.RunFault.TheVariants.{Memory}
-use Rattle.uca_runs.specs.EachLine.{RunsEach}
-use Rattle.uca_runs.specs.Files.{table_and_data, table_and_data_roles, table_with}
+use Rattle.uca_run_parts.specs.declared.faults.RunFault.TheVariants.{Memory}
+use Rattle.uca_run_parts.specs.EachLine.{RunsEach}
+use Rattle.uca_run_parts.specs.Files.{table_and_data, table_and_data_roles, table_with}
 use Rattle.uca_runs.specs.KeyForms.{line_as}
 use Rattle.uca_runs.specs.Keys.{KeySettings}
 use Rattle.uca_runs.specs.KeysRun.{RunsUnder}
-use Rattle.uca_runs.specs.ReadFiles.{IsCollation, collation_in}
-use Rattle.uca_runs.proofs.Running.{same_keying}
-use Rattle.uca_runs.proofs.WholeRuns.{ended_before, ended_by_lines, runs_under}
+use Rattle.uca_runs.specs.Keys.{IsCollation, collation_in}
+use Rattle.uca_runs.proofs.KeySettings.{same_keying}
+use Rattle.uca_run_parts.proofs.WholeRuns.{ended_before, ended_by_lines}
+use Rattle.uca_runs.proofs.KeyRuns.{runs_under}
 use Rattle.uca_runs.proofs.keys.run_lines_in.Goals as goal
 
 pub returns-in_err-read : goal.returns-in_err-read

@@ -1,4 +1,4 @@
-use Rattle.uca_runs.proofs.AffectedLines.{affected_are_the_others}
+use Rattle.uca_run_parts.proofs.AffectedLines.{affected_are_the_others}
 use Rattle.uca_runs.proofs.laws.affected_texts_are_the_others.Goals as goal
 
 pub returns : goal.returns

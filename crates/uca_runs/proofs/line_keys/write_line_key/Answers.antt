@@ -5,7 +5,7 @@ use Rattle.uca_text.specs.Limits.{IsAccepted}
 use Rattle.uca_text.specs.Faults.{IsCause}
 use Rattle.uca_order.specs.Depths.{read_text, key_at}
 use Rattle.uca_key.specs.Writers.{collation_by}
-use Rattle.uca_runs.proofs.Causes.{clean_text, refused_text}
+use Rattle.uca_run_parts.proofs.Causes.{clean_text, refused_text}
 use Rattle.uca_runs.proofs.line_keys.write_line_key.Goals as goal
 
 pub returns-in-Ok-write-clause-key : goal.returns-in-Ok-write-clause-key

@@ -1,6 +1,6 @@
 use Rattle.std.proofs.Common.{◌≡◌, length, take}
 use Rattle.std.specs.List.{flat_map}
-use Rattle.uca_runs.specs.Print.{byte_digits}
+use Rattle.uca_run_parts.specs.Print.{byte_digits}
 use Rattle.uca_runs.proofs.print.digits_in.Given as goal
 
 abbrev pub invariant-loop-number : goal.invariant-loop-number

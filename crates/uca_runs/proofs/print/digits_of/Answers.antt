@@ -1,7 +1,7 @@
 use Rattle.std.proofs.Common.{◌≡◌, [], map, get_or, refl, ap, ◌∙◌, arith}
 use Rattle.std.proofs.lemmas.List.FromFn.{get_or-map-range_with_len}
 use Rattle.std.specs.List.{range_with_len}
-use Rattle.uca_runs.specs.Print.{byte_digits}
+use Rattle.uca_run_parts.specs.Print.{byte_digits}
 use Rattle.uca_runs.specs.declared.print.TheConstants.{PAIRS}
 use Rattle.uca_runs.proofs.print.digits_of.Goals as goal
 

@@ -1,6 +1,6 @@
 use Rattle.std.proofs.Common.{ℕ, List, ◌*◌, ◌≡◌, length, take, arith, ap, sym, subst, ◌∙◌, length-set}
 use Rattle.std.specs.List.{flat_map}
-use Rattle.uca_runs.specs.Print.{spaced_groups}
+use Rattle.uca_run_parts.specs.Print.{spaced_groups}
 use Rattle.uca_runs.proofs.PrintLemmas.{spaced_none, pair_written, pairs_written, last_written}
 use Rattle.uca_runs.proofs.print.spaced_text.Goals as goal
 use Rattle.uca_runs.proofs.print.spaced_text.Goals.{in-Some, in_default}

@@ -1,6 +1,6 @@
 use Rattle.std.proofs.Common.{◌≡◌, ◌*◌, length, take}
 use Rattle.std.specs.List.{flat_map}
-use Rattle.uca_runs.specs.Print.{spaced_groups}
+use Rattle.uca_run_parts.specs.Print.{spaced_groups}
 use Rattle.uca_runs.proofs.print.spaced_text.Given as goal
 
 abbrev pub invariant-loop-number : goal.invariant-loop-number

@@ -1,5 +1,5 @@
 use Rattle.std.proofs.Common.{refl, ap, ◌∙◌}
-use Rattle.uca_runs.specs.Print.{spaced_point}
+use Rattle.uca_run_parts.specs.Print.{spaced_point}
 use Rattle.uca_lines.proofs.BufferedLemmas.{part_fits, part_written, returns_fault, all_parts_written}
 use Rattle.uca_runs.proofs.print.write_points.Goals as goal
 

@@ -1,7 +1,7 @@
 use Rattle.std.proofs.Common.{take}
 use Rattle.std.specs.List.{flat_map}
 use Rattle.uca_lines.specs.Buffered.{HasWrittenThrough}
-use Rattle.uca_runs.specs.Print.{spaced_point}
+use Rattle.uca_run_parts.specs.Print.{spaced_point}
 use Rattle.uca_runs.proofs.print.write_points.Given as goal
 
 abbrev pub invariant-loop-point : goal.invariant-loop-point

@@ -1,7 +1,7 @@
 -- What is returned where a line may come, from what is said of the line and of its key.
 use Rattle.std.proofs.Common.{◌<◌, length, subst, ◌∙◌}
 use Rattle.uca_values.specs.Content.{properties_of}
-use Rattle.uca_runs.proofs.TextsLemmas.{clean_line, no_text}
+use Rattle.uca_run_parts.proofs.TextsLemmas.{clean_line, no_text}
 use Rattle.uca_runs.proofs.keys.KeyRun.next.Goals as goal
 
 pub returns-in-Ok-clause-reads : goal.returns-in-Ok-clause-reads

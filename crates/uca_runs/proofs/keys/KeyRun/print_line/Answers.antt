@@ -3,7 +3,7 @@ use Rattle.std.proofs.Common.{◌≡◌, ◌+◌, ◌-◌, ◌<◌, ◌≤◌, l
 use Rattle.uca_lines.specs.Buffered.{count_of}
 use Rattle.uca_runs.specs.KeyForms.{printed_as}
 use Rattle.uca_runs.proofs.PrintLemmas.{printed_is_short}
-use Rattle.uca_runs.proofs.Printing.{small_enough, still_small}
+use Rattle.uca_run_parts.proofs.Printing.{small_enough, still_small}
 use Rattle.uca_runs.proofs.keys.KeyRun.print_line.Goals as goal
 
 pub print_as-requires : goal.print_as-requires

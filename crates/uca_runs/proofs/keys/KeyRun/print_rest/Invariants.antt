@@ -3,7 +3,7 @@ use Rattle.std.proofs.Common.{◌≡◌, ℕ, ◌+◌, ◌-◌, ◌*◌, ◌^◌
 use Rattle.uca_values.specs.Content.{properties_of}
 use Rattle.uca_key.specs.Writers.{collation_by}
 use Rattle.uca_runs.specs.KeyForms.{line_as, settings_at}
-use Rattle.uca_runs.specs.EachLineSoFar.{HasWritten}
+use Rattle.uca_run_parts.specs.EachLineSoFar.{HasWritten}
 use Rattle.uca_runs.proofs.keys.KeyRun.print_rest.Given as goal
 
 abbrev pub invariant-loop-self : goal.invariant-loop-self

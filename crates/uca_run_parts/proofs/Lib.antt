@@ -1,0 +1,15 @@
+pub mod LongRuns
+pub mod LineCuts
+pub mod Causes
+pub mod LinesSoFar
+pub mod TextsLemmas
+pub mod Printing
+pub mod Finishing
+pub mod Running
+pub mod Verdicts
+pub mod RuleBytes
+pub mod FilesLemmas
+pub mod ReadFilesLemmas
+pub mod WholeRuns
+pub mod AffectedLines
+pub mod PointTexts

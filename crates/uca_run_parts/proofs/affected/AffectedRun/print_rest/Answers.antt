@@ -1,0 +1,33 @@
+-- Where no text was read, or its line was not written.
+use Rattle.std.specs.Prelude.{⊤}
+use Rattle.std.proofs.Common.{Bool, ap, ◌∙◌}
+use Rattle.std.specs.List.{flat_map}
+use Rattle.std.proofs.lemmas.Result.{err_from_is_err_and}
+use Rattle.uca_text.specs.Texts.{NfdText}
+use Rattle.uca_values.specs.Content.{properties_of}
+use Rattle.uca_run_parts.specs.AffectedRun.{if_so, line_if}
+use Rattle.uca_run_parts.proofs.Printing.{not_written, no_write}
+use Rattle.uca_run_parts.proofs.Running.{as_before}
+use Rattle.uca_run_parts.proofs.affected.AffectedRun.print_rest.Goals as goal
+
+pub returns-in_err-next-clause-out_failed : goal.returns-in_err-next-clause-out_failed
+returns-in_err-next-clause-out_failed g c =
+    let q = err_from_is_err_and c.from_residual.result c.from_residual.ensures.1 in
+    rw (q.1, q.2) (c.loop-self.invariant.out_failed ∙ as_before c.args.out.now.failed _ (no_write Bool ⊤ c.in_err-next.field-0.0 c.in_err-next.ensures.not_write))
+
+pub returns-in_err-print_text-clause-prints : goal.returns-in_err-print_text-clause-prints
+returns-in_err-print_text-clause-prints g c = λ start begun before p.
+    let q = err_from_is_err_and c.from_residual-in_err-print_text.result c.from_residual-in_err-print_text.ensures.1 in
+    let properties = properties_of c.args.properties.now in
+    let bytes_of = line_if (g.X.Affects.affects c.args.affects.now) properties in
+    let texts = c.next.new.self in
+    let i = c.loop-self.invariant.written start begun before p in
+    let next = rw c.if-branch.true at c.in_ok-next.ensures in
+    let t = next.reads start i.0 i.1.read in
+    let same = ap (λ (text : NfdText). if_so (g.X.Affects.affects c.args.affects.now) text.points texts.lines.line) next.text in
+    rw (q.1, q.2) (
+      i.0,
+      not_written properties bytes_of start begun i.0 texts.lines c.next.new.input t _ same c.loop-self.self.output c.print_text.new.self.output
+          c.loop-self.out c.print_text.new.out c.in_err-print_text.field-0.0 i.1.written
+          (c.in_err-print_text.ensures.prints begun (flat_map bytes_of i.0) i.1.written),
+    )

@@ -1,0 +1,47 @@
+-- What a run of the lines that rules affect returns and writes.
+use Rattle.std.specs.Prelude.{◌≡◌, ◌↔◌, ℕ, List, [], ◌∷◌, Bool, true, false, if◌then◌else◌, ◌&&◌, ◌||◌, ◌==◌, Result, chars}
+use Rattle.std.specs.List.{list_any}
+use Rattle.uca_weights.specs.Streams.{SourceState, SinkState}
+use Rattle.uca_values.specs.Content.{Properties}
+use Rattle.uca_text.specs.Texts.{nfd_text}
+use Rattle.uca_lines.specs.Lines.{ended}
+use Rattle.uca_rules.specs.declared.relations.Relation.{Relation}
+use Rattle.uca_rules.specs.Relations.{IsUntouched}
+use Rattle.uca_run_parts.specs.declared.faults.RunFault.{RunFault}
+use Rattle.uca_run_parts.specs.EachLine.{RunsEach, PrintsEach, ended_before_input}
+use Rattle.uca_run_parts.specs.Files.{DataAndRules, data_and_rules, data_and_rules_roles}
+
+-- whether the first list's code points all occur in the second, in their order; others may be between
+abbrev pub occurs_in_order : List ℕ → List ℕ → Bool
+occurs_in_order [] ys = true
+occurs_in_order (x ∷ xs) [] = false
+occurs_in_order (x ∷ xs) (y ∷ ys) = (x == y && occurs_in_order xs ys) || occurs_in_order (x ∷ xs) ys
+
+-- whether a target of the relations occurs in order in a text
+abbrev pub is_affected : List Relation → List ℕ → Bool
+is_affected relations text = list_any (λ r. occurs_in_order r.target.points text) relations
+
+-- that is so of all texts but those that the rules leave as they are
+abbrev pub AffectedTextsAreTheOthers : Type 0
+AffectedTextsAreTheOthers = (relations : List Relation) (text : List ℕ) → (is_affected relations text ≡ false) ↔ IsUntouched relations text
+
+-- what is written of a text's line: the line, where this is so of the text
+abbrev pub if_so : (List ℕ → Bool) → List ℕ → List ℕ → List ℕ
+if_so is_so text line = if is_so text then ended line else []
+
+-- that of a line of the input, which is UTF-8, by its text in Normalization Form D
+abbrev pub line_if : (List ℕ → Bool) → Properties → List ℕ → List ℕ
+line_if is_so properties line = if_so is_so (nfd_text properties (chars line)).points line
+
+-- that by the targets of relations
+abbrev pub affected_line : Properties → List Relation → List ℕ → List ℕ
+affected_line properties relations = line_if (is_affected relations) properties
+
+-- What a run returns under properties and rules. Nothing but its files ends it before its input: it looks no rows up.
+abbrev pub RunsAffected : {A : Type 0} → SourceState → SourceState → SinkState → SinkState → Result A RunFault → DataAndRules → Type 0
+RunsAffected input input_new out out_new result files = (ended_before_input result ≡ false) × RunsEach files.properties (affected_line files.properties files.relations) input input_new out out_new result
+
+-- A run of the lines that rules affect.
+abbrev pub PrintsAffected : {A : Type 0} → List SourceState → List SourceState → SourceState → SourceState → SinkState → SinkState → Result A RunFault → Type 0
+PrintsAffected olds news input input_new out out_new result =
+    PrintsEach data_and_rules data_and_rules_roles (RunsAffected input input_new out out_new result) olds news input input_new out out_new result

@@ -1,0 +1,17 @@
+pub mod Input
+pub mod Files
+pub mod ReadFiles
+pub mod Runs
+pub mod EachLine
+pub mod AffectedRun
+pub mod LinesSoFar
+pub mod Texts
+pub mod EachLineSoFar
+pub mod Verdicts
+pub mod CheckRun
+pub mod Print
+pub mod RoleText
+pub mod FaultText
+pub mod PlanFaults
+pub mod ChangeFaultText
+pub mod ChangeFaults

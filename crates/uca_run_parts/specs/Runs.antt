@@ -1,0 +1,76 @@
+-- What the runs return of their input and their output.
+use Rattle.std.specs.Prelude.{◌≡◌, ◌≢◌, [], ℕ, suc, ◌≤◌, List, ◌∷◌, ◌++◌, Bool, true, false, Option, Some, IsSomeAnd, Result, Ok, Err, length}
+use Rattle.std.specs.List.{flat_map}
+use Rattle.uca_weights.specs.Writes.{WentOut}
+use Rattle.uca_values.specs.Content.{Properties}
+use Rattle.uca_lines.specs.Lines.{is_lf, Lacks, ended, lines_of}
+use Rattle.uca_run_parts.specs.declared.faults.InputKind.{InputKind}
+use Rattle.uca_run_parts.specs.declared.faults.InputKind.TheVariants.{Utf8, TooLong, LongRun, Read, Limit, Memory as InputMemory}
+use Rattle.uca_run_parts.specs.declared.faults.RunFault.{RunFault}
+use Rattle.uca_run_parts.specs.declared.faults.RunFault.TheVariants.{Input, StoredKey, Write}
+use Rattle.uca_run_parts.specs.Input.{cause_of, clean_lines, is_input_read_kind, is_stored_key_read}
+
+-- ---- The input
+
+-- Reading failed: the bytes are these lines, each ended by an LF, then a part without LF, and what the source has left.
+pub record FailsBehind (bytes left : List ℕ) (before : List (List ℕ)) : Type 0 where
+  pub part : List ℕ
+  pub parts : bytes ≡ flat_map ended before ++ (part ++ left)
+  pub lacks : Lacks is_lf part
+  pub short : length part ≤ 4194304
+
+-- the line after these has this cause
+pub record HasLineCause (properties : Properties) (before rest : List (List ℕ)) (kind : InputKind) : Type 0 where
+  pub line : List ℕ
+  pub later : List (List ℕ)
+  pub next : rest ≡ line ∷ later
+  pub cause : cause_of properties (length before) line ≡ Some kind
+
+-- why the line after these is not read, where an allocation may fail at any line
+abbrev pub HasCause : Properties → List ℕ → Option (List ℕ) → List (List ℕ) → List (List ℕ) → InputKind → Type 0
+HasCause properties bytes left before rest Utf8 = HasLineCause properties before rest Utf8
+HasCause properties bytes left before rest TooLong = HasLineCause properties before rest TooLong
+HasCause properties bytes left before rest (LongRun place) = HasLineCause properties before rest (LongRun place)
+HasCause properties bytes left before rest Limit = HasLineCause properties before rest Limit
+HasCause properties bytes left before rest Read = IsSomeAnd left (λ unread. FailsBehind bytes unread before)
+HasCause properties bytes left before rest InputMemory = rest ≢ []
+
+-- An error at line `number`: the lines before it have no error, and it has this cause.
+pub record IsInputFault (properties : Properties) (bytes : List ℕ) (left : Option (List ℕ)) (before : List (List ℕ)) (number : ℕ) (kind : InputKind) : Type 0 where
+  pub rest : List (List ℕ)
+  pub lines : lines_of bytes ≡ before ++ rest
+  pub place : number ≡ suc (length before)
+  pub clean : (more : List (List ℕ)) × (clean_lines properties (lines_of bytes) ≡ before ++ more)
+  pub cause : HasCause properties bytes left before rest kind
+
+-- no line of the bytes has an error
+abbrev pub IsClean : Properties → List ℕ → Type 0
+IsClean properties bytes = clean_lines properties (lines_of bytes) ≡ lines_of bytes
+
+-- whether reading the input failed
+abbrev pub is_input_read : {A : Type 0} → Result A RunFault → Bool
+is_input_read (Ok x) = false
+is_input_read (Err (Input number kind)) = is_input_read_kind kind
+is_input_read (Err (StoredKey number kind)) = is_stored_key_read kind
+is_input_read (Err _) = false
+
+-- ---- The output
+--
+-- Each sink has its own error, which says how much went out to it. That of the output is Write. Another sink of a run
+-- has another one, which changes nothing of what is said here of the output.
+
+-- whether writing the output failed
+abbrev pub ended_by_output : {A : Type 0} → Result A RunFault → Bool
+ended_by_output (Ok x) = false
+ended_by_output (Err (Write written)) = true
+ended_by_output (Err _) = false
+
+-- whether the run ended before anything was written to the output
+abbrev pub ended_before_output : {A : Type 0} → Result A RunFault → Bool
+ended_before_output (Ok x) = false
+ended_before_output (Err (Write written)) = false
+ended_before_output (Err _) = true
+
+-- The error of a sink says how much of a text went out to it.
+abbrev pub FailsToWrite : (ℕ → RunFault) → Option (List ℕ) → Option (List ℕ) → List ℕ → RunFault → Type 0
+FailsToWrite Fault begun now text fault = (written : ℕ) × (fault ≡ Fault written) × WentOut begun now text written

@@ -1,0 +1,98 @@
+-- The lines of an input. Only contracts of private functions cite this: no promise of the crate rests on it.
+use Rattle.std.specs.Prelude.{◌≡◌, ℕ, suc, ◌+◌, Bool, false, MatchBool, List, [], ◌∷◌, ◌++◌, Option, Some, Result, Ok, Err, IfSome, length, ⊤}
+use Rattle.uca_weights.specs.Streams.{SourceState}
+use Rattle.uca_values.specs.Content.{Properties}
+use Rattle.uca_text.specs.Texts.{NfdText}
+use Rattle.uca_text.specs.declared.normalize.TextFault.{TextFault}
+use Rattle.uca_text.specs.declared.normalize.TextFault.TheVariants as text_fault
+use Rattle.uca_lines.specs.LineReader.{LineState, left_of}
+use Rattle.uca_lines.specs.declared.lines.LineFault.{LineFault}
+use Rattle.uca_lines.specs.declared.lines.LineFault.TheVariants as line_fault
+use Rattle.uca_run_parts.specs.declared.faults.InputKind.{InputKind}
+use Rattle.uca_run_parts.specs.declared.faults.InputKind.TheVariants.{Utf8, TooLong, LongRun, Read, Limit, Memory}
+use Rattle.uca_run_parts.specs.declared.faults.RunFault.{RunFault}
+use Rattle.uca_run_parts.specs.declared.faults.RunFault.TheVariants.{Input}
+use Rattle.uca_run_parts.specs.Input.{cause_of, is_input_read_kind}
+use Rattle.uca_run_parts.specs.Runs.{IsInputFault}
+use Rattle.uca_run_parts.specs.LinesSoFar.{IsAfter, IsNext, OnKnown, AreAll}
+
+-- ---- Errors
+
+-- the kind of a line's error, and of a text's
+abbrev pub line_kind : LineFault → InputKind
+line_kind line_fault.TooLong = TooLong
+line_kind line_fault.Limit = Limit
+line_kind line_fault.Read = Read
+line_kind line_fault.Memory = Memory
+
+abbrev pub text_kind : TextFault → InputKind
+text_kind text_fault.TooLong = TooLong
+text_kind (text_fault.LongRun place) = LongRun place
+text_kind text_fault.Memory = Memory
+
+-- the cause for which a line after this many others has no text; an allocation may fail at any line
+abbrev pub HasTextCause : Properties → ℕ → List ℕ → InputKind → Type 0
+HasTextCause properties before line Utf8 = cause_of properties before line ≡ Some Utf8
+HasTextCause properties before line TooLong = cause_of properties before line ≡ Some TooLong
+HasTextCause properties before line (LongRun place) = cause_of properties before line ≡ Some (LongRun place)
+HasTextCause properties before line Limit = ⊥
+HasTextCause properties before line Read = ⊥
+HasTextCause properties before line Memory = ⊤
+
+-- whether the error is the reader's
+abbrev pub is_read : {A : Type 0} → Result A InputKind → Bool
+is_read (Ok x) = false
+is_read (Err kind) = is_input_read_kind kind
+
+-- ---- Lines
+
+-- What a clause sees of an `InputLines`: the reader of lines, the line that was read last, and whether no LF ended it.
+pub record LinesState : Type 0 where
+  pub reader : LineState
+  pub line : List ℕ
+  pub is_cut : Bool
+
+-- These lines, none of them with an error, were read since the input had `start`.
+pub record HasRead (properties : Properties) (start : Option (List ℕ)) (before : List (List ℕ)) (lines : LinesState) (input : SourceState) : Type 0 where
+  pub after : OnKnown start (left_of lines.reader input) (λ bytes left. IsAfter properties bytes left lines.is_cut before)
+  pub count : lines.reader.number ≡ length before
+
+-- no line is left after these
+abbrev pub HasReadAll : Properties → Option (List ℕ) → List (List ℕ) → Type 0
+HasReadAll properties start before = IfSome start (λ bytes. AreAll properties bytes before)
+
+-- why the line after these, which has this number, gives no text
+abbrev pub HasNoText : Properties → Option (List ℕ) → List (List ℕ) → SourceState → ℕ → InputKind → Type 0
+HasNoText properties start before input number kind = IfSome start (λ bytes. IsInputFault properties bytes input.remaining before number kind)
+
+-- The next line was read, and its bytes were not looked at.
+pub record HasLine (properties : Properties) (start : Option (List ℕ)) (before : List (List ℕ)) (lines : LinesState) (input : SourceState) : Type 0 where
+  pub next : OnKnown start (left_of lines.reader input) (λ bytes left. IsNext properties bytes left lines.is_cut before lines.line)
+  pub count : lines.reader.number ≡ length before + 1
+
+-- what is returned where a line may come: the next line, that none is left, or why it is not read
+abbrev pub ReadsLine : Properties → Option (List ℕ) → List (List ℕ) → LinesState → SourceState → Result Bool InputKind → Type 0
+ReadsLine properties start before lines input (Ok more) = MatchBool more (HasLine properties start before lines input) (HasReadAll properties start before)
+ReadsLine properties start before lines input (Err kind) = HasNoText properties start before input (suc (length before)) kind
+
+-- the same with the number of the line in the error
+abbrev pub ReadsNextLine : Properties → Option (List ℕ) → List (List ℕ) → LinesState → SourceState → Result Bool RunFault → Type 0
+ReadsNextLine properties start before lines input (Ok more) = MatchBool more (HasLine properties start before lines input) (HasReadAll properties start before)
+ReadsNextLine properties start before lines input (Err (Input number kind)) = HasNoText properties start before input number kind
+ReadsNextLine properties start before lines input (Err _) = ⊥
+
+-- The next line has no error. An allocation that fails now is an error of this line.
+pub record HasCleanLine (properties : Properties) (start : Option (List ℕ)) (before : List (List ℕ)) (lines : LinesState) (input : SourceState) : Type 0 where
+  pub read : HasRead properties start (before ++ lines.line ∷ []) lines input
+  pub memory : HasNoText properties start before input lines.reader.number Memory
+
+-- what is returned where a line without an error may come: the next line, that none is left, or why it gives no text
+abbrev pub ReadsCleanLine : Properties → Option (List ℕ) → List (List ℕ) → LinesState → SourceState → Result Bool RunFault → Type 0
+ReadsCleanLine properties start before lines input (Ok more) = MatchBool more (HasCleanLine properties start before lines input) (HasReadAll properties start before)
+ReadsCleanLine properties start before lines input (Err (Input number kind)) = HasNoText properties start before input number kind
+ReadsCleanLine properties start before lines input (Err _) = ⊥
+
+-- What a clause sees of an `InputTexts`: the lines, and the text of the one that was read last.
+pub record TextsState : Type 0 where
+  pub lines : LinesState
+  pub text : NfdText

@@ -1,0 +1,19 @@
+//! What the runs of the command share: their errors, the files and the lines that they read, and what they write. The runs
+//! that make no keys are here too: that of `check`, and that of the lines that rules affect.
+#![tactic(auto)]
+
+pub mod affected;
+pub mod audit_files;
+pub mod change_faults;
+pub mod check;
+pub mod faults;
+pub mod files;
+pub mod input;
+pub mod output;
+mod rule_file;
+pub mod tailor_files;
+
+pub use affected::{Affects, print_affected, run_affected, run_affected_in};
+pub use check::run_check;
+pub use faults::{FileFault, InputKind, Role, RunFault, StoredKeyKind};
+pub use files::{read_certificate_file, read_data_file, read_table_file};
