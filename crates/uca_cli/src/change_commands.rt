@@ -1,17 +1,19 @@
 //! The subcommands that work with changes from a table and its data file to others: `changes`, `audit-changes` and `rekey`.
 
-ghost use Rattle.uca_cli.specs.Command.{DoesAuditChanges, DoesChanges, DoesRekey, Finds, KeepsAndPrints, KeepsMade, MakesOpened, file_system, made_changes, streams};
-ghost use Rattle.uca_cli.specs.EditionNames.{change_files_of, edition_files_of};
+ghost use Rattle.uca_cli.specs.Command.{DoesAuditChanges, DoesChanges, DoesRekey, Finds, KeepsAndPrints, KeepsMade, MakesOpened, made_changes, streams};
+ghost use Rattle.uca_named_files.specs.NamedFiles.{file_system};
+ghost use Rattle.uca_named_files.specs.EditionNames.{change_files_of, edition_files_of};
 
-use crate::command::Opens;
-use crate::keeping::{find_certificate_of_editions, keep_certificate, print_changes};
-use crate::opening::{EditionNames, open_change_files, open_editions, open_one};
+use crate::printing::print_changes;
 use crate::reporting::{checked, done};
 use std::alloc::Global;
 use std::io::{Read, Write};
 use uca_change_maker::FoundChanges;
 use uca_change_runs::{run_audit_changes, run_changes};
 use uca_rekey::run_rekey;
+use uca_named_files::keeping::{find_certificate_of_editions, keep_certificate};
+use uca_named_files::opening::{EditionNames, open_change_files, open_editions, open_one};
+use uca_named_files::Opens;
 use uca_run_parts::faults::{Role, RunFault};
 use uca_weights::{Depth, Sink, Source, Weighting};
 

@@ -1,23 +1,19 @@
-//! The command: the runs of `uca_runs`, `uca_change_runs` and `uca_rekey`, those of the planner and of the auditor, and what
-//! is reported of them.
+//! The command: it opens the files that its arguments name, runs over them, and reports what comes of it. The runs are those of
+//! `uca_run_parts`, `uca_runs`, `uca_tailor_runs`, `uca_change_runs` and `uca_rekey`.
 #![tactic(auto)]
 
-pub mod audit;
 mod change_commands;
 pub mod command;
-mod keeping;
-mod opening;
+mod printing;
 pub mod reporting;
-pub mod tailor;
 
-pub use audit::{run_audit, run_audit_in};
-pub use command::{MakeFault, OpenFault, Opens, run_command};
+pub use command::run_command;
 pub use reporting::report;
-pub use tailor::{run_tailor, run_tailor_in, write_tailored};
 pub use uca_change_runs::{
     affected_by_changes_are_the_others, run_affected_by_changes, run_affected_by_changes_in,
     run_audit_changes, run_audit_changes_in, run_changes, run_changes_in,
 };
+pub use uca_named_files::{MakeFault, OpenFault, Opens};
 pub use uca_rekey::{lines_move_with_keys, run_rekey, run_rekey_in};
 pub use uca_run_parts::{
     Affects, FileFault, InputKind, Role, RunFault, StoredKeyKind, print_affected, run_affected,
@@ -30,4 +26,5 @@ pub use uca_runs::{
     run_keyed_lines_in, run_keys, run_keys_in, run_sort, run_sort_in, sort_lines,
     untouched_lines_keep_their_order,
 };
+pub use uca_tailor_runs::{run_audit, run_audit_in, run_tailor, run_tailor_in, write_tailored};
 pub use uca_words::{WordFault, Words, read_words};

@@ -1,0 +1,2 @@
+pub mod NamedFiles
+pub mod EditionNames

@@ -1,0 +1,2 @@
+pub mod AuditRun
+pub mod TailorRun

@@ -1,0 +1,8 @@
+//! The runs over the files of a tailoring: tailoring a table by rules, and auditing what came of it.
+#![tactic(auto)]
+
+pub mod audit;
+pub mod tailor;
+
+pub use audit::{run_audit, run_audit_in};
+pub use tailor::{run_tailor, run_tailor_in, write_tailored};
