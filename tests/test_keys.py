@@ -160,16 +160,24 @@ class Keys(ProgramTest):
         self.expect(BY_FOUR, " \u0301c", out="1C7A 0000 0020 0000 0002 0000 0209 FFFF\n")
 
     def test_each_class(self):
-        """A mark of each class from 1 to 254, after a mark of a higher class: they are put in order."""
+        """A mark of each class from 1 to 254, and a contraction of a letter with it. A mark between them blocks it unless its class is lower."""
         classes = range(1, 255)
-        self.write(
-            t="@version 1\n0061 ; [.1C47.0020.0002]\n" + "".join(f"{0xE000 + it:04X} ; [.0000.{0x100 + it:04X}.0002]\n" for it in classes),
-            d="@data 1\n" + "".join(f"ccc {0xE000 + it:04X}..{0xE000 + it:04X} {it}\n" for it in classes),
+        rows = "".join(
+            f"{0xE000 + it:04X} ; [.0000.{0x100 + it:04X}.0002]\n"
+            f"{0xF0000 + it:04X} ; [.{0x2000 + it:04X}.0020.0002]\n"
+            f"{0xF0000 + it:04X} {0xE000 + it:04X} ; [.{0x3000 + it:04X}.0020.0002]\n"
+            for it in classes
         )
-        lines = "".join(f"a{chr(0xE0FE)}{chr(0xE000 + it)}\n" for it in classes)
-        keys = [("1C47", f"0020 {0x100 + it:04X} 01FE", "0002 0002 0002") for it in classes]
-        self.expect(BY_THREE, lines, out="".join(key_of(*it) for it in keys))
-        self.expect(BY_FOUR, lines, out="".join(f"{key_of(*it).rstrip()} 0000 FFFF FFFF FFFF\n" for it in keys))
+        self.write(t="@version 1\n" + rows, d="@data 1\n" + "".join(f"ccc {0xE000 + it:04X}..{0xE000 + it:04X} {it}\n" for it in classes))
+        lines, keys = [], []
+        for it in classes[1:]:
+            lines.append(f"{chr(0xF0000 + it)}{chr(0xE000 + it - 1)}{chr(0xE000 + it)}\n")
+            keys.append(key_of(f"{0x3000 + it:04X}", f"0020 {0x100 + it - 1:04X}", "0002 0002"))
+        for it in classes[:-1]:
+            lines.append(f"{chr(0xF0000 + it)}{chr(0xE000 + it + 1)}{chr(0xE000 + it)}\n")
+            keys.append(key_of(f"{0x2000 + it:04X}", f"0020 {0x100 + it + 1:04X} {0x100 + it:04X}", "0002 0002 0002"))
+        self.expect(BY_THREE, "".join(lines), out="".join(keys))
+        self.expect(BY_FOUR, "".join(lines), out="".join(f"{key.rstrip()} 0000 {many('FFFF', key.count('0002'))}\n" for key in keys))
 
     def test_each_length_of_a_key_and_of_its_row(self):
         """Keys of 1 to 16 code points, whose rows have 1 to 32 elements."""

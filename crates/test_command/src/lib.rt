@@ -1,5 +1,5 @@
-//! Tests of the whole command over an opener in memory and streams that fail, and of all that it says of an error. What it
-//! prints over whole files is tested with the built program, by `tests/run.py`.
+//! Tests of the whole command over an opener in memory and streams that fail. What it prints over whole files is tested with
+//! the built program, by `tests/run.py`.
 #![tactic(auto)]
 
 #[cfg(test)]
@@ -7,10 +7,6 @@ mod changes;
 #[cfg(test)]
 mod fakes;
 #[cfg(test)]
-mod lines;
-#[cfg(test)]
 mod streams;
 #[cfg(test)]
 mod tailorings;
-#[cfg(test)]
-mod words;

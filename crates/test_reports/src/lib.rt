@@ -1,0 +1,7 @@
+//! Tests of what is said of an error, and of the arguments that are read.
+#![tactic(auto)]
+
+#[cfg(test)]
+mod lines;
+#[cfg(test)]
+mod words;
