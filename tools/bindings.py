@@ -319,6 +319,15 @@ def postgresql_like(program):
 WORDS = ("american-english-large", "ngerman", "french", "spanish", "polish", "portuguese", "swedish", "danish", "catalan")
 
 
+def list_of_words(path):
+    """A list of words in UTF-8, or else in ISO 8859-1, as that of wswedish is."""
+    found = content(path)
+    try:
+        return found.decode().split()
+    except UnicodeDecodeError:
+        return found.decode("iso-8859-1").split()
+
+
 def words(count):
     """So many words, as many of each language as there are, shuffled."""
     lists = []
@@ -326,7 +335,7 @@ def words(count):
         path = f"/usr/share/dict/{name}"
         if not os.path.exists(path):
             raise NotHere(f"there is no {path}")
-        lists.append(content(path).decode().split())
+        lists.append(list_of_words(path))
     chosen = random.Random(1)
     found = {word for it in lists for word in chosen.sample(it, min(len(it), count // len(lists) + 1000))}
     return chosen.sample(sorted(found), count)
