@@ -1,0 +1,104 @@
+-- Accepted changes and tailorings, as the bytes of their files mean them, keep the order of stored keys.
+use Rattle.std.proofs.Common.{◌≡◌, ℕ, List, [], ◌∷◌, ◌++◌, ◌||◌, Bool, true, false, map, chars, Ok, refl, ap, ◌∙◌}
+use Rattle.std.specs.Char.{IsScalar}
+use Rattle.std.specs.List.{AllByRecursion, list_any}
+use Rattle.std.proofs.lemmas.Bool.{or_from}
+use Rattle.unicode_normalization.specs.Forms.{nfd}
+use Rattle.uca_values.specs.Ranges.{is_within}
+use Rattle.uca_text.specs.Texts.{nfd_text}
+use Rattle.uca_order.specs.Depths.{read_text}
+use Rattle.uca_rules.specs.declared.relations.Relation.{Relation}
+use Rattle.uca_tailorings.specs.Moves.{KeyMoves}
+use Rattle.uca_tailorings.specs.Tailorings.{IsAccepted}
+use Rattle.uca_changes.specs.Changes.{Change, IsChange, IsAcceptedChange, old_reading, new_reading}
+use Rattle.uca_changes.specs.Laws.{ChangesKeepUnaffectedTexts, TailoringsAreChanges, change_of}
+use Rattle.uca_run_parts.specs.AffectedRun.{if_so, is_affected, occurs_in_order}
+use Rattle.uca_run_parts.specs.Files.{audit_files}
+use Rattle.uca_change_runs.specs.AffectedRun.{is_affected_by, listed_in}
+use Rattle.uca_change_runs.specs.AuditRun as changes
+use Rattle.uca_change_runs.specs.ChangeFiles.{change_files}
+use Rattle.uca_change_runs.proofs.AffectedTexts.{affected_are_the_others}
+use Rattle.uca_tailor_runs.specs.AuditRun as tailorings
+use Rattle.uca_upgrades.specs.Upgrades.{Upgrade, IsUnaffectedLine, change_upgrade, tailoring_upgrade}
+use Rattle.uca_upgrades.specs.Laws.{AcceptedChangesKeepOrder, AuditedChangesKeepOrder, AcceptedTailoringsKeepOrder, AuditedTailoringsKeepOrder, MeanOnly, sources_of}
+use Rattle.uca_upgrades.proofs.KeptLines.{keeps_order, line_scalars}
+use Rattle.uca_upgrades.proofs.Meanings.{means_change, means_tailoring, over_means}
+use Rattle.uca_upgrades.proofs.OneMeaning.{changes_mean_one, mean_one, tailorings_mean_one}
+
+-- ---- Unaffected lines
+
+-- a line and its LF are not nothing
+never_empty : (line : List ℕ) → line ++ 10 ∷ [] ≡ [] → ⊥
+never_empty [] same = cc
+never_empty (byte ∷ line) same = cc
+
+-- where nothing is written of a line, it was not asked for
+not_so : (is_so : List ℕ → Bool) (points line : List ℕ) (b : Bool) → is_so points ≡ b → if_so is_so points line ≡ [] → b ≡ false
+not_so is_so points line false a none = refl
+not_so is_so points line true a none = absurd (never_empty line (rw a at none))
+
+-- so the text of an unaffected line is not affected
+unaffected_text : (upgrade : Upgrade) (line : List ℕ) → IsUnaffectedLine upgrade line → upgrade.affects (nfd (chars line)) ≡ false
+unaffected_text upgrade line is = not_so upgrade.affects (nfd (chars line)) line (upgrade.affects (nfd (chars line))) refl is.unwritten
+
+-- ---- Changes
+
+-- the key of a line moves whose text the change does not affect
+change_moves : ChangesKeepUnaffectedTexts → (change : Change) → IsChange change → IsAcceptedChange change → (text : List ℕ) →
+    AllByRecursion IsScalar (nfd text) → is_affected_by (listed_in change) (nfd text) ≡ false →
+    KeyMoves change.maps (read_text (old_reading change) (nfd_text change.old_properties text)) (read_text (new_reading change) (nfd_text change.new_properties text))
+change_moves law change is accepted text scalars none =
+    let stays = law change (old_reading change) (new_reading change) is accepted
+    (record { rows = λ key. refl; ranges = refl; properties = refl })
+    (record { rows = λ key. refl; ranges = refl; properties = refl }) in
+    stays.moves text (record { scalars = scalars; unaffected = (affected_are_the_others change (nfd text)).0 none })
+
+pub changes_keep : ChangesKeepUnaffectedTexts → AcceptedChangesKeepOrder
+changes_keep law old old_data new new_data changes certificate change means accepted =
+    let is = means_change old old_data new new_data changes certificate change means in
+    keeps_order (change_upgrade change) is.old (λ line unaffected.
+    change_moves law change is accepted (chars line) (line_scalars (change_upgrade change) line unaffected)
+    (unaffected_text (change_upgrade change) line unaffected))
+
+-- a run that accepts does so for a change that its files mean
+pub audited_changes_keep : AcceptedChangesKeepOrder → AuditedChangesKeepOrder
+audited_changes_keep law old old_data new new_data list certificate news out out_new audit =
+    let files = old ∷ old_data ∷ new ∷ new_data ∷ list ∷ certificate ∷ [] in
+    let found = over_means change_files files news (changes.RunsAudit out out_new (Ok true)) true audit.runs in
+    let accepted : IsAcceptedChange found.0 = found.2.1.0 in
+    let only : MeanOnly change_files (sources_of files) found.0 =
+    (found.1, λ other means. mean_one change_files changes_mean_one files other found.0 means found.1) in
+    (found.0, only, accepted, law old old_data new new_data list certificate found.0 found.1 accepted)
+
+-- ---- Tailorings
+
+-- no code point lies in a range where there is none
+none_within : (points : List ℕ) → list_any (is_within []) points ≡ false
+none_within [] = refl
+none_within (point ∷ points) = none_within points
+
+-- the targets are the changed texts
+same_targets : (points : List ℕ) (relations : List Relation) →
+    list_any (λ text. occurs_in_order text points) (map (λ r. r.target.points) relations) ≡ is_affected relations points
+same_targets points [] = refl
+same_targets points (r ∷ relations) = ap (λ b. occurs_in_order r.target.points points || b) (same_targets points relations)
+
+pub tailorings_keep : ChangesKeepUnaffectedTexts → TailoringsAreChanges → AcceptedTailoringsKeepOrder
+tailorings_keep law are base properties rules tailored certificate tailoring means accepted =
+    let is = means_tailoring base properties rules tailored certificate tailoring means in
+    let change = are tailoring is accepted in
+    let upgrade = tailoring_upgrade tailoring in
+    keeps_order upgrade is.base (λ line unaffected.
+    let points = nfd (chars line) in
+    change_moves law (change_of tailoring) change.0 change.1 (chars line) (line_scalars upgrade line unaffected)
+    (or_from (list_any (λ text. occurs_in_order text points) (map (λ r. r.target.points) tailoring.relations)) (list_any (is_within []) points)
+    (same_targets points tailoring.relations ∙ unaffected_text upgrade line unaffected) (none_within points)))
+
+pub audited_tailorings_keep : AcceptedTailoringsKeepOrder → AuditedTailoringsKeepOrder
+audited_tailorings_keep law base properties rules tailored certificate news out out_new audit =
+    let files = base ∷ properties ∷ rules ∷ tailored ∷ certificate ∷ [] in
+    let found = over_means audit_files files news (tailorings.RunsAudit out out_new (Ok true)) true audit.runs in
+    let accepted : IsAccepted found.0 = found.2.1.0 in
+    let only : MeanOnly audit_files (sources_of files) found.0 =
+    (found.1, λ other means. mean_one audit_files tailorings_mean_one files other found.0 means found.1) in
+    (found.0, only, accepted, law base properties rules tailored certificate found.0 found.1 accepted)

@@ -1,0 +1,6 @@
+pub mod KeyBytes
+pub mod Outputs
+pub mod Meanings
+pub mod OneMeaning
+pub mod KeptLines
+pub mod Accepted

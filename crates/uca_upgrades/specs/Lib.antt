@@ -1,0 +1,2 @@
+pub mod Upgrades
+pub mod Laws

@@ -1,0 +1,143 @@
+-- Stored keys of lines where a table and a data file give way to new ones: what a store may have, and what is true of it then.
+use Rattle.std.specs.Prelude.{◌≡◌, ◌⊎◌, ℕ, List, [], Bool, Some, None, chars}
+use Rattle.std.specs.List.{AllByRecursion, flat_map}
+use Rattle.uca_weights.specs.declared.Depth.{Depth}
+use Rattle.uca_weights.specs.declared.Element.{Element}
+use Rattle.uca_weights.specs.declared.Weighting.{Weighting}
+use Rattle.uca_values.specs.Content.{Properties}
+use Rattle.uca_lines.specs.Lines.{ended, lines_of}
+use Rattle.uca_text.specs.Texts.{nfd_text}
+use Rattle.uca_match.specs.Collations.{elements_of}
+use Rattle.uca_order.specs.Levels.{lexicographic}
+use Rattle.uca_order.specs.Depths.{levels_at}
+use Rattle.uca_order.specs.StoredKeys.{stored_level}
+use Rattle.uca_tailorings.specs.Images.{Maps, AreImages}
+use Rattle.uca_tailorings.specs.Moves.{moved_key}
+use Rattle.uca_tailorings.specs.Tailorings.{Tailoring}
+use Rattle.uca_changes.specs.Changes.{Change}
+use Rattle.uca_run_parts.specs.AffectedRun.{is_affected, line_if}
+use Rattle.uca_run_parts.specs.Files.{TableAndData, table_with}
+use Rattle.uca_run_parts.specs.Input.{cause_of}
+use Rattle.uca_run_parts.specs.Print.{keyed_line_of}
+use Rattle.uca_change_runs.specs.AffectedRun.{is_affected_by, listed_in}
+use Rattle.uca_rekey.specs.RekeyedLines.{rekeyed}
+use Rattle.uca_rekey.specs.RekeyRun.{AreRekeyed}
+use Rattle.uca_runs.specs.Keys.{KeySettings, collation, key_settings, keyed_line, line_key, printed_key}
+use Rattle.uca_runs.specs.Laws.{lines_compared}
+
+-- ---- Upgrades
+
+-- The files that keys were made by, and those that they are made by now. The maps that `uca rekey` puts keys through. And which
+-- texts, as code points in Normalization Form D, have lines that `uca affected` prints.
+pub record Upgrade : Type 0 where
+  pub old : TableAndData
+  pub new : TableAndData
+  pub maps : Maps
+  pub affects : List ℕ → Bool
+
+-- by a change, where `uca affected --changes` prints the lines
+abbrev pub change_upgrade : Change → Upgrade
+change_upgrade change = record {
+  old = table_with change.old change.old_properties;
+  new = table_with change.new change.new_properties;
+  maps = change.maps;
+  affects = is_affected_by (listed_in change);
+}
+
+-- by a tailoring, where `uca affected` prints them
+abbrev pub tailoring_upgrade : Tailoring → Upgrade
+tailoring_upgrade tailoring = record {
+  old = table_with tailoring.base tailoring.properties;
+  new = table_with tailoring.tailored tailoring.properties;
+  maps = tailoring.maps;
+  affects = is_affected tailoring.relations;
+}
+
+-- what keys go by under the old files, and under the new ones
+abbrev pub old_settings : Upgrade → Weighting → Depth → KeySettings
+old_settings upgrade weighting depth = key_settings (Some weighting) depth upgrade.old.table upgrade.old.properties
+
+abbrev pub new_settings : Upgrade → Weighting → Depth → KeySettings
+new_settings upgrade weighting depth = key_settings (Some weighting) depth upgrade.new.table upgrade.new.properties
+
+-- the key of a line under the old files, and under the new ones
+abbrev pub old_key : Upgrade → Weighting → Depth → List ℕ → List ℕ
+old_key upgrade weighting depth line = line_key (old_settings upgrade weighting depth) line
+
+abbrev pub new_key : Upgrade → Weighting → Depth → List ℕ → List ℕ
+new_key upgrade weighting depth line = line_key (new_settings upgrade weighting depth) line
+
+-- ---- What a store may have
+
+-- A run of `uca affected` reads the line after this many others, finds no error in it by its data file, and writes nothing
+-- for it. Its data file may be any one, such as the old or the new one.
+pub record IsUnaffectedLine (upgrade : Upgrade) (line : List ℕ) : Type 0 where
+  pub properties : Properties
+  pub before : ℕ
+  pub faultless : cause_of properties before line ≡ None
+  pub unwritten : line_if upgrade.affects properties line ≡ []
+
+-- the collation elements of a line under the old files
+abbrev pub old_elements : Upgrade → List ℕ → List Element
+old_elements upgrade line = elements_of (collation upgrade.old.table upgrade.old.properties) (nfd_text upgrade.old.properties (chars line))
+
+-- A key that was kept for a line: its old key put through the maps, as `uca rekey` does it. Or its old key as it was, where each
+-- weight of the line is its own image.
+abbrev pub IsKeptLineKey : Upgrade → Weighting → Depth → List ℕ → List ℕ → Type 0
+IsKeptLineKey upgrade weighting depth line key =
+    (moved_key upgrade.maps depth weighting (old_key upgrade weighting depth line) ≡ Some key)
+    ⊎ (AreImages upgrade.maps (old_elements upgrade line) (old_elements upgrade line) × (key ≡ old_key upgrade weighting depth line))
+
+-- A key that a store has for a line: its new key. Or, if the line is unaffected, one that was kept.
+abbrev pub IsStoredLineKey : Upgrade → Weighting → Depth → List ℕ → List ℕ → Type 0
+IsStoredLineKey upgrade weighting depth line key =
+    (key ≡ new_key upgrade weighting depth line) ⊎ (IsUnaffectedLine upgrade line × IsKeptLineKey upgrade weighting depth line key)
+
+-- ---- What is true of it
+
+-- all lines of an input are unaffected
+abbrev pub AreUnaffectedLines : Upgrade → List ℕ → Type 0
+AreUnaffectedLines upgrade input = AllByRecursion (IsUnaffectedLine upgrade) (lines_of input)
+
+-- `uca rekey` reads the first bytes and writes the second: these are the lines of the first with their keys put through the maps,
+-- each with LF.
+abbrev pub IsRekeyed : Upgrade → Weighting → Depth → List ℕ → List ℕ → Type 0
+IsRekeyed upgrade weighting depth bytes now =
+    (lines : List (List ℕ)) × AreRekeyed (moved_key upgrade.maps depth weighting) (lines_of bytes) lines × (now ≡ flat_map ended lines)
+
+-- what is true of the keys of a store that were made by this weighting and to this depth
+pub record KeysAreUpgraded (upgrade : Upgrade) (weighting : Weighting) (depth : Depth) : Type 0 where
+  -- the old key of an unaffected line, put through the maps, is its new key
+  pub moved : (line : List ℕ) → IsUnaffectedLine upgrade line →
+      moved_key upgrade.maps depth weighting (old_key upgrade weighting depth line) ≡ Some (new_key upgrade weighting depth line)
+  -- so each key of the store is the new key of its line
+  pub stored : (line key : List ℕ) → IsStoredLineKey upgrade weighting depth line key → key ≡ new_key upgrade weighting depth line
+  -- two keys of the store, compared as bytes, have the order of their lines under the new files
+  pub ordered : (left right left_key right_key : List ℕ) →
+      IsStoredLineKey upgrade weighting depth left left_key → IsStoredLineKey upgrade weighting depth right right_key →
+      lexicographic left_key right_key ≡ (lines_compared (new_settings upgrade weighting depth) left right).order
+  -- and they give the level at which these differ
+  pub levels : (left right left_key right_key : List ℕ) →
+      IsStoredLineKey upgrade weighting depth left left_key → IsStoredLineKey upgrade weighting depth right right_key →
+      stored_level (levels_at depth weighting) left_key right_key ≡ (lines_compared (new_settings upgrade weighting depth) left right).level
+  -- What `uca keys` printed of an unaffected line under the old files becomes, by `uca rekey`, what it prints under the new ones.
+  -- Both are given here without their LF.
+  pub printed_line : (line before after : List ℕ) → IsUnaffectedLine upgrade line →
+      ended before ≡ printed_key (old_settings upgrade weighting depth) line →
+      ended after ≡ printed_key (new_settings upgrade weighting depth) line → rekeyed upgrade.maps depth weighting before ≡ Some after
+  -- The same for the digits of the key, a tab, and what a store has after it, such as the line itself or its number.
+  pub keyed_row : (line row before after : List ℕ) → IsUnaffectedLine upgrade line →
+      ended before ≡ keyed_line_of (old_key upgrade weighting depth line) row →
+      ended after ≡ keyed_line_of (new_key upgrade weighting depth line) row → rekeyed upgrade.maps depth weighting before ≡ Some after
+  -- So the whole output of `uca keys` over an input of unaffected lines becomes its output under the new files.
+  pub printed : (input : List ℕ) → AreUnaffectedLines upgrade input →
+      IsRekeyed upgrade weighting depth (flat_map (printed_key (old_settings upgrade weighting depth)) (lines_of input))
+      (flat_map (printed_key (new_settings upgrade weighting depth)) (lines_of input))
+  -- the same for `uca keys --lines`
+  pub keyed : (input : List ℕ) → AreUnaffectedLines upgrade input →
+      IsRekeyed upgrade weighting depth (flat_map (keyed_line (old_settings upgrade weighting depth)) (lines_of input))
+      (flat_map (keyed_line (new_settings upgrade weighting depth)) (lines_of input))
+
+-- that for each weighting and depth
+abbrev pub KeepsOrder : Upgrade → Type 0
+KeepsOrder upgrade = (weighting : Weighting) (depth : Depth) → KeysAreUpgraded upgrade weighting depth
