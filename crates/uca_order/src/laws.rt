@@ -18,8 +18,8 @@ pub fn stored_keys_compare_as_elements()
     ensures { StoredKeysCompareAsElements }
 {}
 
-/// The keys of two texts compare as the texts do, at either depth: `compare` of the crate `uca_key` returns the same for
-/// two texts as `compare_keys` returns for their keys, with `level_count` levels.
+/// The keys of two texts compare as the texts do, at either depth. So for two texts `compare` of the crate `uca_key` returns
+/// what `compare_keys` returns for their keys, with `level_count` levels.
 pub fn keys_compare_as_texts()
     ensures { KeysCompareAsTexts }
 {}
