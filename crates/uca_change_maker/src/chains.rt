@@ -11,7 +11,7 @@ const WEIGHT_COUNT: usize = 0x1_0000;
 const TREE_DEPTH: usize = 17;
 
 /// A move with how many rows have it, and the move before it in the heaviest chain that ends with it.
-#[derive(Clone, Copy, Debug, PartialEq, Eq)]
+#[derive(Clone, Copy)]
 pub(crate) struct Step {
     /// The move.
     pub(crate) is: Move,
@@ -22,7 +22,7 @@ pub(crate) struct Step {
 }
 
 /// A chain, by its last step.
-#[derive(Clone, Copy, Debug, PartialEq, Eq)]
+#[derive(Clone, Copy)]
 struct Chain {
     /// How often its moves occur, all together.
     votes: u64,

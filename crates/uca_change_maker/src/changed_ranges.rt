@@ -20,9 +20,20 @@ pub(crate) fn list_ranges<A: Allocator + Copy>(
     list: &mut ChangeList<A>,
     editions: &Editions<A>,
 ) -> Result<(), AllocError> {
-    let borders = borders(alloc, editions)?;
+    let mut borders = BTreeSet::new(alloc);
+    insert_all(&mut borders, editions)?;
+    push_between(alloc, list, editions, &borders)
+}
+
+// Lists the ranges that change, each from a border to one after it.
+fn push_between<A: Allocator + Copy>(
+    alloc: A,
+    list: &mut ChangeList<A>,
+    editions: &Editions<A>,
+    borders: &BTreeSet<char, A>,
+) -> Result<(), AllocError> {
     let mut open: Option<char> = None;
-    for border in &borders {
+    for border in borders {
         let changes = is_changed(alloc, editions, *border);
         open = match open {
             None if changes => Some(*border),
@@ -75,20 +86,18 @@ fn has_other_weights<A: Allocator + Copy>(alloc: A, editions: &Editions<A>, poin
     old.header.implicit(&nothing, point) != new.header.implicit(&nothing, point)
 }
 
-// The borders of all ranges, and those of all code points.
-fn borders<A: Allocator + Copy>(
-    alloc: A,
+// Puts in the borders of all ranges, and those of all code points.
+fn insert_all<A: Allocator + Copy>(
+    borders: &mut BTreeSet<char, A>,
     editions: &Editions<A>,
-) -> Result<BTreeSet<char, A>, AllocError> {
+) -> Result<(), AllocError> {
     let (old, new) = (editions.old, editions.new);
-    let mut borders = BTreeSet::new(alloc);
     borders.insert('\0')?;
     borders.insert(ABOVE_SURROGATES)?;
-    insert_header(&mut borders, &old.header)?;
-    insert_header(&mut borders, &new.header)?;
-    insert_data(&mut borders, editions.old_data)?;
-    insert_data(&mut borders, editions.new_data)?;
-    Ok(borders)
+    insert_header(borders, &old.header)?;
+    insert_header(borders, &new.header)?;
+    insert_data(borders, editions.old_data)?;
+    insert_data(borders, editions.new_data)
 }
 
 // Puts in the borders of the ranges of a header.

@@ -33,11 +33,34 @@ fn insert_old_keys<A: Allocator + Copy>(
 ) -> Result<(), AllocError> {
     let images = Images::new(alloc, certificate)?;
     let old = editions.old;
-    for row in &old.rows {
-        if !is_kept(&images, row, new) {
-            texts.insert(Vec::from_slice(alloc, &row.key)?)?;
+    let inserted = insert_not_kept(alloc, texts, &old.rows, &images, new);
+    drop(images);
+    inserted
+}
+
+// Puts in the keys of those rows that do not become their images.
+fn insert_not_kept<A: Allocator + Copy>(
+    alloc: A,
+    texts: &mut BTreeSet<Vec<char, A>, A>,
+    rows: &[Row<A>],
+    images: &Images<A, A>,
+    new: &Trie<A>,
+) -> Result<(), AllocError> {
+    for row in rows {
+        if !is_kept(images, row, new) {
+            insert_key(alloc, texts, row)?;
         }
     }
+    Ok(())
+}
+
+// Puts in the key of a row.
+fn insert_key<A: Allocator + Copy>(
+    alloc: A,
+    texts: &mut BTreeSet<Vec<char, A>, A>,
+    row: &Row<A>,
+) -> Result<(), AllocError> {
+    texts.insert(Vec::from_slice(alloc, &row.key)?)?;
     Ok(())
 }
 
@@ -61,9 +84,21 @@ fn insert_new_keys<A: Allocator + Copy>(
 ) -> Result<(), AllocError> {
     let old = Trie::new(alloc, editions.old)?;
     let new = editions.new;
-    for row in &new.rows {
-        if row_of(&old, &row.key).is_none() {
-            texts.insert(Vec::from_slice(alloc, &row.key)?)?;
+    let inserted = insert_missing(alloc, texts, &new.rows, &old);
+    drop(old);
+    inserted
+}
+
+// Puts in the keys of those rows that the old table has no row of.
+fn insert_missing<A: Allocator + Copy>(
+    alloc: A,
+    texts: &mut BTreeSet<Vec<char, A>, A>,
+    rows: &[Row<A>],
+    old: &Trie<A>,
+) -> Result<(), AllocError> {
+    for row in rows {
+        if row_of(old, &row.key).is_none() {
+            insert_key(alloc, texts, row)?;
         }
     }
     Ok(())

@@ -19,12 +19,22 @@ pub(crate) fn level_map<A: Allocator + Copy, T: Allocator, L: Lookup>(
 ) -> Result<WeightMap<A>, AllocError>
     ensures { IfOk result (λ map. map.level ≡ level) }
 {
-    let mut moves = level_moves(alloc, level, rows, new)?;
-    let chain = heaviest_chain(alloc, &mut moves)?;
-    match WeightMap::from_runs(level, runs_of(alloc, &chain)?) {
+    match WeightMap::from_runs(level, level_runs(alloc, level, rows, new)?) {
         Ok(map) => Ok(map),
         Err(_) => least_map(alloc, level),
     }
+}
+
+// The runs of the heaviest chain of moves.
+fn level_runs<A: Allocator + Copy, T: Allocator, L: Lookup>(
+    alloc: A,
+    level: Level,
+    rows: &[Row<T>],
+    new: &L,
+) -> Result<Vec<Run, A>, AllocError> {
+    let mut moves = level_moves(alloc, level, rows, new)?;
+    let chain = heaviest_chain(alloc, &mut moves)?;
+    runs_of(alloc, &chain)
 }
 
 // The map that has the weight that stays, and no other.

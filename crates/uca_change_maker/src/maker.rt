@@ -61,11 +61,35 @@ fn found_changes<A: Allocator + Copy>(
     editions: &Editions<A>,
 ) -> Result<FoundChanges<A>, AllocError> {
     let new = Trie::new(alloc, editions.new)?;
-    let certificate = certificate_of(alloc, editions, &new)?;
+    let found = found_by(alloc, editions, &new);
+    drop(new);
+    found
+}
+
+// What changes, by the rows of the new table.
+fn found_by<A: Allocator + Copy>(
+    alloc: A,
+    editions: &Editions<A>,
+    new: &Trie<A>,
+) -> Result<FoundChanges<A>, AllocError> {
+    let certificate = certificate_of(alloc, editions, new)?;
+    match list_of(alloc, editions, &certificate, new) {
+        Ok(list) => Ok(FoundChanges { list, certificate }),
+        Err(error) => Err(error),
+    }
+}
+
+// The texts and the ranges that change.
+fn list_of<A: Allocator + Copy>(
+    alloc: A,
+    editions: &Editions<A>,
+    certificate: &Certificate<A>,
+    new: &Trie<A>,
+) -> Result<ChangeList<A>, AllocError> {
     let mut list = ChangeList::new(alloc);
-    list_texts(alloc, &mut list, editions, &certificate, &new)?;
+    list_texts(alloc, &mut list, editions, certificate, new)?;
     list_ranges(alloc, &mut list, editions)?;
-    Ok(FoundChanges { list, certificate })
+    Ok(list)
 }
 
 // The maps of the weights of all levels.

@@ -12,7 +12,7 @@ use uca_weights::{Element, Level};
 const MOST_PRIMARY: u16 = 0x7FFF;
 
 /// A weight of an old row, and the weight at its position in the new row.
-#[derive(Clone, Copy, Debug, PartialEq, Eq)]
+#[derive(Clone, Copy, PartialEq)]
 pub(crate) struct Move {
     pub(crate) old: u16,
     pub(crate) new: u16,
@@ -33,11 +33,7 @@ pub(crate) fn level_moves<A: Allocator, T: Allocator, L: Lookup>(
             new: weight,
         })?;
     }
-    for row in rows {
-        if let Some(elements) = row_of(new, &row.key) {
-            push_moves(&mut moves, level, &row.elements, elements)?;
-        }
-    }
+    push_rows(&mut moves, level, rows, new)?;
     Ok(moves)
 }
 
@@ -50,6 +46,21 @@ pub(crate) fn fixed_weight(level: Level) -> Option<u16>
         Level::Two => Some(0x20),
         Level::Three => Some(2),
     }
+}
+
+// Adds the moves of all rows.
+fn push_rows<A: Allocator, T: Allocator, L: Lookup>(
+    moves: &mut Vec<Move, A>,
+    level: Level,
+    rows: &[Row<T>],
+    new: &L,
+) -> Result<(), AllocError> {
+    for row in rows {
+        if let Some(elements) = row_of(new, &row.key) {
+            push_moves(moves, level, &row.elements, elements)?;
+        }
+    }
+    Ok(())
 }
 
 // Adds the moves of a row's elements, if those of the new row have the same shape.

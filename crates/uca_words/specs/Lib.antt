@@ -1,3 +1,4 @@
 pub mod Command
+pub mod Subcommands
 pub mod Met
 pub mod Words

@@ -20,6 +20,7 @@ ghost use Rattle.uca_words.specs.Met.{has_words, is_met, IsWeightingFault};
 ghost use Rattle.uca_words.specs.Words.{HasFiles, HasWord, HasWeighting, HasDepth, Says, AreRead, IsFaultOf};
 
 mod builders;
+mod subcommands;
 
 use builders::uca_command;
 use clap::ArgMatches;

@@ -1,0 +1,22 @@
+use Rattle.std.proofs.Common.{ℕ, List, length, ap, subst, sym, ◌∙◌, slice_index}
+use Rattle.std.specs.List.{AllByRecursion}
+use Rattle.uca_plans.specs.declared.drafts.DraftWeight.{DraftWeight}
+use Rattle.uca_plans.specs.Lists.{IsNamedBelow}
+use Rattle.uca_numbers.proofs.levels.LevelNumbers.new.Goals as goal
+
+pub fill_tables-requires-clause-same : goal.fill_tables-requires-clause-same
+fill_tables-requires-clause-same g c = c.deref-2.ensures.len ∙ c.requires.same ∙ sym c.deref.ensures.len
+
+pub fill_tables-requires-clause-bases : goal.fill_tables-requires-clause-bases
+fill_tables-requires-clause-bases g c = c.deref_mut.ensures.len ∙ c.in_ok-by_base.ensures.length
+
+pub fill_tables-requires-clause-names : goal.fill_tables-requires-clause-names
+fill_tables-requires-clause-names g c =
+    subst (λ (members : List DraftWeight). AllByRecursion (IsNamedBelow (length c.deref_mut-2.result.now)) members) (sym c.deref.ensures.value)
+    (subst (λ (count : ℕ). AllByRecursion (IsNamedBelow count) c.args.members.items) (sym (c.deref_mut-2.ensures.len ∙ c.in_ok-by_new.ensures.length)) c.requires.names)
+
+pub fill_tables-requires-clause-no_base : goal.fill_tables-requires-clause-no_base
+fill_tables-requires-clause-no_base g c w = ap (λ (numbers : List ℕ). slice_index numbers w) c.deref_mut.ensures.value ∙ c.in_ok-by_base.ensures.none w
+
+pub fill_tables-requires-clause-no_new : goal.fill_tables-requires-clause-no_new
+fill_tables-requires-clause-no_new g c n = ap (λ (numbers : List ℕ). slice_index numbers n) c.deref_mut-2.ensures.value ∙ c.in_ok-by_new.ensures.none n

@@ -1,0 +1,293 @@
+//! The subcommands of `uca` as a table: their names, their arguments, and the help on them.
+
+/// An argument of a subcommand.
+#[derive(Clone, Copy)]
+pub(crate) enum Argument<'a> {
+    /// One that has to be there: its id, the name of its value, and its help.
+    Word {
+        id: &'a str,
+        name: &'a str,
+        help: &'a str,
+    },
+    /// The option `--weighting W`: its help.
+    Weighting {
+        help: &'a str,
+    },
+    /// An option without a value: its id, which is its name too, and its help.
+    Flag {
+        id: &'a str,
+        help: &'a str,
+    },
+}
+
+/// A subcommand.
+#[derive(Clone, Copy)]
+pub(crate) struct Subcommand<'a> {
+    /// Its name.
+    pub(crate) name: &'a str,
+    /// What it does, in one line.
+    pub(crate) line: &'a str,
+    /// What it does, in full.
+    pub(crate) text: &'a str,
+    /// How it is called.
+    pub(crate) example: &'a str,
+    /// Its arguments, in their order.
+    pub(crate) arguments: &'a [Argument<'a>],
+}
+
+const WEIGHTING: Argument<'static> = Argument::Weighting {
+    help: "non-ignorable or shifted [default: what the table's @variable says, else shifted]",
+};
+
+const MADE_WEIGHTING: Argument<'static> = Argument::Weighting {
+    help: "non-ignorable or shifted, as the keys were made [default: shifted]",
+};
+
+const IDENTICAL: Argument<'static> = Argument::Flag {
+    id: "identical",
+    help: "Compare texts that weigh the same by their code points too",
+};
+
+const MADE_IDENTICAL: Argument<'static> = Argument::Flag {
+    id: "identical",
+    help: "The keys were made with --identical",
+};
+
+const LINES: Argument<'static> = Argument::Flag {
+    id: "lines",
+    help: "Print the key without blanks, a tab and the line",
+};
+
+const CHANGED: Argument<'static> = Argument::Flag {
+    id: "changes",
+    help: "RULES is a file of changes, and DATA the new data file",
+};
+
+const TABLE: Argument<'static> = Argument::Word {
+    id: "table",
+    name: "TABLE",
+    help: "A weight table in the format of allkeys.txt",
+};
+
+const DATA: Argument<'static> = Argument::Word {
+    id: "data",
+    name: "DATA",
+    help: "A data file: combining classes and Han ranges",
+};
+
+const RULES: Argument<'static> = Argument::Word {
+    id: "rules",
+    name: "RULES",
+    help: "The tailoring rules",
+};
+
+const LEFT: Argument<'static> = Argument::Word {
+    id: "left",
+    name: "LEFT",
+    help: "The text on the left",
+};
+
+const RIGHT: Argument<'static> = Argument::Word {
+    id: "right",
+    name: "RIGHT",
+    help: "The text on the right",
+};
+
+const BASE: Argument<'static> = Argument::Word {
+    id: "base",
+    name: "BASE",
+    help: "The weight table before the tailoring",
+};
+
+const TAILORED: Argument<'static> = Argument::Word {
+    id: "tailored",
+    name: "TAILORED",
+    help: "The weight table after the tailoring",
+};
+
+const OLD: Argument<'static> = Argument::Word {
+    id: "old",
+    name: "OLD",
+    help: "The weight table before the change",
+};
+
+const OLD_DATA: Argument<'static> = Argument::Word {
+    id: "old-data",
+    name: "OLD-DATA",
+    help: "The data file of OLD",
+};
+
+const NEW: Argument<'static> = Argument::Word {
+    id: "new",
+    name: "NEW",
+    help: "The weight table after the change",
+};
+
+const NEW_DATA: Argument<'static> = Argument::Word {
+    id: "new-data",
+    name: "NEW-DATA",
+    help: "The data file of NEW",
+};
+
+const CHANGES: Argument<'static> = Argument::Word {
+    id: "changes",
+    name: "CHANGES",
+    help: "The changes, as `uca changes` prints them",
+};
+
+const NEW_CERTIFICATE: Argument<'static> = Argument::Word {
+    id: "certificate",
+    name: "CERTIFICATE",
+    help: "The file that the certificate is written to",
+};
+
+const CERTIFICATE: Argument<'static> = Argument::Word {
+    id: "certificate",
+    name: "CERTIFICATE",
+    help: "The certificate of the tailoring",
+};
+
+const CHANGE_CERTIFICATE: Argument<'static> = Argument::Word {
+    id: "certificate",
+    name: "CERTIFICATE",
+    help: "The certificate of the changes",
+};
+
+const ANY_CERTIFICATE: Argument<'static> = Argument::Word {
+    id: "certificate",
+    name: "CERTIFICATE",
+    help: "The certificate of the changes, or of a tailoring",
+};
+
+const CHECK_COMMAND: Subcommand<'static> = Subcommand {
+    name: "check",
+    line: "Say whether a weight table is well-formed",
+    text: "Says whether a weight table is well-formed (UTS #10, section 9.2). Prints `well-formed`, or the\n\
+           first condition that fails and the first row that fails it, such as `WF5 row 8`, with status 1.",
+    example: "Example: uca check allkeys.txt data.txt",
+    arguments: &[TABLE, DATA],
+};
+
+const KEYS_COMMAND: Subcommand<'static> = Subcommand {
+    name: "keys",
+    line: "Print the sort key of each line of standard input",
+    text: "Prints the sort key (UTS #10, S3) of each line of standard input on a line of its own, in groups\n\
+           of four hexadecimal digits. `0000` is between two levels. With `--identical` the code points\n\
+           of Normalization Form D follow as one more level, six digits each. With `--lines` each key has no\n\
+           blanks, and after it come a tab and the line: a database or `sort` can read that.",
+    example: "Examples:\n\
+         \x20 uca keys allkeys.txt data.txt < lines.txt\n\
+         \x20 uca keys --lines allkeys.txt data.txt < lines.txt > keyed.tsv",
+    arguments: &[WEIGHTING, IDENTICAL, TABLE, DATA, LINES],
+};
+
+const SORT_COMMAND: Subcommand<'static> = Subcommand {
+    name: "sort",
+    line: "Sort the lines of standard input by their sort keys",
+    text: "Sorts the lines of standard input by their sort keys. Lines of equal keys keep their order.\n\
+           With `--identical` lines of equal weight are in the order of their code points. Then only lines that\n\
+           are canonically equivalent keep the order of the input.",
+    example: "Example: uca sort --weighting non-ignorable allkeys.txt data.txt < lines.txt",
+    arguments: &[WEIGHTING, IDENTICAL, TABLE, DATA],
+};
+
+const COMPARE_COMMAND: Subcommand<'static> = Subcommand {
+    name: "compare",
+    line: "Say how two texts compare, and at which level they differ",
+    text: "Prints `<`, `=` or `>`: LEFT comes before RIGHT, is equal to it, or comes after it. Then comes the\n\
+           level at which the two first differ, or 0: `< 2`. With `--identical` texts that weigh the same are\n\
+           compared at one more level, by the code points of Normalization Form D.",
+    example: "Example: uca compare allkeys.txt data.txt cote côté",
+    arguments: &[WEIGHTING, IDENTICAL, TABLE, DATA, LEFT, RIGHT],
+};
+
+const TAILOR_COMMAND: Subcommand<'static> = Subcommand {
+    name: "tailor",
+    line: "Tailor a weight table by rules",
+    text: "Tailors TABLE by RULES (UTS #35 Part 5, Collation) and prints the tailored table. Before that it\n\
+           writes the old and the new weights of TABLE to the file CERTIFICATE, once there is a plan. `uca audit`\n\
+           checks both. A file of that name is replaced, unless it is one that `tailor` reads.",
+    example: "Example: uca tailor table.txt data.txt rules.txt certificate.txt > tailored.txt",
+    arguments: &[TABLE, DATA, RULES, NEW_CERTIFICATE],
+};
+
+const AUDIT_COMMAND: Subcommand<'static> = Subcommand {
+    name: "audit",
+    line: "Say whether a tailored table is what its rules say",
+    text: "Says whether TAILORED is what RULES make of BASE, with the weights moved as CERTIFICATE says. Prints\n\
+           `accepted`, or the first condition that fails and where, such as `refused 9 NotPlaced relation 3`,\n\
+           with status 1. If it accepts, each relation of the rules holds, and all texts in which no target of\n\
+           the rules occurs compare as under BASE.",
+    example: "Example: uca audit table.txt data.txt rules.txt tailored.txt certificate.txt",
+    arguments: &[BASE, DATA, RULES, TAILORED, CERTIFICATE],
+};
+
+const AFFECTED_COMMAND: Subcommand<'static> = Subcommand {
+    name: "affected",
+    line: "Print the lines of standard input that rules or changes may move",
+    text: "Prints those lines of standard input in which a target of RULES occurs, as they are. Other characters\n\
+           may be between those of the target: `bh` occurs in `bach`. These lines may move when a table is\n\
+           tailored by RULES. All other lines keep their order among themselves. With `--changes` RULES is a file\n\
+           of changes, as `uca changes` prints it, and DATA is the new data file. Then it prints the lines in\n\
+           which a changed text occurs so, and those with a code point of a changed range.",
+    example: "Examples:\n\
+         \x20 uca affected data.txt rules.txt < lines.txt > moved.txt\n\
+         \x20 uca affected --changes new-data.txt changes.txt < lines.txt > changed.txt",
+    arguments: &[CHANGED, DATA, RULES],
+};
+
+const CHANGES_COMMAND: Subcommand<'static> = Subcommand {
+    name: "changes",
+    line: "Find what changes from an old weight table to a new one",
+    text: "Finds which texts and code points change from the table OLD to the table NEW, each with its data file.\n\
+           First it writes the old and the new weights of OLD to the file CERTIFICATE. A file of that name is\n\
+           replaced, unless it is one that `changes` reads. Then it prints the changes. `uca audit-changes` checks\n\
+           both. All texts in which none of the changes occurs keep their order among themselves, and `uca rekey`\n\
+           mends their stored keys.",
+    example: "Example: uca changes old.txt old-data.txt new.txt new-data.txt certificate.txt > changes.txt",
+    arguments: &[OLD, OLD_DATA, NEW, NEW_DATA, NEW_CERTIFICATE],
+};
+
+const AUDIT_CHANGES_COMMAND: Subcommand<'static> = Subcommand {
+    name: "audit-changes",
+    line: "Say whether changes and their certificate are right",
+    text: "Says whether CHANGES has all that changes from the table OLD to the table NEW, each with its data file,\n\
+           with the weights moved as CERTIFICATE says. Prints `accepted`, or the first condition that fails and\n\
+           where, such as `refused 5 RowChanged old row 3`, with status 1. If it accepts, all texts in which none\n\
+           of the changes occurs compare as under OLD, and `uca rekey` mends their stored keys.",
+    example: "Example: uca audit-changes old.txt old-data.txt new.txt new-data.txt changes.txt certificate.txt",
+    arguments: &[OLD, OLD_DATA, NEW, NEW_DATA, CHANGES, CHANGE_CERTIFICATE],
+};
+
+const REKEY_COMMAND: Subcommand<'static> = Subcommand {
+    name: "rekey",
+    line: "Mend the stored keys on standard input by a certificate",
+    text: "Reads lines as `uca keys` or `uca keys --lines` prints them, and prints each with its key put through\n\
+           the maps of CERTIFICATE: each old weight becomes its new one. The rest of the line stays. So a text in\n\
+           which no change occurs gets its key under the new table. `--weighting` and `--identical` have to be\n\
+           those that made the keys.",
+    example: "Example: uca rekey certificate.txt < keyed.tsv > mended.tsv",
+    arguments: &[MADE_WEIGHTING, MADE_IDENTICAL, ANY_CERTIFICATE],
+};
+
+/// The subcommands that read a table, and lines or texts, in the order of the help.
+pub(crate) const LINE_COMMANDS: &[Subcommand<'static>] = &[
+    CHECK_COMMAND,
+    KEYS_COMMAND,
+    SORT_COMMAND,
+    COMPARE_COMMAND,
+];
+
+/// Those of tailorings, which come after them. Three short tables cost the proof less than one.
+pub(crate) const RULES_COMMANDS: &[Subcommand<'static>] = &[
+    TAILOR_COMMAND,
+    AUDIT_COMMAND,
+    AFFECTED_COMMAND,
+];
+
+/// Those of changes, which come last.
+pub(crate) const CHANGES_COMMANDS: &[Subcommand<'static>] = &[
+    CHANGES_COMMAND,
+    AUDIT_CHANGES_COMMAND,
+    REKEY_COMMAND,
+];
