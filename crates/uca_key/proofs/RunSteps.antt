@@ -1,5 +1,6 @@
 -- Reading plain code points in a row, step by step.
 use Rattle.std.proofs.Common.{◌≡◌, ℕ, ◌≤◌, List, [], ◌∷◌, ◌++◌, inr, Some, refl, sym, ap, subst, ◌∙◌, append-nil, append_assoc, arith, take, length, length-append, ◌<◌, Bool, true, nat_eq}
+use Rattle.std.specs.Bool.{OnTrue}
 use Rattle.std.specs.Str.{chars}
 use Rattle.std.specs.String.{string_bytes}
 use Rattle.std.proofs.lemmas.Bool.Decides.{nat_tests}
@@ -10,9 +11,11 @@ use Rattle.uca_text.specs.Texts.{nfd_text}
 use Rattle.uca_match.specs.Collations.{Collation, elements_of}
 use Rattle.uca_key.specs.declared.plain.Known.{Known}
 use Rattle.uca_key.specs.declared.pieces.Piece.{Piece}
+use Rattle.uca_key.specs.declared.key_buffer.Reading.{Reading}
 use Rattle.uca_key.specs.LevelBuffers.{LevelState, HoldsLevels}
 use Rattle.uca_key.specs.PlainPoints.{IsTrueEntry}
 use Rattle.uca_key.specs.Pieces.{points_by, piece_points, IsTrueAlone, ReadsTo, HasRead}
+use Rattle.uca_key.specs.Readings.{ReadsOn}
 use Rattle.uca_key.specs.Runs.{ReadsUpTo, ReadsSome, ReadsMore}
 use Rattle.uca_key.proofs.PlainTexts.{alone_no_long_run}
 use Rattle.uca_key.proofs.PieceSteps.{elements_joined, runs_joined}
@@ -137,12 +140,19 @@ piece_goes_on c weighting text rest more after x old new was piece before is now
 }
 
 -- one code point more, and then all that follows it
-pub text_ends : (c : Collation) (weighting : Weighting) (text rest more : List ℕ) (x : ℕ) (old new : LevelState) (was : Piece)
+pub text_ends : (c : Collation) (weighting : Weighting) (text rest more : List ℕ) (x : ℕ) (old new : LevelState) (was : Piece) (accepted : Bool)
     → (before : ReadsMore c weighting [] text rest old was) → chars rest ≡ x ∷ chars more
-    → HasRead c weighting ((before.more ++ x ∷ []) ++ chars more) new → HasRead c weighting (chars text) new
-text_ends c weighting text rest more x old new was before is read =
+    → OnTrue accepted (HasRead c weighting ((before.more ++ x ∷ []) ++ chars more) new) → OnTrue accepted (HasRead c weighting (chars text) new)
+text_ends c weighting text rest more x old new was accepted before is read =
     let whole = append_assoc before.more (x ∷ []) (chars more) ∙ ap (λ l. before.more ++ l) (sym is) ∙ sym before.split in
-    subst (λ l. HasRead c weighting l new) whole read
+    subst (λ l. OnTrue accepted (HasRead c weighting l new)) whole read
+
+-- what was read after a code point, where the result is known
+pub read_on : (c : Collation) (weighting : Weighting) (xs : List ℕ) (levels : LevelState) (piece : Piece) (x : ℕ) (text : List ℕ) (y : ℕ)
+    (found reading : Reading) → y ≡ x → found ≡ reading → ReadsOn c weighting (xs ++ y ∷ []) text levels piece found
+    → ReadsOn c weighting (xs ++ x ∷ []) text levels piece reading
+read_on c weighting xs levels piece x text y found reading same is reads =
+    subst (ReadsOn c weighting (xs ++ x ∷ []) text levels piece) is (subst (λ x. ReadsOn c weighting (xs ++ x ∷ []) text levels piece found) same reads)
 
 -- less of a text is left then
 pub less_to_read : (rest more after : List ℕ) (x : ℕ) (read : List ℕ) → chars rest ≡ x ∷ chars more → chars more ≡ read ++ chars after

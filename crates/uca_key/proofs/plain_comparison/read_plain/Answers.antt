@@ -1,12 +1,13 @@
 use Rattle.std.proofs.Common.{◌≡◌, ◌++◌, refl, sym, subst, ◌∙◌}
 use Rattle.std.specs.Bool.{OnTrue}
-use Rattle.std.specs.List.{flat_map}
 use Rattle.std.specs.Str.{chars}
 use Rattle.std.proofs.lemmas.Iterator.{YieldsList-from_chars}
 use Rattle.std.proofs.lemmas.Iterator.Consumers.{YieldsList-end}
 use Rattle.std.proofs.lemmas.List.{map-id}
 use Rattle.uca_match.specs.Collations.{collation_of}
-use Rattle.uca_key.specs.Plain.{IsPlain, ArePlain, elements_alone}
+use Rattle.uca_key.specs.Plain.{IsPlain, elements_alone}
+use Rattle.uca_key.specs.Shared.{HasElements}
+use Rattle.uca_key.proofs.Results.{no_result}
 use Rattle.uca_key.proofs.SharedSteps.{plain_on, elements_on}
 use Rattle.uca_key.proofs.plain_comparison.read_plain.Goals as goal
 
@@ -22,17 +23,22 @@ loop-point-preserved g c =
           refl c.loop-point.invariant.elements refl read.1;
     }
 
-pub returns-clause-plain : goal.returns-clause-plain
-returns-clause-plain g c =
+pub returns : goal.returns
+returns g c =
     let end = YieldsList-end (YieldsList-from_chars c.args.text.now c.utf8.text cc) c.loop-point.yielded _ c.loop-point.yielded_by _ _ c.in-None.is
     c.next.ensures.steps in
     let all : c.loop-point.yielded ≡ chars c.args.text.now = sym (map-id c.loop-point.yielded) ∙ end.0 in
-    subst (ArePlain (collation_of g.L.Lookup.content c.args.collator.now)) all c.loop-point.invariant.plain
+    record {
+      entries = c.loop-point.invariant.entries;
+      read = subst (λ xs. HasElements (collation_of g.L.Lookup.content c.args.collator.now) xs c.loop-point.elements.items) all
+          (c.loop-point.invariant.plain, c.loop-point.invariant.elements);
+    }
 
-pub returns-clause-elements : goal.returns-clause-elements
-returns-clause-elements g c =
-    let end = YieldsList-end (YieldsList-from_chars c.args.text.now c.utf8.text cc) c.loop-point.yielded _ c.loop-point.yielded_by _ _ c.in-None.is
-    c.next.ensures.steps in
-    let all : c.loop-point.yielded ≡ chars c.args.text.now = sym (map-id c.loop-point.yielded) ∙ end.0 in
-    subst (λ xs. c.loop-point.elements.items ≡ flat_map (elements_alone (collation_of g.L.Lookup.content c.args.collator.now)) xs) all
-    c.loop-point.invariant.elements
+pub read_next-requires : goal.read_next-requires
+read_next-requires g c = c.loop-point.invariant.entries
+
+pub returns-then-not-branch : goal.returns-then-not-branch
+returns-then-not-branch g c = record { entries = c.read_next.ensures.entries; read = tt }
+
+pub returns-in_err-read_next : goal.returns-in_err-read_next
+returns-in_err-read_next g c = record { entries = c.read_next.ensures.entries; read = no_result c.from_residual.result _ c.from_residual.ensures.0 }
