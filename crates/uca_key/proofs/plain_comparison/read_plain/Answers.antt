@@ -7,7 +7,6 @@ use Rattle.std.proofs.lemmas.List.{map-id}
 use Rattle.uca_match.specs.Collations.{collation_of}
 use Rattle.uca_key.specs.Plain.{IsPlain, elements_alone}
 use Rattle.uca_key.specs.Shared.{HasElements}
-use Rattle.uca_key.proofs.Results.{no_result}
 use Rattle.uca_key.proofs.SharedSteps.{plain_on, elements_on}
 use Rattle.uca_key.proofs.plain_comparison.read_plain.Goals as goal
 
@@ -23,22 +22,16 @@ loop-point-preserved g c =
           refl c.loop-point.invariant.elements refl read.1;
     }
 
-pub returns : goal.returns
-returns g c =
+pub returns-clause-read : goal.returns-clause-read
+returns-clause-read g c =
     let end = YieldsList-end (YieldsList-from_chars c.args.text.now c.utf8.text cc) c.loop-point.yielded _ c.loop-point.yielded_by _ _ c.in-None.is
     c.next.ensures.steps in
     let all : c.loop-point.yielded ≡ chars c.args.text.now = sym (map-id c.loop-point.yielded) ∙ end.0 in
-    record {
-      entries = c.loop-point.invariant.entries;
-      read = subst (λ xs. HasElements (collation_of g.L.Lookup.content c.args.collator.now) xs c.loop-point.elements.items) all
-          (c.loop-point.invariant.plain, c.loop-point.invariant.elements);
-    }
+    subst (λ xs. HasElements (collation_of g.L.Lookup.content c.args.collator.now) xs c.loop-point.elements.items) all
+    (c.loop-point.invariant.plain, c.loop-point.invariant.elements)
+
+pub returns-clause-entries : goal.returns-clause-entries
+returns-clause-entries g c = c.loop-point.invariant.entries
 
 pub read_next-requires : goal.read_next-requires
 read_next-requires g c = c.loop-point.invariant.entries
-
-pub returns-then-not-branch : goal.returns-then-not-branch
-returns-then-not-branch g c = record { entries = c.read_next.ensures.entries; read = tt }
-
-pub returns-in_err-read_next : goal.returns-in_err-read_next
-returns-in_err-read_next g c = record { entries = c.read_next.ensures.entries; read = no_result c.from_residual.result _ c.from_residual.ensures.0 }

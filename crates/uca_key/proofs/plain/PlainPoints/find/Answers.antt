@@ -34,6 +34,7 @@ returns-else-known-point g c = record {
 -- ---- It was met
 
 pub returns-then-known-point : goal.returns-then-known-point
+unfolding AreTrueEntries
 returns-then-known-point g c =
     let known = c.in_ok-known.known.now in
     let true : (collation : Collation) → AreTrueEntries collation c.args.self.now.entries.items
