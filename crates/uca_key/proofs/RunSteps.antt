@@ -27,6 +27,7 @@ no_chars text len is_empty tests empty is = ap chars (nil_from_length text (grin
 -- the piece that is one plain code point
 pub up_to_alone : (c : Collation) (weighting : Weighting) (xs : List ℕ) (b : LevelState) (piece : Piece) (known : Known)
     → piece.alone ≡ Some known → ReadsTo c weighting xs b piece → ReadsUpTo c weighting xs b known
+unfolding HasRead
 up_to_alone c weighting xs b piece known is reads =
     let points : piece_points piece ≡ known.point ∷ [] = ap (λ o. points_by o (chars (string_bytes piece.text))) is in
     let alone = subst (IsTrueAlone c) is reads.alone in
@@ -40,6 +41,7 @@ up_to_alone c weighting xs b piece known is reads =
 
 pub alone_up_to : (c : Collation) (weighting : Weighting) (xs : List ℕ) (b : LevelState) (piece : Piece) (known : Known)
     → piece.alone ≡ Some known → ReadsUpTo c weighting xs b known → ReadsTo c weighting xs b piece
+unfolding HasRead
 alone_up_to c weighting xs b piece known is reads =
     let points : piece_points piece ≡ known.point ∷ [] = ap (λ o. points_by o (chars (string_bytes piece.text))) is in
     record {
@@ -56,6 +58,7 @@ pub read_last : (c : Collation) (weighting : Weighting) (xs : List ℕ) (old new
     → (reads : ReadsUpTo c weighting xs old last)
     → HoldsLevels weighting (elements_of c (nfd_text c.properties reads.before) ++ take last.count last.elements) new
     → HasRead c weighting xs new
+unfolding HasRead
 read_last c weighting xs old new last reads holds =
     let point = last.point in
     let entry = reads.entry reads.few in
@@ -124,6 +127,7 @@ piece_waits c weighting xs text b piece reads = record {
 -- an empty piece adds nothing
 pub piece_is_empty : (c : Collation) (weighting : Weighting) (xs : List ℕ) (b : LevelState) (piece : Piece) → piece_points piece ≡ []
     → ReadsTo c weighting xs b piece → HasRead c weighting xs b
+unfolding HasRead
 piece_is_empty c weighting xs b piece none reads =
     let all : xs ≡ reads.before = reads.split ∙ ap (λ l. reads.before ++ l) none ∙ append-nil reads.before in
     subst (λ l. HasRead c weighting l b) (sym all) (reads.held, reads.runs)

@@ -58,12 +58,6 @@ returns g c =
           (c.end.ensures.read c.loop-point.yielded so_far.reads));
     }
 
-pub go_on-requires : goal.go_on-requires
-go_on-requires g c = c.loop-point.invariant.entries
-
-pub end-requires : goal.end-requires
-end-requires g c = c.loop-point.invariant.entries
-
 pub returns-then-not-branch : goal.returns-then-not-branch
 returns-then-not-branch g c = record { entries = c.go_on.ensures.entries; begun = tt }
 

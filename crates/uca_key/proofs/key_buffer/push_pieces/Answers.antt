@@ -65,16 +65,6 @@ returns-in-Ended g c =
           (c.in_ok-after.ensures.read so_far.more so_far.reads));
     }
 
-pub get-requires : goal.get-requires
-get-requires g c = c.loop-point.invariant.entries
-
-pub push_plain-requires : goal.push_plain-requires
-push_plain-requires g c = record {
-  few = c.if-is_bound.ensures;
-  entry = c.in_ok-known.ensures.known.1;
-  entries = c.get.ensures.entries;
-}
-
 pub returns-in_err-known : goal.returns-in_err-known
 returns-in_err-known g c = record { entries = c.get.ensures.entries; read = no_result c.from_residual.result _ c.from_residual.ensures.0 }
 

@@ -9,9 +9,6 @@ use Rattle.uca_key.proofs.Results.{no_result}
 use Rattle.uca_key.proofs.PieceSteps.{next_piece}
 use Rattle.uca_key.proofs.key_buffer.push_plain.Goals as goal
 
-pub end-requires : goal.end-requires
-end-requires g c = c.requires.entries
-
 pub returns-in_err-end : goal.returns-in_err-end
 returns-in_err-end g c = record { entries = c.end.ensures.entries; read = λ xs reads. no_result c.from_residual.result _ c.from_residual.ensures.0 }
 

@@ -32,6 +32,3 @@ returns-clause-read g c =
 
 pub returns-clause-entries : goal.returns-clause-entries
 returns-clause-entries g c = c.loop-point.invariant.entries
-
-pub read_next-requires : goal.read_next-requires
-read_next-requires g c = c.loop-point.invariant.entries

@@ -11,9 +11,6 @@ use Rattle.uca_key.proofs.Results.{no_result, fault_is}
 use Rattle.uca_key.proofs.WriterSteps.{memory_is_cause, key_by_pieces, key_of_normal, accepted_by, accepted_normal}
 use Rattle.uca_key.proofs.key_writer.KeyWriter.write.Goals as goal
 
-pub write_pieces-requires : goal.write_pieces-requires
-write_pieces-requires g c = c.self.invariant
-
 -- ---- The text is not written piece by piece, since memory ran out
 
 pub invariant_of-self : goal.invariant_of-self

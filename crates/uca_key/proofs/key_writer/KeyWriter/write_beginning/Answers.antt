@@ -10,9 +10,6 @@ use Rattle.uca_key.proofs.Results.{no_result}
 use Rattle.uca_key.proofs.WriterSteps.{memory_is_cause, beginning_by, beginning_of_whole, accepted_by}
 use Rattle.uca_key.proofs.key_writer.KeyWriter.write_beginning.Goals as goal
 
-pub write_beginning-requires : goal.write_beginning-requires
-write_beginning-requires g c = c.self.invariant
-
 pub invariant_of-self : goal.invariant_of-self
 invariant_of-self g c = c.write_beginning.ensures.entries
 

@@ -6,12 +6,6 @@ use Rattle.uca_key.proofs.Results.{no_result}
 use Rattle.uca_key.proofs.PieceSteps.{next_piece, longer_piece}
 use Rattle.uca_key.proofs.pieces.Piece.go_on.Goals as goal
 
-pub get-requires : goal.get-requires
-get-requires g c = c.requires
-
-pub end-requires : goal.end-requires
-end-requires g c = c.get.ensures.entries
-
 pub returns-in_err-known : goal.returns-in_err-known
 returns-in_err-known g c = record { entries = c.get.ensures.entries; read = λ xs reads. no_result c.from_residual.result _ c.from_residual.ensures.0 }
 

@@ -10,9 +10,6 @@ returns-in-Some g c = record {
       c.utf8.left c.utf8.right (omega arith) (omega arith) (c.in-Some.ensures (collation_of g.L.Lookup.content c.args.collator.now) c.requires);
 }
 
-pub compare_after_shared-requires : goal.compare_after_shared-requires
-compare_after_shared-requires g c = c.requires
-
 pub returns : goal.returns
 returns g c = record {
   entries = c.compare_after_shared.ensures.entries;

@@ -7,12 +7,6 @@ use Rattle.uca_key.specs.Shared.{IsRest}
 use Rattle.uca_key.proofs.Results.{no_result}
 use Rattle.uca_key.proofs.plain_comparison.PlainComparison.compare_after_shared.Goals as goal
 
-pub skip_shared-requires : goal.skip_shared-requires
-skip_shared-requires g c = c.requires
-
-pub compare_rest-requires : goal.compare_rest-requires
-compare_rest-requires g c = c.skip_shared.ensures.entries
-
 pub returns-in_err-rest : goal.returns-in_err-rest
 returns-in_err-rest g c = record {
   entries = c.skip_shared.ensures.entries;

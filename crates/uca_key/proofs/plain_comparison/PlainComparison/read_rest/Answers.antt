@@ -7,12 +7,6 @@ use Rattle.uca_key.proofs.Results.{no_result}
 use Rattle.uca_key.proofs.PlainComparisons.{both_read}
 use Rattle.uca_key.proofs.plain_comparison.PlainComparison.read_rest.Goals as goal
 
-pub read_plain-requires : goal.read_plain-requires
-read_plain-requires g c = c.requires
-
-pub read_plain-requires-2 : goal.read_plain-requires-2
-read_plain-requires-2 g c = c.read_plain.ensures.entries
-
 pub returns-in_err-read_plain : goal.returns-in_err-read_plain
 returns-in_err-read_plain g c = record { entries = c.read_plain.ensures.entries; read = no_result c.from_residual.result _ c.from_residual.ensures.0 }
 

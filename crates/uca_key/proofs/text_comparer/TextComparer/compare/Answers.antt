@@ -15,9 +15,6 @@ use Rattle.uca_key.proofs.Results.{no_result}
 use Rattle.uca_key.proofs.ComparerSteps.{Causes, AreAccepted, ComparesBy, FetchesBy, memory_causes, both_accepted, compares_by, fetches_by}
 use Rattle.uca_key.proofs.text_comparer.TextComparer.compare.Goals as goal
 
-pub compare-requires : goal.compare-requires
-compare-requires g c = c.self.invariant
-
 -- ---- Memory ran out
 
 pub invariant_of-self : goal.invariant_of-self
