@@ -17,9 +17,6 @@ use Rattle.uca_key.proofs.text_comparer.TextComparer.compare.Goals as goal
 
 -- ---- Memory ran out
 
-pub invariant_of-self : goal.invariant_of-self
-invariant_of-self g c = c.compare.ensures.entries
-
 pub returns-in_err-found : goal.returns-in_err-found
 returns-in_err-found g c = record {
   compared = no_result c.from_residual.result _ c.from_residual.ensures.0;
@@ -32,9 +29,6 @@ returns-in_err-found g c = record {
 }
 
 -- ---- The texts are compared without being normalized
-
-pub invariant_of-self-2 : goal.invariant_of-self-2
-invariant_of-self-2 g c = c.compare.ensures.entries
 
 pub returns : goal.returns
 returns g c =
@@ -59,9 +53,6 @@ returns g c =
     }
 
 -- ---- They are compared normalized
-
-pub invariant_of-self-3 : goal.invariant_of-self-3
-invariant_of-self-3 g c = c.compare.ensures.entries
 
 pub returns-2 : goal.returns-2
 returns-2 g c =
