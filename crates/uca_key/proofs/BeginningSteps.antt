@@ -119,6 +119,7 @@ begun_early c weighting all xs rest levels piece is reads enough =
 -- all is read
 pub begun_all : {E : Type 0} (c : Collation) (weighting : Weighting) (xs : List ℕ) (levels : LevelState) (r : Result Bool E)
     → IfOk r (λ ok. OnTrue ok (HasRead c weighting xs levels)) → IfOk r (λ ok. OnTrue ok (HasBegun c weighting xs levels))
+unfolding HasRead
 begun_all c weighting xs levels (Ok true) read = record {
   elements = elements_of c (nfd_text c.properties xs);
   more = [];

@@ -4,7 +4,7 @@ use Rattle.std.specs.Result.{IfErr, IsErrAnd}
 use Rattle.std.specs.declared.cmp.Ordering.{Ordering}
 use Rattle.uca_weights.specs.declared.Depth.{Depth}
 use Rattle.uca_weights.specs.declared.Weighting.{Weighting}
-use Rattle.uca_values.specs.Content.{properties_of}
+use Rattle.uca_values.specs.Content.{Properties, properties_of}
 use Rattle.uca_text.specs.Texts.{NfdText, nfd_text}
 use Rattle.uca_text.specs.Limits.{IsAccepted}
 use Rattle.uca_text.specs.Faults.{IsCause}
@@ -18,35 +18,34 @@ use Rattle.uca_key.specs.Comparers.{ComparerState, collation_by}
 use Rattle.uca_key.proofs.Results.{fault_is}
 
 -- what the error of a text says of two
-abbrev pub Causes : {L : Type 0} → ComparerState L → List ℕ → List ℕ → TextFault → Type 0
-Causes s xs ys fault =
-    IsCause (nfd_text (properties_of s.data_file) xs) fault
-    ⊎ (IsAccepted (nfd_text (properties_of s.data_file) xs) × IsCause (nfd_text (properties_of s.data_file) ys) fault)
+abbrev pub Causes : Properties → List ℕ → List ℕ → TextFault → Type 0
+Causes properties xs ys fault = IsCause (nfd_text properties xs) fault ⊎ (IsAccepted (nfd_text properties xs) × IsCause (nfd_text properties ys) fault)
 
-pub memory_causes : {L T : Type 0} (s : ComparerState L) (xs ys : List ℕ) (r : Result T TextFault) → IsErrAnd r (λ e. e ≡ Memory) → IfErr r (Causes s xs ys)
-memory_causes s xs ys r is = fault_is (Causes s xs ys) r Memory is (inl tt)
+pub memory_causes : {T : Type 0} (properties : Properties) (xs ys : List ℕ) (r : Result T TextFault) → IsErrAnd r (λ e. e ≡ Memory)
+    → IfErr r (Causes properties xs ys)
+memory_causes properties xs ys r is = fault_is (Causes properties xs ys) r Memory is (inl tt)
 
-pub left_causes : {L T : Type 0} (w v : ComparerState L) (xs ys : List ℕ) (r : Result T TextFault) (fault : TextFault) → w ≡ v
-    → IsErrAnd r (λ e. e ≡ fault) → IsCause (nfd_text (properties_of w.data_file) xs) fault → IfErr r (Causes v xs ys)
-left_causes w v xs ys r fault same is cause =
-    fault_is (Causes v xs ys) r fault is (subst (λ (s : ComparerState _). Causes s xs ys fault) same (inl cause))
+pub left_causes : {T : Type 0} (properties : Properties) (xs ys : List ℕ) (r : Result T TextFault) (fault : TextFault)
+    → IsErrAnd r (λ e. e ≡ fault) → IsCause (nfd_text properties xs) fault → IfErr r (Causes properties xs ys)
+left_causes properties xs ys r fault is cause = fault_is (Causes properties xs ys) r fault is (inl cause)
 
-pub right_causes : {L T : Type 0} (w v : ComparerState L) (xs ys : List ℕ) (text : NfdText) (r : Result T TextFault) (fault : TextFault) → w ≡ v
-    → text ≡ nfd_text (properties_of w.data_file) xs → IsAccepted text
-    → IsErrAnd r (λ e. e ≡ fault) → IsCause (nfd_text (properties_of w.data_file) ys) fault → IfErr r (Causes v xs ys)
-right_causes w v xs ys text r fault same found keeps is cause =
-    fault_is (Causes v xs ys) r fault is (subst (λ (s : ComparerState _). Causes s xs ys fault) same (inr (subst IsAccepted found keeps, cause)))
+pub right_causes : {T : Type 0} (properties : Properties) (xs ys : List ℕ) (text : NfdText) (r : Result T TextFault) (fault : TextFault)
+    → text ≡ nfd_text properties xs → IsAccepted text
+    → IsErrAnd r (λ e. e ≡ fault) → IsCause (nfd_text properties ys) fault → IfErr r (Causes properties xs ys)
+right_causes properties xs ys text r fault found keeps is cause =
+    fault_is (Causes properties xs ys) r fault is (inr (subst IsAccepted found keeps, cause))
 
 -- both texts are accepted
-abbrev pub AreAccepted : {L : Type 0} → ComparerState L → List ℕ → List ℕ → Type 0
-AreAccepted s xs ys = IsAccepted (nfd_text (properties_of s.data_file) xs) × IsAccepted (nfd_text (properties_of s.data_file) ys)
+abbrev pub AreAccepted : Properties → List ℕ → List ℕ → Type 0
+AreAccepted properties xs ys = IsAccepted (nfd_text properties xs) × IsAccepted (nfd_text properties ys)
 
-pub both_accepted : {L : Type 0} (w v : ComparerState L) (xs ys : List ℕ) → w ≡ v → AreAccepted w xs ys → AreAccepted v xs ys
-both_accepted w v xs ys same keep = subst (λ (s : ComparerState _). AreAccepted s xs ys) same keep
+pub both_accepted : {L : Type 0} (w v : ComparerState L) (xs ys : List ℕ) → w ≡ v → AreAccepted (properties_of w.data_file) xs ys
+    → AreAccepted (properties_of v.data_file) xs ys
+both_accepted w v xs ys same keep = subst (λ (s : ComparerState _). AreAccepted (properties_of s.data_file) xs ys) same keep
 
-pub normals_accepted : {L : Type 0} (w v : ComparerState L) (xs ys : List ℕ) (s t : NfdText) → w ≡ v → s ≡ nfd_text (properties_of w.data_file) xs
-    → t ≡ nfd_text (properties_of w.data_file) ys → IsAccepted s → IsAccepted t → AreAccepted v xs ys
-normals_accepted w v xs ys s t same found also keeps too = both_accepted w v xs ys same (subst IsAccepted found keeps, subst IsAccepted also too)
+pub normals_accepted : (properties : Properties) (xs ys : List ℕ) (s t : NfdText) → s ≡ nfd_text properties xs → t ≡ nfd_text properties ys
+    → IsAccepted s → IsAccepted t → AreAccepted properties xs ys
+normals_accepted properties xs ys s t found also keeps too = (subst IsAccepted found keeps, subst IsAccepted also too)
 
 -- how they compare, and what is fetched of them
 abbrev pub Compares : Collation → Depth → Weighting → NfdText → NfdText → Ordering → ℕ → Type 0
@@ -74,18 +73,16 @@ pub fetches_by : {L : Type 0} (content : L → Rows) (w v : ComparerState L) (xs
 fetches_by content w v xs ys left of_left right of_right same l r pair =
     subst (λ (s : ComparerState _). FetchesBy content s xs ys left right) same (l ∙ pair.0, r ∙ pair.1)
 
-pub normals_compare : {L : Type 0} (content : L → Rows) (w v : ComparerState L) (xs ys : List ℕ) (s t : NfdText) (order : Ordering) (level : ℕ) → w ≡ v
-    → s ≡ nfd_text (properties_of w.data_file) xs → t ≡ nfd_text (properties_of w.data_file) ys
-    → Compares (collation_by content w) w.depth w.weighting s t order level → ComparesBy content v xs ys order level
-normals_compare content w v xs ys s t order level same found also pair =
-    let says : NfdText → NfdText → Type 0 = λ s t. Compares (collation_by content w) w.depth w.weighting s t order level in
-    subst (λ (s : ComparerState _). ComparesBy content s xs ys order level) same
-    (subst (λ (t : NfdText). says (nfd_text (properties_of w.data_file) xs) t) also (subst (λ (s : NfdText). says s t) found pair))
+pub normals_compare : (c : Collation) (depth : Depth) (weighting : Weighting) (xs ys : List ℕ) (s t : NfdText) (order : Ordering) (level : ℕ)
+    → s ≡ nfd_text c.properties xs → t ≡ nfd_text c.properties ys → Compares c depth weighting s t order level
+    → Compares c depth weighting (nfd_text c.properties xs) (nfd_text c.properties ys) order level
+normals_compare c depth weighting xs ys s t order level found also pair =
+    subst (λ (t : NfdText). Compares c depth weighting (nfd_text c.properties xs) t order level) also
+    (subst (λ (s : NfdText). Compares c depth weighting s t order level) found pair)
 
-pub normals_fetch : {L : Type 0} (content : L → Rows) (w v : ComparerState L) (xs ys : List ℕ) (s t : NfdText) (left right : ℕ) → w ≡ v
-    → s ≡ nfd_text (properties_of w.data_file) xs → t ≡ nfd_text (properties_of w.data_file) ys
-    → Fetches (collation_by content w) w.weighting s t left right → FetchesBy content v xs ys left right
-normals_fetch content w v xs ys s t left right same found also pair =
-    let says : NfdText → NfdText → Type 0 = λ s t. Fetches (collation_by content w) w.weighting s t left right in
-    subst (λ (s : ComparerState _). FetchesBy content s xs ys left right) same
-    (subst (λ (t : NfdText). says (nfd_text (properties_of w.data_file) xs) t) also (subst (λ (s : NfdText). says s t) found pair))
+pub normals_fetch : (c : Collation) (weighting : Weighting) (xs ys : List ℕ) (s t : NfdText) (left right : ℕ)
+    → s ≡ nfd_text c.properties xs → t ≡ nfd_text c.properties ys → Fetches c weighting s t left right
+    → Fetches c weighting (nfd_text c.properties xs) (nfd_text c.properties ys) left right
+normals_fetch c weighting xs ys s t left right found also pair =
+    subst (λ (t : NfdText). Fetches c weighting (nfd_text c.properties xs) t left right) also
+    (subst (λ (s : NfdText). Fetches c weighting s t left right) found pair)

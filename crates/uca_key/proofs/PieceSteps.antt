@@ -104,6 +104,7 @@ pub end_piece : {E : Type 0} (c : Collation) (weighting : Weighting) (xs ps : Li
     → (reads : ReadsTo c weighting xs old piece) → piece_points piece ≡ ps
     → IfOk r (λ ok. OnTrue ok (HoldsLevels weighting (elements_of c (nfd_text c.properties reads.before) ++ elements_of c (nfd_text c.properties ps)) new))
     → IfOk r (λ ok. OnTrue ok (HasNoLongRun (map c.properties.class (nfd ps)))) → IfOk r (λ ok. OnTrue ok (HasRead c weighting xs new))
+unfolding HasRead
 end_piece c weighting xs ps old new piece (Ok true) reads are holds runs =
     let begins : Begins c reads.before ps = subst (Begins c reads.before) are reads.begins in
     let whole : xs ≡ reads.before ++ ps = reads.split ∙ ap (λ l. reads.before ++ l) are in
@@ -118,6 +119,7 @@ end_piece c weighting xs ps old new piece (Err e) reads are holds runs = tt
 pub next_piece : (c : Collation) (weighting : Weighting) (xs : List ℕ) (b : LevelState) (piece : Piece) (known : Known) (ok : Bool)
     → piece.alone ≡ Some known → known.count ≤ 3 → IsTrueEntry c known → OnTrue ok (HasRead c weighting xs b)
     → OnTrue ok (ReadsTo c weighting (xs ++ known.point ∷ []) b piece)
+unfolding HasRead
 next_piece c weighting xs b piece known true is few entry read =
     let points : piece_points piece ≡ known.point ∷ [] = ap (λ o. points_by o (chars (string_bytes piece.text))) is in
     record {
@@ -162,6 +164,7 @@ begin_text c weighting b piece empty points none = record {
 
 pub accepted_if_read : (c : Collation) (weighting : Weighting) (accepted : Bool) (text : List ℕ) (b : LevelState) → IsUtf8 text → length text ≤ 524288
     → OnTrue accepted (HasRead c weighting (chars text) b) → OnTrue accepted (IsAccepted (nfd_text c.properties (chars text)))
+unfolding HasRead
 accepted_if_read c weighting true text b utf8 short read = record {
   same = length-map (nfd (chars text)) c.properties.class;
   few = omega (arith, length-normalize-chars Nfd text utf8);
@@ -172,6 +175,7 @@ accepted_if_read c weighting false text b utf8 short read = tt
 pub key_if_read : (c : Collation) (held state : KeyState) (accepted : Bool) (xs key : List ℕ) (b : LevelState) → held ≡ state → held.depth ≡ Weights
     → OnTrue accepted (HasRead c held.weighting xs b) → ((es : List Element) → HoldsLevels held.weighting es b → key ≡ key_bytes held.weighting es)
     → OnTrue accepted (key ≡ key_at state.depth state.weighting (read_text c (nfd_text c.properties xs)))
+unfolding HasRead
 key_if_read c held state true xs key b same depth read joined =
     let by_weights : key ≡ key_at Weights held.weighting (read_text c (nfd_text c.properties xs)) = joined (elements_of c (nfd_text c.properties xs)) read.0 in
     by_weights

@@ -1,6 +1,7 @@
 -- How two texts of plain code points compare.
-use Rattle.std.proofs.Common.{◌≡◌, ℕ, ◌<◌, ◌≤◌, List, [], ◌∷◌, ◌++◌, length, append-nil, Bool, false, map, Option, Some, None, Result, Ok, Err, slice_index_or, refl, sym, subst, ◌∙◌, arith}
+use Rattle.std.proofs.Common.{◌≡◌, ℕ, ◌<◌, ◌≤◌, List, [], ◌∷◌, ◌++◌, length, append-nil, Bool, true, false, map, Option, Some, None, Result, Ok, Err, slice_index_or, refl, sym, subst, ◌∙◌, arith}
 use Rattle.std.specs.Prelude.{IfSome, IfOk}
+use Rattle.std.specs.Bool.{OnTrue}
 use Rattle.std.specs.List.{flat_map}
 use Rattle.std.specs.Str.{chars, IsUtf8}
 use Rattle.std.specs.declared.cmp.Ordering.TheVariants.{Equal}
@@ -54,6 +55,12 @@ texts_compared c weighting xs ys left right flag passed w rest begins begins_too
   left_runs = subst (λ l. HasNoLongRun (map c.properties.class (nfd l))) (sym rest.left_is) (runs_after c rest.shared left rest.plain begins runs);
   right_runs = subst (λ l. HasNoLongRun (map c.properties.class (nfd l))) (sym rest.right_is) (runs_after c rest.shared right rest.plain begins_too runs_too);
 }
+
+-- the elements of both texts are read
+pub both_read : {E : Type 0} (P Q : Type 0) (r : Result Bool E) → P → IfOk r (λ ok. OnTrue ok Q) → IfOk r (λ ok. OnTrue ok (P × Q))
+both_read P Q (Ok true) p q = (p, q)
+both_read P Q (Ok false) p q = tt
+both_read P Q (Err e) p q = tt
 
 -- two texts compare by all elements
 pub rest_compared : (c : Collation) (weighting : Weighting) (xs ys left right : List ℕ) (flag : Bool) (passed : ℕ) (ls rs : List Element) (o : Option Walked)

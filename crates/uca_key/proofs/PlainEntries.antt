@@ -28,6 +28,7 @@ nothing_said c known most none = record {
 
 replicate_true : (c : Collation) (known : Known) → 3 < known.count → 3 < known.leaf_count → HasTrueDecomposition c known → (n : ℕ)
     → AreTrueEntries c (replicate n known)
+unfolding AreTrueEntries
 replicate_true c known none no_leaf said zero = tt
 replicate_true c known none no_leaf said (suc n) =
     (((λ few. absurd (omega arith)), said, (λ few. absurd (omega arith))), replicate_true c known none no_leaf said n)
@@ -35,6 +36,7 @@ replicate_true c known none no_leaf said (suc n) =
 -- more entries that have nothing to give
 pub more_entries : (c : Collation) (entries new : List Known) (n k : ℕ) (known : Known) → 3 < known.count → 3 < known.leaf_count → 4 ≤ known.len → known.starts ≡ false
     → length entries ≤ n → new ≡ take n entries ++ replicate k known → AreTrueEntries c entries → AreTrueEntries c new
+unfolding AreTrueEntries
 more_entries c entries new n k known none no_leaf most not_said all are holds =
     subst (AreTrueEntries c) (sym (are ∙ ap (λ l. l ++ replicate k known) (take_all n entries all)))
     (each_append (λ e. IsTrueEntry c e × HasTrueDecomposition c e × IsTrueLeaf c e) entries (replicate k known) holds

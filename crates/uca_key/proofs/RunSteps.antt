@@ -1,5 +1,6 @@
 -- Reading plain code points in a row, step by step.
 use Rattle.std.proofs.Common.{◌≡◌, ℕ, ◌≤◌, List, [], ◌∷◌, ◌++◌, inr, Some, refl, sym, ap, subst, ◌∙◌, append-nil, append_assoc, arith, take, length, length-append, ◌<◌, Bool, true, nat_eq}
+use Rattle.std.specs.Bool.{OnTrue}
 use Rattle.std.specs.Str.{chars}
 use Rattle.std.specs.String.{string_bytes}
 use Rattle.std.proofs.lemmas.Bool.Decides.{nat_tests}
@@ -10,9 +11,11 @@ use Rattle.uca_text.specs.Texts.{nfd_text}
 use Rattle.uca_match.specs.Collations.{Collation, elements_of}
 use Rattle.uca_key.specs.declared.plain.Known.{Known}
 use Rattle.uca_key.specs.declared.pieces.Piece.{Piece}
+use Rattle.uca_key.specs.declared.key_buffer.Reading.{Reading}
 use Rattle.uca_key.specs.LevelBuffers.{LevelState, HoldsLevels}
 use Rattle.uca_key.specs.PlainPoints.{IsTrueEntry}
 use Rattle.uca_key.specs.Pieces.{points_by, piece_points, IsTrueAlone, ReadsTo, HasRead}
+use Rattle.uca_key.specs.Readings.{ReadsOn}
 use Rattle.uca_key.specs.Runs.{ReadsUpTo, ReadsSome, ReadsMore}
 use Rattle.uca_key.proofs.PlainTexts.{alone_no_long_run}
 use Rattle.uca_key.proofs.PieceSteps.{elements_joined, runs_joined}
@@ -24,6 +27,7 @@ no_chars text len is_empty tests empty is = ap chars (nil_from_length text (grin
 -- the piece that is one plain code point
 pub up_to_alone : (c : Collation) (weighting : Weighting) (xs : List ℕ) (b : LevelState) (piece : Piece) (known : Known)
     → piece.alone ≡ Some known → ReadsTo c weighting xs b piece → ReadsUpTo c weighting xs b known
+unfolding HasRead
 up_to_alone c weighting xs b piece known is reads =
     let points : piece_points piece ≡ known.point ∷ [] = ap (λ o. points_by o (chars (string_bytes piece.text))) is in
     let alone = subst (IsTrueAlone c) is reads.alone in
@@ -37,6 +41,7 @@ up_to_alone c weighting xs b piece known is reads =
 
 pub alone_up_to : (c : Collation) (weighting : Weighting) (xs : List ℕ) (b : LevelState) (piece : Piece) (known : Known)
     → piece.alone ≡ Some known → ReadsUpTo c weighting xs b known → ReadsTo c weighting xs b piece
+unfolding HasRead
 alone_up_to c weighting xs b piece known is reads =
     let points : piece_points piece ≡ known.point ∷ [] = ap (λ o. points_by o (chars (string_bytes piece.text))) is in
     record {
@@ -53,6 +58,7 @@ pub read_last : (c : Collation) (weighting : Weighting) (xs : List ℕ) (old new
     → (reads : ReadsUpTo c weighting xs old last)
     → HoldsLevels weighting (elements_of c (nfd_text c.properties reads.before) ++ take last.count last.elements) new
     → HasRead c weighting xs new
+unfolding HasRead
 read_last c weighting xs old new last reads holds =
     let point = last.point in
     let entry = reads.entry reads.few in
@@ -121,6 +127,7 @@ piece_waits c weighting xs text b piece reads = record {
 -- an empty piece adds nothing
 pub piece_is_empty : (c : Collation) (weighting : Weighting) (xs : List ℕ) (b : LevelState) (piece : Piece) → piece_points piece ≡ []
     → ReadsTo c weighting xs b piece → HasRead c weighting xs b
+unfolding HasRead
 piece_is_empty c weighting xs b piece none reads =
     let all : xs ≡ reads.before = reads.split ∙ ap (λ l. reads.before ++ l) none ∙ append-nil reads.before in
     subst (λ l. HasRead c weighting l b) (sym all) (reads.held, reads.runs)
@@ -137,12 +144,19 @@ piece_goes_on c weighting text rest more after x old new was piece before is now
 }
 
 -- one code point more, and then all that follows it
-pub text_ends : (c : Collation) (weighting : Weighting) (text rest more : List ℕ) (x : ℕ) (old new : LevelState) (was : Piece)
+pub text_ends : (c : Collation) (weighting : Weighting) (text rest more : List ℕ) (x : ℕ) (old new : LevelState) (was : Piece) (accepted : Bool)
     → (before : ReadsMore c weighting [] text rest old was) → chars rest ≡ x ∷ chars more
-    → HasRead c weighting ((before.more ++ x ∷ []) ++ chars more) new → HasRead c weighting (chars text) new
-text_ends c weighting text rest more x old new was before is read =
+    → OnTrue accepted (HasRead c weighting ((before.more ++ x ∷ []) ++ chars more) new) → OnTrue accepted (HasRead c weighting (chars text) new)
+text_ends c weighting text rest more x old new was accepted before is read =
     let whole = append_assoc before.more (x ∷ []) (chars more) ∙ ap (λ l. before.more ++ l) (sym is) ∙ sym before.split in
-    subst (λ l. HasRead c weighting l new) whole read
+    subst (λ l. OnTrue accepted (HasRead c weighting l new)) whole read
+
+-- what was read after a code point, where the result is known
+pub read_on : (c : Collation) (weighting : Weighting) (xs : List ℕ) (levels : LevelState) (piece : Piece) (x : ℕ) (text : List ℕ) (y : ℕ)
+    (found reading : Reading) → y ≡ x → found ≡ reading → ReadsOn c weighting (xs ++ y ∷ []) text levels piece found
+    → ReadsOn c weighting (xs ++ x ∷ []) text levels piece reading
+read_on c weighting xs levels piece x text y found reading same is reads =
+    subst (ReadsOn c weighting (xs ++ x ∷ []) text levels piece) is (subst (λ x. ReadsOn c weighting (xs ++ x ∷ []) text levels piece found) same reads)
 
 -- less of a text is left then
 pub less_to_read : (rest more after : List ℕ) (x : ℕ) (read : List ℕ) → chars rest ≡ x ∷ chars more → chars more ≡ read ++ chars after

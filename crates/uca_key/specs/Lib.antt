@@ -4,6 +4,7 @@ pub mod Plain
 pub mod Leaves
 pub mod PlainPoints
 pub mod Pieces
+pub mod Readings
 pub mod Runs
 pub mod LevelBuffers
 pub mod Beginnings

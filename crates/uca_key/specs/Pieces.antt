@@ -36,5 +36,5 @@ pub record ReadsTo (c : Collation) (weighting : Weighting) (xs : List ℕ) (leve
   pub alone : IsTrueAlone c piece.alone
 
 -- the levels have the elements of a text, which has no long run
-abbrev pub HasRead : Collation → Weighting → List ℕ → LevelState → Type 0
+unfoldable pub HasRead : Collation → Weighting → List ℕ → LevelState → Type 0
 HasRead c weighting xs levels = HoldsLevels weighting (elements_of c (nfd_text c.properties xs)) levels × HasNoLongRun (map c.properties.class (nfd xs))

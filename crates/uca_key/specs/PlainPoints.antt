@@ -31,7 +31,8 @@ pub record HasTrueDecomposition (c : Collation) (known : Known) : Type 0 where
   pub few : length (decompose Nfd known.point) ≤ known.len
   pub starts : known.starts ≡ true → BeginsWithStarter c known.point
 
-abbrev pub AreTrueEntries : Collation → List Known → Type 0
+-- all that the entries say is true
+unfoldable pub AreTrueEntries : Collation → List Known → Type 0
 AreTrueEntries c entries = AllByRecursion (λ known. IsTrueEntry c known × HasTrueDecomposition c known × IsTrueLeaf c known) entries
 
 -- how many code points a text decomposes to from its last starter on, at most, with one more code point

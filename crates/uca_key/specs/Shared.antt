@@ -46,6 +46,10 @@ pub record HasFirst (c : Collation) (xs : List ℕ) (first : Option Element) : T
   pub first_is : IsFirst first (text_elements c xs)
   pub runs : HasNoLongRun (map c.properties.class (nfd xs))
 
+-- a text of plain code points, and its elements
+abbrev pub HasElements : Collation → List ℕ → List Element → Type 0
+HasElements c xs es = ArePlain c xs × (es ≡ flat_map (elements_alone c) xs)
+
 -- a text of plain code points, and how many elements it has
 pub record HasCount (c : Collation) (xs : List ℕ) (count : ℕ) : Type 0 where
   pub plain : ArePlain c xs

@@ -45,15 +45,14 @@ pub(crate) fn push_beginning<L: Lookup, T: Allocator, A: Allocator>(
 {
     piece.clear();
     for point in text.chars() {
-        let known = points.get(collator, point)?;
-        if !piece.go_on(levels, weighting, collator, known)? {
+        if !piece.go_on(levels, weighting, collator, points, point)? {
             return Ok(false);
         }
         if levels.has_beginning() {
             return Ok(true);
         }
     }
-    piece.end(levels, weighting, collator)
+    piece.end(levels, weighting, collator, points)
 }
 
 /// Whether a text has no long run of non-starters. `false` says nothing: more than 64 code points of its Normalization Form D

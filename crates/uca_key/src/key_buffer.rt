@@ -1,6 +1,6 @@
 //! `KeyBuffer`: memory that is used for one key after another.
 
-ghost use Rattle.std.specs.Prelude.{◌≡◌, [], ◌<◌, ◌^◌, length, take, chars, OnOk, IfOk};
+ghost use Rattle.std.specs.Prelude.{◌≡◌, ℕ, [], ◌∷◌, ◌++◌, ◌<◌, ◌≤◌, ◌^◌, List, length, take, chars, OnOk, IfOk};
 ghost use Rattle.std.specs.Bool.{OnTrue};
 ghost use Rattle.uca_text.specs.Texts.{nfd_text};
 ghost use Rattle.uca_text.specs.Limits.{IsAccepted};
@@ -8,19 +8,29 @@ ghost use Rattle.uca_match.specs.Collations.{collation_of};
 ghost use Rattle.uca_order.specs.Depths.{read_text, key_at};
 ghost use Rattle.uca_order.specs.Lengths.{HasShortRows};
 ghost use Rattle.uca_key.specs.LevelBuffers.{HoldsLevels};
-ghost use Rattle.uca_key.specs.Pieces.{HasRead};
-ghost use Rattle.uca_key.specs.PlainPoints.{AreTrueEntries};
+ghost use Rattle.uca_key.specs.Pieces.{ReadsTo, HasRead};
+ghost use Rattle.uca_key.specs.PlainPoints.{IsTrueEntry, AreTrueEntries};
+ghost use Rattle.uca_key.specs.Readings.{ReadsOn};
 
 use crate::beginnings::{has_short_runs, push_beginning};
 use crate::level_buffers::LevelBuffers;
 use crate::pieces::Piece;
-use crate::plain::{PlainPoints, SHORT_TEXT};
+use crate::plain::{Known, PlainPoints, SHORT_TEXT};
 use crate::runs::split_first;
 use std::alloc::{AllocError, Allocator, Global};
 use std::marker::Model;
 use uca_match::{Collator, Lookup};
 use uca_text::Normal;
 use uca_weights::{Depth, Weighting};
+
+// How the reading of a text goes on.
+#[derive(Drop)]
+enum Reading<'t> {
+    // with what is left of the text
+    GoesOn(&'t str),
+    // Not at all. Either all weights are added, or a piece was rejected: `false`.
+    Ended(bool),
+}
 
 /// Memory for sort keys (UTS #10, section 7.3) under one weighting and at one depth. Each key that is written replaces
 /// the one before, and the memory is used again.
@@ -218,14 +228,38 @@ fn push_pieces<L: Lookup, T: Allocator, A: Allocator>(
             rest = piece.go_on_bound(points, point, known.is_leaf(), more)?;
             continue;
         }
-        if !piece.end_by(levels, weighting, collator, points)? {
-            return Ok(false);
+        match push_plain(levels, weighting, collator, points, piece, known, more)? {
+            Reading::GoesOn(after) => rest = after,
+            Reading::Ended(accepted) => return Ok(accepted),
         }
-        piece.begin(known);
-        let Some(after) = piece.run_on(levels, weighting, points, more)? else {
-            return Ok(true);
-        };
-        rest = after;
     }
-    piece.end_by(levels, weighting, collator, points)
+    piece.end(levels, weighting, collator, points)
+}
+
+// Ends the piece before a plain code point, and goes on by it and by the plain code points that come next in the text.
+#[inline(always)]
+fn push_plain<'t, L: Lookup, T: Allocator, A: Allocator>(
+    levels: &mut LevelBuffers<A>,
+    weighting: Weighting,
+    collator: &Collator<L, T>,
+    points: &mut PlainPoints<A>,
+    piece: &mut Piece,
+    known: Known,
+    text: &'t str,
+) -> Result<Reading<'t>, AllocError>
+    requires few { known.count ≤ 3 }
+    requires entry { IsTrueEntry (collation_of L.content collator.now) known }
+    requires entries { AreTrueEntries (collation_of L.content collator.now) points.old.entries.items }
+    ensures entries { AreTrueEntries (collation_of L.content collator.now) points.new.entries.items }
+    ensures read { let c = collation_of L.content collator.now in (xs : List ℕ) → ReadsTo c weighting xs levels.old piece.old →
+        IfOk result (ReadsOn c weighting (xs ++ known.point ∷ []) text.now levels.new piece.new) }
+{
+    if !piece.end(levels, weighting, collator, points)? {
+        return Ok(Reading::Ended(false));
+    }
+    piece.begin(known);
+    match piece.run_on(levels, weighting, points, text)? {
+        Some(rest) => Ok(Reading::GoesOn(rest)),
+        None => Ok(Reading::Ended(true)),
+    }
 }

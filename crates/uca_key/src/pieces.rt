@@ -116,17 +116,20 @@ impl Piece {
         levels: &mut LevelBuffers<A>,
         weighting: Weighting,
         collator: &Collator<L, T>,
-        known: Known,
+        points: &mut PlainPoints<A>,
+        point: char,
     ) -> Result<bool, AllocError>
-        requires { IsTrueEntry (collation_of L.content collator.now) known }
-        ensures { let c = collation_of L.content collator.now in (xs : List ℕ) → ReadsTo c weighting xs levels.old self.old →
-            IfOk result (λ accepted. OnTrue accepted (ReadsTo c weighting (xs ++ known.point ∷ []) levels.new self.new)) }
+        requires { AreTrueEntries (collation_of L.content collator.now) points.old.entries.items }
+        ensures entries { AreTrueEntries (collation_of L.content collator.now) points.new.entries.items }
+        ensures read { let c = collation_of L.content collator.now in (xs : List ℕ) → ReadsTo c weighting xs levels.old self.old →
+            IfOk result (λ accepted. OnTrue accepted (ReadsTo c weighting (xs ++ point ∷ []) levels.new self.new)) }
     {
+        let known = points.get(collator, point)?;
         if known.is_bound() {
-            self.push(known.point, known.is_leaf())?;
+            self.push(point, known.is_leaf())?;
             return Ok(true);
         }
-        let accepted = self.end(levels, weighting, collator)?;
+        let accepted = self.end(levels, weighting, collator, points)?;
         self.begin(known);
         Ok(accepted)
     }
@@ -160,7 +163,7 @@ impl Piece {
 
     /// Adds the weights of the piece to the levels, and returns whether it is accepted. A piece of leaves is read by what is known
     /// of them.
-    pub(crate) fn end_by<L: Lookup, T: Allocator, A: Allocator>(
+    pub(crate) fn end<L: Lookup, T: Allocator, A: Allocator>(
         &mut self,
         levels: &mut LevelBuffers<A>,
         weighting: Weighting,
@@ -175,35 +178,12 @@ impl Piece {
         match &self.alone {
             Some(known) => push_known(levels, weighting, known),
             None if self.text.is_empty() => Ok(true),
-            None => push_text_by(
+            None => push_text(
                 levels,
                 weighting,
                 collator,
                 points,
                 self.leaves,
-                self.text.as_str(),
-                &mut self.normal,
-            ),
-        }
-    }
-
-    /// Adds the weights of the piece to the levels, and returns whether it is accepted.
-    pub(crate) fn end<L: Lookup, T: Allocator, A: Allocator>(
-        &mut self,
-        levels: &mut LevelBuffers<A>,
-        weighting: Weighting,
-        collator: &Collator<L, T>,
-    ) -> Result<bool, AllocError>
-        ensures { let c = collation_of L.content collator.now in (xs : List ℕ) → ReadsTo c weighting xs levels.old self.old →
-            IfOk result (λ accepted. OnTrue accepted (HasRead c weighting xs levels.new)) }
-    {
-        match &self.alone {
-            Some(known) => push_known(levels, weighting, known),
-            None if self.text.is_empty() => Ok(true),
-            None => push_text(
-                levels,
-                weighting,
-                collator,
                 self.text.as_str(),
                 &mut self.normal,
             ),
@@ -227,31 +207,9 @@ fn push_known<A: Allocator>(
     Ok(true)
 }
 
-// Adds the weights of a text, and returns whether it is accepted. Its Normalization Form D is written over the other text.
+// Adds the weights of a text, and returns whether it is accepted. Its Normalization Form D is written over the other text, and
+// what is known of leaves is used.
 fn push_text<L: Lookup, T: Allocator, A: Allocator>(
-    levels: &mut LevelBuffers<A>,
-    weighting: Weighting,
-    collator: &Collator<L, T>,
-    text: &str,
-    normal: &mut Normal,
-) -> Result<bool, AllocError>
-    ensures levels { let c = collation_of L.content collator.now in (es : List Element) → HoldsLevels weighting es levels.old →
-        IfOk result (λ accepted. OnTrue accepted (HoldsLevels weighting (es ++ elements_of c (nfd_text c.properties (chars text.now))) levels.new)) }
-    ensures runs { let c = collation_of L.content collator.now in
-        IfOk result (λ accepted. OnTrue accepted (HasNoLongRun (map c.properties.class (nfd (chars text.now))))) }
-{
-    match normal.renew(text, collator.data) {
-        Ok(()) => {
-            push_elements(levels, weighting, collator, normal)?;
-            Ok(true)
-        }
-        Err(TextFault::Memory) => Err(AllocError),
-        Err(_) => Ok(false),
-    }
-}
-
-// The same, where what is known of leaves is used.
-fn push_text_by<L: Lookup, T: Allocator, A: Allocator>(
     levels: &mut LevelBuffers<A>,
     weighting: Weighting,
     collator: &Collator<L, T>,

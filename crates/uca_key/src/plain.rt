@@ -160,6 +160,7 @@ pub(crate) struct PlainPoints<A: Allocator> {
 
 impl<A: Allocator + Copy> PlainPoints<A> {
     /// Nothing is known, and no memory is taken yet.
+    #[tactic(auto, unfolding(crate::specs::PlainPoints::AreTrueEntries))]
     pub(crate) fn new(alloc: A, global: Global) -> PlainPoints<A>
         ensures { (c : Collation) → AreTrueEntries c result.entries.items }
     {
@@ -306,6 +307,7 @@ impl<A: Allocator> PlainPoints<A> {
     }
 
     // Keeps what is known of a code point in its page.
+    #[tactic(auto, unfolding(crate::specs::PlainPoints::AreTrueEntries))]
     fn keep(&mut self, known: Known)
         ensures { (c : Collation) → AreTrueEntries c self.old.entries.items → IsTrueEntry c known × HasTrueDecomposition c known × IsTrueLeaf c known →
             AreTrueEntries c self.new.entries.items }

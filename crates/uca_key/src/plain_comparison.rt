@@ -1,15 +1,15 @@
 //! `PlainComparison`: compares texts of plain code points, which are not normalized.
 
-ghost use Rattle.std.specs.Prelude.{◌≡◌, ◌++◌, ℕ, List, chars, flat_map, IfOk, IfSome};
+ghost use Rattle.std.specs.Prelude.{◌≡◌, ◌++◌, ℕ, List, chars, IfOk, IfSome};
 ghost use Rattle.std.specs.Bool.{OnTrue};
 ghost use Rattle.uca_weights.specs.declared.Element.{Element};
 ghost use Rattle.uca_match.specs.Collations.{Collation, collation_of};
 ghost use Rattle.uca_order.specs.Levels;
 ghost use Rattle.uca_key.specs.Comparisons.{ComparesLevels};
 ghost use Rattle.uca_key.specs.Walks.{Stands, none_decided};
-ghost use Rattle.uca_key.specs.Plain.{IsPlain, ArePlain, elements_alone};
+ghost use Rattle.uca_key.specs.Plain.{IsPlain, elements_alone};
 ghost use Rattle.uca_key.specs.PlainPoints.{IsTrueEntry, AreTrueEntries};
-ghost use Rattle.uca_key.specs.Shared.{IsRest, HasCount, ComparesTexts, ComparesAccepted};
+ghost use Rattle.uca_key.specs.Shared.{IsRest, HasCount, HasElements, ComparesTexts, ComparesAccepted};
 
 use crate::element_stream::Listed;
 use crate::front::Front;
@@ -67,6 +67,22 @@ impl<A: Allocator> PlainComparison<A> {
         if let Some(walked) = compare_same(&self.points, weighting, left, right) {
             return Ok(Some(walked));
         }
+        self.compare_after_shared(collator, weighting, left, right)
+    }
+
+    // How two texts compare by what follows the code points with which both begin.
+    fn compare_after_shared<L: Lookup, T: Allocator>(
+        &mut self,
+        collator: &Collator<L, T>,
+        weighting: Weighting,
+        left: &str,
+        right: &str,
+    ) -> Result<Option<Walked>, AllocError>
+        requires { AreTrueEntries (collation_of L.content collator.now) self.old.points.entries.items }
+        ensures entries { AreTrueEntries (collation_of L.content collator.now) self.new.points.entries.items }
+        ensures compared { let c = collation_of L.content collator.now in
+            IfOk result (λ found. IfSome found (ComparesTexts c weighting (chars left.now) (chars right.now))) }
+    {
         let Some(rest) = skip_shared(collator, &mut self.points, left, right)? else {
             return Ok(None);
         };
@@ -89,10 +105,7 @@ impl<A: Allocator> PlainComparison<A> {
             IsRest c xs ys (chars rest.now.left.now) (chars rest.now.right.now) rest.now.after_variable rest.now.passed →
             IfOk result (λ found. IfSome found (ComparesTexts c weighting xs ys)) }
     {
-        if !read_plain(collator, &mut self.points, &mut self.left, rest.left)? {
-            return Ok(None);
-        }
-        if !read_plain(collator, &mut self.points, &mut self.right, rest.right)? {
+        if !self.read_rest(collator, rest)? {
             return Ok(None);
         }
         Ok(compare_elements(
@@ -102,6 +115,23 @@ impl<A: Allocator> PlainComparison<A> {
             &self.left,
             &self.right,
         ))
+    }
+
+    // Reads the elements that follow what two texts share, and returns whether their code points are plain.
+    fn read_rest<L: Lookup, T: Allocator>(
+        &mut self,
+        collator: &Collator<L, T>,
+        rest: &Rest,
+    ) -> Result<bool, AllocError>
+        requires { AreTrueEntries (collation_of L.content collator.now) self.old.points.entries.items }
+        ensures entries { AreTrueEntries (collation_of L.content collator.now) self.new.points.entries.items }
+        ensures read { let c = collation_of L.content collator.now in IfOk result (λ plain. OnTrue plain (
+            HasElements c (chars rest.now.left.now) self.new.left.items × HasElements c (chars rest.now.right.now) self.new.right.items)) }
+    {
+        if !read_plain(collator, &mut self.points, &mut self.left, rest.left)? {
+            return Ok(false);
+        }
+        read_plain(collator, &mut self.points, &mut self.right, rest.right)
     }
 }
 
@@ -150,10 +180,8 @@ fn read_plain<L: Lookup, T: Allocator, A: Allocator>(
 ) -> Result<bool, AllocError>
     requires { AreTrueEntries (collation_of L.content collator.now) points.old.entries.items }
     ensures entries { AreTrueEntries (collation_of L.content collator.now) points.new.entries.items }
-    ensures plain { let c = collation_of L.content collator.now in
-        IfOk result (λ plain. OnTrue plain (ArePlain c (chars text.now))) }
-    ensures elements { let c = collation_of L.content collator.now in
-        IfOk result (λ plain. OnTrue plain (elements.new.items ≡ flat_map (elements_alone c) (chars text.now))) }
+    ensures read { let c = collation_of L.content collator.now in
+        IfOk result (λ plain. OnTrue plain (HasElements c (chars text.now) elements.new.items)) }
 {
     elements.clear();
     for point in text.chars() {

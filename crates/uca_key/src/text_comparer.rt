@@ -110,20 +110,50 @@ impl<'a, L: Lookup, T: Allocator, A: Allocator> TextComparer<'a, L, T, A> {
         {
             return Ok(compared_of(&walked));
         }
-        self.left.renew(left, self.collator.data)?;
-        if left == right {
-            let walked = compare_itself(&self.collator, self.weighting, &self.left);
-            return Ok(compared_of(&walked));
-        }
-        self.right.renew(right, self.collator.data)?;
-        Ok(compare(
+        compare_normals(
             &self.collator,
             self.weighting,
             self.depth,
-            &self.left,
-            &self.right,
-        ))
+            &mut self.left,
+            &mut self.right,
+            left,
+            right,
+        )
     }
+}
+
+// How two texts compare that are normalized first, each in the memory of one that was before.
+fn compare_normals<L: Lookup, T: Allocator>(
+    collator: &Collator<L, T>,
+    weighting: Weighting,
+    depth: Depth,
+    left_normal: &mut Normal,
+    right_normal: &mut Normal,
+    left: &str,
+    right: &str,
+) -> Result<Compared, TextFault>
+    ensures compared { let c = collation_of L.content collator.now in IfOk result (λ compared.
+        let answer = compared_at depth weighting
+        (read_text c (nfd_text c.properties (chars left.now))) (read_text c (nfd_text c.properties (chars right.now))) in
+        (compared.order ≡ answer.order) × (compared.level ≡ answer.level)) }
+    ensures fetched { let c = collation_of L.content collator.now in IfOk result (λ compared.
+        let es = elements_of c (nfd_text c.properties (chars left.now)) in
+        let fs = elements_of c (nfd_text c.properties (chars right.now)) in
+        (compared.fetched_left ≡ min (2 ^ 64 - 1) (fetched_left weighting es fs))
+        × (compared.fetched_right ≡ min (2 ^ 64 - 1) (fetched_right weighting es fs))) }
+    ensures accepted { let c = collation_of L.content collator.now in
+        OnOk result (IsAccepted (nfd_text c.properties (chars left.now)) × IsAccepted (nfd_text c.properties (chars right.now))) }
+    ensures fault { let c = collation_of L.content collator.now in IfErr result (λ fault.
+        IsCause (nfd_text c.properties (chars left.now)) fault
+        ⊎ (IsAccepted (nfd_text c.properties (chars left.now)) × IsCause (nfd_text c.properties (chars right.now)) fault)) }
+{
+    left_normal.renew(left, collator.data)?;
+    if left == right {
+        let walked = compare_itself(collator, weighting, left_normal);
+        return Ok(compared_of(&walked));
+    }
+    right_normal.renew(right, collator.data)?;
+    Ok(compare(collator, weighting, depth, left_normal, right_normal))
 }
 
 // How two texts compare, after a walk over both.

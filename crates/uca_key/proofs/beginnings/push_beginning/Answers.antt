@@ -21,15 +21,10 @@ loop-point-init g c = record {
 
 pub loop-point-preserved : goal.loop-point-preserved
 loop-point-preserved g c =
-    let collation = collation_of g.L.Lookup.content c.args.collator.now in
-    let so_far = c.loop-point.invariant in
-    record {
-      entries = c.get.ensures.entries;
-      reads = subst (λ x. ReadsTo collation c.args.weighting (c.loop-point.yielded ++ x ∷ []) c.go_on.new.levels c.go_on.new.self)
-          c.in_ok-known.ensures.known.0
-          (subst
-          (λ accepted. OnTrue accepted (ReadsTo collation c.args.weighting (c.loop-point.yielded ++ c.in_ok-known.known.point ∷ []) c.go_on.new.levels c.go_on.new.self))
-          c.if-not-branch.false (c.in_ok-go_on.ensures c.loop-point.yielded so_far.reads));
+    let collation = collation_of g.L.Lookup.content c.args.collator.now in record {
+      entries = c.go_on.ensures.entries;
+      reads = subst (λ accepted. OnTrue accepted (ReadsTo collation c.args.weighting (c.loop-point.yielded ++ c.in-Some.point ∷ []) c.go_on.new.levels c.go_on.new.self))
+          c.if-not-branch.false (c.in_ok-go_on.ensures.read c.loop-point.yielded c.loop-point.invariant.reads);
     }
 
 pub returns-then-has_beginning : goal.returns-then-has_beginning
@@ -41,13 +36,10 @@ returns-then-has_beginning g c =
     let road = YieldsList-from_chars c.args.text.now c.utf8.text cc in
     let before = YieldsList-so_far road xs _ c.loop-point.yielded_by in
     let next = YieldsList-turn road xs _ c.loop-point.yielded_by _ _ c.in-Some.point c.in-Some.is c.next.ensures.steps in
-    let reads = subst (λ x. ReadsTo collation c.args.weighting (xs ++ x ∷ []) c.go_on.new.levels c.go_on.new.self)
-    c.in_ok-known.ensures.known.0
-    (subst
-    (λ accepted. OnTrue accepted (ReadsTo collation c.args.weighting (xs ++ c.in_ok-known.known.point ∷ []) c.go_on.new.levels c.go_on.new.self))
-    c.if-not-branch.false (c.in_ok-go_on.ensures xs so_far.reads)) in
+    let reads = subst (λ accepted. OnTrue accepted (ReadsTo collation c.args.weighting (xs ++ c.in-Some.point ∷ []) c.go_on.new.levels c.go_on.new.self))
+    c.if-not-branch.false (c.in_ok-go_on.ensures.read xs so_far.reads) in
     record {
-      entries = c.get.ensures.entries;
+      entries = c.go_on.ensures.entries;
       begun = begun_early collation c.args.weighting all (xs ++ c.in-Some.point ∷ []) _ c.go_on.new.levels c.go_on.new.self
           (text_parts all xs c.in-Some.point before next) reads c.if-has_beginning.ensures;
     }
@@ -60,26 +52,14 @@ returns g c =
     c.next.ensures.steps in
     let all : c.loop-point.yielded ≡ chars c.args.text.now = sym (map-id c.loop-point.yielded) ∙ end.0 in
     record {
-      entries = so_far.entries;
+      entries = c.end.ensures.entries;
       begun = begun_all collation c.args.weighting (chars c.args.text.now) c.end.new.levels c.end.result
           (subst (λ xs. IfOk c.end.result (λ accepted. OnTrue accepted (HasRead collation c.args.weighting xs c.end.new.levels))) all
-          (c.end.ensures c.loop-point.yielded so_far.reads));
+          (c.end.ensures.read c.loop-point.yielded so_far.reads));
     }
 
-pub get-requires : goal.get-requires
-get-requires g c = c.loop-point.invariant.entries
-
-pub go_on-requires : goal.go_on-requires
-go_on-requires g c = c.in_ok-known.ensures.known.1
-
 pub returns-then-not-branch : goal.returns-then-not-branch
-returns-then-not-branch g c = record { entries = c.get.ensures.entries; begun = tt }
-
-pub returns-in_err-known : goal.returns-in_err-known
-returns-in_err-known g c = record { entries = c.get.ensures.entries; begun = no_result c.from_residual.result _ c.from_residual.ensures.0 }
+returns-then-not-branch g c = record { entries = c.go_on.ensures.entries; begun = tt }
 
 pub returns-in_err-go_on : goal.returns-in_err-go_on
-returns-in_err-go_on g c = record {
-  entries = c.get.ensures.entries;
-  begun = no_result c.from_residual-in_err-go_on.result _ c.from_residual-in_err-go_on.ensures.0;
-}
+returns-in_err-go_on g c = record { entries = c.go_on.ensures.entries; begun = no_result c.from_residual.result _ c.from_residual.ensures.0 }

@@ -1,12 +1,12 @@
 use Rattle.std.proofs.Common.{◌≡◌, ◌++◌, refl, sym, subst, ◌∙◌}
 use Rattle.std.specs.Bool.{OnTrue}
-use Rattle.std.specs.List.{flat_map}
 use Rattle.std.specs.Str.{chars}
 use Rattle.std.proofs.lemmas.Iterator.{YieldsList-from_chars}
 use Rattle.std.proofs.lemmas.Iterator.Consumers.{YieldsList-end}
 use Rattle.std.proofs.lemmas.List.{map-id}
 use Rattle.uca_match.specs.Collations.{collation_of}
-use Rattle.uca_key.specs.Plain.{IsPlain, ArePlain, elements_alone}
+use Rattle.uca_key.specs.Plain.{IsPlain, elements_alone}
+use Rattle.uca_key.specs.Shared.{HasElements}
 use Rattle.uca_key.proofs.SharedSteps.{plain_on, elements_on}
 use Rattle.uca_key.proofs.plain_comparison.read_plain.Goals as goal
 
@@ -22,17 +22,13 @@ loop-point-preserved g c =
           refl c.loop-point.invariant.elements refl read.1;
     }
 
-pub returns-clause-plain : goal.returns-clause-plain
-returns-clause-plain g c =
+pub returns-clause-read : goal.returns-clause-read
+returns-clause-read g c =
     let end = YieldsList-end (YieldsList-from_chars c.args.text.now c.utf8.text cc) c.loop-point.yielded _ c.loop-point.yielded_by _ _ c.in-None.is
     c.next.ensures.steps in
     let all : c.loop-point.yielded ≡ chars c.args.text.now = sym (map-id c.loop-point.yielded) ∙ end.0 in
-    subst (ArePlain (collation_of g.L.Lookup.content c.args.collator.now)) all c.loop-point.invariant.plain
+    subst (λ xs. HasElements (collation_of g.L.Lookup.content c.args.collator.now) xs c.loop-point.elements.items) all
+    (c.loop-point.invariant.plain, c.loop-point.invariant.elements)
 
-pub returns-clause-elements : goal.returns-clause-elements
-returns-clause-elements g c =
-    let end = YieldsList-end (YieldsList-from_chars c.args.text.now c.utf8.text cc) c.loop-point.yielded _ c.loop-point.yielded_by _ _ c.in-None.is
-    c.next.ensures.steps in
-    let all : c.loop-point.yielded ≡ chars c.args.text.now = sym (map-id c.loop-point.yielded) ∙ end.0 in
-    subst (λ xs. c.loop-point.elements.items ≡ flat_map (elements_alone (collation_of g.L.Lookup.content c.args.collator.now)) xs) all
-    c.loop-point.invariant.elements
+pub returns-clause-entries : goal.returns-clause-entries
+returns-clause-entries g c = c.loop-point.invariant.entries

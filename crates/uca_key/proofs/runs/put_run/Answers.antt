@@ -6,6 +6,7 @@ use Rattle.std.proofs.lemmas.Str.{chars-nil}
 use Rattle.uca_text.specs.Texts.{nfd_text}
 use Rattle.uca_match.specs.Collations.{elements_of}
 use Rattle.uca_key.specs.LevelBuffers.{HoldsLevels, levels_of}
+use Rattle.uca_key.specs.Pieces.{HasRead}
 use Rattle.uca_key.proofs.BufferLemmas.{less_room}
 use Rattle.uca_key.proofs.RunSteps.{run_begins, read_next, run_ends}
 use Rattle.uca_key.proofs.runs.put_run.Goals as goal
@@ -26,6 +27,7 @@ put_elements-counts-requires g c =
     less_room (3 * (65 - c.loop-turn._turn)) _ _ _ _ _ _ (omega (arith, c.all_elements.ensures.few)) c.loop-turn.invariant.room
 
 pub loop-turn-preserved : goal.loop-turn-preserved
+unfolding HasRead
 loop-turn-preserved g c =
     let so_far = c.loop-turn.invariant in
     let turn = c.loop-turn._turn in
@@ -58,6 +60,7 @@ put_elements-counts-requires-2 g c =
     less_room (3 * (65 - c.loop-turn._turn)) _ _ _ _ _ _ (omega (arith, c.all_elements-2.ensures.few)) c.loop-turn.invariant.room
 
 pub returns : goal.returns
+unfolding HasRead
 returns g c = record {
   room = c.put_elements-counts-2.ensures.room 0
       (less_room (3 * (65 - c.loop-turn._turn)) _ _ _ _ _ _ (omega (arith, c.all_elements-2.ensures.few)) c.loop-turn.invariant.room);

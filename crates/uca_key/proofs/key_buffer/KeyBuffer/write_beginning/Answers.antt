@@ -13,12 +13,6 @@ use Rattle.uca_key.proofs.key_buffer.KeyBuffer.write_beginning.Goals as goal
 pub push_beginning-requires-clause-empty : goal.push_beginning-requires-clause-empty
 push_beginning-requires-clause-empty g c = c.clear.ensures c.self.inside.weighting
 
-pub push_beginning-requires-clause-entries : goal.push_beginning-requires-clause-entries
-push_beginning-requires-clause-entries g c = c.requires
-
-pub has_short_runs-requires : goal.has_short_runs-requires
-has_short_runs-requires g c = c.push_beginning.ensures.entries
-
 pub returns-then-text-gt-SHORT_TEXT : goal.returns-then-text-gt-SHORT_TEXT
 returns-then-text-gt-SHORT_TEXT g c = record { entries = c.requires; beginning = tt; accepted = tt; weighting = refl; depth = refl }
 

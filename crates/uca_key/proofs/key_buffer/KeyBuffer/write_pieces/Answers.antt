@@ -10,9 +10,6 @@ use Rattle.uca_key.proofs.key_buffer.KeyBuffer.write_pieces.Goals as goal
 pub push_pieces-requires-clause-empty : goal.push_pieces-requires-clause-empty
 push_pieces-requires-clause-empty g c = c.clear.ensures c.self.inside.weighting
 
-pub push_pieces-requires-clause-entries : goal.push_pieces-requires-clause-entries
-push_pieces-requires-clause-entries g c = c.requires
-
 pub returns-then-text-gt-SHORT_TEXT : goal.returns-then-text-gt-SHORT_TEXT
 returns-then-text-gt-SHORT_TEXT g c = record { entries = c.requires; key = tt; accepted = tt; short = λ short. tt; weighting = refl; depth = refl }
 

@@ -11,13 +11,7 @@ use Rattle.uca_key.proofs.Results.{no_result, fault_is}
 use Rattle.uca_key.proofs.WriterSteps.{memory_is_cause, key_by_pieces, key_of_normal, accepted_by, accepted_normal}
 use Rattle.uca_key.proofs.key_writer.KeyWriter.write.Goals as goal
 
-pub write_pieces-requires : goal.write_pieces-requires
-write_pieces-requires g c = c.self.invariant
-
 -- ---- The text is not written piece by piece, since memory ran out
-
-pub invariant_of-self : goal.invariant_of-self
-invariant_of-self g c = c.write_pieces.ensures.entries
 
 pub returns-in_err-accepted : goal.returns-in_err-accepted
 returns-in_err-accepted g c = record {
@@ -31,9 +25,6 @@ returns-in_err-accepted g c = record {
 }
 
 -- ---- It is written piece by piece
-
-pub invariant_of-self-then-accepted : goal.invariant_of-self-then-accepted
-invariant_of-self-then-accepted g c = c.write_pieces.ensures.entries
 
 pub returns-then-accepted : goal.returns-then-accepted
 returns-then-accepted g c = record {
@@ -53,9 +44,6 @@ returns-then-accepted g c = record {
 
 -- ---- It is rejected
 
-pub invariant_of-self-in_err-renew : goal.invariant_of-self-in_err-renew
-invariant_of-self-in_err-renew g c = c.write_pieces.ensures.entries
-
 pub returns-in_err-renew : goal.returns-in_err-renew
 returns-in_err-renew g c = record {
   key = no_result c.from_residual-in_err-renew.result _ c.from_residual-in_err-renew.ensures.0;
@@ -71,9 +59,6 @@ returns-in_err-renew g c = record {
 
 -- ---- Memory ran out for the key
 
-pub invariant_of-self-in_err-write_text : goal.invariant_of-self-in_err-write_text
-invariant_of-self-in_err-write_text g c = c.write_pieces.ensures.entries
-
 pub returns-in_err-write_text : goal.returns-in_err-write_text
 returns-in_err-write_text g c = record {
   key = no_result c.from_residual-in_err-write_text.result _ c.from_residual-in_err-write_text.ensures.0;
@@ -87,9 +72,6 @@ returns-in_err-write_text g c = record {
 }
 
 -- ---- The key of the normalized text is written
-
-pub invariant_of-self-2 : goal.invariant_of-self-2
-invariant_of-self-2 g c = c.write_pieces.ensures.entries
 
 pub returns : goal.returns
 returns g c = record {

@@ -10,12 +10,6 @@ use Rattle.uca_key.proofs.Results.{no_result}
 use Rattle.uca_key.proofs.WriterSteps.{memory_is_cause, beginning_by, beginning_of_whole, accepted_by}
 use Rattle.uca_key.proofs.key_writer.KeyWriter.write_beginning.Goals as goal
 
-pub write_beginning-requires : goal.write_beginning-requires
-write_beginning-requires g c = c.self.invariant
-
-pub invariant_of-self : goal.invariant_of-self
-invariant_of-self g c = c.write_beginning.ensures.entries
-
 pub returns-in_err-accepted : goal.returns-in_err-accepted
 returns-in_err-accepted g c = record {
   beginning = no_result c.from_residual.result _ c.from_residual.ensures.0;
@@ -25,9 +19,6 @@ returns-in_err-accepted g c = record {
   weighting = c.write_beginning.ensures.weighting ∙ ap (λ (w : WriterState _). w.weighting) c.self.view_is;
   depth = c.write_beginning.ensures.depth ∙ ap (λ (w : WriterState _). w.depth) c.self.view_is;
 }
-
-pub invariant_of-self-then-accepted : goal.invariant_of-self-then-accepted
-invariant_of-self-then-accepted g c = c.write_beginning.ensures.entries
 
 pub returns-then-accepted : goal.returns-then-accepted
 returns-then-accepted g c = record {
@@ -39,9 +30,6 @@ returns-then-accepted g c = record {
   depth = c.write_beginning.ensures.depth ∙ ap (λ (w : WriterState _). w.depth) c.self.view_is;
   fault = tt;
 }
-
-pub invariant_of-self-2 : goal.invariant_of-self-2
-invariant_of-self-2 g c = c.write_beginning.ensures.entries
 
 pub returns : goal.returns
 returns g c = record {
