@@ -42,8 +42,10 @@ impl<A: Allocator + Copy> CharMap<A> {
         ensures { IfOk result (λ charmap. (c : ℕ) → number_of charmap c ≡ 0) }
     {
         let pages = Vec::from_elem(alloc, 0, PAGES)?;
-        let numbers = Vec::from_elem(alloc, 0, PAGE)?;
-        Ok(CharMap { pages, numbers })
+        match Vec::from_elem(alloc, 0, PAGE) {
+            Ok(numbers) => Ok(CharMap { pages, numbers }),
+            Err(error) => Err(error),
+        }
     }
 }
 

@@ -97,8 +97,10 @@ impl<A: Allocator + Copy> KeyMap<A> {
         ensures { IfOk result (λ keymap. (key : List ℕ) → positions keymap key ≡ place_at 0 (points_of keys.now) key) }
     {
         let tree = key_tree(alloc, keys)?;
-        let followers = followers_of(alloc, &tree)?;
-        Ok(KeyMap { tree, followers })
+        match followers_of(alloc, &tree) {
+            Ok(followers) => Ok(KeyMap { tree, followers }),
+            Err(error) => Err(error),
+        }
     }
 }
 
@@ -138,8 +140,10 @@ fn key_tree<A: Allocator + Copy>(alloc: A, keys: &[&[char]]) -> Result<Tree<A>, 
     ensures positions { IfOk result (λ tree. (key : List ℕ) → positions tree key ≡ place_at 0 (points_of keys.now) key) }
 {
     let mut tree = empty_tree(alloc)?;
-    add_keys(alloc, &mut tree, keys)?;
-    Ok(tree)
+    match add_keys(alloc, &mut tree, keys) {
+        Ok(()) => Ok(tree),
+        Err(error) => Err(error),
+    }
 }
 
 /// Adds all keys to a root alone. Those of one code point need no search.

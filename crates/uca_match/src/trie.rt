@@ -46,8 +46,10 @@ impl<A: Allocator + Copy> Trie<A> {
             ⟦<Trie<A> as Lookup>⟧.content trie key ≡ rows_of table.now.rows key) }
     {
         let rows = ElementLists::of_rows(alloc, &table.rows)?;
-        let keys = row_map(alloc, &table.rows)?;
-        Ok(Trie { keys, rows })
+        match row_map(alloc, &table.rows) {
+            Ok(keys) => Ok(Trie { keys, rows }),
+            Err(error) => Err(error),
+        }
     }
 }
 
