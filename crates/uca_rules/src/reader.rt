@@ -204,11 +204,15 @@ impl<'a, A: Allocator + Copy, T: Allocator> Reader<'a, A, T> {
         ensures fault { IfErr result (IsNextFault (properties_in self.old.texts) self.old.texts.end (state_of self.old) characters.now) }
     {
         let (asked, text) = behind_ampersand(characters)?;
-        let (anchor, rest) = self.texts.read_plain(text)?;
-        self.anchor = anchor;
-        self.before = asked.is_some();
-        self.last = Preceding::Reset(asked);
-        Ok(rest)
+        match self.texts.read_plain(text) {
+            Ok((anchor, rest)) => {
+                self.anchor = anchor;
+                self.before = asked.is_some();
+                self.last = Preceding::Reset(asked);
+                Ok(rest)
+            }
+            Err(fault) => Err(fault),
+        }
     }
 
     /// Reads a relation: a sign, a text, and perhaps `/` and a text; or a starred sign and a starred text.
