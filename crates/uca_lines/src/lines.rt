@@ -228,12 +228,8 @@ impl LineReader {
         if line.extend_from_slice(piece).is_err() {
             return Err(LineFault::Memory);
         }
-        self.start += len;
-        if !is_ended {
-            return Ok(false);
-        }
-        self.start += 1;
-        Ok(true)
+        self.start += len + usize::from(is_ended);
+        Ok(is_ended)
     }
 
     // Reads a chunk where nothing waits, and returns whether a byte is left.
