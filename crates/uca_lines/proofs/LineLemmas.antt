@@ -1,7 +1,7 @@
 -- Where lines are cut.
-use Rattle.std.proofs.Common.{◌≡◌, ℕ, suc, Bool, not, ◌+◌, ◌-◌, ◌<◌, ◌≤◌, true, false, List, [], ◌∷◌, ◌++◌, Option, None, Some, Result, Err, append-nil, refl, length, take, drop, get_or, cond, sym, ap, subst, ◌∙◌, arith, le_refl, length-take, length-append, append_assoc, MatchOption}
+use Rattle.std.proofs.Common.{◌≡◌, ◌↔◌, ℕ, suc, Bool, not, ◌+◌, ◌-◌, ◌<◌, ◌≤◌, true, false, List, [], ◌∷◌, ◌++◌, Option, None, Some, Result, Err, append-nil, refl, length, take, drop, get_or, cond, sym, ap, subst, ◌∙◌, arith, le_refl, length-take, length-drop, length-append, append_assoc, MatchOption}
 use Rattle.std.specs.List.{before_first, after_first, position_or_len, slice_range}
-use Rattle.std.proofs.lemmas.Bool.{false_from_ne_true, eqb-true, not-true, cond_both}
+use Rattle.std.proofs.lemmas.Bool.{false_from_ne_true, eqb-true, not-true, cond_both, iff_false}
 use Rattle.std.proofs.lemmas.List.{drop-take, drop-drop, length-take-le, take_all, drop_all}
 use Rattle.std.proofs.lemmas.List.Sums.{position_or_len_is, prefix_len-le-length, split_at_first, passes_at_first}
 use Rattle.std.specs.Io.KnownBytes.{Consumes, prepend_known}
@@ -26,7 +26,7 @@ pub length-before_lf : (text : List ℕ) → length (before_first is_lf text) �
 length-before_lf text = length-take-le (position_or_len is_lf text) text (prefix_len-le-length _ text)
 
 -- what of a range is left after its first LF
-pub slice_range-after_lf : (chunk : List ℕ) (start end : ℕ) (piece : List ℕ)
+slice_range-after_lf : (chunk : List ℕ) (start end : ℕ) (piece : List ℕ)
     → piece ≡ before_first is_lf (slice_range chunk start end) → position_or_len is_lf (slice_range chunk start end) < length (slice_range chunk start end)
     → slice_range chunk (start + length piece + 1) end ≡ after_first is_lf (slice_range chunk start end)
 slice_range-after_lf chunk start end piece is_piece there =
@@ -39,6 +39,22 @@ slice_range-after_lf chunk start end piece is_piece there =
     ∙ ap (take (end - (start + (n + 1)))) (sym (drop-drop (n + 1) start chunk))
     ∙ sym (drop-take (n + 1) (end - (start + (n + 1))) (drop start chunk))
     ∙ ap (λ k. drop (n + 1) (take k (drop start chunk))) parts
+
+-- what of a range is left after its first LF, or nothing where none is there
+pub slice_range-after_piece : (chunk : List ℕ) (start end next : ℕ) (piece : List ℕ) (is_ended : Bool) → piece ≡ before_first is_lf (slice_range chunk start end)
+    → (is_ended ≡ true) ↔ (position_or_len is_lf (slice_range chunk start end) < length (slice_range chunk start end)) → end ≤ length chunk
+    → (is_ended ≡ true → next ≡ start + length piece + 1) → (is_ended ≡ false → next ≡ start + length piece)
+    → slice_range chunk next end ≡ after_first is_lf (slice_range chunk start end)
+slice_range-after_piece chunk start end next piece true is_piece found within one none =
+    ap (λ k. slice_range chunk k end) (one refl) ∙ slice_range-after_lf chunk start end piece is_piece (found.0 refl)
+slice_range-after_piece chunk start end next piece false is_piece found within one none =
+    let all = slice_range chunk start end in
+    let is : next ≡ start + length piece = none refl in
+    let all_before : length all ≤ position_or_len is_lf all = omega (arith, iff_false found refl) in
+    let len : length piece ≡ position_or_len is_lf all = ap length is_piece ∙ length-before_lf all in
+    let count : length all ≡ end - start = omega (arith, length-take (end - start) (drop start chunk), length-drop start chunk) in
+    ap (λ k. take k (drop next chunk)) (let past : end - next ≡ 0 = omega arith in past)
+    ∙ sym (drop_all (position_or_len is_lf all + 1) all (omega arith))
 
 -- a text with an LF is its first line, ended, and what comes after
 pub cut_at_lf : (text : List ℕ) → position_or_len is_lf text < length text → text ≡ ended (before_first is_lf text) ++ after_first is_lf text

@@ -161,9 +161,7 @@ impl LineReader {
                     return Err(LineFault::Limit);
                 }
                 let next = self.read_line(source, line);
-                if next.is_ok() {
-                    self.number += 1;
-                }
+                self.number += u32::from(next.is_ok());
                 next
             }
             Err(fault) => Err(fault),
@@ -192,11 +190,15 @@ impl LineReader {
         ensures longest { self.new.longest ≡ self.old.longest }
     {
         loop {
-            if self.take_waiting(line)? {
-                return Ok(NextLine::Terminated);
+            match self.take_waiting(line) {
+                Ok(true) => return Ok(NextLine::Terminated),
+                Ok(false) => {}
+                Err(fault) => return Err(fault),
             }
-            if !self.fill(source)? {
-                return Ok(NextLine::Unterminated);
+            match self.fill(source) {
+                Ok(true) => {}
+                Ok(false) => return Ok(NextLine::Unterminated),
+                Err(fault) => return Err(fault),
             }
         }
     }
@@ -226,12 +228,8 @@ impl LineReader {
         if line.extend_from_slice(piece).is_err() {
             return Err(LineFault::Memory);
         }
-        self.start += len;
-        if !is_ended {
-            return Ok(false);
-        }
-        self.start += 1;
-        Ok(true)
+        self.start += len + usize::from(is_ended);
+        Ok(is_ended)
     }
 
     // Reads a chunk where nothing waits, and returns whether a byte is left.

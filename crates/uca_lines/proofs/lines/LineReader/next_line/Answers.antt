@@ -18,12 +18,7 @@ within_limit number (Err Limit) few other = absurd (other refl)
 within_limit number (Err Read) few other = tt
 within_limit number (Err Memory) few other = few
 
-pub returns-then-is_ok-clause-limit : goal.returns-then-is_ok-clause-limit
-returns-then-is_ok-clause-limit g c =
-    let view = ap (λ (s : LineState). s.number) c.self.view_is in
-    within_limit c.args.self.now.number c.read_line-next.result (omega (arith, view, c.fill.ensures.number)) c.read_line-next.ensures.not_limit
-
-pub returns-else-is_ok-clause-limit : goal.returns-else-is_ok-clause-limit
-returns-else-is_ok-clause-limit g c =
+pub returns-else-self-ge-LINE_LIMIT-clause-limit : goal.returns-else-self-ge-LINE_LIMIT-clause-limit
+returns-else-self-ge-LINE_LIMIT-clause-limit g c =
     let view = ap (λ (s : LineState). s.number) c.self.view_is in
     within_limit c.args.self.now.number c.read_line-next.result (omega (arith, view, c.fill.ensures.number)) c.read_line-next.ensures.not_limit

@@ -6,8 +6,8 @@ use Rattle.uca_lines.specs.Lines.{is_lf, Lacks}
 use Rattle.uca_lines.specs.LineReader.{left_of}
 use Rattle.uca_lines.proofs.lines.LineReader.read_line.Given as goal
 
-abbrev pub invariant-loop-self : goal.invariant-loop-self
-invariant-loop-self g l = record {
+abbrev pub invariant-loop-fault : goal.invariant-loop-fault
+invariant-loop-fault g l = record {
   bytes : Consumes (left_of l.initial.self l.initial.source) (left_of l.self l.source) l.line.items;
   no_lf : Lacks is_lf l.line.items;
   fits : length l.line.items ≤ l.self.longest;
@@ -18,5 +18,5 @@ invariant-loop-self g l = record {
   failed : l.source.failed ≡ l.initial.source.failed;
 }
 
-abbrev pub decreases-loop-self : goal.decreases-loop-self
-decreases-loop-self g l = l.self.longest - length l.line.items
+abbrev pub decreases-loop-fault : goal.decreases-loop-fault
+decreases-loop-fault g l = l.self.longest - length l.line.items

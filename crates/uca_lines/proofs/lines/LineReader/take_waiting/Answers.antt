@@ -5,7 +5,7 @@ use Rattle.std.specs.List.{before_first, after_first}
 use Rattle.std.proofs.lemmas.Bool.{false≢true}
 use Rattle.uca_lines.specs.Lines.{is_lf}
 use Rattle.uca_lines.specs.LineReader.{LineState}
-use Rattle.uca_lines.proofs.LineLemmas.{slice_range-after_lf}
+use Rattle.uca_lines.proofs.LineLemmas.{slice_range-after_piece}
 use Rattle.uca_lines.proofs.lines.LineReader.take_waiting.Goals as goal
 
 -- what holds at an error, at a result that is one
@@ -25,6 +25,8 @@ returns-then-is_err-clause-fault g c =
 
 pub returns-clause-pending : goal.returns-clause-pending
 returns-clause-pending g c =
-    slice_range-after_lf c.self.inside.chunk c.self.inside.start c.self.inside.end _ c.first_line-is_ended.ensures.line
-    (c.first_line-is_ended.ensures.is_ended.0 c.if-not-is_ended.false)
+    let inside = c.self.inside in
+    slice_range-after_piece inside.chunk inside.start inside.end _ _ c.first_line-is_ended.result.1 c.first_line-is_ended.ensures.line
+    c.first_line-is_ended.ensures.is_ended (omega arith) (λ e. let one = rw e at c.from.ensures in omega (arith, one))
+    (λ e. let none = rw e at c.from.ensures in omega (arith, none))
     ∙ ap (λ (s : LineState). after_first is_lf s.pending) c.self.view_is
