@@ -73,6 +73,22 @@ pub some_not_none : {A : Type 0} (o : Option A) → IsSome o → o ≡ None → 
 some_not_none (Some x) h e = cc
 some_not_none None h e = absurd (false≢true h)
 
+-- nothing yet
+pub keeps_none : {K : Type 0} (points : K → List ℕ) (now : K → Bool) (new : TableSoFar) → new ≡ with_rows None None [] [] → ((q : K) → now q ≡ false)
+    → Keeps points now new
+keeps_none points now new whole none =
+    let P : TableSoFar → Type 0 = λ b. Keeps points now b in
+    subst P (sym whole) (record {
+      keys = λ q. ((λ e. absurd (false≢true (sym (none q) ∙ e))), (λ k. absurd (omega (arith, k.1))));
+      named = λ name e. cc;
+      begun = record {
+        versioned = λ n. (refl, refl, refl);
+        ranges = tt;
+        few_ranges = omega arith;
+        rows = record { entries = tt; distinct = tt; few = omega arith };
+      };
+    })
+
 -- one more row
 pub keeps_row : {K : Type 0} (points : K → List ℕ) (has now : K → Bool) (old new : TableSoFar) (row : Entry) → Keeps points has old → IsEntry row
     → (Contains (keys_of old.rows) row.key → ⊥) → length old.rows < 200000 → IsSome old.version → new ≡ record old { rows = old.rows ++ row ∷ [] }

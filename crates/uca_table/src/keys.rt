@@ -76,9 +76,13 @@ fn add_bit<A: Allocator>(bits: &mut Vec<u64, A>, point: char) -> Result<(), Allo
         has_bit bits.new.items other ≡ cond (point == other) true (has_bit bits.old.items other)) }
     ensures same { OnErr result ((other : ℕ) → has_bit bits.new.items other ≡ has_bit bits.old.items other) }
 {
-    make_room(bits, point as usize / 64)?;
-    set_bit(bits, point as usize);
-    Ok(())
+    match make_room(bits, point as usize / 64) {
+        Ok(()) => {
+            set_bit(bits, point as usize);
+            Ok(())
+        }
+        Err(error) => Err(error),
+    }
 }
 
 // Makes room for a word at this position.

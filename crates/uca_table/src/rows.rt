@@ -23,8 +23,10 @@ pub fn read_row<A: Allocator + Copy>(alloc: A, text: &[u8]) -> Result<Row<A>, Fa
     let Some((_, back)) = back.split_first() else {
         return Err(FaultKind::Line);
     };
-    let elements = read_elements(alloc, back)?;
-    Ok(Row { key, elements })
+    match read_elements(alloc, back) {
+        Ok(elements) => Ok(Row { key, elements }),
+        Err(kind) => Err(kind),
+    }
 }
 
 /// The code points that a text spells, with blanks between them.
