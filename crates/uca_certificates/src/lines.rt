@@ -103,12 +103,14 @@ impl<A: Allocator + Copy> CertificateLines<A> {
         let all = below_three + tertiary.len();
         let primary = map_of(Level::One, primary, 0, all)?;
         let secondary = map_of(Level::Two, secondary, below_two, all)?;
-        let tertiary = map_of(Level::Three, tertiary, below_three, all)?;
-        Ok(Certificate {
-            primary,
-            secondary,
-            tertiary,
-        })
+        match map_of(Level::Three, tertiary, below_three, all) {
+            Ok(tertiary) => Ok(Certificate {
+                primary,
+                secondary,
+                tertiary,
+            }),
+            Err(fault) => Err(fault),
+        }
     }
 }
 

@@ -24,23 +24,22 @@ returns-in_err-secondary-clause-fault g c =
     rw (p.1, p.2) (refuses_secondary c.args.self _ _ _ _ (subst (AreProperRuns One) first c.in_ok-primary.ensures.proper) second (rw (← first) (omega arith))
     (rw (← first, ← second, ← third) (omega arith)) c.in_err-secondary.ensures.fault)
 
-pub returns-in_err-tertiary-clause-fault : goal.returns-in_err-tertiary-clause-fault
-returns-in_err-tertiary-clause-fault g c =
-    let p = err_from_is_err_and c.from_residual-in_err-tertiary.result c.from_residual-in_err-tertiary.ensures.1 in
+pub returns-in-Err-clause-fault : goal.returns-in-Err-clause-fault
+returns-in-Err-clause-fault g c =
     let first = ap (λ (s : CertificateContent). s.primary) c.self.view_is in
     let second = ap (λ (s : CertificateContent). s.secondary) c.self.view_is in
     let third = ap (λ (s : CertificateContent). s.tertiary) c.self.view_is in
-    rw (p.1, p.2) (refuses_tertiary c.args.self _ _ _ _ (subst (AreProperRuns One) first c.in_ok-primary.ensures.proper)
+    refuses_tertiary c.args.self _ _ _ _ (subst (AreProperRuns One) first c.in_ok-primary.ensures.proper)
     (subst (AreProperRuns Two) second c.in_ok-secondary.ensures.proper) third (rw (← first, ← second) (omega arith))
-    (rw (← first, ← second, ← third) (omega arith)) c.in_err-tertiary.ensures.fault)
+    (rw (← first, ← second, ← third) (omega arith)) c.in-Err.ensures.fault
 
-pub returns-clause-maps : goal.returns-clause-maps
-returns-clause-maps g c =
+pub returns-in-Ok-clause-maps : goal.returns-in-Ok-clause-maps
+returns-in-Ok-clause-maps g c =
     let first = ap (λ (s : CertificateContent). s.primary) c.self.view_is in
     let second = ap (λ (s : CertificateContent). s.secondary) c.self.view_is in
     let third = ap (λ (s : CertificateContent). s.tertiary) c.self.view_is in
     record {
       primary = subst (AreProperRuns One) first c.in_ok-primary.ensures.proper;
       secondary = subst (AreProperRuns Two) second c.in_ok-secondary.ensures.proper;
-      tertiary = subst (AreProperRuns Three) third c.in_ok-tertiary.ensures.proper;
+      tertiary = subst (AreProperRuns Three) third c.in-Ok.ensures.proper;
     }
