@@ -42,8 +42,10 @@ impl<A: Allocator + Copy> CharMap<A> {
         ensures { IfOk result (λ charmap. (c : ℕ) → number_of charmap c ≡ 0) }
     {
         let pages = Vec::from_elem(alloc, 0, PAGES)?;
-        let numbers = Vec::from_elem(alloc, 0, PAGE)?;
-        Ok(CharMap { pages, numbers })
+        match Vec::from_elem(alloc, 0, PAGE) {
+            Ok(numbers) => Ok(CharMap { pages, numbers }),
+            Err(error) => Err(error),
+        }
     }
 }
 
@@ -67,9 +69,13 @@ impl<A: Allocator> CharMap<A> {
         ensures others { OnOk result ((d : ℕ) → d ≢ c → number_of self.new d ≡ number_of self.old d) }
     {
         let code = c as usize;
-        let page = page_at(&mut self.pages, &mut self.numbers, code / PAGE)?;
-        self.numbers[page * PAGE + code % PAGE] = number;
-        Ok(())
+        match page_at(&mut self.pages, &mut self.numbers, code / PAGE) {
+            Ok(page) => {
+                self.numbers[page * PAGE + code % PAGE] = number;
+                Ok(())
+            }
+            Err(error) => Err(error),
+        }
     }
 }
 
@@ -91,7 +97,11 @@ fn page_at<A: Allocator>(
     }
     let len = numbers.len();
     let page = len / PAGE;
-    numbers.resize(len + PAGE, 0)?;
-    pages[at] = page as u16;
-    Ok(page)
+    match numbers.resize(len + PAGE, 0) {
+        Ok(()) => {
+            pages[at] = page as u16;
+            Ok(page)
+        }
+        Err(error) => Err(error),
+    }
 }

@@ -97,8 +97,10 @@ impl<A: Allocator + Copy> KeyMap<A> {
         ensures { IfOk result (λ keymap. (key : List ℕ) → positions keymap key ≡ place_at 0 (points_of keys.now) key) }
     {
         let tree = key_tree(alloc, keys)?;
-        let followers = followers_of(alloc, &tree)?;
-        Ok(KeyMap { tree, followers })
+        match followers_of(alloc, &tree) {
+            Ok(followers) => Ok(KeyMap { tree, followers }),
+            Err(error) => Err(error),
+        }
     }
 }
 
@@ -131,23 +133,40 @@ impl<A: Allocator> KeyMap<A> {
     }
 }
 
-/// The tree of all keys. Those of one code point need no search.
+/// The tree of all keys.
 fn key_tree<A: Allocator + Copy>(alloc: A, keys: &[&[char]]) -> Result<Tree<A>, AllocError>
     requires { AreDistinctKeys (points_of keys.now) }
     ensures tree { IfOk result (λ tree. IsTree (tree_of tree)) }
     ensures positions { IfOk result (λ tree. (key : List ℕ) → positions tree key ≡ place_at 0 (points_of keys.now) key) }
 {
     let mut tree = empty_tree(alloc)?;
+    match add_keys(alloc, &mut tree, keys) {
+        Ok(()) => Ok(tree),
+        Err(error) => Err(error),
+    }
+}
+
+/// Adds all keys to a root alone. Those of one code point need no search.
+fn add_keys<A: Allocator + Copy>(
+    alloc: A,
+    tree: &mut Tree<A>,
+    keys: &[&[char]],
+) -> Result<(), AllocError>
+    requires distinct { AreDistinctKeys (points_of keys.now) }
+    requires leaf { tree_of tree.old ≡ leaf ∷ [] }
+    ensures tree { OnOk result (IsTree (tree_of tree.new)) }
+    ensures positions { OnOk result ((key : List ℕ) → positions tree.new key ≡ place_at 0 (points_of keys.now) key) }
+{
     for position in 0..keys.len() {
         let key = keys[position];
         if key.len() == 1 {
-            add_key(alloc, &mut tree, key, position)?;
+            add_key(alloc, tree, key, position)?;
         }
     }
     for numbered in &long_keys(alloc, keys)? {
-        add_key(alloc, &mut tree, numbered.key, numbered.position)?;
+        add_key(alloc, tree, numbered.key, numbered.position)?;
     }
-    Ok(tree)
+    Ok(())
 }
 
 /// The keys that are not one code point, with their positions, in the order of the keys, in which the edges of each node are

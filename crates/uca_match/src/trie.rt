@@ -2,7 +2,8 @@
 ghost use Rattle.std.specs.Prelude.{◌≡◌, ℕ, List, option_map, slice_index_or, [], Some, IfOk};
 ghost use Rattle.uca_values.specs.Content.{keys_of};
 ghost use Rattle.uca_match.specs.Rows.{rows_of};
-ghost use Rattle.uca_match.specs.Tries.{tree_of, walk};
+ghost use Rattle.uca_match.specs.Positions.{place_at, AreDistinctKeys};
+ghost use Rattle.uca_match.specs.Tries.{positions, tree_of, walk};
 ghost use Rattle.uca_match.specs.NumberedKeys.{points_of, rows_at};
 
 use crate::element_lists::ElementLists;
@@ -44,10 +45,24 @@ impl<A: Allocator + Copy> Trie<A> {
         ensures { IfOk result (λ trie. (key : List ℕ) →
             ⟦<Trie<A> as Lookup>⟧.content trie key ≡ rows_of table.now.rows key) }
     {
-        let keys = KeyMap::new(alloc, &key_list(alloc, &table.rows)?)?;
-        let rows = ElementLists::of_rows(alloc, &table.rows)?;
-        Ok(Trie { keys, rows })
+        let keys = row_map(alloc, &table.rows)?;
+        match ElementLists::of_rows(alloc, &table.rows) {
+            Ok(rows) => Ok(Trie { keys, rows }),
+            Err(error) => Err(error),
+        }
     }
+}
+
+/// The map of the keys of rows to their positions.
+fn row_map<A: Allocator + Copy, T: Allocator>(
+    alloc: A,
+    rows: &[Row<T>],
+) -> Result<KeyMap<A>, AllocError>
+    requires { AreDistinctKeys (keys_of rows.now) }
+    ensures { IfOk result (λ keymap. (key : List ℕ) → positions keymap key ≡ place_at 0 (keys_of rows.now) key) }
+{
+    let keys = key_list(alloc, rows)?;
+    KeyMap::new(alloc, &keys)
 }
 
 /// The keys of rows, borrowed, in their order.

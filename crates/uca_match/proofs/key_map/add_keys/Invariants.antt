@@ -2,7 +2,7 @@ use Rattle.std.proofs.Common.{map}
 use Rattle.uca_match.specs.NumberedKeys.{points_of, placed_of}
 use Rattle.uca_match.specs.Tries.{tree_of}
 use Rattle.uca_match.proofs.TrieKeys.{IsBuilt, IsShortBelow, IsShortOr}
-use Rattle.uca_match.proofs.key_map.key_tree.Given as goal
+use Rattle.uca_match.proofs.key_map.add_keys.Given as goal
 
 abbrev pub invariant-loop-position : goal.invariant-loop-position
 invariant-loop-position g l = IsBuilt (points_of l.keys) (IsShortBelow l.position) (tree_of l.tree)

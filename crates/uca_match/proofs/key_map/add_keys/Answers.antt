@@ -7,14 +7,14 @@ use Rattle.uca_match.specs.Positions.{AreLongKeys}
 use Rattle.uca_match.specs.NumberedKeys.{points_of, placed_of}
 use Rattle.uca_match.specs.Tries.{MapContent, tree_of}
 use Rattle.uca_match.proofs.TrieKeys.{IsBuilt, IsShortBelow, IsBuilt-none, IsBuilt-short, IsBuilt-other, IsBuilt-long_none, IsBuilt-long, IsBuilt-long_all}
-use Rattle.uca_match.proofs.key_map.key_tree.Goals as goal
-use Rattle.uca_match.proofs.key_map.key_tree.Goals.{then-key-eq1+in_ok-add_key, else-key-eq1}
+use Rattle.uca_match.proofs.key_map.add_keys.Goals as goal
+use Rattle.uca_match.proofs.key_map.add_keys.Goals.{then-key-eq1+in_ok-add_key, else-key-eq1}
 
 pub loop-position-init : goal.loop-position-init
 loop-position-init g c =
     let keys = points_of c.args.keys.now in
-    subst (IsBuilt keys (IsShortBelow 0)) (sym c.in_ok-tree.ensures)
-    (IsBuilt-none keys c.requires (IsShortBelow 0) (λ r h done. omega (arith, done.0)))
+    subst (IsBuilt keys (IsShortBelow 0)) (sym c.requires.leaf)
+    (IsBuilt-none keys c.requires.distinct (IsShortBelow 0) (λ r h done. omega (arith, done.0)))
 
 pub add_key-requires : goal.add_key-requires
 add_key-requires g c = c.loop-position.invariant.tree
@@ -29,11 +29,11 @@ loop-position-preserved g c =
     elim c.if-key-eq1.branch [
       | then-key-eq1+in_ok-add_key w ↦
           subst (λ (t : MapContent). IsBuilt keys (IsShortBelow (i + 1)) (tree_of t)) (sym w.tree-is)
-          (IsBuilt-short keys c.requires i _ within (sym (get_or-map (λ (k : Bor (List ℕ)). k.now) borrowed i _ _ inside)) (tree_of c.loop-position.tree)
+          (IsBuilt-short keys c.requires.distinct i _ within (sym (get_or-map (λ (k : Bor (List ℕ)). k.now) borrowed i _ _ inside)) (tree_of c.loop-position.tree)
           (tree_of w.add_key.new.tree) c.loop-position.invariant w.in_ok-add_key.ensures.tree w.in_ok-add_key.ensures.key)
       | else-key-eq1 w ↦
           subst (λ (t : MapContent). IsBuilt keys (IsShortBelow (i + 1)) (tree_of t)) (sym w.tree-is)
-          (IsBuilt-other keys c.requires i _ within (sym (get_or-map (λ (k : Bor (List ℕ)). k.now) borrowed i _ _ inside)) w.if-key-eq1.false
+          (IsBuilt-other keys c.requires.distinct i _ within (sym (get_or-map (λ (k : Bor (List ℕ)). k.now) borrowed i _ _ inside)) w.if-key-eq1.false
           (tree_of c.loop-position.tree) c.loop-position.invariant)
     ]
 
@@ -45,7 +45,7 @@ loop-numbered-init g c =
     let long : AreLongKeys keys list =
     subst (λ l. AreLongKeys keys (map placed_of l)) (sym c.deref-numbered-items.ensures.value) c.in_ok-long_keys.ensures in
     let past : length keys ≤ c.loop-position.position = omega (arith, length-map c.args.keys.now (λ (k : Bor (List ℕ)). k.now)) in
-    IsBuilt-long_none keys c.requires list long c.loop-position.position (tree_of c.loop-position.tree) past c.loop-position.invariant
+    IsBuilt-long_none keys c.requires.distinct list long c.loop-position.position (tree_of c.loop-position.tree) past c.loop-position.invariant
 
 pub add_key-requires-in-loop-numbered : goal.add_key-requires-in-loop-numbered
 add_key-requires-in-loop-numbered g c = c.loop-numbered.invariant.tree
@@ -58,7 +58,7 @@ loop-numbered-preserved g c =
     let long : AreLongKeys keys list =
     subst (λ l. AreLongKeys keys (map placed_of l)) (sym c.deref-numbered-items.ensures.value) c.in_ok-long_keys.ensures in
     let i = c.loop-numbered.numbered-index in
-    IsBuilt-long keys c.requires list long i _ (omega (arith, length-map items placed_of))
+    IsBuilt-long keys c.requires.distinct list long i _ (omega (arith, length-map items placed_of))
     (sym (get_or-map placed_of items i _ _ c.loop-numbered-test.true)) (tree_of c.loop-numbered.tree) (tree_of c.add_key-in-loop-numbered.new.tree)
     c.loop-numbered.invariant c.in_ok-add_key-2.ensures.tree c.in_ok-add_key-2.ensures.key
 
@@ -72,5 +72,5 @@ returns-clause-positions g c =
     let list = map placed_of items in
     let long : AreLongKeys keys list =
     subst (λ l. AreLongKeys keys (map placed_of l)) (sym c.deref-numbered-items.ensures.value) c.in_ok-long_keys.ensures in
-    IsBuilt-long_all keys c.requires list long c.loop-numbered.numbered-index (tree_of c.loop-numbered.tree) (omega (arith, length-map items placed_of))
+    IsBuilt-long_all keys c.requires.distinct list long c.loop-numbered.numbered-index (tree_of c.loop-numbered.tree) (omega (arith, length-map items placed_of))
     c.loop-numbered.invariant
