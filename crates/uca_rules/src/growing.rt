@@ -71,9 +71,13 @@ impl<A: Allocator + Copy> RulesBuilder<A> {
         ensures growing { OnOk result (AreGrowing self.new) }
         ensures fault { IfErr result (λ kind. (kind ≡ RuleFaultKind.Memory) ⊎ RelationCause self.old.relations.items relation kind) }
     {
-        self.admit(&relation)?;
-        self.relations.push(relation)?;
-        Ok(())
+        match self.admit(&relation) {
+            Ok(()) => {
+                self.relations.push(relation)?;
+                Ok(())
+            }
+            Err(kind) => Err(kind),
+        }
     }
 
     /// Tests one more relation, and keeps its texts. The relation itself is not added.

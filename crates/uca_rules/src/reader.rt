@@ -118,8 +118,10 @@ fn read_characters<A: Allocator + Copy, T: Allocator>(
     ensures fault { IfErr result (IsReadingFault (properties_of properties.now) end characters.now) }
 {
     let mut reader = Reader::new(alloc, global, properties, end);
-    reader.read_statements(characters)?;
-    Ok(reader.rules.finish())
+    match reader.read_statements(characters) {
+        Ok(()) => Ok(reader.rules.finish()),
+        Err(fault) => Err(fault),
+    }
 }
 
 /// The relations so far, and what comes before the next statement.
@@ -202,11 +204,15 @@ impl<'a, A: Allocator + Copy, T: Allocator> Reader<'a, A, T> {
         ensures fault { IfErr result (IsNextFault (properties_in self.old.texts) self.old.texts.end (state_of self.old) characters.now) }
     {
         let (asked, text) = behind_ampersand(characters)?;
-        let (anchor, rest) = self.texts.read_plain(text)?;
-        self.anchor = anchor;
-        self.before = asked.is_some();
-        self.last = Preceding::Reset(asked);
-        Ok(rest)
+        match self.texts.read_plain(text) {
+            Ok((anchor, rest)) => {
+                self.anchor = anchor;
+                self.before = asked.is_some();
+                self.last = Preceding::Reset(asked);
+                Ok(rest)
+            }
+            Err(fault) => Err(fault),
+        }
     }
 
     /// Reads a relation: a sign, a text, and perhaps `/` and a text; or a starred sign and a starred text.
@@ -247,8 +253,10 @@ impl<'a, A: Allocator + Copy, T: Allocator> Reader<'a, A, T> {
         let (expansion, rest) = self.texts.read_expansion(behind)?;
         let here = place_of(self.texts.end, rest);
         let place = place_of(self.texts.end, text);
-        self.add(strength, target, expansion, place, here)?;
-        Ok(rest)
+        match self.add(strength, target, expansion, place, here) {
+            Ok(()) => Ok(rest),
+            Err(fault) => Err(fault),
+        }
     }
 
     /// Adds a relation to the anchor; its target is the next anchor. An error of the relation is at `byte`, a failed

@@ -44,8 +44,10 @@ impl<'a, A: Allocator + Copy, T: Allocator> Reader<'a, A, T> {
         ensures fault { IfErr result (IsStarredFault (properties_in self.old.texts) self.old.texts.end (state_of self.old) strength text.now) }
     {
         let rest = read_text(symbols, text, true, self.texts.end)?;
-        self.add_targets(strength, symbols, place_of(self.texts.end, rest))?;
-        Ok(rest)
+        match self.add_targets(strength, symbols, place_of(self.texts.end, rest)) {
+            Ok(()) => Ok(rest),
+            Err(fault) => Err(fault),
+        }
     }
 
     /// Adds a relation for each target of a starred text.

@@ -97,8 +97,10 @@ impl<'a, A: Allocator + Copy, T: Allocator> TextReader<'a, A, T> {
         let Some(text) = behind_slash(characters) else {
             return Ok((None, characters));
         };
-        let (expansion, rest) = self.read_plain(text)?;
-        Ok((Some(expansion), rest))
+        match self.read_plain(text) {
+            Ok((expansion, rest)) => Ok((Some(expansion), rest)),
+            Err(fault) => Err(fault),
+        }
     }
 
     /// The text of one character, unless it has more than 16 code points in Normalization Form D.

@@ -5,13 +5,13 @@ use Rattle.uca_rules.specs.Relations.{AreRules, IsHeld}
 use Rattle.uca_rules.proofs.HeldTexts.{held_more, rules_more}
 use Rattle.uca_rules.proofs.growing.RulesBuilder.add.Goals as goal
 
-pub returns-clause-growing : goal.returns-clause-growing
-returns-clause-growing g c =
+pub returns-in_ok-push-in-Ok-clause-growing : goal.returns-in_ok-push-in-Ok-clause-growing
+returns-in_ok-push-in-Ok-clause-growing g c =
     let rs : List Relation = c.args.self.now.relations.items in
     let r : Relation = c.args.relation in
-    let admits : Admits r c.args.self.now c.admit.new.self = c.in_ok-admit.ensures.admitted in
+    let admits : Admits r c.args.self.now c.admit.new.self = c.in-Ok.ensures.admitted in
     let own = admits.own in
-    let is : c.push.new.self.items ≡ rs ++ r ∷ [] = c.in_ok-push.ensures.items ∙ ap (λ v. v.items ++ r ∷ []) own.same in
+    let is : c.push.new.self.items ≡ rs ++ r ∷ [] = c.in_ok-push-in-Ok.ensures.items ∙ ap (λ v. v.items ++ r ∷ []) own.same in
     let held : (text : List ℕ) → Contains (held_texts c.admit.new.self) text ↔ IsHeld (rs ++ r ∷ []) text =
     λ text. (
       (λ h. (held_more rs r text).1 (⊎_elim (λ before. inl ((c.requires.growing.are_held text).0 before)) (λ it. inr it) ((own.held text).0 h))),

@@ -25,9 +25,8 @@ returns-in_err-expansion-clause-fault g c =
     rw (p.1, p.2) (expansion_fault (properties_in old.texts) old.texts.end (state_of old) c.args.strength c.args.text.now c.in_ok-target.behind.now fault.0 target.0 c.in_err-expansion.field-0.0
     target.1 fault.1 (subst (λ (n : ℕ). IsTextFault n false fault.0 c.in_err-expansion.field-0.0) c.in_ok-target.ensures.kept.end fault.2))
 
-pub returns-in_err-add-clause-fault : goal.returns-in_err-add-clause-fault
-returns-in_err-add-clause-fault g c =
-    let p = err_from_is_err_and c.from_residual-in_err-add.result c.from_residual-in_err-add.ensures.1 in
+pub returns-in-Err-clause-fault : goal.returns-in-Err-clause-fault
+returns-in-Err-clause-fault g c =
     let old = c.args.self.now in
     let target = c.in_ok-target.ensures.found in
     let expansion = c.in_ok-expansion.ensures.found in
@@ -39,15 +38,15 @@ returns-in_err-add-clause-fault g c =
     let here : c.place_of-here.result ≡ place_of old.texts.end rest = c.place_of-here.ensures ∙ ap (λ (n : ℕ). place_of n rest) ends in
     let place : c.place_of-place.result ≡ target.0.place =
     c.place_of-place.ensures ∙ ap (λ (n : ℕ). place_of n c.args.text.now) ends ∙ written_place old.texts.end c.args.text.now target.0 c.in_ok-target.behind.now target.1 in
-    let fault : IsMemoryAt (place_of old.texts.end rest) c.in_err-add.field-0.0 ⊎ ((c.in_err-add.field-0.0.byte ≡ target.0.place) × RelationCause old.rules.relations.items (relation_of old c.args.strength c.in_ok-target.target c.in_ok-expansion.expansion) c.in_err-add.field-0.0.kind) =
-    subst (λ (n : ℕ). IsMemoryAt n c.in_err-add.field-0.0 ⊎ ((c.in_err-add.field-0.0.byte ≡ target.0.place) × RelationCause old.rules.relations.items (relation_of old c.args.strength c.in_ok-target.target c.in_ok-expansion.expansion) c.in_err-add.field-0.0.kind)) here
-    (subst (λ (n : ℕ). IsMemoryAt c.place_of-here.result c.in_err-add.field-0.0 ⊎ ((c.in_err-add.field-0.0.byte ≡ n) × RelationCause old.rules.relations.items (relation_of old c.args.strength c.in_ok-target.target c.in_ok-expansion.expansion) c.in_err-add.field-0.0.kind)) place
-    c.in_err-add.ensures.fault) in
-    rw (p.1, p.2) (relation_fault (properties_in old.texts) old.texts.end (state_of old) c.args.strength c.args.text.now c.in_ok-target.behind.now rest target.0 expansion.0
-    c.in_ok-target.target c.in_ok-expansion.expansion c.in_err-add.field-0.0 target.1 expansion.1 target.2 are fault)
+    let fault : IsMemoryAt (place_of old.texts.end rest) c.in-Err.fault ⊎ ((c.in-Err.fault.byte ≡ target.0.place) × RelationCause old.rules.relations.items (relation_of old c.args.strength c.in_ok-target.target c.in_ok-expansion.expansion) c.in-Err.fault.kind) =
+    subst (λ (n : ℕ). IsMemoryAt n c.in-Err.fault ⊎ ((c.in-Err.fault.byte ≡ target.0.place) × RelationCause old.rules.relations.items (relation_of old c.args.strength c.in_ok-target.target c.in_ok-expansion.expansion) c.in-Err.fault.kind)) here
+    (subst (λ (n : ℕ). IsMemoryAt c.place_of-here.result c.in-Err.fault ⊎ ((c.in-Err.fault.byte ≡ n) × RelationCause old.rules.relations.items (relation_of old c.args.strength c.in_ok-target.target c.in_ok-expansion.expansion) c.in-Err.fault.kind)) place
+    c.in-Err.ensures.fault) in
+    relation_fault (properties_in old.texts) old.texts.end (state_of old) c.args.strength c.args.text.now c.in_ok-target.behind.now rest target.0 expansion.0
+    c.in_ok-target.target c.in_ok-expansion.expansion c.in-Err.fault target.1 expansion.1 target.2 are fault
 
-pub returns-clause-found : goal.returns-clause-found
-returns-clause-found g c =
+pub returns-in-Ok-clause-found : goal.returns-in-Ok-clause-found
+returns-in-Ok-clause-found g c =
     let old = c.args.self.now in
     let target = c.in_ok-target.ensures.found in
     let expansion = c.in_ok-expansion.ensures.found in
@@ -57,4 +56,4 @@ returns-clause-found g c =
     plain_adds old _ c.add.new.self c.args.strength c.args.text.now c.in_ok-target.behind.now c.in_ok-expansion.rest.now target.0 expansion.0
     c.in_ok-target.target c.in_ok-expansion.expansion target.1 expansion.1 target.2 are
     (keeps_both old.texts c.read_plain.new.self c.read_expansion.new.self c.in_ok-target.ensures.kept c.in_ok-expansion.ensures.kept)
-    refl refl refl c.in_ok-add.ensures.added
+    refl refl refl c.in-Ok.ensures.added
