@@ -45,9 +45,9 @@ impl<A: Allocator + Copy> Trie<A> {
         ensures { IfOk result (λ trie. (key : List ℕ) →
             ⟦<Trie<A> as Lookup>⟧.content trie key ≡ rows_of table.now.rows key) }
     {
-        let rows = ElementLists::of_rows(alloc, &table.rows)?;
-        match row_map(alloc, &table.rows) {
-            Ok(keys) => Ok(Trie { keys, rows }),
+        let keys = row_map(alloc, &table.rows)?;
+        match ElementLists::of_rows(alloc, &table.rows) {
+            Ok(rows) => Ok(Trie { keys, rows }),
             Err(error) => Err(error),
         }
     }
