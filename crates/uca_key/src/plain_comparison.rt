@@ -71,6 +71,7 @@ impl<A: Allocator> PlainComparison<A> {
     }
 
     // How two texts compare by what follows the code points with which both begin.
+    #[inline]
     fn compare_after_shared<L: Lookup, T: Allocator>(
         &mut self,
         collator: &Collator<L, T>,

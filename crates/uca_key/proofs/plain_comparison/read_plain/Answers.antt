@@ -1,4 +1,4 @@
-use Rattle.std.proofs.Common.{◌≡◌, ◌++◌, refl, sym, subst, ◌∙◌}
+use Rattle.std.proofs.Common.{◌≡◌, ◌++◌, refl, rules, sym, subst, ◌∙◌}
 use Rattle.std.specs.Bool.{OnTrue}
 use Rattle.std.specs.Str.{chars}
 use Rattle.std.proofs.lemmas.Iterator.{YieldsList-from_chars}
@@ -9,6 +9,9 @@ use Rattle.uca_key.specs.Plain.{IsPlain, elements_alone}
 use Rattle.uca_key.specs.Shared.{HasElements}
 use Rattle.uca_key.proofs.SharedSteps.{plain_on, elements_on}
 use Rattle.uca_key.proofs.plain_comparison.read_plain.Goals as goal
+
+pub loop-point-init : goal.loop-point-init
+loop-point-init g c = record { entries = c.requires; plain = tt; elements = search rules }
 
 pub loop-point-preserved : goal.loop-point-preserved
 loop-point-preserved g c =

@@ -1,4 +1,4 @@
-use Rattle.std.proofs.Common.{ℕ, subst, ◌∙◌}
+use Rattle.std.proofs.Common.{ℕ, arith, length, ap, subst, ◌∙◌}
 use Rattle.std.specs.Str.{chars}
 use Rattle.uca_key.specs.Primaries.{IsHeaded}
 use Rattle.uca_key.proofs.PrimarySteps.{together_on}
@@ -14,3 +14,6 @@ returns-clause-together g c = λ collation xs ys entries together.
     c.in_ok-other.ensures.text one.0 two.0 (c.all_elements-elements.ensures.value ∙ one.1) (c.all_elements-others.ensures.value ∙ two.1)
     (subst (λ (w : ℕ). IsHeaded c.args.weighting w elements) c.if-weight-found.false c.in_ok-weight.ensures) c.in_ok-found.ensures
     c.saturating_add.ensures c.saturating_add-2.ensures
+
+pub returns-clause-shorter : goal.returns-clause-shorter
+returns-clause-shorter g c = omega (arith, ap length c.in_ok-known.ensures.text)

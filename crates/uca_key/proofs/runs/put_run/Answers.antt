@@ -19,9 +19,6 @@ loop-turn-init g c = record {
   reads = λ collation key xs entries begins. run_begins collation c.args.weighting xs c.args.text.now _ c.args.first.now begins;
 }
 
-pub all_elements-requires : goal.all_elements-requires
-all_elements-requires g c = c.loop-turn.invariant.few
-
 pub put_elements-counts-requires : goal.put_elements-counts-requires
 put_elements-counts-requires g c =
     less_room (3 * (65 - c.loop-turn._turn)) _ _ _ _ _ _ (omega (arith, c.all_elements.ensures.few)) c.loop-turn.invariant.room
@@ -51,9 +48,6 @@ returns-then-not-is_empty g c = record {
   room = less_room (3 * (65 - c.loop-turn._turn)) 0 _ _ _ _ _ (omega arith) c.loop-turn.invariant.room;
   reads = c.loop-turn.invariant.reads;
 }
-
-pub all_elements-requires-2 : goal.all_elements-requires-2
-all_elements-requires-2 g c = c.loop-turn.invariant.few
 
 pub put_elements-counts-requires-2 : goal.put_elements-counts-requires-2
 put_elements-counts-requires-2 g c =

@@ -24,12 +24,6 @@ returns g c = λ es h.
     (c.put_elements-self-inside.ensures.holds key es
     (subst (HoldsLevels c.args.weighting es) (sym c.self.view_is ∙ same) h))
 
-pub make_rooms-requires : goal.make_rooms-requires
-make_rooms-requires g c = c.self.invariant
-
-pub invariant_of-self : goal.invariant_of-self
-invariant_of-self g c = c.make_rooms.ensures.counts
-
 pub returns-in_err-make_rooms : goal.returns-in_err-make_rooms
 returns-in_err-make_rooms g c = λ es h. no_result c.from_residual.result _ c.from_residual.ensures.0
 

@@ -25,12 +25,6 @@ returns g c = λ collation xs entries reads.
     (c.put_run.ensures.reads collation key xs entries
     (subst (λ b. ReadsUpTo collation c.args.weighting xs b c.args.first.now) (sym c.self.view_is ∙ same) reads))
 
-pub make_rooms-requires : goal.make_rooms-requires
-make_rooms-requires g c = c.self.invariant
-
-pub invariant_of-self : goal.invariant_of-self
-invariant_of-self g c = c.make_rooms.ensures.counts
-
 pub returns-in_err-make_rooms : goal.returns-in_err-make_rooms
 returns-in_err-make_rooms g c = λ collation xs entries reads. no_result c.from_residual.result _ c.from_residual.ensures.0
 
