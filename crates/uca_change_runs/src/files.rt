@@ -10,7 +10,9 @@ use std::alloc::{Allocator, Global};
 use std::io::Read;
 use uca_certificates::Certificate;
 use uca_change_files::{ChangeList, read_changes};
-use uca_run_parts::{FileFault, Role, RunFault, read_certificate_file, read_data_file, read_table_file};
+use uca_run_parts::{
+    FileFault, Role, RunFault, read_certificate_file, read_data_file, read_table_file,
+};
 use uca_values::{Data, Table};
 use uca_weights::Source;
 

@@ -10,10 +10,10 @@ use std::alloc::Global;
 use std::io::{Read, Write};
 use uca_change_maker::FoundChanges;
 use uca_change_runs::{run_audit_changes, run_changes};
-use uca_rekey::run_rekey;
+use uca_named_files::Opens;
 use uca_named_files::keeping::{find_certificate_of_editions, keep_certificate};
 use uca_named_files::opening::{EditionNames, open_change_files, open_editions, open_one};
-use uca_named_files::Opens;
+use uca_rekey::run_rekey;
 use uca_run_parts::faults::{Role, RunFault};
 use uca_weights::{Depth, Sink, Source, Weighting};
 

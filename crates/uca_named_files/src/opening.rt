@@ -10,11 +10,7 @@ use uca_run_parts::faults::Role;
 use uca_weights::Source;
 
 /// The source of a file, or its role if it does not open.
-pub fn open_one<O: Opens>(
-    opener: &mut O,
-    role: Role,
-    name: &str,
-) -> Result<Source<O::File>, Role>
+pub fn open_one<O: Opens>(opener: &mut O, role: Role, name: &str) -> Result<Source<O::File>, Role>
     ensures { MatchResult result
         (λ source. AreOpened (file_system O.open_gives O.same_gives O.create_gives O.keep_gives O.remove_gives O.File.remaining O.Made.contents)
         opener.old opener.new (file_for role name.now ∷ []) (source ∷ []))

@@ -21,4 +21,3 @@ pub made_of_files : (asked : Option Weighting) (rows : Rows) (weighting : Weight
     → rows ≡ rows_of files.table.rows → weighting ≡ weighting_by asked files.table.header.setting
     → IsCollation asked (collation_in rows files) weighting files
 made_of_files asked rows weighting files same_rows same_weighting = (ap (λ r. collation_in r files) same_rows, same_weighting)
-

@@ -9,14 +9,14 @@ ghost use Rattle.uca_run_parts.specs.Files.{ended_by_file};
 ghost use Rattle.uca_run_parts.specs.Runs.{ended_before_output, ended_by_output};
 ghost use Rattle.uca_runs.specs.CompareRun.{comparison_line, RefusesWord, Compares, WritesComparison, comparing};
 
-use uca_run_parts::faults::RunFault;
 use crate::collations::read_collation;
-use uca_run_parts::output::write_text;
 use std::alloc::{Allocator, Global};
 use std::cmp::Ordering;
 use std::io::{Read, Write};
 use uca_key::{Compared, compare};
 use uca_match::{Collator, Lookup};
+use uca_run_parts::faults::RunFault;
+use uca_run_parts::output::write_text;
 use uca_text::{Normal, normal};
 use uca_values::Data;
 use uca_weights::{Depth, Sink, Source, Weighting};

@@ -8,11 +8,11 @@ ghost use Rattle.uca_run_parts.specs.Runs.{is_input_read, ended_by_output};
 ghost use Rattle.uca_run_parts.specs.EachLine.{ended_before_input};
 ghost use Rattle.uca_runs.specs.KeysRun.{PrintsKeyedLines, WritesKeyedLines};
 
-use uca_run_parts::faults::RunFault;
 use crate::keys::{KeyForm, print_lines, run_lines_in};
 use std::alloc::{Allocator, Global};
 use std::io::{Read, Write};
 use uca_match::{Collator, Lookup};
+use uca_run_parts::faults::RunFault;
 use uca_weights::{Depth, Sink, Source, Weighting};
 
 /// Prints each line of the input after its sort key and a tab, until the end of the input or its first line with an error.

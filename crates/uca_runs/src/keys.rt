@@ -20,17 +20,17 @@ ghost use Rattle.uca_run_parts.specs.Texts.{HasRead, HasTextCause, ReadsCleanLin
 ghost use Rattle.uca_runs.specs.KeyForms;
 ghost use Rattle.uca_runs.specs.KeyForms.{PrintsAs, depth_as, line_as, printed_as, settings_at};
 
-use uca_run_parts::faults::{InputKind, RunFault};
 use crate::collations::read_collation;
-use uca_run_parts::input::{InputLines, take_text};
 use crate::line_keys::write_line_key;
-use uca_run_parts::output::end_output;
 use crate::print::{KeyDigits, print_key, print_keyed_line};
 use std::alloc::{Allocator, Global};
 use std::io::{Read, Write};
 use uca_key::KeyWriter;
 use uca_lines::{LINE_LIMIT, OutputBuffer};
 use uca_match::{Collator, Lookup};
+use uca_run_parts::faults::{InputKind, RunFault};
+use uca_run_parts::input::{InputLines, take_text};
+use uca_run_parts::output::end_output;
 use uca_text::Normal;
 use uca_values::Data;
 use uca_weights::{Depth, Sink, Source, Weighting, WriteFault};

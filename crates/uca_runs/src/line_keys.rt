@@ -8,12 +8,12 @@ ghost use Rattle.uca_runs.specs.Keys.{line_key};
 ghost use Rattle.uca_runs.specs.KeyForms.{settings_at};
 ghost use Rattle.uca_run_parts.specs.Texts.{HasTextCause, is_read};
 
-use uca_run_parts::faults::InputKind;
-use uca_run_parts::input::{InputLines, kind_of_text};
 use std::alloc::Allocator;
 use uca_key::KeyWriter;
 use uca_lines::LINE_LIMIT;
 use uca_match::Lookup;
+use uca_run_parts::faults::InputKind;
+use uca_run_parts::input::{InputLines, kind_of_text};
 
 /// Writes the key of the line that was read, over the key that was there.
 ///

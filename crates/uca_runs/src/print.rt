@@ -6,9 +6,9 @@ ghost use Rattle.uca_lines.specs.Buffered.{HasRoom, WritesThrough};
 ghost use Rattle.uca_run_parts.specs.Print;
 ghost use Rattle.uca_run_parts.specs.Print.{byte_digits, printed_groups, spaced_groups, identical_level, printed_behind, print_line_at, keyed_line_of};
 
-use uca_run_parts::output::write_line;
 use std::io::Write;
 use uca_lines::OutputBuffer;
+use uca_run_parts::output::write_line;
 use uca_weights::{Depth, Sink, WriteFault};
 
 /// How many bytes of a key are printed at a time. It is even, so that each part begins where a group does.
