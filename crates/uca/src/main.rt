@@ -1,59 +1,16 @@
 //! The program `uca`: it passes its arguments, its files and its standard streams to `run_command`.
 #![tactic(auto)]
 
-mod made;
-
-use made::{Made, are_of_one_file};
 use std::alloc::{AllocError, Global};
 use std::fs::File;
-use std::io::{ErrorKind, Write};
+use std::io::Write;
 use std::os::fd::{AsFd, AsRawFd};
 use std::process::ExitCode;
 use std::{env, fs, io};
 use uca_cli::reporting::STREAM_FAILED;
-use uca_cli::{MakeFault, OpenFault, Opens, RunFault, report, run_command};
+use uca_cli::{RunFault, report, run_command};
+use uca_named_files::system::SystemFiles;
 use uca_weights::{Sink, Source};
-
-/// The files of the system.
-#[derive(Drop)]
-struct Files<'a> {
-    rt: &'a HostRuntime,
-}
-
-impl Opens for Files<'_> {
-    type File = File;
-
-    type Made = Made;
-
-    fn open(&mut self, name: &str) -> Result<File, OpenFault> {
-        fs::open(self.rt, name).map_err(|_| OpenFault)
-    }
-
-    fn is_same(&mut self, left: &str, right: &str) -> bool {
-        are_of_one_file(self.rt, left, right)
-    }
-
-    fn create(&mut self, name: &str) -> Result<Made, MakeFault> {
-        Made::new(self.rt, name).map_err(fault_of)
-    }
-
-    fn keep(&mut self, file: Made, _name: &str) -> Result<(), MakeFault> {
-        file.keep(self.rt).map_err(fault_of)
-    }
-
-    fn remove(&mut self, file: Made) {
-        file.remove(self.rt);
-    }
-}
-
-// The error of a file that cannot be made or kept.
-fn fault_of(error: io::Error) -> MakeFault {
-    if error.kind() == ErrorKind::OutOfMemory {
-        MakeFault::Memory
-    } else {
-        MakeFault::Write
-    }
-}
 
 fn main(rt: HostRuntime) -> ExitCode {
     match hold_standard_streams(&rt) {
@@ -82,7 +39,14 @@ fn run_given<O: Write, E: Write>(
     match words_of(rt.alloc(), given) {
         Ok(words) => {
             let mut input = Source::new(rt.stdin());
-            run_command(rt.alloc(), &mut Files { rt }, &words, &mut input, out, err)
+            run_command(
+                rt.alloc(),
+                &mut SystemFiles { rt },
+                &words,
+                &mut input,
+                out,
+                err,
+            )
         }
         Err(_) => report(rt.alloc(), &RunFault::Memory, out, err),
     }

@@ -172,7 +172,7 @@ pub extern "C" fn uca_compare_keys(
     ensures order { comparison.new.order ≡ order_number (lexicographic left.now right.now) }
     ensures level { comparison.new.level ≡ stored_level levels left.now right.now }
 {
-    let (order, level) = uca_key::compare_keys(left, right, levels);
+    let (order, level) = uca_comparison::compare_keys(left, right, levels);
     *comparison = Comparison {
         order: number_of_order(order),
         level: level.into(),

@@ -25,7 +25,7 @@ use Rattle.uca_run_parts.specs.CheckRun.{Checks}
 use Rattle.uca_runs.specs.CompareRun.{Compares, Comparing, comparing}
 use Rattle.uca_runs.specs.KeysRun.{PrintsKeys, PrintsKeyedLines}
 use Rattle.uca_run_parts.specs.AffectedRun.{PrintsAffected}
-use Rattle.uca_runs.specs.SortRun.{SortsLines}
+use Rattle.uca_sort_runs.specs.SortRun.{SortsLines}
 use Rattle.uca_change_runs.specs.ChangesRun.{FindsChanges}
 use Rattle.uca_change_runs.specs.AuditRun.{AuditsChanges}
 use Rattle.uca_change_runs.specs.AffectedRun.{PrintsAffectedByChanges}

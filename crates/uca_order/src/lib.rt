@@ -3,3 +3,7 @@
 #![tactic(auto)]
 
 pub mod laws;
+pub mod weighting;
+
+/// What is between two levels of a key (UTS #10, section 7.3): the weight 0, in two bytes.
+pub const SEPARATOR: [u8; 2] = [0, 0];

@@ -11,7 +11,7 @@ ghost use Rattle.uca_owned.specs.Causes.{IsAcceptedText, IsKeyCause, IsCompareCa
 use crate::OwnedCollator;
 use crate::faults::{CompareFault, KeyFault};
 use std::cmp::Ordering;
-use uca_key::compare;
+use uca_comparison::compare;
 use uca_match::Collator;
 use uca_text::{Normal, TextFault};
 use uca_values::Data;

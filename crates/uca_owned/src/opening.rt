@@ -9,7 +9,7 @@ ghost use Rattle.uca_owned.specs.Opening.{MeanFiles, Opens, IsOpenCause, IsOpenS
 use crate::OwnedCollator;
 use crate::faults::OpenFault;
 use std::alloc::{AllocError, Global};
-use uca_key::KeyBuffer;
+use uca_key_writer::KeyBuffer;
 use uca_match::Trie;
 use uca_table::{read_data, read_table};
 use uca_text::Normal;

@@ -2,7 +2,7 @@
 
 ghost use Rattle.std.specs.Prelude.{◌≡◌};
 
-use uca_key::KeyBuffer;
+use uca_key_writer::KeyBuffer;
 use uca_match::Trie;
 use uca_text::Normal;
 use uca_values::{Data, Header};

@@ -13,3 +13,4 @@ pub mod ReadFilesLemmas
 pub mod WholeRuns
 pub mod AffectedLines
 pub mod PointTexts
+pub mod PrintLemmas

@@ -10,6 +10,7 @@ pub mod faults;
 pub mod files;
 pub mod input;
 pub mod output;
+pub mod print;
 mod rule_file;
 pub mod tailor_files;
 

@@ -5,7 +5,7 @@ use Rattle.uca_weights.specs.declared.Depth.{Depth}
 use Rattle.uca_weights.specs.declared.Weighting.{Weighting}
 use Rattle.uca_run_parts.specs.declared.faults.RunFault.{RunFault}
 use Rattle.uca_run_parts.specs.declared.faults.RunFault.TheVariants.{File, Input, StoredKey, Write, Memory, Text, Tailor, Changes, CertificateWrite, Open, SameAs, Words}
-use Rattle.uca_runs.specs.Keys.{key_settings}
+use Rattle.uca_key_lines.specs.Keys.{key_settings}
 use Rattle.uca_run_parts.specs.Files.{TableAndData}
 use Rattle.uca_runs.specs.CompareRun.{WritesComparison, RunsCompare}
 

@@ -7,7 +7,7 @@ use Rattle.uca_run_parts.specs.declared.faults.RunFault.{RunFault}
 use Rattle.uca_run_parts.specs.declared.faults.RunFault.TheVariants.{Memory}
 use Rattle.uca_run_parts.specs.EachLine.{RunsEach, ended_before_input}
 use Rattle.uca_run_parts.specs.Files.{TableAndData}
-use Rattle.uca_runs.specs.Keys.{KeySettings, key_settings}
+use Rattle.uca_key_lines.specs.Keys.{KeySettings, key_settings}
 use Rattle.uca_runs.specs.KeysRun.{RunsUnder}
 
 -- a run that ended by its lines lacked no memory for rows

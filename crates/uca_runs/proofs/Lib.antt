@@ -1,16 +1,7 @@
-pub mod PrintLemmas
 pub mod KeyLines
-pub mod Writing
-pub mod KeyOrdering
 pub mod LineLaws
 pub mod NormalLines
 pub mod UntouchedLines
 pub mod OneOrder
-pub mod Prefixes
-pub mod KeyOrders
-pub mod Groups
-pub mod StoredLines
-pub mod GroupKeys
-pub mod KeySettings
 pub mod KeyRuns
 pub mod Comparing

@@ -3,7 +3,7 @@ use Rattle.std.proofs.Common.{◌≡◌, ℕ, List, map, chars, ap, subst}
 use Rattle.uca_text.specs.Texts.{nfd_text}
 use Rattle.uca_order.specs.Depths.{read_text, key_at}
 use Rattle.uca_order.specs.Laws.{KeysCompareAsTexts, IdenticalKeysAreOfEquivalentTexts}
-use Rattle.uca_runs.specs.Keys.{text_line}
+use Rattle.uca_key_lines.specs.Keys.{text_line}
 use Rattle.uca_runs.specs.Laws.{LineKeysCompareAsLines, CanonicallyEquivalentLinesHaveOneKeyLine, IdenticalLineKeysAreOfEquivalentLines}
 
 -- the keys of lines are those of their texts

@@ -17,7 +17,7 @@ use Rattle.uca_run_parts.specs.declared.faults.RunFault.{RunFault}
 use Rattle.uca_run_parts.specs.declared.faults.RunFault.TheVariants.{Write, Memory, Text}
 use Rattle.uca_run_parts.specs.Files.{TableAndData, Over, HaveFailed, table_and_data, table_and_data_roles}
 use Rattle.uca_run_parts.specs.Runs.{ended_before_output, ended_by_output}
-use Rattle.uca_runs.specs.Keys.{KeySettings, key_settings}
+use Rattle.uca_key_lines.specs.Keys.{KeySettings, key_settings}
 use Rattle.uca_runs.specs.Laws.{lines_compared}
 
 -- `<`, `=` or `>`

@@ -8,13 +8,13 @@ use Rattle.uca_weights.specs.declared.Depth.TheVariants.{Weights, Identical}
 use Rattle.uca_text.specs.Texts.{NfdText, nfd_text}
 use Rattle.uca_match.specs.Rows.{Rows}
 use Rattle.uca_order.specs.Depths.{read_text, key_at}
-use Rattle.uca_key.specs.Writers.{WriterState, collation_by}
+use Rattle.uca_key_writer.specs.Writers.{WriterState, collation_by}
 use Rattle.uca_run_parts.specs.declared.faults.RunFault.{RunFault}
 use Rattle.uca_runs.specs.declared.keys.KeyForm.{KeyForm}
 use Rattle.uca_runs.specs.declared.keys.KeyForm.TheVariants.{Alone, BeforeLine}
 use Rattle.uca_run_parts.specs.EachLine.{PrintsEach}
 use Rattle.uca_run_parts.specs.Files.{table_and_data, table_and_data_roles}
-use Rattle.uca_runs.specs.Keys.{KeySettings}
+use Rattle.uca_key_lines.specs.Keys.{KeySettings}
 use Rattle.uca_runs.specs.KeysRun.{RunsUnder}
 use Rattle.uca_run_parts.specs.Print.{print_line_at, keyed_line_of}
 
@@ -41,10 +41,6 @@ text_as form c text line = printed_as form c.depth (key_at (depth_as form c.dept
 -- that of a line of the input, which is UTF-8
 abbrev pub line_as : KeyForm → KeySettings → List ℕ → List ℕ
 line_as form c line = text_as form c (nfd_text c.collation.properties (chars line)) line
-
--- what the keys of a writer go by, and this depth
-abbrev pub settings_at : {L : Type 0} → (L → Rows) → WriterState L → Depth → KeySettings
-settings_at content writer depth = record { collation = collation_by content writer; weighting = writer.weighting; depth = depth }
 
 -- a run that writes such a line for each line of its input
 abbrev pub PrintsAs : {A : Type 0} → KeyForm → Option Weighting → Depth → List SourceState → List SourceState → SourceState → SourceState

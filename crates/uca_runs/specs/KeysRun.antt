@@ -7,7 +7,7 @@ use Rattle.uca_run_parts.specs.declared.faults.RunFault.{RunFault}
 use Rattle.uca_run_parts.specs.declared.faults.RunFault.TheVariants.{Memory}
 use Rattle.uca_run_parts.specs.EachLine.{WritesEach, RunsEach, PrintsEach}
 use Rattle.uca_run_parts.specs.Files.{TableAndData, table_and_data, table_and_data_roles}
-use Rattle.uca_runs.specs.Keys.{KeySettings, key_settings, printed_key, keyed_line}
+use Rattle.uca_key_lines.specs.Keys.{KeySettings, key_settings, printed_key, keyed_line}
 
 -- What is written of an input: the key of each line before the first one with an error, or these keys with their lines. The
 -- source has something left, and the writer held `begun` and holds `now`.

@@ -10,8 +10,7 @@ use Rattle.uca_order.specs.Depths.{read_text, compared_at}
 use Rattle.uca_tailorings.specs.Images.{KeepAllWeights}
 use Rattle.uca_tailorings.specs.Tailorings.{Tailoring, IsTailoring, IsAccepted}
 use Rattle.uca_run_parts.specs.Input.{cause_of}
-use Rattle.uca_runs.specs.Keys.{KeySettings, key_settings, line_key, printed_key}
-use Rattle.uca_runs.specs.SortRun.{IsInKeyOrder}
+use Rattle.uca_key_lines.specs.Keys.{KeySettings, key_settings, line_key, printed_key, IsInKeyOrder}
 
 -- how two texts in Normalization Form D compare: level by level, by their weights, and at the depth `Identical` by their code points
 abbrev pub texts_compared : KeySettings → NfdText → NfdText → Comparison

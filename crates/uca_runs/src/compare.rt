@@ -4,16 +4,16 @@ ghost use Rattle.std.specs.Prelude.{◌≡◌, ◌∷◌, [], ◌≤◌, ◌||�
 ghost use Rattle.uca_values.specs.Content.{properties_of};
 ghost use Rattle.uca_text.specs.Texts.{nfd_text};
 ghost use Rattle.uca_text.specs.Limits.{IsAccepted};
-ghost use Rattle.uca_runs.specs.Keys.{key_settings_of};
+ghost use Rattle.uca_key_lines.specs.Keys.{key_settings_of};
 ghost use Rattle.uca_run_parts.specs.Files.{ended_by_file};
 ghost use Rattle.uca_run_parts.specs.Runs.{ended_before_output, ended_by_output};
 ghost use Rattle.uca_runs.specs.CompareRun.{comparison_line, RefusesWord, Compares, WritesComparison, comparing};
 
-use crate::collations::read_collation;
 use std::alloc::{Allocator, Global};
 use std::cmp::Ordering;
 use std::io::{Read, Write};
-use uca_key::{Compared, compare};
+use uca_comparison::{Compared, compare};
+use uca_key_lines::collations::read_collation;
 use uca_match::{Collator, Lookup};
 use uca_run_parts::faults::RunFault;
 use uca_run_parts::output::write_text;

@@ -3,7 +3,7 @@
 ghost use Rattle.std.specs.Prelude.{◌≡◌, ◌∷◌, [], ◌||◌, false, IfSome};
 ghost use Rattle.uca_match.specs.Collations.{collation_of};
 ghost use Rattle.uca_order.specs.Lengths.{HasShortRows};
-ghost use Rattle.uca_runs.specs.Keys.{key_settings_of};
+ghost use Rattle.uca_key_lines.specs.Keys.{key_settings_of};
 ghost use Rattle.uca_run_parts.specs.Runs.{is_input_read, ended_by_output};
 ghost use Rattle.uca_run_parts.specs.EachLine.{ended_before_input};
 ghost use Rattle.uca_runs.specs.KeysRun.{PrintsKeyedLines, WritesKeyedLines};

@@ -1,17 +1,10 @@
-//! The runs that make keys or compare texts: keys of lines, sorting, and comparing two texts. `uca_run_parts` has what they share
-//! with the others: errors, and the files and lines that are read.
+//! The runs that print keys or compare two texts, and laws of the keys of lines. `uca_sort_runs` has the run that sorts.
 #![tactic(auto)]
 
-mod collations;
 pub mod compare;
-mod kept_lines;
-mod key_groups;
 pub mod keyed_lines;
 pub mod keys;
 pub mod laws;
-mod line_keys;
-pub mod print;
-pub mod sort;
 
 pub use compare::{compare_words, run_compare, run_compare_in};
 pub use keyed_lines::{print_keyed_lines, run_keyed_lines, run_keyed_lines_in};
@@ -21,4 +14,3 @@ pub use laws::{
     identical_line_keys_are_of_equivalent_lines, key_order_is_one, line_keys_compare_as_lines,
     untouched_lines_keep_their_order,
 };
-pub use sort::{run_sort, run_sort_in, sort_lines};

@@ -19,7 +19,7 @@ use Rattle.uca_run_parts.specs.Print.{keyed_line_of}
 use Rattle.uca_rekey.specs.Laws.{AreBytes, LinesMove}
 use Rattle.uca_rekey.specs.RekeyedLines.{rekeyed}
 use Rattle.uca_rekey.proofs.MovedLines.{lines_move}
-use Rattle.uca_runs.specs.Keys.{collation, keyed_line, printed_key}
+use Rattle.uca_key_lines.specs.Keys.{collation, keyed_line, printed_key}
 use Rattle.uca_runs.proofs.NormalLines.{normal_line}
 use Rattle.uca_upgrades.specs.Upgrades.{Upgrade, AreUnaffectedLines, IsRekeyed, IsStoredLineKey, IsUnaffectedLine, KeepsOrder, new_key, new_settings, old_key, old_settings}
 use Rattle.uca_upgrades.proofs.KeyBytes.{text_key_is_bytes}

@@ -7,12 +7,12 @@ use Rattle.uca_match.specs.NumberedKeys.{rows_at}
 use Rattle.uca_match.specs.Collations.{collation_of}
 use Rattle.uca_run_parts.specs.declared.faults.RunFault.TheVariants.{Memory}
 use Rattle.uca_run_parts.specs.Files.{table_and_data, table_and_data_roles, table_with}
-use Rattle.uca_runs.specs.Keys.{IsCollation, collation_in}
+use Rattle.uca_key_lines.specs.Keys.{IsCollation, collation_in}
 use Rattle.uca_runs.specs.CompareRun.{RunsCompare, WritesComparison}
 use Rattle.uca_runs.proofs.Comparing.{run_compares}
 use Rattle.uca_run_parts.proofs.FilesLemmas.{failed_by_files, failed_by_no_file, over_weaker, runs_over_all, same_fault}
 use Rattle.uca_run_parts.proofs.Running.{as_before, no_write_before}
-use Rattle.uca_runs.proofs.KeySettings.{same_keying}
+use Rattle.uca_key_lines.proofs.KeySettings.{same_keying}
 use Rattle.uca_runs.proofs.compare.run_compare_in.Goals as goal
 
 pub returns-in_err-read : goal.returns-in_err-read

@@ -1,7 +1,7 @@
 -- What is made of a line is what the output has of it.
 use Rattle.std.proofs.Common.{◌≡◌, true, None, subst, sym, chars}
 use Rattle.uca_text.specs.Texts.{nfd_text}
-use Rattle.uca_key.specs.Writers.{collation_by}
+use Rattle.uca_key_writer.specs.Writers.{collation_by}
 use Rattle.uca_run_parts.specs.Input.{cause_of}
 use Rattle.uca_runs.specs.KeyForms.{shows_points}
 use Rattle.uca_run_parts.specs.Texts.{HasTextCause}

@@ -3,11 +3,11 @@ use Rattle.std.proofs.Common.{◌≡◌, ◌||◌, [], length, arith, ap, ap₂,
 use Rattle.uca_match.specs.Collations.{Collation}
 use Rattle.uca_order.specs.Lengths.{HasShortRows}
 use Rattle.uca_values.specs.Content.{properties_of}
-use Rattle.uca_runs.specs.Keys.{key_settings_of}
-use Rattle.uca_runs.specs.KeyForms.{line_as, settings_at}
+use Rattle.uca_key_lines.specs.Keys.{key_settings_of, settings_at}
+use Rattle.uca_runs.specs.KeyForms.{line_as}
 use Rattle.uca_run_parts.specs.EachLineSoFar.{WritesRest}
 use Rattle.uca_run_parts.proofs.Finishing.{started, of_lines}
-use Rattle.uca_runs.proofs.KeySettings.{key_settings_by}
+use Rattle.uca_key_lines.proofs.KeySettings.{key_settings_by}
 use Rattle.uca_runs.proofs.keys.print_lines.Goals as goal
 
 pub print_rest-end-requires : goal.print_rest-end-requires

@@ -10,10 +10,9 @@ use Rattle.uca_run_parts.specs.declared.faults.RunFault.TheVariants.{Memory}
 use Rattle.uca_run_parts.specs.EachLine.{RunsEach}
 use Rattle.uca_run_parts.specs.Files.{table_and_data, table_and_data_roles, table_with}
 use Rattle.uca_runs.specs.KeyForms.{line_as}
-use Rattle.uca_runs.specs.Keys.{KeySettings}
+use Rattle.uca_key_lines.specs.Keys.{KeySettings, IsCollation, collation_in}
 use Rattle.uca_runs.specs.KeysRun.{RunsUnder}
-use Rattle.uca_runs.specs.Keys.{IsCollation, collation_in}
-use Rattle.uca_runs.proofs.KeySettings.{same_keying}
+use Rattle.uca_key_lines.proofs.KeySettings.{same_keying}
 use Rattle.uca_run_parts.proofs.WholeRuns.{ended_before, ended_by_lines}
 use Rattle.uca_runs.proofs.KeyRuns.{runs_under}
 use Rattle.uca_runs.proofs.keys.run_lines_in.Goals as goal

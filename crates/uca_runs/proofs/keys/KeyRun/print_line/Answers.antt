@@ -2,7 +2,7 @@
 use Rattle.std.proofs.Common.{◌≡◌, ◌+◌, ◌-◌, ◌<◌, ◌≤◌, length, arith, subst}
 use Rattle.uca_lines.specs.Buffered.{count_of}
 use Rattle.uca_runs.specs.KeyForms.{printed_as}
-use Rattle.uca_runs.proofs.PrintLemmas.{printed_is_short}
+use Rattle.uca_runs.proofs.KeyLines.{printed_is_short}
 use Rattle.uca_run_parts.proofs.Printing.{small_enough, still_small}
 use Rattle.uca_runs.proofs.keys.KeyRun.print_line.Goals as goal
 

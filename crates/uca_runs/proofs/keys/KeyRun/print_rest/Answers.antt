@@ -6,12 +6,13 @@ use Rattle.std.specs.List.{flat_map}
 use Rattle.std.proofs.lemmas.Result.{err_from_is_err_and}
 use Rattle.uca_values.specs.Content.{properties_of}
 use Rattle.uca_lines.specs.OutputBuffer.{IsBuffered}
-use Rattle.uca_key.specs.Writers.{collation_by}
+use Rattle.uca_key_writer.specs.Writers.{collation_by}
 use Rattle.uca_run_parts.specs.Texts.{LinesState}
-use Rattle.uca_runs.specs.KeyForms.{line_as, settings_at}
+use Rattle.uca_key_lines.specs.Keys.{settings_at}
+use Rattle.uca_runs.specs.KeyForms.{line_as}
 use Rattle.uca_run_parts.proofs.Printing.{line_written, not_written, no_write}
 use Rattle.uca_run_parts.proofs.Running.{as_before}
-use Rattle.uca_runs.proofs.KeySettings.{key_settings_by}
+use Rattle.uca_key_lines.proofs.KeySettings.{key_settings_by}
 use Rattle.uca_runs.proofs.keys.KeyRun.print_rest.Goals as goal
 
 pub loop-self-preserved : goal.loop-self-preserved

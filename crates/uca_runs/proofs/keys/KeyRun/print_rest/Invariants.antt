@@ -1,8 +1,9 @@
 -- What the output has of the lines so far was written, and neither reader nor writer has failed since.
 use Rattle.std.proofs.Common.{◌≡◌, ℕ, ◌+◌, ◌-◌, ◌*◌, ◌^◌, ◌≤◌, List, Option, length}
 use Rattle.uca_values.specs.Content.{properties_of}
-use Rattle.uca_key.specs.Writers.{collation_by}
-use Rattle.uca_runs.specs.KeyForms.{line_as, settings_at}
+use Rattle.uca_key_writer.specs.Writers.{collation_by}
+use Rattle.uca_key_lines.specs.Keys.{settings_at}
+use Rattle.uca_runs.specs.KeyForms.{line_as}
 use Rattle.uca_run_parts.specs.EachLineSoFar.{HasWritten}
 use Rattle.uca_runs.proofs.keys.KeyRun.print_rest.Given as goal
 

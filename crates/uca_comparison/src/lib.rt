@@ -1,0 +1,11 @@
+//! Comparison of two texts by one walk over their collation elements (UTS #10, section 1.1), and of two stored keys.
+#![tactic(auto)]
+
+pub mod comparison;
+pub mod element_stream;
+pub mod front;
+pub mod stored;
+pub mod walk;
+
+pub use comparison::{Compared, compare};
+pub use stored::{compare_keys, level_count};

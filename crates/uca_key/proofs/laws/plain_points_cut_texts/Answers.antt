@@ -1,5 +1,0 @@
-use Rattle.uca_key.proofs.PlainTexts.{read_before}
-use Rattle.uca_key.proofs.laws.plain_points_cut_texts.Goals as goal
-
-pub returns : goal.returns
-returns c = read_before

@@ -1,6 +1,0 @@
-use Rattle.uca_match.specs.Collations.{collation_of}
-use Rattle.uca_key.specs.PlainPoints.{AreTrueEntries}
-use Rattle.uca_key.proofs.pieces.are_leaves.Given as goal
-
-abbrev pub invariant-loop-point : goal.invariant-loop-point
-invariant-loop-point g l = AreTrueEntries (collation_of g.L.Lookup.content l.collator) l.points.entries.items

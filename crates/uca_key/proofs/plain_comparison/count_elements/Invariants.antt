@@ -1,8 +1,0 @@
-use Rattle.uca_match.specs.Collations.{Collation}
-use Rattle.uca_key.specs.PlainPoints.{AreTrueEntries}
-use Rattle.uca_key.specs.Shared.{HasCount}
-use Rattle.uca_key.proofs.plain_comparison.count_elements.Given as goal
-
--- the code points so far are plain, and their elements are counted
-abbrev pub invariant-loop-point : goal.invariant-loop-point
-invariant-loop-point g l = (c : Collation) → AreTrueEntries c l.points.entries.items → HasCount c l.yielded l.count

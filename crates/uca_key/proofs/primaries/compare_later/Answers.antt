@@ -1,4 +1,0 @@
-use Rattle.uca_key.proofs.primaries.compare_later.Goals as goal
-
-pub returns : goal.returns
-returns g c = λ collation xs ys entries together. c.compare_first.ensures collation xs ys entries (c.skip_equal-pair.ensures collation xs ys entries together)

@@ -1,0 +1,23 @@
+-- What keys go by under a table and a data file.
+use Rattle.std.proofs.Common.{◌≡◌, Option, ap, ◌∙◌}
+use Rattle.uca_weights.specs.declared.Depth.{Depth}
+use Rattle.uca_weights.specs.declared.Weighting.{Weighting}
+use Rattle.uca_match.specs.Rows.{Rows, rows_of}
+use Rattle.uca_match.specs.Collations.{Collation}
+use Rattle.uca_run_parts.specs.Files.{TableAndData}
+use Rattle.uca_key_lines.specs.Keys.{KeySettings, IsCollation, collation, collation_in, key_settings, weighting_by}
+
+abbrev pub key_settings_by : Collation → Weighting → Depth → KeySettings
+key_settings_by made weighting depth = record { collation = made; weighting = weighting; depth = depth }
+
+-- a collator of what was read, and the weighting that was chosen
+pub same_keying : (asked : Option Weighting) (depth : Depth) (made read : Collation) (weighting : Weighting) (files : TableAndData)
+    → made ≡ read → IsCollation asked read weighting files → key_settings_by made weighting depth ≡ key_settings asked depth files.table files.properties
+same_keying asked depth made read weighting files same is =
+    ap (λ m. key_settings_by m weighting depth) (same ∙ is.0) ∙ ap (λ w. key_settings_by (collation files.table files.properties) w depth) is.1
+
+-- what is made of files goes by them
+pub made_of_files : (asked : Option Weighting) (rows : Rows) (weighting : Weighting) (files : TableAndData)
+    → rows ≡ rows_of files.table.rows → weighting ≡ weighting_by asked files.table.header.setting
+    → IsCollation asked (collation_in rows files) weighting files
+made_of_files asked rows weighting files same_rows same_weighting = (ap (λ r. collation_in r files) same_rows, same_weighting)

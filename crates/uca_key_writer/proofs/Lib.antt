@@ -1,0 +1,6 @@
+pub mod BufferLemmas
+pub mod LeafSteps
+pub mod PieceSteps
+pub mod BeginningSteps
+pub mod WriterSteps
+pub mod RunSteps

@@ -1,0 +1,5 @@
+use Rattle.uca_match.specs.Collations.{collation_of}
+use Rattle.uca_key_writer.proofs.key_writer.KeyWriter.new.Goals as goal
+
+pub invariant_of-result : goal.invariant_of-result
+invariant_of-result g c = c.new-2.ensures (collation_of g.L.Lookup.content c.args.collator)

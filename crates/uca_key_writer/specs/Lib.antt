@@ -1,0 +1,7 @@
+pub mod Buffers
+pub mod Writers
+pub mod Pieces
+pub mod Readings
+pub mod Runs
+pub mod LevelBuffers
+pub mod Beginnings

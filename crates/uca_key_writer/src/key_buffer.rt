@@ -1,0 +1,265 @@
+//! `KeyBuffer`: memory that is used for one key after another.
+
+ghost use Rattle.std.specs.Prelude.{◌≡◌, ℕ, [], ◌∷◌, ◌++◌, ◌<◌, ◌≤◌, ◌^◌, List, length, take, chars, OnOk, IfOk};
+ghost use Rattle.std.specs.Bool.{OnTrue};
+ghost use Rattle.uca_text.specs.Texts.{nfd_text};
+ghost use Rattle.uca_text.specs.Limits.{IsAccepted};
+ghost use Rattle.uca_match.specs.Collations.{collation_of};
+ghost use Rattle.uca_order.specs.Depths.{read_text, key_at};
+ghost use Rattle.uca_order.specs.Lengths.{HasShortRows};
+ghost use Rattle.uca_key_writer.specs.LevelBuffers.{HoldsLevels};
+ghost use Rattle.uca_key_writer.specs.Pieces.{ReadsTo, HasRead};
+ghost use Rattle.uca_plain.specs.PlainPoints.{IsTrueEntry, AreTrueEntries};
+ghost use Rattle.uca_key_writer.specs.Readings.{ReadsOn};
+
+use crate::beginnings::{has_short_runs, push_beginning};
+use crate::level_buffers::LevelBuffers;
+use crate::pieces::Piece;
+use std::alloc::{AllocError, Allocator, Global};
+use std::marker::Model;
+use uca_match::{Collator, Lookup};
+use uca_plain::plain::{Known, PlainPoints, SHORT_TEXT};
+use uca_plain::points::split_first;
+use uca_text::Normal;
+use uca_weights::{Depth, Weighting};
+
+// How the reading of a text goes on.
+#[derive(Drop)]
+enum Reading<'t> {
+    // with what is left of the text
+    GoesOn(&'t str),
+    // Not at all. Either all weights are added, or a piece was rejected: `false`.
+    Ended(bool),
+}
+
+/// Memory for sort keys (UTS #10, section 7.3) under one weighting and at one depth. Each key that is written replaces
+/// the one before, and the memory is used again.
+#[derive(Drop)]
+pub struct KeyBuffer<A: Allocator = Global> {
+    weighting: Weighting,
+    depth: Depth,
+    levels: LevelBuffers<A>,
+}
+
+impl<A: Allocator> Model for KeyBuffer<A> {
+    ghost use Rattle.uca_key_writer.specs.Buffers.{KeyState};
+
+    ghost Value = { KeyState };
+
+    ghost view = { λ b. record { weighting = b.weighting; depth = b.depth; key = b.levels.key } };
+}
+
+impl<A: Allocator + Copy> KeyBuffer<A> {
+    /// A buffer for keys under the weighting and at the depth, which takes no memory yet.
+    pub fn new(alloc: A, weighting: Weighting, depth: Depth) -> KeyBuffer<A>
+        ensures weighting { result.weighting ≡ weighting }
+        ensures depth { result.depth ≡ depth }
+        ensures empty { result.key ≡ [] }
+    {
+        KeyBuffer {
+            weighting,
+            depth,
+            levels: LevelBuffers::new(alloc),
+        }
+    }
+}
+
+impl<A: Allocator> KeyBuffer<A> {
+    /// Writes the key of a text, over the key that was there.
+    ///
+    /// # Errors
+    ///
+    /// An allocation failed. The bytes are then unspecified until the next successful write.
+    pub fn write_text<L: Lookup, B: Allocator>(
+        &mut self,
+        collator: &Collator<L, B>,
+        text: &Normal,
+    ) -> Result<(), AllocError>
+        ensures key { OnOk result (self.new.key ≡ key_at self.old.depth self.old.weighting
+            (read_text (collation_of L.content collator.now) text.now)) }
+        ensures short { HasShortRows (collation_of L.content collator.now).rows →
+            OnOk result (length self.new.key < 2 ^ 40) }
+        ensures weighting { self.new.weighting ≡ self.old.weighting }
+        ensures depth { self.new.depth ≡ self.old.depth }
+    {
+        // The text keeps the limits of `Normal`, so its key is short.
+        let points = text.chars();
+        self.levels.write(self.weighting, collator.elements(text))?;
+        match self.depth {
+            Depth::Weights => Ok(()),
+            Depth::Identical => self.levels.push_points(points),
+        }
+    }
+
+    /// Writes the key of a text piece by piece, over the key that was there, and returns `true`. If a piece is rejected, the
+    /// text has more than 524,288 bytes or the depth is `Identical`, it returns `false`, and the bytes are unspecified.
+    ///
+    /// # Errors
+    ///
+    /// An allocation failed. The bytes are then unspecified until the next successful write.
+    pub(crate) fn write_pieces<L: Lookup, T: Allocator>(
+        &mut self,
+        collator: &Collator<L, T>,
+        points: &mut PlainPoints<A>,
+        piece: &mut Piece,
+        text: &str,
+    ) -> Result<bool, AllocError>
+        requires { AreTrueEntries (collation_of L.content collator.now) points.old.entries.items }
+        ensures entries { AreTrueEntries (collation_of L.content collator.now) points.new.entries.items }
+        ensures key { let c = collation_of L.content collator.now in
+            IfOk result (λ accepted. OnTrue accepted (self.new.key ≡ key_at self.old.depth self.old.weighting
+            (read_text c (nfd_text c.properties (chars text.now))))) }
+        ensures accepted { let c = collation_of L.content collator.now in
+            IfOk result (λ accepted. OnTrue accepted (IsAccepted (nfd_text c.properties (chars text.now)))) }
+        ensures short { HasShortRows (collation_of L.content collator.now).rows →
+            IfOk result (λ accepted. OnTrue accepted (length self.new.key < 2 ^ 40)) }
+        ensures weighting { self.new.weighting ≡ self.old.weighting }
+        ensures depth { self.new.depth ≡ self.old.depth }
+    {
+        if text.len() > SHORT_TEXT {
+            return Ok(false);
+        }
+        match self.depth {
+            Depth::Identical => Ok(false),
+            Depth::Weights => {
+                self.levels.clear();
+                let accepted = push_pieces(
+                    &mut self.levels,
+                    self.weighting,
+                    collator,
+                    points,
+                    piece,
+                    text,
+                )?;
+                self.levels.join(self.weighting)?;
+                Ok(accepted)
+            }
+        }
+    }
+
+    /// Writes at least the first sixteen bytes of the key of a text, over the key that was there, and returns `true`. A shorter
+    /// key is written whole. If the text is not judged by its pieces, it returns `false`, and the bytes are unspecified.
+    ///
+    /// # Errors
+    ///
+    /// An allocation failed. The bytes are then unspecified until the next successful write.
+    pub(crate) fn write_beginning<L: Lookup, T: Allocator>(
+        &mut self,
+        collator: &Collator<L, T>,
+        points: &mut PlainPoints<A>,
+        piece: &mut Piece,
+        text: &str,
+    ) -> Result<bool, AllocError>
+        requires { AreTrueEntries (collation_of L.content collator.now) points.old.entries.items }
+        ensures entries { AreTrueEntries (collation_of L.content collator.now) points.new.entries.items }
+        ensures beginning { let c = collation_of L.content collator.now in
+            IfOk result (λ accepted. OnTrue accepted (take 16 self.new.key ≡ take 16 (key_at self.old.depth self.old.weighting
+            (read_text c (nfd_text c.properties (chars text.now)))))) }
+        ensures accepted { let c = collation_of L.content collator.now in
+            IfOk result (λ accepted. OnTrue accepted (IsAccepted (nfd_text c.properties (chars text.now)))) }
+        ensures weighting { self.new.weighting ≡ self.old.weighting }
+        ensures depth { self.new.depth ≡ self.old.depth }
+    {
+        if text.len() > SHORT_TEXT {
+            return Ok(false);
+        }
+        self.levels.clear();
+        if !push_beginning(
+            &mut self.levels,
+            self.weighting,
+            collator,
+            points,
+            piece,
+            text,
+        )? {
+            return Ok(false);
+        }
+        if self.levels.has_beginning() {
+            self.levels.join_beginning()?;
+            return has_short_runs(collator, points, text);
+        }
+        match self.depth {
+            Depth::Identical => Ok(false),
+            Depth::Weights => {
+                self.levels.join(self.weighting)?;
+                Ok(true)
+            }
+        }
+    }
+
+    /// The key that was written last: the weights of each level, two bytes each with the high byte first,
+    /// and two bytes 0 between two levels. At the depth `Identical` two bytes 0 more follow, and each code point
+    /// of the text in Normalization Form D as three bytes, the high byte first.
+    pub fn bytes(&self) -> &[u8]
+        ensures { result.now ≡ self.now.key }
+    {
+        self.levels.key()
+    }
+
+    /// The same key, for the caller to keep.
+    pub fn into_bytes(self) -> Vec<u8, A>
+        ensures { result.items ≡ self.key }
+    {
+        let KeyBuffer { levels, .. } = self;
+        levels.into_key()
+    }
+}
+
+// Adds the weights of a text to empty levels, piece by piece, and returns whether each piece is accepted.
+fn push_pieces<L: Lookup, T: Allocator, A: Allocator>(
+    levels: &mut LevelBuffers<A>,
+    weighting: Weighting,
+    collator: &Collator<L, T>,
+    points: &mut PlainPoints<A>,
+    piece: &mut Piece,
+    text: &str,
+) -> Result<bool, AllocError>
+    requires empty { HoldsLevels weighting [] levels.old }
+    requires entries { AreTrueEntries (collation_of L.content collator.now) points.old.entries.items }
+    ensures entries { AreTrueEntries (collation_of L.content collator.now) points.new.entries.items }
+    ensures read { let c = collation_of L.content collator.now in
+        IfOk result (λ accepted. OnTrue accepted (HasRead c weighting (chars text.now) levels.new)) }
+{
+    piece.clear();
+    let mut rest = text;
+    while let Some((point, more)) = split_first(rest) {
+        let known = points.get(collator, point)?;
+        if known.is_bound() {
+            rest = piece.go_on_bound(points, point, known.is_leaf(), more)?;
+            continue;
+        }
+        match push_plain(levels, weighting, collator, points, piece, known, more)? {
+            Reading::GoesOn(after) => rest = after,
+            Reading::Ended(accepted) => return Ok(accepted),
+        }
+    }
+    piece.end(levels, weighting, collator, points)
+}
+
+// Ends the piece before a plain code point, and goes on by it and by the plain code points that come next in the text.
+#[inline(always)]
+fn push_plain<'t, L: Lookup, T: Allocator, A: Allocator>(
+    levels: &mut LevelBuffers<A>,
+    weighting: Weighting,
+    collator: &Collator<L, T>,
+    points: &mut PlainPoints<A>,
+    piece: &mut Piece,
+    known: Known,
+    text: &'t str,
+) -> Result<Reading<'t>, AllocError>
+    requires few { known.count ≤ 3 }
+    requires entry { IsTrueEntry (collation_of L.content collator.now) known }
+    requires entries { AreTrueEntries (collation_of L.content collator.now) points.old.entries.items }
+    ensures entries { AreTrueEntries (collation_of L.content collator.now) points.new.entries.items }
+    ensures read { let c = collation_of L.content collator.now in (xs : List ℕ) → ReadsTo c weighting xs levels.old piece.old →
+        IfOk result (ReadsOn c weighting (xs ++ known.point ∷ []) text.now levels.new piece.new) }
+{
+    if !piece.end(levels, weighting, collator, points)? {
+        return Ok(Reading::Ended(false));
+    }
+    piece.begin(known);
+    match piece.run_on(levels, weighting, points, text)? {
+        Some(rest) => Ok(Reading::GoesOn(rest)),
+        None => Ok(Reading::Ended(true)),
+    }
+}

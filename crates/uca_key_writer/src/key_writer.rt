@@ -1,0 +1,138 @@
+//! `KeyWriter`: writes the keys of texts, one after another.
+
+ghost use Rattle.std.specs.Prelude.{◌≡◌, [], ◌<◌, ◌^◌, length, take, chars, OnOk, IfErr};
+ghost use Rattle.uca_text.specs.Texts.{nfd_text};
+ghost use Rattle.uca_text.specs.Limits.{IsAccepted};
+ghost use Rattle.uca_text.specs.Faults.{IsCause};
+ghost use Rattle.uca_match.specs.Collations.{collation_of};
+ghost use Rattle.uca_order.specs.Depths.{read_text, key_at};
+ghost use Rattle.uca_order.specs.Lengths.{HasShortRows};
+ghost use Rattle.uca_key_writer.specs.Writers.{collation_by};
+
+use crate::KeyBuffer;
+use crate::pieces::Piece;
+use std::alloc::{Allocator, Global};
+use std::marker::Model;
+use uca_match::{Collator, Lookup};
+use uca_plain::plain::PlainPoints;
+use uca_text::{Normal, TextFault};
+use uca_weights::{Depth, Weighting};
+
+/// Writes the sort keys of texts (UTS #10, section 7.3), one after another, by one collator, under one weighting and
+/// at one depth. Each key that is written replaces the one before, and the memory is used again.
+#[derive(Drop)]
+pub struct KeyWriter<'a, L: Lookup, T: Allocator = Global, A: Allocator = Global> {
+    collator: Collator<'a, L, T>,
+    buffer: KeyBuffer<A>,
+    // what is known of the code points that were met
+    points: PlainPoints<A>,
+    piece: Piece,
+    // the text of a key that is not written piece by piece
+    text: Normal,
+}
+
+impl<'a, L: Lookup, T: Allocator, A: Allocator> Model for KeyWriter<'a, L, T, A> {
+    ghost use Rattle.uca_match.specs.Collations.{collation_of};
+    ghost use Rattle.uca_plain.specs.PlainPoints.{AreTrueEntries};
+    ghost use Rattle.uca_key_writer.specs.Writers.{WriterState};
+
+    ghost Value = { WriterState L };
+
+    ghost view = { λ w. record {
+      lookup = w.collator.lookup.now;
+      ranges = w.collator.header.now.ranges;
+      data_file = w.collator.data.now;
+      weighting = w.buffer.weighting;
+      depth = w.buffer.depth;
+      key = w.buffer.key;
+    } };
+
+    ghost invariant = { λ w. AreTrueEntries (collation_of L.content w.collator) w.points.entries.items };
+}
+
+impl<'a, L: Lookup, T: Allocator, A: Allocator + Copy> KeyWriter<'a, L, T, A> {
+    /// A writer of keys under the weighting and at the depth. It takes no memory yet.
+    pub fn new(
+        alloc: A,
+        global: Global,
+        collator: Collator<'a, L, T>,
+        weighting: Weighting,
+        depth: Depth,
+    ) -> Self
+        ensures collation { collation_by L.content result ≡ collation_of L.content collator.entry }
+        ensures weighting { result.weighting ≡ weighting }
+        ensures depth { result.depth ≡ depth }
+        ensures empty { result.key ≡ [] }
+    {
+        KeyWriter {
+            collator,
+            buffer: KeyBuffer::new(alloc, weighting, depth),
+            points: PlainPoints::new(alloc, global),
+            piece: Piece::new(global),
+            text: Normal::new(global),
+        }
+    }
+}
+
+impl<'a, L: Lookup, T: Allocator, A: Allocator> KeyWriter<'a, L, T, A> {
+    /// Writes the key of a text, over the key that was there.
+    ///
+    /// # Errors
+    ///
+    /// Those of [`normal`](uca_text::normal), and `Memory` also if an allocation for the key failed. The bytes are then
+    /// unspecified until the next successful write.
+    pub fn write(&mut self, text: &str) -> Result<(), TextFault>
+        ensures key { OnOk result (self.new.key ≡ key_at self.old.depth self.old.weighting
+            (read_text (collation_by L.content self.old) (nfd_text (collation_by L.content self.old).properties (chars text.now)))) }
+        ensures accepted { OnOk result (IsAccepted (nfd_text (collation_by L.content self.old).properties (chars text.now))) }
+        ensures fault { IfErr result (IsCause (nfd_text (collation_by L.content self.old).properties (chars text.now))) }
+        ensures short { HasShortRows (collation_by L.content self.old).rows → OnOk result (length self.new.key < 2 ^ 40) }
+
+        ensures collation { collation_by L.content self.new ≡ collation_by L.content self.old }
+        ensures weighting { self.new.weighting ≡ self.old.weighting }
+        ensures depth { self.new.depth ≡ self.old.depth }
+    {
+        let accepted = self
+            .buffer
+            .write_pieces(&self.collator, &mut self.points, &mut self.piece, text)?;
+        if accepted {
+            return Ok(());
+        }
+        self.text.renew(text, self.collator.data)?;
+        self.buffer.write_text(&self.collator, &self.text)?;
+        Ok(())
+    }
+
+    /// Writes at least the first sixteen bytes of the key of a text, over the key that was there. A shorter key is written
+    /// whole. So keys are compared by their beginnings before any is written whole: this takes less time for a long text,
+    /// which is read no further than these bytes need. The rest is only judged.
+    ///
+    /// # Errors
+    ///
+    /// Those of [`write`](KeyWriter::write).
+    pub fn write_beginning(&mut self, text: &str) -> Result<(), TextFault>
+        ensures beginning { OnOk result (take 16 self.new.key ≡ take 16 (key_at self.old.depth self.old.weighting
+            (read_text (collation_by L.content self.old) (nfd_text (collation_by L.content self.old).properties (chars text.now))))) }
+        ensures accepted { OnOk result (IsAccepted (nfd_text (collation_by L.content self.old).properties (chars text.now))) }
+        ensures fault { IfErr result (IsCause (nfd_text (collation_by L.content self.old).properties (chars text.now))) }
+
+        ensures collation { collation_by L.content self.new ≡ collation_by L.content self.old }
+        ensures weighting { self.new.weighting ≡ self.old.weighting }
+        ensures depth { self.new.depth ≡ self.old.depth }
+    {
+        let accepted = self
+            .buffer
+            .write_beginning(&self.collator, &mut self.points, &mut self.piece, text)?;
+        if accepted {
+            return Ok(());
+        }
+        self.write(text)
+    }
+
+    /// The key that was written last, as [`KeyBuffer::bytes`] describes it.
+    pub fn bytes(&self) -> &[u8]
+        ensures { result.now ≡ self.now.key }
+    {
+        self.buffer.bytes()
+    }
+}

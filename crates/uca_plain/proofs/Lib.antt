@@ -1,0 +1,4 @@
+pub mod Results
+pub mod LeafReading
+pub mod PlainTexts
+pub mod PlainEntries

@@ -1,0 +1,3 @@
+pub mod SortRun
+pub mod KeptLines
+pub mod SortSoFar

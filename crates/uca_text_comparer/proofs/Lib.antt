@@ -1,0 +1,4 @@
+pub mod SharedSteps
+pub mod PlainComparisons
+pub mod ComparerSteps
+pub mod PrimarySteps

@@ -1,0 +1,3 @@
+pub mod Shared
+pub mod Comparers
+pub mod Primaries

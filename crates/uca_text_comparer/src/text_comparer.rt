@@ -1,0 +1,186 @@
+//! `TextComparer`: compares texts, pair after pair.
+
+ghost use Rattle.std.specs.Prelude.{◌≡◌, ◌⊎◌, ◌-◌, ◌^◌, chars, min, IfOk, OnOk, IfErr};
+ghost use Rattle.std.specs.Bool.{OnTrue};
+ghost use Rattle.uca_text.specs.Texts.{nfd_text};
+ghost use Rattle.uca_text.specs.Limits.{IsAccepted};
+ghost use Rattle.uca_text.specs.Faults.{IsCause};
+ghost use Rattle.uca_match.specs.Collations.{collation_of, elements_of};
+ghost use Rattle.uca_order.specs.Depths.{read_text, compared_at};
+ghost use Rattle.uca_order.specs.Fetched.{fetched_left, fetched_right};
+ghost use Rattle.uca_comparison.specs.Comparisons.{NothingElseDecides};
+ghost use Rattle.uca_text_comparer.specs.Comparers.{collation_by};
+
+use crate::itself::compare_itself;
+use crate::plain_comparison::PlainComparison;
+use std::alloc::{Allocator, Global};
+use std::cmp::Ordering;
+use std::marker::Model;
+use uca_comparison::comparison::{Compared, compare};
+use uca_comparison::walk::Walked;
+use uca_match::{Collator, Lookup};
+use uca_text::{Normal, TextFault};
+use uca_weights::{Depth, Weighting};
+
+/// Compares texts (UTS #10, section 1.1), pair after pair, by one collator, under one weighting and at one depth. The
+/// memory is used again.
+#[derive(Drop)]
+pub struct TextComparer<'a, L: Lookup, T: Allocator = Global, A: Allocator = Global> {
+    collator: Collator<'a, L, T>,
+    weighting: Weighting,
+    depth: Depth,
+    plain: PlainComparison<A>,
+    // the texts of a pair that has to be normalized
+    left: Normal,
+    right: Normal,
+}
+
+impl<'a, L: Lookup, T: Allocator, A: Allocator> Model for TextComparer<'a, L, T, A> {
+    ghost use Rattle.uca_match.specs.Collations.{collation_of};
+    ghost use Rattle.uca_plain.specs.PlainPoints.{AreTrueEntries};
+    ghost use Rattle.uca_text_comparer.specs.Comparers.{ComparerState};
+
+    ghost Value = { ComparerState L };
+
+    ghost view = { λ c. record {
+      lookup = c.collator.lookup.now;
+      ranges = c.collator.header.now.ranges;
+      data_file = c.collator.data.now;
+      weighting = c.weighting;
+      depth = c.depth;
+    } };
+
+    ghost invariant = { λ c. AreTrueEntries (collation_of L.content c.collator) c.plain.points.entries.items };
+}
+
+impl<'a, L: Lookup, T: Allocator, A: Allocator + Copy> TextComparer<'a, L, T, A> {
+    /// It compares under the weighting and at the depth, and takes no memory yet.
+    pub fn new(
+        alloc: A,
+        global: Global,
+        collator: Collator<'a, L, T>,
+        weighting: Weighting,
+        depth: Depth,
+    ) -> Self
+        ensures collation { collation_by L.content result ≡ collation_of L.content collator.entry }
+        ensures weighting { result.weighting ≡ weighting }
+        ensures depth { result.depth ≡ depth }
+    {
+        TextComparer {
+            collator,
+            weighting,
+            depth,
+            plain: PlainComparison::new(alloc, global),
+            left: Normal::new(global),
+            right: Normal::new(global),
+        }
+    }
+}
+
+impl<'a, L: Lookup, T: Allocator, A: Allocator> TextComparer<'a, L, T, A> {
+    /// How two texts compare, as [`compare`] says of the same texts in Normalization Form D.
+    ///
+    /// # Errors
+    ///
+    /// Those of [`normal`](uca_text::normal) for the left text, or else for the right one. `Memory` also if another
+    /// allocation failed.
+    pub fn compare(&mut self, left: &str, right: &str) -> Result<Compared, TextFault>
+        ensures compared { let c = collation_by L.content self.old in IfOk result (λ compared.
+            let answer = compared_at self.old.depth self.old.weighting
+            (read_text c (nfd_text c.properties (chars left.now))) (read_text c (nfd_text c.properties (chars right.now))) in
+            (compared.order ≡ answer.order) × (compared.level ≡ answer.level)) }
+        ensures fetched { let c = collation_by L.content self.old in IfOk result (λ compared.
+            let es = elements_of c (nfd_text c.properties (chars left.now)) in
+            let fs = elements_of c (nfd_text c.properties (chars right.now)) in
+            (compared.fetched_left ≡ min (2 ^ 64 - 1) (fetched_left self.old.weighting es fs))
+            × (compared.fetched_right ≡ min (2 ^ 64 - 1) (fetched_right self.old.weighting es fs))) }
+        ensures accepted { let c = collation_by L.content self.old in
+            OnOk result (IsAccepted (nfd_text c.properties (chars left.now)) × IsAccepted (nfd_text c.properties (chars right.now))) }
+        ensures fault { let c = collation_by L.content self.old in IfErr result (λ fault.
+            IsCause (nfd_text c.properties (chars left.now)) fault
+            ⊎ (IsAccepted (nfd_text c.properties (chars left.now)) × IsCause (nfd_text c.properties (chars right.now)) fault)) }
+        ensures collation { collation_by L.content self.new ≡ collation_by L.content self.old }
+        ensures weighting { self.new.weighting ≡ self.old.weighting }
+        ensures depth { self.new.depth ≡ self.old.depth }
+    {
+        let found = self
+            .plain
+            .compare(&self.collator, self.weighting, left, right)?;
+        if let Some(walked) = found
+            && is_decided(walked.order, self.depth, left, right)
+        {
+            return Ok(compared_of(&walked));
+        }
+        compare_normals(
+            &self.collator,
+            self.weighting,
+            self.depth,
+            &mut self.left,
+            &mut self.right,
+            left,
+            right,
+        )
+    }
+}
+
+// How two texts compare that are normalized first, each in the memory of one that was before.
+fn compare_normals<L: Lookup, T: Allocator>(
+    collator: &Collator<L, T>,
+    weighting: Weighting,
+    depth: Depth,
+    left_normal: &mut Normal,
+    right_normal: &mut Normal,
+    left: &str,
+    right: &str,
+) -> Result<Compared, TextFault>
+    ensures compared { let c = collation_of L.content collator.now in IfOk result (λ compared.
+        let answer = compared_at depth weighting
+        (read_text c (nfd_text c.properties (chars left.now))) (read_text c (nfd_text c.properties (chars right.now))) in
+        (compared.order ≡ answer.order) × (compared.level ≡ answer.level)) }
+    ensures fetched { let c = collation_of L.content collator.now in IfOk result (λ compared.
+        let es = elements_of c (nfd_text c.properties (chars left.now)) in
+        let fs = elements_of c (nfd_text c.properties (chars right.now)) in
+        (compared.fetched_left ≡ min (2 ^ 64 - 1) (fetched_left weighting es fs))
+        × (compared.fetched_right ≡ min (2 ^ 64 - 1) (fetched_right weighting es fs))) }
+    ensures accepted { let c = collation_of L.content collator.now in
+        OnOk result (IsAccepted (nfd_text c.properties (chars left.now)) × IsAccepted (nfd_text c.properties (chars right.now))) }
+    ensures fault { let c = collation_of L.content collator.now in IfErr result (λ fault.
+        IsCause (nfd_text c.properties (chars left.now)) fault
+        ⊎ (IsAccepted (nfd_text c.properties (chars left.now)) × IsCause (nfd_text c.properties (chars right.now)) fault)) }
+{
+    left_normal.renew(left, collator.data)?;
+    if left == right {
+        let walked = compare_itself(collator, weighting, left_normal);
+        return Ok(compared_of(&walked));
+    }
+    right_normal.renew(right, collator.data)?;
+    Ok(compare(collator, weighting, depth, left_normal, right_normal))
+}
+
+// How two texts compare, after a walk over both.
+fn compared_of(walked: &Walked) -> Compared
+    ensures order { result.order ≡ walked.now.order }
+    ensures level { result.level ≡ walked.now.level }
+    ensures fetched_left { result.fetched_left ≡ walked.now.fetched_left }
+    ensures fetched_right { result.fetched_right ≡ walked.now.fetched_right }
+{
+    Compared {
+        order: walked.order,
+        level: walked.level,
+        fetched_left: walked.fetched_left,
+        fetched_right: walked.fetched_right,
+    }
+}
+
+// Whether nothing else decides after this order at the levels of the weights.
+fn is_decided(order: Ordering, depth: Depth, left: &str, right: &str) -> bool
+    ensures { OnTrue result (NothingElseDecides order depth left.now right.now) }
+{
+    match order {
+        Ordering::Less | Ordering::Greater => true,
+        Ordering::Equal => match depth {
+            Depth::Weights => true,
+            Depth::Identical => left == right,
+        },
+    }
+}
