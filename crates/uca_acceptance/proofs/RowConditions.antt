@@ -6,8 +6,8 @@ use Rattle.uca_weights.specs.declared.Element.{Element}
 use Rattle.uca_values.specs.Content.{Entry, TableContent, Properties, keys_of, AreDistinct}
 use Rattle.uca_check.specs.WellFormed.{elements_of}
 use Rattle.uca_weights.proofs.Lists.{each_weaker, each_parts}
-use Rattle.uca_match.specs.Rows.{IsKey, same_key, rows_of}
-use Rattle.uca_match.proofs.RowsByKey.{same_key-itself, found_of_row, key_iff}
+use Rattle.uca_elements.specs.Rows.{IsKey, same_key, rows_of}
+use Rattle.uca_elements.proofs.RowsByKey.{same_key-itself, found_of_row, key_iff}
 use Rattle.uca_rules.specs.declared.relations.Relation.{Relation}
 use Rattle.uca_rules.specs.Relations.{IsTarget}
 use Rattle.uca_tailorings.specs.Images.{Maps, AreImages, IsImage}

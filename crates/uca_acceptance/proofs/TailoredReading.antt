@@ -6,8 +6,8 @@ use Rattle.uca_values.specs.Content.{Entry, TableContent, Properties}
 use Rattle.uca_values.specs.Implicit.{implicit}
 use Rattle.uca_values.proofs.ImplicitPairs.{of_pair}
 use Rattle.uca_text.specs.Texts.{NfdText}
-use Rattle.uca_match.specs.Collations as collations
-use Rattle.uca_match.specs.Rows.{rows_of}
+use Rattle.uca_elements.specs.Collations as collations
+use Rattle.uca_elements.specs.Rows.{rows_of}
 use Rattle.uca_rules.specs.declared.relations.Relation.{Relation}
 use Rattle.uca_tailorings.specs.Tailorings.{tailored_reading}
 use Rattle.uca_plans.specs.declared.drafts.DraftElement.{DraftElement}

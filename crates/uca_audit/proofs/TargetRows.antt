@@ -5,8 +5,8 @@ use Rattle.uca_weights.specs.declared.Level.{Level}
 use Rattle.uca_weights.specs.Levels.{level_of}
 use Rattle.uca_text.specs.Texts.{NfdText}
 use Rattle.uca_rules.specs.declared.relations.Relation.{Relation}
-use Rattle.uca_match.specs.Rows.{rows_of}
-use Rattle.uca_match.specs.Collations.{Collation}
+use Rattle.uca_elements.specs.Rows.{rows_of}
+use Rattle.uca_elements.specs.Collations.{Collation}
 use Rattle.uca_tailorings.specs.Placing.{placed}
 use Rattle.uca_tailorings.specs.Tailorings.{Tailoring, tailored_reading, anchor_elements, elements_of_expansion, expansion_elements, IsTargetRow, IsPlacedAt, IsPlacedBy, IsPlaced}
 use Rattle.uca_tailorings.specs.Laws.{ReadsAs}

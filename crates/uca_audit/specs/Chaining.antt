@@ -3,7 +3,7 @@ use Rattle.std.specs.Prelude.{◌≡◌, ◌⊎◌, ◌↔◌, ℕ, ◌<◌, Lis
 use Rattle.uca_values.specs.Content.{TableContent}
 use Rattle.uca_rules.specs.declared.relations.Relation.{Relation}
 use Rattle.uca_rules.specs.Relations.{IsTarget}
-use Rattle.uca_match.specs.Rows.{Rows, rows_of}
+use Rattle.uca_elements.specs.Rows.{Rows, rows_of}
 use Rattle.uca_tailorings.specs.declared.conditions.Condition.{Condition}
 use Rattle.uca_tailorings.specs.Tailorings.{Tailoring, Meets}
 use Rattle.uca_audit.specs.declared.faults.AuditFault.{AuditFault}

@@ -3,7 +3,7 @@
 
 ghost use Rattle.std.specs.Prelude.{◌≡◌, ◌<◌, ◌+◌, [], suc, length, OnOk};
 ghost use Rattle.std.specs.List.{AllZip};
-ghost use Rattle.uca_match.specs.Collations.{collation_of};
+ghost use Rattle.uca_elements.specs.Collations.{collation_of};
 ghost use Rattle.uca_tailorings.specs.Laws.{ReadsAs};
 ghost use Rattle.uca_tailorings.specs.Tailorings.{tailored_reading};
 ghost use Rattle.uca_audit.specs.Refusals.{number_of};
@@ -28,8 +28,9 @@ use rows::{
 };
 use std::alloc::Allocator;
 use uca_check::check;
+use uca_elements::{Collator, Lookup};
 use uca_kept_rows::Images;
-use uca_match::{Collator, Lookup, Trie};
+use uca_match::Trie;
 use uca_rules::Rules;
 use uca_values::Table;
 use weights::{first_not_fresh, first_not_nearest};

@@ -1,11 +1,12 @@
 //! The collation elements of the texts of relations, collected.
 
 ghost use Rattle.std.specs.Prelude.{◌≡◌, OnOk};
-ghost use Rattle.uca_match.specs.Collations.{collation_of, elements_of};
+ghost use Rattle.uca_elements.specs.Collations.{collation_of, elements_of};
 ghost use Rattle.uca_tailorings.specs.Tailorings.{elements_of_expansion};
 
 use std::alloc::{AllocError, Allocator};
-use uca_match::{Collator, Lookup, Trie};
+use uca_elements::{Collator, Lookup};
+use uca_match::Trie;
 use uca_rules::Relation;
 use uca_text::Normal;
 use uca_weights::Element;

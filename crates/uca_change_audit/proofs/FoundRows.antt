@@ -3,7 +3,7 @@ use Rattle.std.proofs.Common.{◌≡◌, ℕ, List, Option, subst}
 use mathlib.Core.Path.{fun_ext}
 use Rattle.uca_values.specs.Content.{Entry}
 use Rattle.uca_check.specs.Searches.{FindsFirstWithout}
-use Rattle.uca_match.specs.Rows.{Rows}
+use Rattle.uca_elements.specs.Rows.{Rows}
 
 -- What is found among rows by listed texts and a lookup is found among the same rows by the same texts and by what the lookup has.
 pub found_by : (P : List (List ℕ) → Rows → Entry → Type 0) (lent rows : List Entry) (given texts : List (List ℕ)) (lookup found_rows : Rows) (found : Option ℕ)

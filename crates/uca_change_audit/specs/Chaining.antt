@@ -2,7 +2,7 @@
 -- cite this file.
 use Rattle.std.specs.Prelude.{◌≡◌, ◌⊎◌, ℕ, ◌<◌, List, Result, MatchResult}
 use Rattle.uca_values.specs.Content.{TableContent}
-use Rattle.uca_match.specs.Rows.{Rows, rows_of}
+use Rattle.uca_elements.specs.Rows.{Rows, rows_of}
 use Rattle.uca_changes.specs.Changes.{Change, Meets, number_of}
 use Rattle.uca_changes.specs.declared.conditions.ChangeCondition.{ChangeCondition}
 use Rattle.uca_changes.specs.declared.faults.ChangeFault.{ChangeFault}

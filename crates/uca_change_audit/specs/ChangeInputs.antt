@@ -1,6 +1,6 @@
 -- The change that the values of an audit stand for, and what an audit that accepts it promises.
 use Rattle.uca_values.specs.Content.{properties_of}
-use Rattle.uca_match.specs.Collations.{Collation}
+use Rattle.uca_elements.specs.Collations.{Collation}
 use Rattle.uca_tailorings.specs.Inputs.{maps_of}
 use Rattle.uca_tailorings.specs.Laws.{ReadsAs}
 use Rattle.uca_changes.specs.Changes.{Change, old_reading, new_reading}

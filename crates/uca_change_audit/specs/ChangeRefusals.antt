@@ -1,7 +1,7 @@
 -- The first condition that a change does not meet, and the first position where it does not.
 use Rattle.std.specs.Prelude.{◌≡◌, ℕ, ◌<◌}
 use Rattle.uca_check.specs.WellFormed.{IsFirstWithout, IsFirstFailure}
-use Rattle.uca_match.specs.Rows.{rows_of}
+use Rattle.uca_elements.specs.Rows.{rows_of}
 use Rattle.uca_tailorings.specs.KeptRows.{IsKeptRow, IsKnownRow}
 use Rattle.uca_kept_rows.specs.UnlistedRows.{IsCoveredIfUnlisted, IsPresentIfUnlisted}
 use Rattle.uca_change_lists.specs.Points.{IsSamePair, IsSamePoint, IsFirstOutsideWithout}

@@ -16,8 +16,9 @@ use crate::conditions::{
 use crate::{Certificate, ChangeFault, ChangeInputs};
 use std::alloc::Allocator;
 use uca_changes::changes_keep_unaffected_texts;
+use uca_elements::Lookup;
 use uca_kept_rows::Images;
-use uca_match::{Lookup, Trie};
+use uca_match::Trie;
 use uca_values::{Header, Table};
 
 /// Audits a change. It accepts exactly if the eight conditions are met, and then promises what follows from them.

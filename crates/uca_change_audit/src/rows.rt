@@ -2,7 +2,7 @@
 
 ghost use Rattle.std.specs.Prelude.{◌≡◌, IfOk};
 ghost use Rattle.uca_check.specs.Searches.{FindsFirstWithout};
-ghost use Rattle.uca_match.specs.Rows.{rows_of};
+ghost use Rattle.uca_elements.specs.Rows.{rows_of};
 ghost use Rattle.uca_tailorings.specs.KeptRows.{IsKeptRow, IsKnownRow};
 ghost use Rattle.uca_kept_rows.specs.UnlistedRows.{IsCoveredIfUnlisted, IsPresentIfUnlisted};
 ghost use Rattle.uca_changes.specs.Changes.{IsChangedText};
@@ -11,8 +11,9 @@ ghost use Rattle.uca_change_audit.specs.Chaining.{FindsRowsOf};
 
 use crate::ChangeInputs;
 use std::alloc::{AllocError, Allocator};
+use uca_elements::Lookup;
 use uca_kept_rows::{Images, first_changed, first_missing, first_uncovered, first_unknown};
-use uca_match::{Lookup, Trie};
+use uca_match::Trie;
 
 /// The first old row that is not listed and has a weight without an image, by its index.
 pub(crate) fn first_not_covered<A: Allocator + Copy, T: Allocator>(

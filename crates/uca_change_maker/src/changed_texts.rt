@@ -5,8 +5,9 @@ use std::alloc::{AllocError, Allocator};
 use std::collections::BTreeSet;
 use uca_certificates::Certificate;
 use uca_change_files::{ChangeList, ChangedText, FaultKind};
+use uca_elements::{Lookup, row_of};
 use uca_kept_rows::{Images, are_images};
-use uca_match::{Lookup, Trie, row_of};
+use uca_match::Trie;
 use uca_values::Row;
 
 /// Lists the texts that change. An error means that it ran out of memory.

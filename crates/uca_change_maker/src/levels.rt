@@ -6,7 +6,7 @@ ghost use Rattle.uca_change_maker.specs.LeastMaps as least_maps;
 use crate::chains::{Step, heaviest_chain};
 use crate::moves::{Move, fixed_weight, level_moves};
 use std::alloc::{AllocError, Allocator};
-use uca_match::Lookup;
+use uca_elements::Lookup;
 use uca_values::Row;
 use uca_weights::{Level, Run, WeightMap};
 

@@ -4,7 +4,7 @@ ghost use Rattle.std.specs.Prelude.{◌≡◌};
 ghost use Rattle.uca_change_maker.specs.LeastMaps as least_maps;
 
 use std::alloc::{AllocError, Allocator};
-use uca_match::{Lookup, row_of};
+use uca_elements::{Lookup, row_of};
 use uca_values::Row;
 use uca_weights::{Element, Level};
 

@@ -5,7 +5,7 @@ use Rattle.std.proofs.lemmas.List.Elements.{Contains-append_right}
 use Rattle.uca_weights.proofs.Lists.{each_weaker}
 use Rattle.uca_rules.specs.declared.relations.Relation.{Relation}
 use Rattle.uca_rules.specs.Relations.{IsTarget}
-use Rattle.uca_match.specs.Rows.{IsKey, rows_of}
+use Rattle.uca_elements.specs.Rows.{IsKey, rows_of}
 use Rattle.uca_tailorings.specs.KeptRows.{IsKeptRow, IsKnownRow}
 use Rattle.uca_tailorings.specs.Tailorings.{Tailoring, IsCovered, IsCoveredRow, IsPresentRow, IsUnchangedRow, IsExpectedRow, IsAccepted}
 use Rattle.uca_tailorings.specs.declared.conditions.Condition.TheVariants as conditions

@@ -9,8 +9,8 @@ use Rattle.uca_weights.proofs.Lists.{each_contained, each_weaker}
 use Rattle.uca_values.specs.declared.CodePointRange.{CodePointRange}
 use Rattle.uca_values.specs.Ranges.{is_within}
 use Rattle.uca_text.specs.Occurring.{OccursInOrder}
-use Rattle.uca_match.specs.Collations.{Collation}
-use Rattle.uca_match.specs.Rows.{IsKey, rows_of}
+use Rattle.uca_elements.specs.Collations.{Collation}
+use Rattle.uca_elements.specs.Rows.{IsKey, rows_of}
 use Rattle.uca_tailorings.specs.KeptRows.{IsKeptRow, IsKnownRow}
 use Rattle.uca_tailorings.specs.Tailorings.{IsCovered}
 use Rattle.uca_change_lists.specs.Points.{IsSamePair, IsSamePoint, OutsideOf}

@@ -10,10 +10,10 @@ use Rattle.uca_values.specs.Implicit.{implicit}
 use Rattle.uca_text.specs.Texts.{Text, nfd_text, letters, code_points}
 use Rattle.uca_text.specs.Occurring.{OccursInOrder}
 use Rattle.uca_text.proofs.Occurring.{occurs_trans, each_occurring}
-use Rattle.uca_match.specs.Rows.{rows_of}
-use Rattle.uca_match.specs.Reading.{read}
-use Rattle.uca_match.specs.Collations.{elements_of}
-use Rattle.uca_match.proofs.RelatedReading.{read_related}
+use Rattle.uca_elements.specs.Rows.{rows_of}
+use Rattle.uca_elements.specs.Reading.{read}
+use Rattle.uca_elements.specs.Collations.{elements_of}
+use Rattle.uca_elements.proofs.RelatedReading.{read_related}
 use Rattle.uca_order.specs.Levels.{lexicographic}
 use Rattle.uca_order.specs.Depths.{read_text, levels_at}
 use Rattle.uca_order.specs.StoredKeys.{stored_level}

@@ -6,8 +6,8 @@ use Rattle.uca_values.specs.Content.{Entry, TableContent, Properties, IsTable}
 use Rattle.uca_values.specs.Ranges.{is_within}
 use Rattle.uca_check.specs.WellFormed.{IsWellFormed}
 use Rattle.uca_text.specs.Occurring.{OccursInOrder}
-use Rattle.uca_match.specs.Rows.{IsKey, rows_of}
-use Rattle.uca_match.specs.Collations.{Collation}
+use Rattle.uca_elements.specs.Rows.{IsKey, rows_of}
+use Rattle.uca_elements.specs.Collations.{Collation}
 use Rattle.uca_change_lists.specs.Points.{IsSamePair, IsSamePoint, OutsideOf}
 use Rattle.uca_tailorings.specs.Images.{Maps, AreRisingMaps}
 use Rattle.uca_tailorings.specs.KeptRows.{IsKeptRow, IsKnownRow}

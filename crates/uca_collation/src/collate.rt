@@ -1,7 +1,7 @@
 //! Keys and comparisons as methods of a collator.
 
 ghost use Rattle.std.specs.Prelude.{◌≡◌, ◌-◌, ◌<◌, ◌^◌, length, min, IfOk};
-ghost use Rattle.uca_match.specs.Collations.{Collation, collation_of, elements_of};
+ghost use Rattle.uca_elements.specs.Collations.{Collation, collation_of, elements_of};
 ghost use Rattle.uca_order.specs.Depths.{read_text, key_at, compared_at};
 ghost use Rattle.uca_order.specs.Fetched.{fetched_left, fetched_right};
 ghost use Rattle.uca_order.specs.Lengths.{HasShortRows};

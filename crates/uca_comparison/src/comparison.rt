@@ -1,7 +1,7 @@
 //! How two texts compare, without keys.
 
 ghost use Rattle.std.specs.Prelude.{◌≡◌, ◌-◌, ◌^◌, min};
-ghost use Rattle.uca_match.specs.Collations.{collation_of, elements_of};
+ghost use Rattle.uca_elements.specs.Collations.{collation_of, elements_of};
 ghost use Rattle.uca_order.specs.Depths.{read_text, compared_at};
 ghost use Rattle.uca_order.specs.Fetched.{fetched_left, fetched_right};
 ghost use Rattle.uca_comparison.specs.Comparisons.{ComparesLevels, compared_points};
@@ -10,7 +10,7 @@ use crate::stored::level_count;
 use crate::walk::{Walked, walk};
 use std::alloc::Allocator;
 use std::cmp::Ordering;
-use uca_match::{Collator, Lookup};
+use uca_elements::{Collator, Lookup};
 use uca_text::Normal;
 use uca_weights::{Depth, Weighting};
 

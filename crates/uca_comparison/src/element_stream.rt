@@ -4,7 +4,7 @@ ghost use Rattle.std.specs.Prelude.{◌≡◌, ◌∷◌, [], List, MatchOption}
 ghost use Rattle.uca_weights.specs.declared.Element.{Element};
 
 use std::alloc::Allocator;
-use uca_match::{Elements, Lookup};
+use uca_elements::{Elements, Lookup};
 use uca_weights::Element;
 
 /// The collation elements of a text that are left.
@@ -28,6 +28,7 @@ impl<'a, L: Lookup, A: Allocator> ElementStream for Elements<'a, L, A> {
 /// Elements that are in memory.
 #[derive(Drop)]
 pub struct Listed<'a> {
+    /// Those that are left.
     pub elements: &'a [Element],
 }
 

@@ -1,7 +1,7 @@
 //! Comparing levels of two texts in one walk over both, side by side.
 
 ghost use Rattle.std.specs.Prelude.{◌≡◌, ◌≤◌, ◌<◌, ℕ, List, false, if◌then◌else◌};
-ghost use Rattle.uca_match.specs.Collations.{collation_of, elements_of};
+ghost use Rattle.uca_elements.specs.Collations.{collation_of, elements_of};
 ghost use Rattle.uca_weights.specs.declared.Element.{Element};
 ghost use Rattle.uca_comparison.specs.Walks;
 ghost use Rattle.uca_comparison.specs.Walks.{Says, Allows, IsTaken, Stands, Walks, none_decided, together};
@@ -10,20 +10,20 @@ use crate::element_stream::ElementStream;
 use crate::front::Front;
 use std::alloc::Allocator;
 use std::cmp::Ordering;
-use uca_match::{Collator, Lookup};
+use uca_elements::{Collator, Lookup};
 use uca_text::Normal;
 use uca_weights::Weighting;
 
-// Which of two texts may go on, so that the lists of some levels compare from there on as before.
+/// Which of two texts may go on, so that the lists of some levels compare from there on as before.
 #[derive(Clone, Copy)]
 pub enum Step {
-    // either, for neither has a weight at the levels
+    /// Either, for neither has a weight at the levels.
     Either,
-    // both together, for their weights are equal
+    /// Both together, for their weights are equal.
     Both,
-    // the left one alone, for it has no weight
+    /// The left one alone, for it has no weight.
     Left,
-    // the right one alone
+    /// The right one alone.
     Right,
 }
 
@@ -56,14 +56,16 @@ impl Step {
     }
 }
 
-// What the weights at one level say.
+/// What the weights at one level say.
 #[derive(Drop)]
 pub enum LevelStep {
+    /// The texts may go on so.
     May(Step),
-    // the lists of the level differ here, and this is their order
+    /// The lists of the level differ here, and this is their order.
     Differ(Ordering),
 }
 
+/// What these weights of two texts say, at one level. 0 means that a text has none here, and `_ended` that it has no more elements.
 pub fn look_at(left: u16, right: u16, left_ended: bool, right_ended: bool) -> LevelStep
     ensures { Says left right left_ended right_ended result }
 {
@@ -78,14 +80,18 @@ pub fn look_at(left: u16, right: u16, left_ended: bool, right_ended: bool) -> Le
     }
 }
 
-// Compares the levels `first` to `last` of two texts. The levels up to `through` are equal so far. If `through < last`,
-// the level `through + 1` decides: it has this `order`.
+/// Compares the levels `first` to `last` of two texts. The levels up to `through` are equal so far. If `through < last`,
+/// the level `through + 1` decides: it has this `order`.
 #[derive(Drop)]
-struct LevelsSoFar {
-    first: u8,
-    through: u8,
-    last: u8,
-    order: Ordering,
+pub struct LevelsSoFar {
+    /// The first level that is compared, from 1 on.
+    pub first: u8,
+    /// Up to this level the texts are equal so far.
+    pub through: u8,
+    /// The last level that is compared, at most 4.
+    pub last: u8,
+    /// The order at the level that decides.
+    pub order: Ordering,
 }
 
 impl LevelsSoFar {
@@ -148,6 +154,7 @@ impl LevelsSoFar {
 /// How two texts compare at some of their levels.
 #[derive(Drop)]
 pub struct Walked {
+    /// The order at the first level at which they differ, or `Equal`.
     pub order: Ordering,
     /// The first level at which they differ, or 0.
     pub level: u8,

@@ -8,7 +8,7 @@ use Rattle.uca_values.specs.Content.{keys_of}
 use Rattle.uca_check.specs.WellFormed.{elements_of}
 use Rattle.uca_rules.specs.declared.relations.Relation.{Relation}
 use Rattle.uca_text.specs.Texts.{NfdText}
-use Rattle.uca_match.specs.Positions.{Positions, place_at}
+use Rattle.uca_elements.specs.Positions.{Positions, place_at}
 use Rattle.uca_plans.specs.declared.drafts.DraftWeight.{DraftWeight}
 use Rattle.uca_plans.specs.declared.drafts.DraftWeight.TheVariants.{New}
 use Rattle.uca_plans.specs.declared.faults.TailorKind.{TailorKind}

@@ -3,8 +3,8 @@ use Rattle.std.proofs.Common.{◌≡◌, ℕ, suc, ◌+◌, List, [], ◌∷◌,
 use Rattle.std.proofs.Common.{MatchOption, refl, sym, ap, ◌∙◌, arith}
 use Rattle.std.proofs.lemmas.Bool.{false≢true, cond-false, or_parts, lt-ltb, le-ltb}
 use Rattle.uca_rules.specs.declared.relations.Relation.{Relation}
-use Rattle.uca_match.specs.Rows.{same_key}
-use Rattle.uca_match.specs.Positions.{Positions, place_at}
+use Rattle.uca_elements.specs.Rows.{same_key}
+use Rattle.uca_elements.specs.Positions.{Positions, place_at}
 use Rattle.uca_match.proofs.PlacedKeys.{placed_within}
 use Rattle.uca_plans.specs.Keys.{is_among}
 use Rattle.uca_drafts.specs.Places.{IsPlaceOf, AreListed, ArePlaces}

@@ -10,13 +10,13 @@ use Rattle.uca_values.specs.Content.{Properties}
 use Rattle.uca_values.specs.Implicit.{implicit}
 use Rattle.uca_values.proofs.ImplicitPairs.{of_pair}
 use Rattle.uca_text.specs.Texts.{NfdText, Text, letters_of}
-use Rattle.uca_match.specs.Rows.{same_key}
-use Rattle.uca_match.specs.Positions.{Positions, is_placed, place_at}
-use Rattle.uca_match.specs.Parts.{Part, Row, Implicit, IsPartOf}
-use Rattle.uca_match.specs.Reading.{parts}
+use Rattle.uca_elements.specs.Rows.{same_key}
+use Rattle.uca_elements.specs.Positions.{Positions, is_placed, place_at}
+use Rattle.uca_elements.specs.Parts.{Part, Row, Implicit, IsPartOf}
+use Rattle.uca_elements.specs.Reading.{parts}
 use Rattle.uca_match.specs.TextMatches.{match_of, matches_of}
-use Rattle.uca_match.specs.declared.matches.Match.{Match}
-use Rattle.uca_match.proofs.Parts.{each_part}
+use Rattle.uca_elements.specs.declared.matches.Match.{Match}
+use Rattle.uca_elements.proofs.Parts.{each_part}
 use Rattle.uca_plans.specs.Drafts.{DraftRow, as_draft, draft_at, part_drafts}
 use Rattle.uca_plans.specs.Keys.{keys_in, is_among, read_over}
 use Rattle.uca_drafts.specs.MatchDrafts.{elements_at, match_drafts}

@@ -6,7 +6,7 @@ use Rattle.std.proofs.lemmas.Bool.{false≢true, false_from_ne_true, cond-true, 
 use Rattle.uca_values.specs.Content.{Entry, keys_of, AreRows}
 use Rattle.uca_rules.specs.declared.relations.Relation.{Relation}
 use Rattle.uca_rules.specs.Relations.{AreDistinct}
-use Rattle.uca_match.specs.Positions.{AreDistinctKeys, place_at}
+use Rattle.uca_elements.specs.Positions.{AreDistinctKeys, place_at}
 use Rattle.uca_match.specs.NumberedKeys.{points_of}
 use Rattle.uca_match.proofs.PlacedKeys.{distinct_keys}
 use Rattle.uca_plans.specs.Keys.{is_among, with_key, with_targets}

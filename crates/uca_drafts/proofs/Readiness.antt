@@ -6,7 +6,7 @@ use Rattle.std.proofs.lemmas.List.{length-map}
 use Rattle.uca_values.specs.Content.{keys_of}
 use Rattle.uca_rules.specs.declared.relations.Relation.{Relation}
 use Rattle.uca_rules.specs.Relations.{AreRules}
-use Rattle.uca_match.specs.Positions.{Positions, is_placed, place_at}
+use Rattle.uca_elements.specs.Positions.{Positions, is_placed, place_at}
 use Rattle.uca_plans.specs.Drafts.{DraftRow}
 use Rattle.uca_plans.specs.Plans.{Basis, Drafting}
 use Rattle.uca_plans.specs.Keys.{keys_in, is_among, with_key, with_targets}

@@ -3,8 +3,8 @@ use Rattle.std.specs.Prelude.{ℕ, zero, suc, true, List, [], ◌∷◌, map}
 use Rattle.uca_values.specs.declared.ImplicitRange.{ImplicitRange}
 use Rattle.uca_values.specs.Content.{Properties}
 use Rattle.uca_values.specs.Implicit.{implicit}
-use Rattle.uca_match.specs.declared.matches.Match.{Match}
-use Rattle.uca_match.specs.declared.matches.Match.TheVariants.{Key, Unlisted}
+use Rattle.uca_elements.specs.declared.matches.Match.{Match}
+use Rattle.uca_elements.specs.declared.matches.Match.TheVariants.{Key, Unlisted}
 use Rattle.uca_plans.specs.declared.drafts.DraftElement.{DraftElement}
 use Rattle.uca_plans.specs.Drafts.{DraftRow, as_draft}
 

@@ -1,7 +1,7 @@
 -- The keys that have positions, and the positions that they have. Only clauses inside this crate cite this file.
 use Rattle.std.specs.Prelude.{◌≡◌, ℕ, ◌<◌, ◌≤◌, ⊤, List, [], ◌∷◌, ◌++◌, length, false, Some}
 use Rattle.uca_rules.specs.declared.relations.Relation.{Relation}
-use Rattle.uca_match.specs.Positions.{Positions, place_at}
+use Rattle.uca_elements.specs.Positions.{Positions, place_at}
 use Rattle.uca_plans.specs.Keys.{is_among, with_targets}
 
 -- the key is at this position

@@ -3,7 +3,7 @@ use Rattle.std.specs.Prelude.{◌≡◌, ◌⊎◌, ℕ, ◌+◌, ◌≤◌, Lis
 use Rattle.uca_values.specs.Content.{properties_of}
 use Rattle.uca_text.specs.Texts.{NfdText}
 use Rattle.uca_rules.specs.declared.relations.Relation.{Relation}
-use Rattle.uca_match.specs.Positions.{Positions, is_placed, place_at}
+use Rattle.uca_elements.specs.Positions.{Positions, is_placed, place_at}
 use Rattle.uca_plans.specs.Drafts.{DraftRow, draft_elements}
 use Rattle.uca_plans.specs.Keys.{keys_in, is_among, read_over, IsTextOf}
 use Rattle.uca_plans.specs.Plans.{Basis, Drafting, with_relation}

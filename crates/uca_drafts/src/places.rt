@@ -3,7 +3,7 @@
 ghost use Rattle.std.specs.Prelude.{◌≡◌, ℕ, List, false, MatchOption, IfOk};
 ghost use Rattle.uca_values.specs.Content.{keys_of};
 ghost use Rattle.uca_rules.specs.Relations.{AreRules};
-ghost use Rattle.uca_match.specs.Positions.{place_at, AreDistinctKeys};
+ghost use Rattle.uca_elements.specs.Positions.{place_at, AreDistinctKeys};
 ghost use Rattle.uca_match.specs.Tries.{positions};
 ghost use Rattle.uca_match.specs.NumberedKeys.{points_of};
 ghost use Rattle.uca_plans.specs.Keys.{is_among};

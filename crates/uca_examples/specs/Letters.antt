@@ -1,7 +1,7 @@
 -- The rows of consecutive letters. The lookup of the examples alone cites this file.
 use Rattle.std.specs.Prelude.{ℕ, ◌-◌, List, [], ◌∷◌, Option, Some, None, nat_le, slice_get, if◌then◌else◌}
 use Rattle.uca_weights.specs.declared.Element.{Element}
-use Rattle.uca_match.specs.Rows.{Rows}
+use Rattle.uca_elements.specs.Rows.{Rows}
 
 -- the elements of a code point: the first row is that of a, which is 97
 abbrev pub letter_row : List (List Element) → ℕ → Option (List Element)

@@ -2,7 +2,7 @@
 use Rattle.std.specs.Prelude.{ℕ, List}
 use Rattle.std.specs.List.{AllByRecursion}
 use Rattle.uca_values.specs.Content.{Entry}
-use Rattle.uca_match.specs.Rows.{Rows, IsKey}
+use Rattle.uca_elements.specs.Rows.{Rows, IsKey}
 use Rattle.uca_tailorings.specs.Images.{Maps}
 use Rattle.uca_tailorings.specs.Tailorings.{IsCovered}
 

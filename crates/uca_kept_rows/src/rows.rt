@@ -3,7 +3,7 @@
 ghost use Rattle.std.specs.Prelude.{◌↔◌, IsTrue, Contains};
 ghost use Rattle.std.specs.List.{AllByRecursion};
 ghost use Rattle.uca_check.specs.Searches.{FindsFirstWithout};
-ghost use Rattle.uca_match.specs.Rows.{IsKey};
+ghost use Rattle.uca_elements.specs.Rows.{IsKey};
 ghost use Rattle.uca_tailorings.specs.Images.{IsImage, AreImages};
 ghost use Rattle.uca_tailorings.specs.Inputs.{maps_of};
 ghost use Rattle.uca_tailorings.specs.KeptRows.{IsKeptRow, IsKnownRow};
@@ -13,7 +13,7 @@ ghost use Rattle.uca_kept_rows.specs.UnlistedRows.{IsCoveredIfUnlisted, IsPresen
 use crate::Images;
 use std::alloc::Allocator;
 use uca_change_lists::TextSet;
-use uca_match::{Lookup, row_of};
+use uca_elements::{Lookup, row_of};
 use uca_values::Row;
 use uca_weights::Element;
 

@@ -2,8 +2,8 @@
 use Rattle.std.proofs.Common.{◌≡◌, Option, ap, ◌∙◌}
 use Rattle.uca_weights.specs.declared.Depth.{Depth}
 use Rattle.uca_weights.specs.declared.Weighting.{Weighting}
-use Rattle.uca_match.specs.Rows.{Rows, rows_of}
-use Rattle.uca_match.specs.Collations.{Collation}
+use Rattle.uca_elements.specs.Rows.{Rows, rows_of}
+use Rattle.uca_elements.specs.Collations.{Collation}
 use Rattle.uca_run_parts.specs.Files.{TableAndData}
 use Rattle.uca_key_lines.specs.Keys.{KeySettings, IsCollation, collation, collation_in, key_settings, weighting_by}
 

@@ -2,8 +2,8 @@
 
 ghost use Rattle.std.specs.Prelude.{◌≡◌, ◌∷◌, [], true, IfOk, IfErr, MatchResult};
 ghost use Rattle.uca_values.specs.Content.{properties_of};
-ghost use Rattle.uca_match.specs.Rows.{rows_of};
-ghost use Rattle.uca_match.specs.Collations.{collation_of};
+ghost use Rattle.uca_elements.specs.Rows.{rows_of};
+ghost use Rattle.uca_elements.specs.Collations.{collation_of};
 ghost use Rattle.uca_order.specs.Lengths.{HasShortRows};
 ghost use Rattle.uca_run_parts.specs.Files.{HaveFailed, Over, table_and_data, table_and_data_roles, table_with};
 ghost use Rattle.uca_run_parts.specs.EachLine.{ended_before_input};
@@ -11,7 +11,8 @@ ghost use Rattle.uca_key_lines.specs.Keys.{IsCollation, collation_in, weighting_
 
 use std::alloc::{Allocator, Global};
 use std::io::Read;
-use uca_match::{Collator, Lookup, Trie};
+use uca_elements::{Collator, Lookup};
+use uca_match::Trie;
 use uca_order::laws::rows_are_short;
 use uca_run_parts::RunFault;
 use uca_run_parts::files::{Files, read_files};

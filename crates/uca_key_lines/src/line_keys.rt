@@ -8,9 +8,9 @@ ghost use Rattle.uca_key_lines.specs.Keys.{line_key, settings_at};
 ghost use Rattle.uca_run_parts.specs.Texts.{HasTextCause, is_read};
 
 use std::alloc::Allocator;
+use uca_elements::Lookup;
 use uca_key_writer::KeyWriter;
 use uca_lines::LINE_LIMIT;
-use uca_match::Lookup;
 use uca_run_parts::faults::InputKind;
 use uca_run_parts::input::{InputLines, kind_of_text};
 

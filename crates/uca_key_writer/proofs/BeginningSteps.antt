@@ -24,7 +24,7 @@ use Rattle.uca_text.specs.Texts.{nfd_text}
 use Rattle.uca_text.specs.Limits.{HasNoLongRun, IsAccepted}
 use Rattle.uca_text.proofs.Runs.{few_have_no_long_run}
 use Rattle.uca_text.proofs.NfdPieces.{pieces_have_no_long_run}
-use Rattle.uca_match.specs.Collations.{Collation, elements_of}
+use Rattle.uca_elements.specs.Collations.{Collation, elements_of}
 use Rattle.uca_plain.specs.declared.plain.Known.{Known}
 use Rattle.uca_key_writer.specs.declared.pieces.Piece.{Piece}
 use Rattle.uca_order.specs.Levels.{weight_at, level_list, level_lists_from, level_bytes, levels_bytes, weight_bytes, weights_of, weighted, weighted_following, follows_variable, key_bytes}

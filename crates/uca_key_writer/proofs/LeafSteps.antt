@@ -7,7 +7,7 @@ use Rattle.std.proofs.lemmas.List.{take_more, take_all}
 use Rattle.uca_weights.proofs.Lists.{each_append}
 use Rattle.uca_weights.specs.declared.Element.{Element}
 use Rattle.uca_weights.specs.declared.Weighting.{Weighting}
-use Rattle.uca_match.specs.Collations.{Collation}
+use Rattle.uca_elements.specs.Collations.{Collation}
 use Rattle.uca_plain.specs.Leaves.{IsLeaf, AreLeaves, points_elements, leaf_elements}
 use Rattle.uca_plain.proofs.LeafReading.{read_leaves}
 use Rattle.uca_key_writer.specs.LevelBuffers.{LevelState, HoldsLevels}

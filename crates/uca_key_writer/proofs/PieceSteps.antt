@@ -16,7 +16,7 @@ use Rattle.uca_weights.specs.declared.Weighting.{Weighting}
 use Rattle.uca_text.specs.Texts.{NfdText, nfd_text}
 use Rattle.uca_text.specs.Limits.{HasNoLongRun, IsAccepted}
 use Rattle.uca_text.proofs.NfdPieces.{pieces_have_no_long_run}
-use Rattle.uca_match.specs.Collations.{Collation, elements_of}
+use Rattle.uca_elements.specs.Collations.{Collation, elements_of}
 use Rattle.uca_plain.specs.declared.plain.Known.{Known}
 use Rattle.uca_key_writer.specs.declared.pieces.Piece.{Piece}
 use Rattle.uca_order.specs.Levels.{key_bytes}

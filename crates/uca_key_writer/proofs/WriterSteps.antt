@@ -10,7 +10,7 @@ use Rattle.uca_text.specs.Limits.{IsAccepted}
 use Rattle.uca_text.specs.Faults.{IsCause}
 use Rattle.uca_text.specs.declared.normalize.TextFault.{TextFault}
 use Rattle.uca_text.specs.declared.normalize.TextFault.TheVariants.{Memory}
-use Rattle.uca_match.specs.Rows.{Rows}
+use Rattle.uca_elements.specs.Rows.{Rows}
 use Rattle.uca_order.specs.Depths.{read_text, key_at}
 use Rattle.uca_key_writer.specs.Writers.{WriterState, collation_by}
 use Rattle.uca_plain.proofs.Results.{with_value, fault_is}

@@ -8,7 +8,7 @@ use Rattle.uca_weights.specs.declared.Element.{Element}
 use Rattle.uca_weights.specs.declared.Weighting.{Weighting}
 use Rattle.uca_text.specs.Texts.{nfd_text}
 use Rattle.uca_text.specs.Limits.{HasNoLongRun}
-use Rattle.uca_match.specs.Collations.{Collation, elements_of}
+use Rattle.uca_elements.specs.Collations.{Collation, elements_of}
 use Rattle.uca_key_writer.specs.LevelBuffers.{LevelState, HoldsLevels}
 use Rattle.uca_key_writer.specs.Pieces.{HasRead}
 use Rattle.uca_plain.specs.PlainPoints.{BeginsWithStarter}

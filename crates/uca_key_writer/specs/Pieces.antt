@@ -5,7 +5,7 @@ use Rattle.unicode_normalization.specs.Forms.{nfd}
 use Rattle.uca_weights.specs.declared.Weighting.{Weighting}
 use Rattle.uca_text.specs.Texts.{nfd_text}
 use Rattle.uca_text.specs.Limits.{HasNoLongRun}
-use Rattle.uca_match.specs.Collations.{Collation, elements_of}
+use Rattle.uca_elements.specs.Collations.{Collation, elements_of}
 use Rattle.uca_plain.specs.declared.plain.Known.{Known}
 use Rattle.uca_key_writer.specs.declared.pieces.Piece.{Piece}
 use Rattle.uca_key_writer.specs.LevelBuffers.{LevelState, HoldsLevels}

@@ -2,7 +2,7 @@
 use Rattle.std.specs.Prelude.{ℕ, List, ◌++◌, chars}
 use Rattle.std.specs.Bool.{OnTrue}
 use Rattle.uca_weights.specs.declared.Weighting.{Weighting}
-use Rattle.uca_match.specs.Collations.{Collation}
+use Rattle.uca_elements.specs.Collations.{Collation}
 use Rattle.uca_key_writer.specs.declared.pieces.Piece.{Piece}
 use Rattle.uca_key_writer.specs.declared.key_buffer.Reading.{Reading}
 use Rattle.uca_key_writer.specs.declared.key_buffer.Reading.TheVariants.{GoesOn, Ended}

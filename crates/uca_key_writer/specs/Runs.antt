@@ -1,7 +1,7 @@
 -- Reading plain code points in a row. Only private contracts cite this file.
 use Rattle.std.specs.Prelude.{◌≡◌, ℕ, ◌≤◌, List, [], ◌∷◌, ◌++◌, chars}
 use Rattle.uca_weights.specs.declared.Weighting.{Weighting}
-use Rattle.uca_match.specs.Collations.{Collation}
+use Rattle.uca_elements.specs.Collations.{Collation}
 use Rattle.uca_plain.specs.declared.plain.Known.{Known}
 use Rattle.uca_key_writer.specs.declared.pieces.Piece.{Piece}
 use Rattle.uca_key_writer.specs.declared.runs.Run.{Run}

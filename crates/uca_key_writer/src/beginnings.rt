@@ -5,7 +5,7 @@ ghost use Rattle.std.specs.Prelude.{◌≡◌, ◌<◌, ◌≤◌, [], chars, ma
 ghost use Rattle.std.specs.Bool.{OnTrue};
 ghost use Rattle.unicode_normalization.specs.Forms.{nfd};
 ghost use Rattle.uca_text.specs.Limits.{HasNoLongRun};
-ghost use Rattle.uca_match.specs.Collations.{collation_of};
+ghost use Rattle.uca_elements.specs.Collations.{collation_of};
 ghost use Rattle.uca_key_writer.specs.LevelBuffers.{HoldsLevels};
 ghost use Rattle.uca_plain.specs.PlainPoints.{AreTrueEntries};
 ghost use Rattle.uca_key_writer.specs.Beginnings.{HasBegun, HasPassed};
@@ -13,7 +13,7 @@ ghost use Rattle.uca_key_writer.specs.Beginnings.{HasBegun, HasPassed};
 use crate::level_buffers::LevelBuffers;
 use crate::pieces::Piece;
 use std::alloc::{AllocError, Allocator};
-use uca_match::{Collator, Lookup};
+use uca_elements::{Collator, Lookup};
 use uca_plain::plain::PlainPoints;
 use uca_plain::points::split_first;
 use uca_weights::Weighting;

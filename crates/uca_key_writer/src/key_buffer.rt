@@ -4,7 +4,7 @@ ghost use Rattle.std.specs.Prelude.{◌≡◌, ℕ, [], ◌∷◌, ◌++◌, ◌
 ghost use Rattle.std.specs.Bool.{OnTrue};
 ghost use Rattle.uca_text.specs.Texts.{nfd_text};
 ghost use Rattle.uca_text.specs.Limits.{IsAccepted};
-ghost use Rattle.uca_match.specs.Collations.{collation_of};
+ghost use Rattle.uca_elements.specs.Collations.{collation_of};
 ghost use Rattle.uca_order.specs.Depths.{read_text, key_at};
 ghost use Rattle.uca_order.specs.Lengths.{HasShortRows};
 ghost use Rattle.uca_key_writer.specs.LevelBuffers.{HoldsLevels};
@@ -17,7 +17,7 @@ use crate::level_buffers::LevelBuffers;
 use crate::pieces::Piece;
 use std::alloc::{AllocError, Allocator, Global};
 use std::marker::Model;
-use uca_match::{Collator, Lookup};
+use uca_elements::{Collator, Lookup};
 use uca_plain::plain::{Known, PlainPoints, SHORT_TEXT};
 use uca_plain::points::split_first;
 use uca_text::Normal;

@@ -4,7 +4,7 @@ ghost use Rattle.std.specs.Prelude.{◌≡◌, [], ◌<◌, ◌^◌, length, tak
 ghost use Rattle.uca_text.specs.Texts.{nfd_text};
 ghost use Rattle.uca_text.specs.Limits.{IsAccepted};
 ghost use Rattle.uca_text.specs.Faults.{IsCause};
-ghost use Rattle.uca_match.specs.Collations.{collation_of};
+ghost use Rattle.uca_elements.specs.Collations.{collation_of};
 ghost use Rattle.uca_order.specs.Depths.{read_text, key_at};
 ghost use Rattle.uca_order.specs.Lengths.{HasShortRows};
 ghost use Rattle.uca_key_writer.specs.Writers.{collation_by};
@@ -13,7 +13,7 @@ use crate::KeyBuffer;
 use crate::pieces::Piece;
 use std::alloc::{Allocator, Global};
 use std::marker::Model;
-use uca_match::{Collator, Lookup};
+use uca_elements::{Collator, Lookup};
 use uca_plain::plain::PlainPoints;
 use uca_text::{Normal, TextFault};
 use uca_weights::{Depth, Weighting};
@@ -32,7 +32,7 @@ pub struct KeyWriter<'a, L: Lookup, T: Allocator = Global, A: Allocator = Global
 }
 
 impl<'a, L: Lookup, T: Allocator, A: Allocator> Model for KeyWriter<'a, L, T, A> {
-    ghost use Rattle.uca_match.specs.Collations.{collation_of};
+    ghost use Rattle.uca_elements.specs.Collations.{collation_of};
     ghost use Rattle.uca_plain.specs.PlainPoints.{AreTrueEntries};
     ghost use Rattle.uca_key_writer.specs.Writers.{WriterState};
 

@@ -3,7 +3,7 @@
 ghost use Rattle.std.specs.Prelude.{◌≡◌, ◌<◌, ◌^◌, length, IfOk};
 ghost use Rattle.std.specs.Iterator.{IsFinite};
 ghost use Rattle.std.specs.Iterator.Runs.{WholeRun};
-ghost use Rattle.uca_match.specs.Collations.{collation_of};
+ghost use Rattle.uca_elements.specs.Collations.{collation_of};
 ghost use Rattle.uca_order.specs.Levels.{key_bytes};
 ghost use Rattle.uca_order.specs.Depths.{read_text, key_at};
 ghost use Rattle.uca_order.specs.Lengths.{HasShortRows};
@@ -11,7 +11,7 @@ ghost use Rattle.uca_order.specs.Lengths.{HasShortRows};
 use crate::KeyBuffer;
 use crate::level_buffers::LevelBuffers;
 use std::alloc::{AllocError, Allocator};
-use uca_match::{Collator, Lookup};
+use uca_elements::{Collator, Lookup};
 use uca_text::Normal;
 use uca_weights::{Depth, Element, Weighting};
 

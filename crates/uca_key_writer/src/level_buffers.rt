@@ -5,7 +5,7 @@ ghost use Rattle.std.specs.Bool.{OnTrue, MatchBool};
 ghost use Rattle.std.specs.Iterator.{IsFinite};
 ghost use Rattle.std.specs.Iterator.Runs.{WholeRun};
 ghost use Rattle.uca_weights.specs.declared.Element.{Element};
-ghost use Rattle.uca_match.specs.Collations.{Collation};
+ghost use Rattle.uca_elements.specs.Collations.{Collation};
 ghost use Rattle.uca_order.specs.Levels.{key_bytes};
 ghost use Rattle.uca_order.specs.Depths;
 ghost use Rattle.uca_order.specs.Depths.{points_bytes};

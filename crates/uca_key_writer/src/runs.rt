@@ -2,7 +2,7 @@
 
 ghost use Rattle.std.specs.Prelude.{◌≡◌, ℕ, ◌∷◌, [], ◌<◌, ◌≤◌, ◌++◌, List, length, chars, IfSome, MatchOption};
 ghost use Rattle.std.specs.Bool.{OnTrue};
-ghost use Rattle.uca_match.specs.Collations.{Collation};
+ghost use Rattle.uca_elements.specs.Collations.{Collation};
 ghost use Rattle.uca_weights.specs.declared.Element.{Element};
 ghost use Rattle.uca_plain.specs.Leaves.{points_elements};
 ghost use Rattle.uca_key_writer.specs.LevelBuffers.{levels_of, HasRoom, HoldsLevels};

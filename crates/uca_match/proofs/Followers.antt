@@ -4,8 +4,8 @@ use Rattle.std.proofs.Common.{option_and_then, ⊎_elim, sym, ap, subst, refl, �
 use Rattle.std.proofs.lemmas.Bool.{false≢true, cases_eq, cases_lt}
 use Rattle.std.proofs.lemmas.Bool.Decides.{nat_tests}
 use Rattle.std.proofs.lemmas.List.{take_more, get_or_past}
-use Rattle.uca_match.specs.Positions.{is_placed}
-use Rattle.uca_match.specs.Cuts.{IsNoFollower}
+use Rattle.uca_elements.specs.Positions.{is_placed}
+use Rattle.uca_elements.specs.Cuts.{IsNoFollower}
 use Rattle.uca_match.specs.Tries.{NodeContent, empty_node, target_of, node_at, walk, positions_in, IsTree, AreFollowers, ListedNode, MapContent, tree_of}
 use Rattle.uca_match.specs.CharMaps.{number_of}
 use Rattle.uca_match.proofs.TrieSteps.{no_listed, length-with_root, below_root}

@@ -1,17 +1,4 @@
-pub mod RemovedLemmas
-pub mod MatchLemmas
-pub mod ReadingLemmas
-pub mod PlaceLemmas
 pub mod RowPlaces
-pub mod ExtensionSteps
-pub mod ExtensionEnd
-pub mod Portions
-pub mod OccurringLetters
-pub mod Parts
-pub mod CutReading
-pub mod RelatedReading
-pub mod RowsByKey
-pub mod Prefixes
 pub mod TrieEdges
 pub mod TrieSteps
 pub mod TrieWalks
@@ -19,6 +6,5 @@ pub mod PlacedKeys
 pub mod TrieKeys
 pub mod TrieLookups
 pub mod CharMapLemmas
-pub mod Leaves
 pub mod Followers
 pub mod Spans

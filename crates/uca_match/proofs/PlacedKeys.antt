@@ -6,16 +6,16 @@ use Rattle.std.proofs.lemmas.List.{get_or_append_left, get_or_push, length_push,
 use Rattle.std.specs.Borrow.{Bor}
 use Rattle.uca_weights.specs.declared.Element.{Element}
 use Rattle.uca_values.specs.Content.{Entry, keys_of, AreDistinct}
-use Rattle.uca_match.specs.Rows.{same_key, rows_of}
-use Rattle.uca_match.specs.Positions.{Placed, is_placed, place_at, AreDistinctKeys, placed_from, AreLongKeys}
+use Rattle.uca_elements.specs.Rows.{same_key, rows_of}
+use Rattle.uca_elements.specs.Positions.{Placed, is_placed, place_at, AreDistinctKeys, placed_from, AreLongKeys}
 use Rattle.std.specs.List.Sorted.{IsPermutation}
 use Rattle.std.proofs.lemmas.List.Elements.{Contains-push, Contains-push_cases, Contains-append_left}
 use Rattle.std.proofs.lemmas.List.Sorted.{Contains-permutation, IsPermutation-sym}
-use Rattle.uca_match.specs.Lookups.{BeginsKeyIn, BeginsNoKeyIn, BeginsSomeKey, BeginsNoKey}
+use Rattle.uca_elements.specs.Lookups.{BeginsKeyIn, BeginsNoKeyIn, BeginsSomeKey, BeginsNoKey}
 use Rattle.uca_match.specs.Tries.{positions}
 use Rattle.uca_match.specs.NumberedKeys.{points_of, placed_of, TrieContent, rows_at}
 use Rattle.uca_match.specs.declared.key_map.Numbered.{Numbered}
-use Rattle.uca_match.proofs.RowsByKey.{same_key-true, same_key-itself, Contains-first, Contains-later, Contains-cases}
+use Rattle.uca_elements.proofs.RowsByKey.{same_key-true, same_key-itself, Contains-first, Contains-later, Contains-cases}
 
 -- what is found at a key is its position
 pub placed_of_found : (place : ℕ) (keys : List (List ℕ)) (key : List ℕ) (position : ℕ) → place_at place keys key ≡ Some position →

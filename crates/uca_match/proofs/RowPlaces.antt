@@ -7,8 +7,8 @@ use Rattle.std.proofs.lemmas.Slice.Eq.{bytes_eq-Decides}
 use Rattle.std.proofs.Math.Seq.{drop-cons}
 use Rattle.std.specs.Str.{bytes_eq}
 use Rattle.uca_values.specs.Content.{Entry}
-use Rattle.uca_match.specs.Rows.{rows_of, same_key, IsKey}
-use Rattle.uca_match.specs.Lookups.{BeginsSomeKey, BeginsNoKey}
+use Rattle.uca_elements.specs.Rows.{rows_of, same_key, IsKey}
+use Rattle.uca_elements.specs.Lookups.{BeginsSomeKey, BeginsNoKey}
 use Rattle.uca_match.specs.RowLists.{key_at, node_text}
 use Rattle.uca_match.specs.declared.row_list.RowNode.{RowNode}
 

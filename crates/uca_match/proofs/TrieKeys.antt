@@ -5,12 +5,12 @@ use Rattle.std.proofs.lemmas.Bool.{cond_both, cond-true, false≢true, cases_eq}
 use Rattle.std.proofs.lemmas.List.{length-set, get_or-set_same, get_or-set_other, take_more, take_all, take-append-drop}
 use Rattle.std.proofs.lemmas.List.Elements.{Contains-push, Contains-push_cases, Contains-append_left}
 use Rattle.std.proofs.lemmas.Option.{same_Some}
-use Rattle.uca_match.specs.Rows.{same_key}
-use Rattle.uca_match.specs.Positions.{Placed, place_at, AreDistinctKeys, placed_from, AreLongKeys}
+use Rattle.uca_elements.specs.Rows.{same_key}
+use Rattle.uca_elements.specs.Positions.{Placed, place_at, AreDistinctKeys, placed_from, AreLongKeys}
 use Rattle.uca_match.specs.Tries.{NodeContent, empty_node, node_at, walk, positions_in, AreNodes, IsNoDeadEnd, IsTree, IsAlong, with_position, ListedNode, with_root}
 use Rattle.uca_match.specs.declared.key_map.Edge.{Edge}
 use Rattle.uca_match.proofs.TrieSteps.{no_listed, length-with_root, with_position_put, number_within}
-use Rattle.uca_match.proofs.RowsByKey.{same_key-true, same_key-itself}
+use Rattle.uca_elements.proofs.RowsByKey.{same_key-true, same_key-itself}
 use Rattle.uca_match.proofs.PlacedKeys.{placed_of_found, found_of_placed, placed_here, key_at_position}
 use Rattle.uca_match.proofs.TrieWalks.{walk_root, one_path}
 

@@ -3,8 +3,8 @@ use Rattle.std.proofs.Common.{◌≡◌, ℕ, zero, suc, ◌+◌, ◌<◌, ◌�
 use Rattle.std.proofs.Common.{is_some, option_and_then, slice_index_or, IsTrue, sym, ap, subst, refl, ◌∙◌, arith}
 use Rattle.std.proofs.lemmas.Bool.{false≢true}
 use Rattle.std.proofs.lemmas.List.{length_push, get_or_read, get_or-map}
-use Rattle.uca_match.specs.Lookups.{BeginsKeyIn, BeginsNoKeyIn}
-use Rattle.uca_match.specs.Positions.{is_placed}
+use Rattle.uca_elements.specs.Lookups.{BeginsKeyIn, BeginsNoKeyIn}
+use Rattle.uca_elements.specs.Positions.{is_placed}
 use Rattle.uca_match.specs.Tries.{NodeContent, empty_node, node_at, walk, positions_in, AreNodes, IsTree, ListedNode, MapContent, by_edges, with_root, tree_of}
 use Rattle.uca_match.specs.CharMaps.{number_of}
 use Rattle.uca_match.proofs.TrieSteps.{no_listed, length-with_root}

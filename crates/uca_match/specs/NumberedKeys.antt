@@ -3,8 +3,8 @@ use Rattle.std.specs.Prelude.{ℕ, List, [], map, option_map, slice_index_or}
 use Rattle.std.specs.Borrow.{Bor}
 use Rattle.uca_weights.specs.declared.Element.{Element}
 use Rattle.uca_values.specs.Content.{Entry}
-use Rattle.uca_match.specs.Rows.{Rows}
-use Rattle.uca_match.specs.Positions.{Placed}
+use Rattle.uca_elements.specs.Rows.{Rows}
+use Rattle.uca_elements.specs.Positions.{Placed}
 use Rattle.uca_match.specs.Tries.{MapContent, positions}
 use Rattle.uca_match.specs.declared.key_map.Numbered.{Numbered}
 

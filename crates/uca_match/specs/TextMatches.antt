@@ -1,9 +1,9 @@
 -- What a text is matched as by keys that have positions.
 use Rattle.std.specs.Prelude.{ℕ, List, map, unwrap_or}
-use Rattle.uca_match.specs.Parts.{Part, Row, Implicit}
-use Rattle.uca_match.specs.Positions.{Positions}
-use Rattle.uca_match.specs.declared.matches.Match.{Match}
-use Rattle.uca_match.specs.declared.matches.Match.TheVariants.{Key, Unlisted}
+use Rattle.uca_elements.specs.Parts.{Part, Row, Implicit}
+use Rattle.uca_elements.specs.Positions.{Positions}
+use Rattle.uca_elements.specs.declared.matches.Match.{Match}
+use Rattle.uca_elements.specs.declared.matches.Match.TheVariants.{Key, Unlisted}
 
 -- the position of a key, or a code point; the parts of a text are no keys but those that have a position
 abbrev pub match_of : Positions → Part → Match ℕ

@@ -4,8 +4,8 @@ use Rattle.std.specs.Prelude.{◌≡◌, ◌≢◌, ℕ, zero, suc, ◌<◌, ◌
 use Rattle.std.specs.Prelude.{slice_index_or, option_and_then, map}
 use Rattle.std.specs.List.{AllByRecursion}
 use Rattle.std.specs.List.Sorted.{IsPartitionPoint}
-use Rattle.uca_match.specs.Rows.{same_key}
-use Rattle.uca_match.specs.Positions.{Positions, Placed}
+use Rattle.uca_elements.specs.Rows.{same_key}
+use Rattle.uca_elements.specs.Positions.{Positions, Placed}
 use Rattle.uca_match.specs.CharMaps.{Paged, number_of}
 use Rattle.uca_match.specs.declared.key_map.Edge.{Edge}
 

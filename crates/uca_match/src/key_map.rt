@@ -1,17 +1,17 @@
 //! `KeyMap`: keys and their positions in a list, as a tree of code points.
 ghost use Rattle.std.specs.Prelude.{◌≡◌, ◌≢◌, ℕ, false, ◌<◌, ◌∷◌, ◌++◌, List, [], length, map, IfOk, OnOk, MatchResult, Some, None, ◌≤◌};
 ghost use Rattle.std.specs.List.Sorted.{IsPartitionPoint};
-ghost use Rattle.uca_match.specs.Positions.{is_placed, place_at, AreDistinctKeys, AreLongKeys};
+ghost use Rattle.uca_elements.specs.Positions.{is_placed, place_at, AreDistinctKeys, AreLongKeys};
 ghost use Rattle.uca_match.specs.Tries.{NodeContent, empty_node as leaf, target_of, tree_of, with_root, positions, walk, with_position, AreRisingEdges, IsNewPlace, IsTree, IsAlong, AreFollowers};
-ghost use Rattle.uca_match.specs.Cuts.{IsNoFollower};
+ghost use Rattle.uca_elements.specs.Cuts.{IsNoFollower};
 ghost use Rattle.uca_match.specs.CharMaps.{number_of};
 ghost use Rattle.uca_match.specs.NumberedKeys.{points_of, placed_of};
 
 use crate::char_map::CharMap;
-use crate::key_sets::KeySet;
 use std::alloc::{AllocError, Allocator, Global};
 use std::cmp::Ordering;
 use std::marker::Model;
+use uca_elements::key_sets::KeySet;
 
 /// Keys, which are lists of code points, and the position of each in a list of them, as a tree. From its root,
 /// the code points of a key lead from node to node, and the last of these nodes has the position of the key.

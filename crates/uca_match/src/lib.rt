@@ -1,26 +1,18 @@
-//! Matching a text against the rows of a table: the collation elements that a text reads as
-//! (UTS #10, section 7.2, "Produce Collation Element Arrays").
+//! The rows of a table, ready to be looked up: as a list (`RowList`), and as a tree by code points (`Trie`). Maps of keys
+//! without their rows (`KeyMap`), and what a text is matched as by such a map (`Matches`).
+//!
+//! The crate passes on `uca_elements`, which reads texts by any lookup.
 #![tactic(auto)]
 
 mod char_map;
-mod collator;
 mod element_lists;
-mod elements;
 mod key_map;
-mod key_sets;
-pub mod laws;
-mod lookup;
-mod matches;
-mod places;
 mod row_list;
 mod text_matches;
 mod trie;
 
-pub use collator::Collator;
-pub use elements::Elements;
 pub use key_map::{KeyMap, TrieNode};
-pub use lookup::{Lookup, row_of};
-pub use matches::Match;
 pub use row_list::{RowList, RowNode};
 pub use text_matches::Matches;
 pub use trie::{Trie, key_list};
+pub use uca_elements::{Collator, Elements, Lookup, Match, laws, row_of};

@@ -1,10 +1,10 @@
 //! The rows of a table in their order, for lookups that go through all of them.
 ghost use Rattle.std.specs.Prelude.{◌≡◌, ◌↔◌, ℕ, ◌+◌, List, [], ◌∷◌, ◌++◌, length, take, IsTrue};
-ghost use Rattle.uca_match.specs.Rows.{rows_of};
+ghost use Rattle.uca_elements.specs.Rows.{rows_of};
 ghost use Rattle.uca_match.specs.RowLists.{node_text};
 
-use crate::Lookup;
 use std::alloc::{Allocator, Global};
+use uca_elements::Lookup;
 use uca_values::{Row, Table};
 use uca_weights::Element;
 

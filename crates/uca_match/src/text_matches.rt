@@ -3,15 +3,15 @@ ghost use Rattle.std.specs.Prelude.{◌≡◌};
 ghost use Rattle.std.specs.Iterator.{YieldsFirst, item_count};
 ghost use Rattle.uca_text.specs.Texts.{letters_of};
 ghost use Rattle.uca_match.specs.Tries.{positions};
-ghost use Rattle.uca_match.specs.Positions.{is_placed};
-ghost use Rattle.uca_match.specs.Reading.{parts};
+ghost use Rattle.uca_elements.specs.Positions.{is_placed};
+ghost use Rattle.uca_elements.specs.Reading.{parts};
 ghost use Rattle.uca_match.specs.TextMatches.{matches_of};
 
 use crate::KeyMap;
-use crate::matches::{Match, next_portion};
-use crate::places::Place;
 use std::alloc::{Allocator, Global};
 use std::marker::Model;
+use uca_elements::matches::{Match, next_portion};
+use uca_elements::places::Place;
 use uca_text::Normal;
 
 /// What a text is matched as (UTS #10, S2.1 to S2.1.3), seen as the list of the matches that are left. Each is the
@@ -26,11 +26,11 @@ pub struct Matches<'a, A: Allocator = Global> {
 
 impl<'a, A: Allocator> Model for Matches<'a, A> {
     ghost use Rattle.std.specs.Prelude.{ℕ, List};
-    ghost use Rattle.uca_match.specs.declared.matches.Match.{Match};
+    ghost use Rattle.uca_elements.specs.declared.matches.Match.{Match};
     ghost use Rattle.uca_match.specs.Tries.{positions};
-    ghost use Rattle.uca_match.specs.Positions.{is_placed};
-    ghost use Rattle.uca_match.specs.Reading.{parts};
-    ghost use Rattle.uca_match.specs.Places.{left_of, IsPlace};
+    ghost use Rattle.uca_elements.specs.Positions.{is_placed};
+    ghost use Rattle.uca_elements.specs.Reading.{parts};
+    ghost use Rattle.uca_elements.specs.Places.{left_of, IsPlace};
     ghost use Rattle.uca_match.specs.TextMatches.{matches_of};
 
     ghost Value = { List (Match ℕ) };

@@ -1,16 +1,17 @@
 //! The rows of a table as a tree of code points, for lookups by a few steps.
 ghost use Rattle.std.specs.Prelude.{◌≡◌, ℕ, List, option_map, slice_index_or, [], Some, IfOk};
 ghost use Rattle.uca_values.specs.Content.{keys_of};
-ghost use Rattle.uca_match.specs.Rows.{rows_of};
-ghost use Rattle.uca_match.specs.Positions.{place_at, AreDistinctKeys};
+ghost use Rattle.uca_elements.specs.Rows.{rows_of};
+ghost use Rattle.uca_elements.specs.Positions.{place_at, AreDistinctKeys};
 ghost use Rattle.uca_match.specs.Tries.{positions, tree_of, walk};
 ghost use Rattle.uca_match.specs.NumberedKeys.{points_of, rows_at};
 
 use crate::element_lists::ElementLists;
-use crate::key_sets::KeySet;
-use crate::{KeyMap, Lookup, TrieNode};
+use crate::{KeyMap, TrieNode};
 use std::alloc::{AllocError, Allocator, Global};
 use std::marker::Model;
+use uca_elements::Lookup;
+use uca_elements::key_sets::KeySet;
 use uca_values::{Row, Table};
 use uca_weights::Element;
 

@@ -4,7 +4,7 @@ use Rattle.std.proofs.lemmas.List.{length-map}
 use Rattle.uca_weights.specs.declared.Weighting.{Weighting}
 use Rattle.uca_text.specs.Texts.{NfdText, letters_of}
 use Rattle.uca_text.specs.Limits.{IsAccepted}
-use Rattle.uca_match.specs.Collations.{Collation, elements_of}
+use Rattle.uca_elements.specs.Collations.{Collation, elements_of}
 use Rattle.uca_order.specs.Levels.{weight_at, weighted}
 use Rattle.uca_order.specs.Fetched.{length_to, primaries, first_difference}
 use Rattle.uca_order.specs.Lengths.{HasShortRows}

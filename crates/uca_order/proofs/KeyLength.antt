@@ -16,18 +16,18 @@ use Rattle.uca_text.specs.Limits.{IsAccepted}
 use Rattle.std.specs.Iterator.{Yields, YieldsFirst}
 use Rattle.std.specs.Iterator.Runs.{Run, WholeRun}
 use Rattle.std.proofs.iter.runs.Made.{took}
-use Rattle.uca_match.specs.Rows.{Rows, is_key, rows_of, same_key}
-use Rattle.uca_match.specs.Parts.{part_elements}
-use Rattle.uca_match.specs.Reading.{others, non_starters_at_front, after_non_starters, removed, longest_key, Portion, portion_at}
-use Rattle.uca_match.specs.Reading.{portion, parts_within, collation_elements}
-use Rattle.uca_match.specs.Collations.{Collation, elements_of}
+use Rattle.uca_elements.specs.Rows.{Rows, is_key, rows_of, same_key}
+use Rattle.uca_elements.specs.Parts.{part_elements}
+use Rattle.uca_elements.specs.Reading.{others, non_starters_at_front, after_non_starters, removed, longest_key, Portion, portion_at}
+use Rattle.uca_elements.specs.Reading.{portion, parts_within, collation_elements}
+use Rattle.uca_elements.specs.Collations.{Collation, elements_of}
 use Rattle.uca_order.specs.Levels.{Weights as WeightsType, weight_at, level_list, level_lists_from, weighted, level_bytes, levels_bytes}
 use Rattle.uca_order.specs.Levels.{weighted_following, key_bytes}
 use Rattle.uca_order.specs.Depths.{read_text, points_bytes, key_at}
 use Rattle.uca_order.specs.Lengths.{HasShortRows}
 use Rattle.uca_order.specs.Laws.{KeysAreShort, RowsAreShort}
 use Rattle.std.specs.List.{AllByRecursion, flat_map}
-use Rattle.uca_match.proofs.MatchLemmas.{length-others}
+use Rattle.uca_elements.proofs.MatchLemmas.{length-others}
 
 -- ---- Of elements
 

@@ -8,8 +8,8 @@ use Rattle.uca_weights.specs.Kinds.{IsCompletelyIgnorable}
 use Rattle.uca_values.specs.Content.{Entry, AreRows}
 use Rattle.uca_text.specs.Texts.{NfdText, AreCanonicallyEquivalent, nfd_text}
 use Rattle.uca_text.specs.Limits.{IsAccepted}
-use Rattle.uca_match.specs.Rows.{Rows, rows_of}
-use Rattle.uca_match.specs.Collations.{Collation, elements_of}
+use Rattle.uca_elements.specs.Rows.{Rows, rows_of}
+use Rattle.uca_elements.specs.Collations.{Collation, elements_of}
 use Rattle.uca_order.specs.Levels.{Comparison, is_completely_ignorable, level_count, lexicographic, compared, key_bytes}
 use Rattle.uca_order.specs.Depths.{ReadText, read_text, levels_at, compared_at, key_at}
 use Rattle.uca_order.specs.Fetched.{fetched_left, fetched_right}

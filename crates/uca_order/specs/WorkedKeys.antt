@@ -3,7 +3,7 @@ use Rattle.std.specs.Prelude.{◌≡◌, ℕ, List, [], ◌∷◌}
 use Rattle.uca_weights.specs.declared.Weighting.{Weighting}
 use Rattle.uca_weights.specs.declared.Weighting.TheVariants.{NonIgnorable, Shifted}
 use Rattle.uca_values.specs.Content.{Entry}
-use Rattle.uca_match.specs.WorkedTable.{plain, variable, small_rows, with_contraction, with_long_contraction, elements_under}
+use Rattle.uca_elements.specs.WorkedTable.{plain, variable, small_rows, with_contraction, with_long_contraction, elements_under}
 use Rattle.uca_order.specs.Levels.{key_bytes, level_bytes}
 
 -- the key of a text under some rows, with the header and the data file of the worked examples, is these groups

@@ -6,7 +6,7 @@ use Rattle.uca_weights.specs.declared.Depth.{Depth}
 use Rattle.uca_weights.specs.declared.Depth.TheVariants.{Weights, Identical}
 use Rattle.uca_weights.specs.declared.Weighting.{Weighting}
 use Rattle.uca_weights.specs.declared.Weighting.TheVariants.{NonIgnorable, Shifted}
-use Rattle.uca_match.specs.WorkedTable.{small_rows, elements_under}
+use Rattle.uca_elements.specs.WorkedTable.{small_rows, elements_under}
 use Rattle.uca_order.specs.Levels.{level_bytes}
 use Rattle.uca_order.specs.Depths.{ReadText, compared_at, key_at}
 use Rattle.uca_order.specs.Fetched.{fetched_left, fetched_right}

@@ -4,8 +4,8 @@ use Rattle.uca_weights.specs.declared.Depth.{Depth}
 use Rattle.uca_weights.specs.declared.Weighting.{Weighting}
 use Rattle.uca_weights.specs.declared.Weighting.TheVariants.{Shifted}
 use Rattle.uca_values.specs.Content.{TableContent, Properties}
-use Rattle.uca_match.specs.Rows.{rows_of}
-use Rattle.uca_match.specs.Collations.{Collation}
+use Rattle.uca_elements.specs.Rows.{rows_of}
+use Rattle.uca_elements.specs.Collations.{Collation}
 use Rattle.uca_order.specs.Levels.{Comparison}
 use Rattle.uca_order.specs.Laws.{text_key, texts_compared}
 

@@ -12,7 +12,7 @@ use crate::OwnedCollator;
 use crate::faults::{CompareFault, KeyFault};
 use std::cmp::Ordering;
 use uca_comparison::compare;
-use uca_match::Collator;
+use uca_elements::Collator;
 use uca_text::{Normal, TextFault};
 use uca_values::Data;
 

@@ -11,14 +11,14 @@ use Rattle.uca_weights.specs.declared.Element.{Element}
 use Rattle.uca_weights.specs.declared.Weighting.{Weighting}
 use Rattle.uca_values.specs.Implicit.{implicit}
 use Rattle.uca_text.specs.Texts.{Letter, Text, NfdText, nfd_text, code_points, letters}
-use Rattle.uca_match.specs.Rows.{Keys, is_key}
-use Rattle.uca_match.specs.Lookups.{BeginsNoKeyIn}
-use Rattle.uca_match.specs.Parts.{Part, Row, Implicit, part_elements}
-use Rattle.uca_match.specs.Reading.{is_taken, removed, members, others, longest_key, non_starters_at_front, after_non_starters, parts}
-use Rattle.uca_match.specs.Collations.{Collation, elements_of}
-use Rattle.uca_match.proofs.RemovedLemmas.{removed_skipped, taken_iff}
-use Rattle.uca_match.proofs.MatchLemmas.{marks-append, no_longer}
-use Rattle.uca_match.proofs.ReadingLemmas.{parts_of_none, parts_of_longest}
+use Rattle.uca_elements.specs.Rows.{Keys, is_key}
+use Rattle.uca_elements.specs.Lookups.{BeginsNoKeyIn}
+use Rattle.uca_elements.specs.Parts.{Part, Row, Implicit, part_elements}
+use Rattle.uca_elements.specs.Reading.{is_taken, removed, members, others, longest_key, non_starters_at_front, after_non_starters, parts}
+use Rattle.uca_elements.specs.Collations.{Collation, elements_of}
+use Rattle.uca_elements.proofs.RemovedLemmas.{removed_skipped, taken_iff}
+use Rattle.uca_elements.proofs.MatchLemmas.{marks-append, no_longer}
+use Rattle.uca_elements.proofs.ReadingLemmas.{parts_of_none, parts_of_longest}
 use Rattle.uca_plain.specs.Leaves.{IsLeaf, AreLeaves, points_elements, leaf_elements}
 
 module _ (keys : Keys) (x : Letter) (leaf : (y : ℕ) → BeginsNoKeyIn keys (x.code ∷ y ∷ [])) where

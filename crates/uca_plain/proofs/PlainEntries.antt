@@ -12,7 +12,7 @@ use Rattle.uca_weights.specs.declared.Element.{Element}
 use Rattle.uca_weights.proofs.Lists.{each_append}
 use Rattle.uca_text.specs.Texts.{NfdText, nfd_text}
 use Rattle.uca_text.proofs.NfdLength.{decompose_length}
-use Rattle.uca_match.specs.Collations.{Collation, elements_of}
+use Rattle.uca_elements.specs.Collations.{Collation, elements_of}
 use Rattle.uca_plain.specs.declared.plain.Known.{Known}
 use Rattle.uca_plain.specs.Plain.{IsPlain}
 use Rattle.uca_plain.specs.PlainPoints.{IsTrueEntry, IsTrueLeaf, BeginsWithStarter, HasTrueDecomposition, AreTrueEntries}

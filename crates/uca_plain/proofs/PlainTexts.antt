@@ -11,11 +11,11 @@ use Rattle.uca_text.specs.Limits.{HasNoLongRun}
 use Rattle.uca_text.proofs.Runs.{few_have_no_long_run}
 use Rattle.uca_text.proofs.NfdLength.{nfd_length}
 use Rattle.uca_text.proofs.NfdPieces.{nfd_begins, nfd_pieces, pieces_have_no_long_run}
-use Rattle.uca_match.specs.Rows.{is_key}
-use Rattle.uca_match.specs.Collations.{Collation, elements_of}
-use Rattle.uca_match.specs.Reading.{read, collation_elements}
-use Rattle.uca_match.specs.Cuts.{IsCut}
-use Rattle.uca_match.proofs.CutReading.{read_pieces}
+use Rattle.uca_elements.specs.Rows.{is_key}
+use Rattle.uca_elements.specs.Collations.{Collation, elements_of}
+use Rattle.uca_elements.specs.Reading.{read, collation_elements}
+use Rattle.uca_elements.specs.Cuts.{IsCut}
+use Rattle.uca_elements.proofs.CutReading.{read_pieces}
 use Rattle.uca_plain.specs.Plain.{IsPlain, ArePlain, elements_alone}
 
 letters-append : (f : ℕ → ℕ) (xs ys : List ℕ) → letters (xs ++ ys) (map f (xs ++ ys)) ≡ letters xs (map f xs) ++ letters ys (map f ys)

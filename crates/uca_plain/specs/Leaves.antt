@@ -3,10 +3,10 @@ use Rattle.std.specs.Prelude.{ℕ, List, [], ◌∷◌, map}
 use Rattle.std.specs.List.{AllByRecursion}
 use Rattle.uca_weights.specs.declared.Element.{Element}
 use Rattle.uca_text.specs.Texts.{letters}
-use Rattle.uca_match.specs.Rows.{is_key}
-use Rattle.uca_match.specs.Lookups.{BeginsNoKeyIn}
-use Rattle.uca_match.specs.Collations.{Collation}
-use Rattle.uca_match.specs.Reading.{collation_elements}
+use Rattle.uca_elements.specs.Rows.{is_key}
+use Rattle.uca_elements.specs.Lookups.{BeginsNoKeyIn}
+use Rattle.uca_elements.specs.Collations.{Collation}
+use Rattle.uca_elements.specs.Reading.{collation_elements}
 
 -- no key is longer than the code point and begins with it
 pub record IsLeaf (c : Collation) (x : ℕ) : Type 0 where

@@ -6,9 +6,9 @@ use Rattle.unicode_normalization.specs.Forms.{Nfd}
 use Rattle.unicode_normalization.specs.Decompose.{decompose}
 use Rattle.uca_weights.specs.declared.Element.{Element}
 use Rattle.uca_text.specs.Texts.{nfd_text}
-use Rattle.uca_match.specs.Collations.{Collation, elements_of}
-use Rattle.uca_match.specs.Rows.{is_key}
-use Rattle.uca_match.specs.Cuts.{IsNoFollower}
+use Rattle.uca_elements.specs.Collations.{Collation, elements_of}
+use Rattle.uca_elements.specs.Rows.{is_key}
+use Rattle.uca_elements.specs.Cuts.{IsNoFollower}
 
 -- It decomposes into a starter, under Unicode and under the data file, and what follows it. No key has the starter after
 -- its first code point.

@@ -4,7 +4,7 @@ use Rattle.std.specs.List.{AllByRecursion}
 use Rattle.ucd_normal.specs.CanonicalCombiningClass.{canonical_combining_class}
 use Rattle.unicode_normalization.specs.Forms.{Nfd}
 use Rattle.unicode_normalization.specs.Decompose.{decompose}
-use Rattle.uca_match.specs.Collations.{Collation}
+use Rattle.uca_elements.specs.Collations.{Collation}
 use Rattle.uca_plain.specs.declared.plain.Known.{Known}
 use Rattle.uca_plain.specs.Leaves.{IsLeaf, leaf_elements}
 use Rattle.uca_plain.specs.Plain.{IsPlain, elements_alone}

@@ -2,14 +2,14 @@
 
 ghost use Rattle.std.specs.Prelude.{◌≡◌, ◌<◌, ◌≤◌, ◌∷◌, [], true, length, take, IfOk, IfSome};
 ghost use Rattle.std.specs.Bool.{OnTrue, MatchBool};
-ghost use Rattle.uca_match.specs.Collations.{Collation, collation_of, elements_of};
+ghost use Rattle.uca_elements.specs.Collations.{Collation, collation_of, elements_of};
 ghost use Rattle.uca_plain.specs.Plain.{IsPlain, elements_alone};
 ghost use Rattle.uca_plain.specs.Leaves.{IsLeaf, leaf_elements};
 ghost use Rattle.uca_plain.specs.PlainPoints.{IsTrueEntry, IsTrueLeaf, HasTrueDecomposition, AreTrueEntries, counted_on};
 ghost use Rattle.uca_plain.specs.declared.plain.Known.{Known};
 
 use std::alloc::{AllocError, Allocator, Global};
-use uca_match::{Collator, Lookup};
+use uca_elements::{Collator, Lookup};
 use uca_text::{Normal, TextFault};
 use uca_weights::Element;
 use unicode_normalization::Form;
@@ -56,16 +56,18 @@ const NOT_MET: Known = Known {
 /// What is known of a code point.
 #[derive(Clone, Copy)]
 pub struct Known {
+    /// The code point.
     pub point: char,
-    // How many elements it has, if it is plain and has at most three. Otherwise 4.
-    count: u8,
-    // how many code points it decomposes to, or more
-    len: u8,
-    // that it decomposes into a starter first; `false` says nothing
-    starts: bool,
-    // How many elements it has, if it is a leaf and has at most three: no key is longer and begins with it. Otherwise 4.
-    leaf_count: u8,
-    elements: [Element; ROOM],
+    /// How many elements it has, if it is plain and has at most three. Otherwise 4.
+    pub count: u8,
+    /// How many code points it decomposes to, or more.
+    pub len: u8,
+    /// That it decomposes into a starter first. `false` says nothing.
+    pub starts: bool,
+    /// How many elements it has, if it is a leaf and has at most three: no key is longer and begins with it. Otherwise 4.
+    pub leaf_count: u8,
+    /// Its elements come first.
+    pub elements: [Element; 3],
 }
 
 impl Known {
@@ -153,7 +155,8 @@ impl Known {
 pub struct PlainPoints<A: Allocator> {
     // of each page, its position among the pages of entries; there are none before the first code point
     pages: Vec<u16, A>,
-    entries: Vec<Known, A>,
+    /// The pages, one after another. What they say of a code point is true.
+    pub entries: Vec<Known, A>,
     // lends its memory to the texts of single code points
     text: Normal,
 }

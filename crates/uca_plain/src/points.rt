@@ -1,7 +1,7 @@
 //! The first code point of a text, and what is known of it.
 
 ghost use Rattle.std.specs.Prelude.{◌≡◌, ◌∷◌, [], ◌≤◌, chars, IfSome, MatchOption};
-ghost use Rattle.uca_match.specs.Collations.{Collation};
+ghost use Rattle.uca_elements.specs.Collations.{Collation};
 ghost use Rattle.uca_plain.specs.PlainPoints.{IsTrueEntry, AreTrueEntries};
 
 use crate::plain::{Known, PlainPoints};

@@ -3,7 +3,7 @@ use Rattle.std.proofs.Common.{◌≡◌, ℕ, List, [], ◌∷◌, map, get_or, 
 use Rattle.std.specs.List.{AllByRecursion}
 use Rattle.std.proofs.lemmas.List.Elements.{recursion_from_All, All-contains_itself}
 use Rattle.uca_values.specs.Implicit.{implicit}
-use Rattle.uca_match.specs.Rows.{same_key}
+use Rattle.uca_elements.specs.Rows.{same_key}
 use Rattle.uca_plans.specs.declared.drafts.DraftElement.{DraftElement}
 use Rattle.uca_plans.specs.Drafts.{DraftRow, as_draft, draft_at}
 use Rattle.uca_plans.specs.Readings.{IsReadFrom, DraftsComeFromRows}

@@ -7,10 +7,10 @@ use Rattle.uca_values.specs.declared.ImplicitRange.{ImplicitRange}
 use Rattle.uca_values.specs.Content.{Properties}
 use Rattle.uca_values.specs.Implicit.{implicit}
 use Rattle.uca_text.specs.Texts.{NfdText, code_points, letters, letters_of}
-use Rattle.uca_match.specs.Rows.{same_key}
-use Rattle.uca_match.specs.Parts.{Part, Row, Implicit, IsPartOf}
-use Rattle.uca_match.specs.Reading.{parts}
-use Rattle.uca_match.proofs.Parts.{each_part}
+use Rattle.uca_elements.specs.Rows.{same_key}
+use Rattle.uca_elements.specs.Parts.{Part, Row, Implicit, IsPartOf}
+use Rattle.uca_elements.specs.Reading.{parts}
+use Rattle.uca_elements.proofs.Parts.{each_part}
 use Rattle.uca_weights.proofs.Lists.{each_contained}
 use Rattle.uca_plans.specs.declared.drafts.DraftElement.{DraftElement}
 use Rattle.uca_plans.specs.Drafts.{DraftRow, as_draft, has_key, draft_at, part_drafts, draft_elements}

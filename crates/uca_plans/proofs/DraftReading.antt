@@ -11,10 +11,10 @@ use Rattle.uca_values.specs.Implicit.{implicit}
 use Rattle.uca_text.specs.Texts.{NfdText, code_points, letters, letters_of}
 use Rattle.uca_text.specs.Occurring.{OccursInOrder}
 use Rattle.uca_text.proofs.Occurring.{occurs_trans}
-use Rattle.uca_match.specs.Rows.{rows_of, is_key, same_key}
-use Rattle.uca_match.specs.Parts.{Part, Row, Implicit, part_elements, IsPartOf}
-use Rattle.uca_match.specs.Reading.{parts}
-use Rattle.uca_match.proofs.Parts.{parts_same, each_part, key_is_part}
+use Rattle.uca_elements.specs.Rows.{rows_of, is_key, same_key}
+use Rattle.uca_elements.specs.Parts.{Part, Row, Implicit, part_elements, IsPartOf}
+use Rattle.uca_elements.specs.Reading.{parts}
+use Rattle.uca_elements.proofs.Parts.{parts_same, each_part, key_is_part}
 use Rattle.uca_plans.specs.declared.drafts.DraftElement.{DraftElement}
 use Rattle.uca_plans.specs.Drafts.{DraftRow, as_draft, has_key, draft_at, part_drafts}
 use Rattle.uca_plans.specs.Readings.{valued_rows, DraftsReadAsRows, DraftsReadByWhatOccurs, KeysReadAsTheirRows}

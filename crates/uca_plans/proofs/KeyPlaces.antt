@@ -4,11 +4,11 @@ use Rattle.std.specs.List.{AllByRecursion}
 use Rattle.std.proofs.Math.Bool.{or-false}
 use Rattle.std.proofs.lemmas.Bool.{false≢true, false_from_ne_true, cond-true, cond-false, cases_Bool}
 use Rattle.uca_rules.specs.declared.relations.Relation.{Relation}
-use Rattle.uca_match.specs.Rows.{same_key}
-use Rattle.uca_match.proofs.RowsByKey.{same_key-true, same_key-itself}
+use Rattle.uca_elements.specs.Rows.{same_key}
+use Rattle.uca_elements.proofs.RowsByKey.{same_key-true, same_key-itself}
 use Rattle.uca_plans.specs.Drafts.{DraftRow, with_row, has_key, draft_at}
 use Rattle.uca_plans.specs.Readings.{IsOneMore}
-use Rattle.uca_match.specs.Positions.{place_at}
+use Rattle.uca_elements.specs.Positions.{place_at}
 use Rattle.uca_plans.specs.Keys.{keys_in, is_among, with_key, with_targets}
 
 -- other keys are not the same key

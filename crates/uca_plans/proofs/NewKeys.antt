@@ -8,7 +8,7 @@ use Rattle.uca_values.specs.Content.{keys_of}
 use Rattle.uca_check.specs.WellFormed.{elements_of}
 use Rattle.uca_rules.specs.declared.relations.Relation.{Relation}
 use Rattle.uca_rules.specs.Relations.{AreDistinct}
-use Rattle.uca_match.specs.Rows.{rows_of, is_key}
+use Rattle.uca_elements.specs.Rows.{rows_of, is_key}
 use Rattle.uca_plans.specs.Plans.{Plan}
 use Rattle.uca_plans.specs.Keys.{is_among, with_key, with_targets}
 use Rattle.uca_plans.specs.PlanLaws.{KeysOfPlans}

@@ -2,10 +2,10 @@
 use Rattle.std.proofs.Common.{◌≡◌, ℕ, suc, ◌+◌, ◌<◌, List, [], ◌∷◌, ◌++◌, length, set, Bool, true, false, ◌||◌}
 use Rattle.std.proofs.Common.{Some, None, refl, sym, ap, ◌∙◌, arith}
 use Rattle.std.proofs.lemmas.Bool.{false≢true, cond-true, cond-false, or_parts}
-use Rattle.uca_match.specs.Rows.{same_key}
-use Rattle.uca_match.proofs.RowsByKey.{same_key-itself}
+use Rattle.uca_elements.specs.Rows.{same_key}
+use Rattle.uca_elements.proofs.RowsByKey.{same_key-itself}
 use Rattle.uca_plans.specs.Drafts.{DraftRow, with_row, has_key}
-use Rattle.uca_match.specs.Positions.{place_at}
+use Rattle.uca_elements.specs.Positions.{place_at}
 use Rattle.uca_plans.specs.Keys.{keys_in, is_among, with_key}
 
 -- ---- Where one more row goes

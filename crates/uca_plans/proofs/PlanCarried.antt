@@ -11,7 +11,7 @@ use Rattle.uca_values.specs.Content.{AreImplicitRanges}
 use Rattle.uca_check.specs.WellFormed.{elements_of}
 use Rattle.uca_weights.proofs.Lists.{each_weaker, each_append, each_parts}
 use Rattle.uca_text.specs.Texts.{NfdText}
-use Rattle.uca_match.specs.Rows.{same_key}
+use Rattle.uca_elements.specs.Rows.{same_key}
 use Rattle.uca_rules.specs.declared.relations.Relation.{Relation}
 use Rattle.uca_rules.specs.Relations.{IsRuleText, HasRuleTexts}
 use Rattle.uca_plans.specs.declared.drafts.DraftWeight.{DraftWeight}

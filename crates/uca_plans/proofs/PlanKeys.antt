@@ -4,8 +4,8 @@ use Rattle.std.proofs.Common.{⊎_elim, arith, is_some, Some}
 use Rattle.std.proofs.lemmas.Bool.{false≢true, false_from_ne_true, or_cases, or_left, or_right, or_from}
 use Rattle.uca_values.specs.Content.{Entry, keys_of, AreDistinct}
 use Rattle.uca_rules.specs.declared.relations.Relation.{Relation}
-use Rattle.uca_match.specs.Rows.{rows_of, same_key}
-use Rattle.uca_match.proofs.RowsByKey.{same_key-true, same_key-itself}
+use Rattle.uca_elements.specs.Rows.{rows_of, same_key}
+use Rattle.uca_elements.proofs.RowsByKey.{same_key-true, same_key-itself}
 use Rattle.uca_plans.specs.Drafts.{DraftRow, row_as_draft}
 use Rattle.uca_plans.specs.Plans.{Basis, Drafting, begun, LevelPlans, numbered_row}
 use Rattle.uca_plans.specs.Keys.{keys_in, is_among, with_key, with_targets}

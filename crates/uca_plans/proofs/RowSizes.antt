@@ -13,11 +13,11 @@ use Rattle.uca_check.specs.WellFormed.{elements_of}
 use Rattle.uca_text.specs.Texts.{Text, NfdText, letters_of}
 use Rattle.uca_rules.specs.declared.relations.Relation.{Relation}
 use Rattle.uca_rules.specs.Relations.{IsRuleText, HasRuleTexts}
-use Rattle.uca_match.specs.Rows.{same_key}
-use Rattle.uca_match.specs.Parts.{Part, Row, Implicit, IsPartOf}
-use Rattle.uca_match.specs.Reading.{Portion, portion, parts}
-use Rattle.uca_match.proofs.Parts.{each_part}
-use Rattle.uca_match.proofs.ReadingLemmas.{parts_portion}
+use Rattle.uca_elements.specs.Rows.{same_key}
+use Rattle.uca_elements.specs.Parts.{Part, Row, Implicit, IsPartOf}
+use Rattle.uca_elements.specs.Reading.{Portion, portion, parts}
+use Rattle.uca_elements.proofs.Parts.{each_part}
+use Rattle.uca_elements.proofs.ReadingLemmas.{parts_portion}
 use Rattle.uca_plans.specs.declared.drafts.DraftElement.{DraftElement}
 use Rattle.uca_plans.specs.declared.drafts.DraftWeight.{DraftWeight}
 use Rattle.uca_plans.specs.declared.drafts.DraftWeight.TheVariants.{New}

@@ -8,9 +8,9 @@ use Rattle.uca_text.specs.Texts.{NfdText, code_points, letters_of}
 use Rattle.uca_text.specs.Occurring.{OccursInOrder}
 use Rattle.uca_rules.specs.declared.relations.Relation.{Relation}
 use Rattle.uca_rules.specs.Relations.{IsTarget, IsUntouched, IsUsedBy, IsRuleText, HasRuleTexts}
-use Rattle.uca_match.specs.Rows.{same_key}
-use Rattle.uca_match.proofs.Parts.{parts_same, key_is_part}
-use Rattle.uca_match.proofs.RowsByKey.{same_key-true, same_key-itself}
+use Rattle.uca_elements.specs.Rows.{same_key}
+use Rattle.uca_elements.proofs.Parts.{parts_same, key_is_part}
+use Rattle.uca_elements.proofs.RowsByKey.{same_key-true, same_key-itself}
 use Rattle.uca_plans.specs.Drafts.{has_key, part_drafts}
 use Rattle.uca_plans.specs.Keys.{keys_in, is_among, with_key, with_targets, IsTextOf, RelationsReadOverAllKeys}
 use Rattle.uca_plans.proofs.KeyPlaces.{among_with_key, among_left, has_key_is}

@@ -8,9 +8,9 @@ use Rattle.uca_values.specs.declared.ImplicitRange.{ImplicitRange}
 use Rattle.uca_values.specs.Content.{Entry, Properties}
 use Rattle.uca_values.specs.Implicit.{implicit}
 use Rattle.uca_text.specs.Texts.{NfdText, letters_of}
-use Rattle.uca_match.specs.Rows.{same_key}
-use Rattle.uca_match.specs.Parts.{Part, Row, Implicit}
-use Rattle.uca_match.specs.Reading.{parts}
+use Rattle.uca_elements.specs.Rows.{same_key}
+use Rattle.uca_elements.specs.Parts.{Part, Row, Implicit}
+use Rattle.uca_elements.specs.Reading.{parts}
 use Rattle.uca_plans.specs.declared.drafts.DraftWeight.{DraftWeight}
 use Rattle.uca_plans.specs.declared.drafts.DraftWeight.TheVariants.{Base, New}
 use Rattle.uca_plans.specs.declared.drafts.DraftElement.{DraftElement}

@@ -6,8 +6,8 @@ use Rattle.uca_values.specs.Content.{Properties}
 use Rattle.uca_text.specs.Texts.{NfdText, letters_of}
 use Rattle.uca_rules.specs.declared.relations.Relation.{Relation}
 use Rattle.uca_rules.specs.Relations.{AreRules}
-use Rattle.uca_match.specs.Rows.{Keys, same_key}
-use Rattle.uca_match.specs.Reading.{parts}
+use Rattle.uca_elements.specs.Rows.{Keys, same_key}
+use Rattle.uca_elements.specs.Reading.{parts}
 use Rattle.uca_plans.specs.declared.drafts.DraftElement.{DraftElement}
 use Rattle.uca_plans.specs.Drafts.{DraftRow, part_drafts, draft_elements}
 

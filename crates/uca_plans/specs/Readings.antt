@@ -6,12 +6,12 @@ use Rattle.uca_values.specs.declared.ImplicitRange.{ImplicitRange}
 use Rattle.uca_values.specs.Content.{Entry, Properties}
 use Rattle.uca_values.specs.Implicit.{implicit}
 use Rattle.uca_text.specs.Texts.{NfdText}
-use Rattle.uca_match.specs.Rows.{rows_of}
-use Rattle.uca_match.specs.Collations.{elements_of}
+use Rattle.uca_elements.specs.Rows.{rows_of}
+use Rattle.uca_elements.specs.Collations.{elements_of}
 use Rattle.uca_text.specs.Occurring.{OccursInOrder}
 use Rattle.uca_plans.specs.declared.drafts.DraftElement.{DraftElement}
 use Rattle.uca_plans.specs.Drafts.{DraftRow, as_draft, draft_at, draft_elements, with_row, has_key}
-use Rattle.uca_match.specs.Positions.{place_at}
+use Rattle.uca_elements.specs.Positions.{place_at}
 use Rattle.uca_plans.specs.Keys.{keys_in}
 
 -- the rows where each element is valued

@@ -6,7 +6,7 @@ use Rattle.uca_weights.specs.declared.Strength.{Strength}
 use Rattle.uca_weights.specs.declared.Level.TheVariants.{Two, Three}
 use Rattle.uca_values.specs.Content.{Entry}
 use Rattle.uca_text.specs.Texts.{NfdText}
-use Rattle.uca_match.specs.WorkedTable.{plain, variable, row, small_rows, small_ranges, small_properties}
+use Rattle.uca_elements.specs.WorkedTable.{plain, variable, row, small_rows, small_ranges, small_properties}
 use Rattle.uca_weights.specs.declared.maps.Run.{Run}
 use Rattle.uca_plans.specs.declared.faults.TailorKind.TheVariants as kinds
 use Rattle.uca_plans.specs.declared.faults.TailorFault.{TailorFault}

@@ -3,7 +3,7 @@ use Rattle.std.proofs.Common.{◌≡◌, ℕ, ◌^◌, ◌<◌, ◌≤◌, true,
 use Rattle.uca_weights.specs.declared.Depth.{Depth}
 use Rattle.uca_weights.specs.declared.Depth.TheVariants.{Weights, Identical}
 use Rattle.uca_weights.specs.declared.Weighting.{Weighting}
-use Rattle.uca_match.specs.Collations.{Collation}
+use Rattle.uca_elements.specs.Collations.{Collation}
 use Rattle.uca_text.specs.Texts.{nfd_text}
 use Rattle.uca_order.specs.Depths.{read_text, key_at}
 use Rattle.uca_runs.specs.declared.keys.KeyForm.{KeyForm}

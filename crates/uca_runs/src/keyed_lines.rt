@@ -1,7 +1,7 @@
 //! The run that prints each line after its sort key.
 
 ghost use Rattle.std.specs.Prelude.{◌≡◌, ◌∷◌, [], ◌||◌, false, IfSome};
-ghost use Rattle.uca_match.specs.Collations.{collation_of};
+ghost use Rattle.uca_elements.specs.Collations.{collation_of};
 ghost use Rattle.uca_order.specs.Lengths.{HasShortRows};
 ghost use Rattle.uca_key_lines.specs.Keys.{key_settings_of};
 ghost use Rattle.uca_run_parts.specs.Runs.{is_input_read, ended_by_output};
@@ -11,7 +11,7 @@ ghost use Rattle.uca_runs.specs.KeysRun.{PrintsKeyedLines, WritesKeyedLines};
 use crate::keys::{KeyForm, print_lines, run_lines_in};
 use std::alloc::{Allocator, Global};
 use std::io::{Read, Write};
-use uca_match::{Collator, Lookup};
+use uca_elements::{Collator, Lookup};
 use uca_run_parts::faults::RunFault;
 use uca_weights::{Depth, Sink, Source, Weighting};
 

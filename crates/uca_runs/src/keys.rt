@@ -7,7 +7,7 @@ ghost use Rattle.uca_weights.specs.Writes.{WentOut};
 ghost use Rattle.uca_lines.specs.OutputBuffer.{IsBuffered};
 ghost use Rattle.uca_lines.specs.Buffered.{HasRoom, WritesThrough};
 ghost use Rattle.uca_text.specs.Texts.{nfd_text};
-ghost use Rattle.uca_match.specs.Collations.{collation_of};
+ghost use Rattle.uca_elements.specs.Collations.{collation_of};
 ghost use Rattle.uca_order.specs.Lengths.{HasShortRows};
 ghost use Rattle.uca_key_writer.specs.Writers.{collation_by};
 ghost use Rattle.uca_key_lines.specs.Keys.{key_settings_of, settings_at};
@@ -22,11 +22,11 @@ ghost use Rattle.uca_runs.specs.KeyForms.{PrintsAs, depth_as, line_as, printed_a
 
 use std::alloc::{Allocator, Global};
 use std::io::{Read, Write};
+use uca_elements::{Collator, Lookup};
 use uca_key_lines::collations::read_collation;
 use uca_key_lines::line_keys::write_line_key;
 use uca_key_writer::KeyWriter;
 use uca_lines::{LINE_LIMIT, OutputBuffer};
-use uca_match::{Collator, Lookup};
 use uca_run_parts::faults::{InputKind, RunFault};
 use uca_run_parts::input::{InputLines, take_text};
 use uca_run_parts::output::end_output;

@@ -1,6 +1,6 @@
 -- Lookups that find the same rows read texts alike.
 use Rattle.std.proofs.Common.{◌≡◌, sym, ap, subst₂, ◌∙◌}
-use Rattle.uca_match.specs.Collations.{Collation}
+use Rattle.uca_elements.specs.Collations.{Collation}
 use Rattle.uca_order.specs.Depths.{read_text}
 use Rattle.uca_order.proofs.DepthOrder.{depth_order, depth_level}
 use Rattle.uca_tailorings.specs.Tailorings.{Tailoring, base_reading, tailored_reading}

@@ -13,10 +13,10 @@ use Rattle.uca_values.specs.Content.{Entry}
 use Rattle.uca_values.specs.Implicit.{implicit_pair, implicit}
 use Rattle.uca_rules.specs.declared.relations.Relation.{Relation}
 use Rattle.uca_rules.specs.Relations.{IsTarget}
-use Rattle.uca_match.specs.Rows.{rows_of}
-use Rattle.uca_match.specs.Laws.{AreRelatedRows}
+use Rattle.uca_elements.specs.Rows.{rows_of}
+use Rattle.uca_elements.specs.Laws.{AreRelatedRows}
 use Rattle.uca_weights.proofs.PerLevel.{holds_at}
-use Rattle.uca_match.proofs.RowsByKey.{row_of_found, found_of_row}
+use Rattle.uca_elements.proofs.RowsByKey.{row_of_found, found_of_row}
 use Rattle.uca_weights.specs.PerLevel.{at_level}
 use Rattle.uca_tailorings.specs.Images.{Maps, AreRisingMaps, IsImage, AreImages}
 use Rattle.uca_tailorings.specs.Placing.{IsLow, reset, reweighted, placed}

@@ -5,10 +5,10 @@ use Rattle.uca_weights.specs.declared.Element.{Element}
 use Rattle.uca_text.specs.Texts.{Text, NfdText, code_points, letters, letters_of}
 use Rattle.uca_text.specs.Limits.{IsNormal}
 use Rattle.uca_text.specs.Occurring.{OccursInOrder}
-use Rattle.uca_match.specs.Rows.{Rows}
-use Rattle.uca_match.specs.Reading.{read}
-use Rattle.uca_match.specs.Laws.{AreRelatedRows}
-use Rattle.uca_match.proofs.RelatedReading.{read_related}
+use Rattle.uca_elements.specs.Rows.{Rows}
+use Rattle.uca_elements.specs.Reading.{read}
+use Rattle.uca_elements.specs.Laws.{AreRelatedRows}
+use Rattle.uca_elements.proofs.RelatedReading.{read_related}
 use Rattle.uca_weights.proofs.Lists.{each_append}
 
 -- letters have the code points that they are made of

@@ -11,9 +11,9 @@ use Rattle.uca_values.specs.Implicit.{implicit}
 use Rattle.uca_text.specs.Texts.{NfdText, code_points, letters_of}
 use Rattle.uca_rules.specs.declared.relations.Relation.{Relation}
 use Rattle.uca_rules.specs.Relations.{IsRuleText, HasRuleTexts}
-use Rattle.uca_match.specs.Rows.{rows_of}
-use Rattle.uca_match.specs.Collations.{elements_of}
-use Rattle.uca_match.proofs.ReadingLemmas.{key_reads_as_row}
+use Rattle.uca_elements.specs.Rows.{rows_of}
+use Rattle.uca_elements.specs.Collations.{elements_of}
+use Rattle.uca_elements.proofs.ReadingLemmas.{key_reads_as_row}
 use Rattle.uca_order.specs.Levels.{compared}
 use Rattle.uca_tailorings.specs.Placing.{IsIgnorableTo, reweighted, placed, IsOnSide}
 use Rattle.uca_tailorings.specs.Tailorings.{Tailoring, IsTailoring, tailored_reading, anchor_elements, expansion_elements, IsTargetRow, IsPlacedAt}

@@ -6,9 +6,9 @@ use Rattle.uca_weights.specs.declared.Element.{Element}
 use Rattle.uca_values.specs.Content.{Entry}
 use Rattle.uca_rules.specs.declared.relations.Relation.{Relation}
 use Rattle.uca_rules.specs.Relations.{IsTarget}
-use Rattle.uca_match.specs.Rows.{IsKey, same_key, rows_of}
-use Rattle.uca_match.specs.Laws.{AreRelatedRows}
-use Rattle.uca_match.proofs.RowsByKey.{same_key-true, same_key-itself}
+use Rattle.uca_elements.specs.Rows.{IsKey, same_key, rows_of}
+use Rattle.uca_elements.specs.Laws.{AreRelatedRows}
+use Rattle.uca_elements.proofs.RowsByKey.{same_key-true, same_key-itself}
 use Rattle.uca_weights.proofs.Lists.{each_weaker}
 use Rattle.uca_tailorings.specs.Images.{Maps, AreImages}
 use Rattle.uca_tailorings.specs.KeptRows.{IsKeptRow, IsKnownRow}

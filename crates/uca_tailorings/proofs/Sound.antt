@@ -14,8 +14,8 @@ use Rattle.uca_check.specs.WellFormed.{HasGap, MeetsWF1, MeetsWF2, IsWellFormed}
 use Rattle.uca_weights.proofs.Lists.{each_weaker}
 use Rattle.uca_text.specs.Texts.{NfdText, letters_of}
 use Rattle.uca_text.specs.Limits.{IsNormal}
-use Rattle.uca_match.specs.Rows.{rows_of}
-use Rattle.uca_match.specs.Collations.{elements_of}
+use Rattle.uca_elements.specs.Rows.{rows_of}
+use Rattle.uca_elements.specs.Collations.{elements_of}
 use Rattle.uca_tailorings.specs.Placing.{IsIgnorableTo, reset, reweighted}
 use Rattle.uca_tailorings.specs.Tailorings.{Tailoring, IsTailoring, tailored_reading, IsBetween}
 use Rattle.uca_tailorings.proofs.RowConditions.{at_row}

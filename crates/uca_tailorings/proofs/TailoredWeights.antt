@@ -11,9 +11,9 @@ use Rattle.uca_text.specs.Texts.{NfdText, code_points, letters_of}
 use Rattle.uca_text.specs.Occurring.{OccursInOrder}
 use Rattle.uca_rules.specs.declared.relations.Relation.{Relation}
 use Rattle.uca_rules.specs.Relations.{IsTarget, IsUntouched, IsRuleText, HasRuleTexts}
-use Rattle.uca_match.specs.Rows.{IsKey, rows_of}
-use Rattle.uca_match.specs.Collations.{elements_of}
-use Rattle.uca_match.proofs.ReadingLemmas.{some_row}
+use Rattle.uca_elements.specs.Rows.{IsKey, rows_of}
+use Rattle.uca_elements.specs.Collations.{elements_of}
+use Rattle.uca_elements.proofs.ReadingLemmas.{some_row}
 use Rattle.uca_tailorings.specs.Tailorings.{Tailoring, IsTailoring, tailored_reading, anchor_elements, expansion_elements, elements_of_expansion}
 use Rattle.uca_tailorings.specs.Tailorings.{IsTargetRow, IsPresentTarget, IsAccepted}
 use Rattle.uca_tailorings.specs.declared.conditions.Condition.TheVariants.{RowMissing}

@@ -15,9 +15,9 @@ use Rattle.uca_text.specs.Occurring.{OccursInOrder}
 use Rattle.uca_text.proofs.Occurring.{occurs_trans, each_occurring}
 use Rattle.uca_rules.specs.declared.relations.Relation.{Relation}
 use Rattle.uca_rules.specs.Relations.{IsTarget, IsUntouched}
-use Rattle.uca_match.specs.Rows.{rows_of}
-use Rattle.uca_match.specs.Collations.{elements_of}
-use Rattle.uca_match.proofs.RelatedReading.{read_related}
+use Rattle.uca_elements.specs.Rows.{rows_of}
+use Rattle.uca_elements.specs.Collations.{elements_of}
+use Rattle.uca_elements.proofs.RelatedReading.{read_related}
 use Rattle.uca_order.specs.Levels.{Weights as ElementWeights, level_list, level_lists_from, weighted, decided, lexicographic, compare_from}
 use Rattle.uca_order.specs.Depths.{compared_at, key_at}
 use Rattle.uca_tailorings.specs.Images.{Maps, AreRisingMaps, AreImages, KeepAllWeights}

@@ -10,7 +10,7 @@ use Rattle.uca_weights.specs.Runs.{weight_image}
 use Rattle.uca_text.specs.Occurring.{OccursInOrder}
 use Rattle.uca_rules.specs.declared.relations.Relation.{Relation}
 use Rattle.uca_rules.specs.Relations.{IsTarget, IsUsedBy, IsUntouched, AreRules}
-use Rattle.uca_match.specs.WorkedTable.{plain, small_properties}
+use Rattle.uca_elements.specs.WorkedTable.{plain, small_properties}
 use Rattle.uca_tailorings.specs.Images.{IsImage}
 use Rattle.uca_tailorings.specs.Placing.{IsAnchor, IsLow}
 use Rattle.uca_tailorings.specs.Tailorings.{IsTailoring, IsPlacedAt, IsKnownWeight, IsAccepted}

@@ -10,7 +10,7 @@ use Rattle.uca_weights.specs.Levels.{weight, level_of}
 use Rattle.uca_values.specs.Content.{Entry, IsHeader}
 use Rattle.uca_rules.specs.declared.relations.Relation.{Relation}
 use Rattle.uca_rules.specs.Relations.{IsRuleText}
-use Rattle.uca_match.specs.WorkedTable.{small_header}
+use Rattle.uca_elements.specs.WorkedTable.{small_header}
 use Rattle.uca_weights.specs.PerLevel.{at_level}
 use Rattle.uca_tailorings.specs.Images.{Maps, IsImage, AreImages}
 use Rattle.uca_tailorings.specs.Placing.{IsLow}

@@ -9,7 +9,7 @@ use Rattle.uca_weights.specs.declared.Element.{Element}
 use Rattle.uca_values.specs.Content.{Entry, Fits, IsEntry, AreDistinct, AreRows, keys_of}
 use Rattle.uca_check.specs.WellFormed.{elements_of, HasGap, IsVariable, IsVariableBetween, MeetsWF1, MeetsWF2, MeetsWF3, MeetsWF4, MeetsWF5, IsWellFormed}
 use Rattle.uca_weights.proofs.Lists.{each_weaker, each_any, each_contained}
-use Rattle.uca_match.specs.WorkedTable.{plain, row}
+use Rattle.uca_elements.specs.WorkedTable.{plain, row}
 use Rattle.uca_check.proofs.RowElements.{each_of_rows}
 use Rattle.uca_tailorings.proofs.Parts.{of_part}
 

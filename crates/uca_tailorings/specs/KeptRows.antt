@@ -2,7 +2,7 @@
 use Rattle.std.specs.Prelude.{◌≡◌, ◌⊎◌, ℕ, List, Some}
 use Rattle.uca_weights.specs.declared.Element.{Element}
 use Rattle.uca_values.specs.Content.{Entry}
-use Rattle.uca_match.specs.Rows.{Rows, IsKey}
+use Rattle.uca_elements.specs.Rows.{Rows, IsKey}
 use Rattle.uca_tailorings.specs.Images.{Maps, AreImages}
 
 -- where the key is not changed, its new row, if there is one, is the image of the old row

@@ -5,7 +5,7 @@ use Rattle.uca_weights.specs.declared.Weighting.{Weighting}
 use Rattle.uca_text.specs.Texts.{NfdText}
 use Rattle.uca_text.specs.Limits.{IsNormal}
 use Rattle.uca_rules.specs.Relations.{IsUntouched}
-use Rattle.uca_match.specs.Collations.{Collation}
+use Rattle.uca_elements.specs.Collations.{Collation}
 use Rattle.uca_order.specs.Levels.{lexicographic}
 use Rattle.uca_order.specs.Depths.{read_text, levels_at, compared_at, key_at}
 use Rattle.uca_order.specs.StoredKeys.{stored_level}

@@ -14,7 +14,7 @@ use Rattle.uca_text.specs.Texts.{NfdText}
 use Rattle.uca_text.specs.Limits.{IsNormal}
 use Rattle.uca_rules.specs.declared.relations.Relation.{Relation}
 use Rattle.uca_rules.specs.Relations.{IsUntouched}
-use Rattle.uca_match.specs.Collations.{elements_of}
+use Rattle.uca_elements.specs.Collations.{elements_of}
 use Rattle.uca_order.specs.Levels.{Comparison, compared}
 use Rattle.uca_order.specs.Depths.{read_text, compared_at, key_at}
 use Rattle.uca_tailorings.specs.Images.{KeepAllWeights}

@@ -11,8 +11,8 @@ use Rattle.uca_check.specs.WellFormed.{IsWellFormed}
 use Rattle.uca_text.specs.Texts.{NfdText}
 use Rattle.uca_rules.specs.declared.relations.Relation.{Relation}
 use Rattle.uca_rules.specs.Relations.{IsTarget, AreRules}
-use Rattle.uca_match.specs.Rows.{IsKey, rows_of}
-use Rattle.uca_match.specs.Collations.{Collation, elements_of}
+use Rattle.uca_elements.specs.Rows.{IsKey, rows_of}
+use Rattle.uca_elements.specs.Collations.{Collation, elements_of}
 use Rattle.uca_weights.specs.PerLevel.{at_level}
 use Rattle.uca_tailorings.specs.Images.{Maps, AreRisingMaps}
 use Rattle.uca_tailorings.specs.KeptRows.{IsKeptRow, IsKnownRow}

@@ -10,8 +10,8 @@ use Rattle.uca_text.specs.Limits.{IsAccepted}
 use Rattle.uca_text.specs.Faults.{IsCause}
 use Rattle.uca_text.specs.declared.normalize.TextFault.{TextFault}
 use Rattle.uca_text.specs.declared.normalize.TextFault.TheVariants.{Memory}
-use Rattle.uca_match.specs.Collations.{Collation, elements_of}
-use Rattle.uca_match.specs.Rows.{Rows}
+use Rattle.uca_elements.specs.Collations.{Collation, elements_of}
+use Rattle.uca_elements.specs.Rows.{Rows}
 use Rattle.uca_order.specs.Depths.{read_text, compared_at}
 use Rattle.uca_order.specs.Fetched.{fetched_left, fetched_right}
 use Rattle.uca_text_comparer.specs.Comparers.{ComparerState, collation_by}

@@ -13,7 +13,7 @@ use Rattle.uca_weights.specs.declared.Weighting.{Weighting}
 use Rattle.uca_weights.specs.declared.Weighting.TheVariants.{NonIgnorable, Shifted}
 use Rattle.uca_text.specs.Texts.{nfd_text}
 use Rattle.uca_text.specs.Limits.{HasNoLongRun, IsAccepted}
-use Rattle.uca_match.specs.Collations.{Collation}
+use Rattle.uca_elements.specs.Collations.{Collation}
 use Rattle.uca_comparison.specs.declared.walk.Walked.{Walked}
 use Rattle.uca_order.specs.Levels.{level_count}
 use Rattle.uca_comparison.specs.Fronts.{FrontState, begun, counted}

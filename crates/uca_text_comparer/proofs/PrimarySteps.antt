@@ -15,7 +15,7 @@ use Rattle.uca_weights.specs.declared.Weighting.TheVariants.{NonIgnorable, Shift
 use Rattle.uca_weights.proofs.Lists.{each_append}
 use Rattle.uca_text.specs.Limits.{HasNoLongRun}
 use Rattle.uca_text.proofs.Runs.{few_have_no_long_run}
-use Rattle.uca_match.specs.Collations.{Collation}
+use Rattle.uca_elements.specs.Collations.{Collation}
 use Rattle.uca_comparison.specs.declared.walk.LevelsSoFar.{LevelsSoFar}
 use Rattle.uca_comparison.specs.declared.walk.Step.TheVariants.{Both, Left, Right}
 use Rattle.uca_comparison.specs.declared.walk.Walked.{Walked}

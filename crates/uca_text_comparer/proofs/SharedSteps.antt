@@ -8,7 +8,7 @@ use Rattle.uca_weights.specs.declared.Weighting.{Weighting}
 use Rattle.uca_weights.proofs.Lists.{each_append}
 use Rattle.uca_text.specs.Limits.{HasNoLongRun}
 use Rattle.uca_text.proofs.NfdPieces.{pieces_have_no_long_run}
-use Rattle.uca_match.specs.Collations.{Collation}
+use Rattle.uca_elements.specs.Collations.{Collation}
 use Rattle.uca_comparison.specs.declared.walk.LevelsSoFar.{LevelsSoFar}
 use Rattle.uca_order.specs.StreamedWeights.{is_after_variable}
 use Rattle.uca_comparison.specs.Fronts.{begun, counted}

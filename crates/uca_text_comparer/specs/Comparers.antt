@@ -4,8 +4,8 @@ use Rattle.uca_weights.specs.declared.Depth.{Depth}
 use Rattle.uca_weights.specs.declared.Weighting.{Weighting}
 use Rattle.uca_values.specs.declared.ImplicitRange.{ImplicitRange}
 use Rattle.uca_values.specs.Content.{DataContent, properties_of}
-use Rattle.uca_match.specs.Rows.{Rows}
-use Rattle.uca_match.specs.Collations.{Collation}
+use Rattle.uca_elements.specs.Rows.{Rows}
+use Rattle.uca_elements.specs.Collations.{Collation}
 
 -- what it reads texts by, the weighting, and the depth
 pub record ComparerState (L : Type 0) : Type 0 where

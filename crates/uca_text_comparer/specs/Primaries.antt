@@ -4,7 +4,7 @@ use Rattle.std.specs.List.{AllByRecursion}
 use Rattle.uca_weights.specs.declared.Element.{Element}
 use Rattle.uca_weights.specs.declared.Weighting.{Weighting}
 use Rattle.uca_weights.specs.declared.Weighting.TheVariants.{NonIgnorable, Shifted}
-use Rattle.uca_match.specs.Collations.{Collation}
+use Rattle.uca_elements.specs.Collations.{Collation}
 use Rattle.uca_comparison.specs.Walks.{Stands, none_decided}
 use Rattle.uca_plain.specs.Plain.{ArePlain, elements_alone}
 

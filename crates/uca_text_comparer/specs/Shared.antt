@@ -5,7 +5,7 @@ use Rattle.uca_weights.specs.declared.Element.{Element}
 use Rattle.uca_weights.specs.declared.Weighting.{Weighting}
 use Rattle.uca_text.specs.Texts.{nfd_text}
 use Rattle.uca_text.specs.Limits.{HasNoLongRun, IsAccepted}
-use Rattle.uca_match.specs.Collations.{Collation, elements_of}
+use Rattle.uca_elements.specs.Collations.{Collation, elements_of}
 use Rattle.uca_comparison.specs.declared.walk.Walked.{Walked}
 use Rattle.uca_order.specs.StreamedWeights.{is_after_variable}
 use Rattle.uca_comparison.specs.Fronts.{counted}

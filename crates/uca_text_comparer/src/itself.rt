@@ -1,13 +1,13 @@
 //! How a text compares with itself.
 
-ghost use Rattle.uca_match.specs.Collations.{collation_of, elements_of};
+ghost use Rattle.uca_elements.specs.Collations.{collation_of, elements_of};
 ghost use Rattle.uca_comparison.specs.Comparisons.{ComparesLevels};
 
 use std::alloc::Allocator;
 use std::cmp::Ordering;
 use uca_comparison::stored::level_count;
 use uca_comparison::walk::Walked;
-use uca_match::{Collator, Lookup};
+use uca_elements::{Collator, Lookup};
 use uca_text::Normal;
 use uca_weights::{Depth, Weighting};
 

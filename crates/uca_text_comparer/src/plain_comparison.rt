@@ -3,7 +3,7 @@
 ghost use Rattle.std.specs.Prelude.{◌≡◌, ◌++◌, ℕ, List, chars, IfOk, IfSome};
 ghost use Rattle.std.specs.Bool.{OnTrue};
 ghost use Rattle.uca_weights.specs.declared.Element.{Element};
-ghost use Rattle.uca_match.specs.Collations.{Collation, collation_of};
+ghost use Rattle.uca_elements.specs.Collations.{Collation, collation_of};
 ghost use Rattle.uca_order.specs.Levels;
 ghost use Rattle.uca_comparison.specs.Comparisons.{ComparesLevels};
 ghost use Rattle.uca_comparison.specs.Walks.{Stands, none_decided};
@@ -19,7 +19,7 @@ use uca_comparison::element_stream::Listed;
 use uca_comparison::front::Front;
 use uca_comparison::stored::level_count;
 use uca_comparison::walk::{Walked, walk_fronts};
-use uca_match::{Collator, Lookup};
+use uca_elements::{Collator, Lookup};
 use uca_plain::plain::{Known, PlainPoints, SHORT_TEXT};
 use uca_weights::{Depth, Element, Weighting};
 

@@ -3,7 +3,7 @@
 ghost use Rattle.std.specs.Prelude.{◌≡◌, ◌<◌, ℕ, List, Bool, chars, length, IfSome};
 ghost use Rattle.std.specs.Bool.{OnTrue};
 ghost use Rattle.uca_weights.specs.declared.Element.{Element};
-ghost use Rattle.uca_match.specs.Collations.{Collation};
+ghost use Rattle.uca_elements.specs.Collations.{Collation};
 ghost use Rattle.uca_comparison.specs.Fronts;
 ghost use Rattle.uca_comparison.specs.Fronts.{weight_here};
 ghost use Rattle.uca_comparison.specs.Comparisons.{ComparesLevels};

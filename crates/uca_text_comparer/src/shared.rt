@@ -1,12 +1,12 @@
 //! `Rest`: what follows the code points with which two texts begin.
 
 ghost use Rattle.std.specs.Prelude.{◌≡◌, ◌≤◌, ◌∷◌, chars, IfOk, IfSome};
-ghost use Rattle.uca_match.specs.Collations.{Collation, collation_of};
+ghost use Rattle.uca_elements.specs.Collations.{Collation, collation_of};
 ghost use Rattle.uca_plain.specs.PlainPoints.{IsTrueEntry, AreTrueEntries};
 ghost use Rattle.uca_text_comparer.specs.Shared.{IsRest, flag_after};
 
 use std::alloc::{AllocError, Allocator};
-use uca_match::{Collator, Lookup};
+use uca_elements::{Collator, Lookup};
 use uca_order::weighting::is_after_variable;
 use uca_plain::plain::{Known, PlainPoints};
 use uca_plain::points::split_first;

@@ -5,7 +5,7 @@ ghost use Rattle.std.specs.Bool.{OnTrue};
 ghost use Rattle.uca_text.specs.Texts.{nfd_text};
 ghost use Rattle.uca_text.specs.Limits.{IsAccepted};
 ghost use Rattle.uca_text.specs.Faults.{IsCause};
-ghost use Rattle.uca_match.specs.Collations.{collation_of, elements_of};
+ghost use Rattle.uca_elements.specs.Collations.{collation_of, elements_of};
 ghost use Rattle.uca_order.specs.Depths.{read_text, compared_at};
 ghost use Rattle.uca_order.specs.Fetched.{fetched_left, fetched_right};
 ghost use Rattle.uca_comparison.specs.Comparisons.{NothingElseDecides};
@@ -18,7 +18,7 @@ use std::cmp::Ordering;
 use std::marker::Model;
 use uca_comparison::comparison::{Compared, compare};
 use uca_comparison::walk::Walked;
-use uca_match::{Collator, Lookup};
+use uca_elements::{Collator, Lookup};
 use uca_text::{Normal, TextFault};
 use uca_weights::{Depth, Weighting};
 
@@ -36,7 +36,7 @@ pub struct TextComparer<'a, L: Lookup, T: Allocator = Global, A: Allocator = Glo
 }
 
 impl<'a, L: Lookup, T: Allocator, A: Allocator> Model for TextComparer<'a, L, T, A> {
-    ghost use Rattle.uca_match.specs.Collations.{collation_of};
+    ghost use Rattle.uca_elements.specs.Collations.{collation_of};
     ghost use Rattle.uca_plain.specs.PlainPoints.{AreTrueEntries};
     ghost use Rattle.uca_text_comparer.specs.Comparers.{ComparerState};
 

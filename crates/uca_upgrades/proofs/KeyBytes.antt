@@ -15,8 +15,8 @@ use Rattle.uca_values.specs.Implicit.{implicit}
 use Rattle.uca_values.proofs.ImplicitPairs.{each_pair}
 use Rattle.uca_text.specs.Texts.{NfdText, code_points, letters}
 use Rattle.uca_text.proofs.Occurring.{each_occurring}
-use Rattle.uca_match.specs.Rows.{rows_of, same_key}
-use Rattle.uca_match.specs.Collations.{elements_of}
+use Rattle.uca_elements.specs.Rows.{rows_of, same_key}
+use Rattle.uca_elements.specs.Collations.{elements_of}
 use Rattle.uca_order.specs.Levels as levels
 use Rattle.uca_order.specs.Levels.{follows_variable, is_completely_ignorable, is_ignorable, key_bytes, level_bytes, level_count, level_list, level_lists_from, levels_bytes, weight_at, weighted, weighted_following, weights_of}
 use Rattle.uca_order.specs.Depths.{key_at, points_bytes, read_text}

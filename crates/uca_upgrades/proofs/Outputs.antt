@@ -8,7 +8,7 @@ use Rattle.uca_lines.specs.Lines.{Lacks, ended, is_lf, lines_of}
 use Rattle.uca_lines.specs.Numbers.{upper_digit}
 use Rattle.uca_lines.proofs.LineLemmas.{Lacks-append}
 use Rattle.uca_text.specs.Texts.{nfd_text}
-use Rattle.uca_match.specs.Collations.{elements_of}
+use Rattle.uca_elements.specs.Collations.{elements_of}
 use Rattle.uca_order.specs.Levels.{key_bytes}
 use Rattle.uca_order.specs.Depths.{point_bytes}
 use Rattle.uca_run_parts.specs.Print.{byte_digits, groups, printed_behind, printed_groups, spaced_point}

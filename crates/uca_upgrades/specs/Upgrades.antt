@@ -7,7 +7,7 @@ use Rattle.uca_weights.specs.declared.Weighting.{Weighting}
 use Rattle.uca_values.specs.Content.{Properties}
 use Rattle.uca_lines.specs.Lines.{ended, lines_of}
 use Rattle.uca_text.specs.Texts.{nfd_text}
-use Rattle.uca_match.specs.Collations.{elements_of}
+use Rattle.uca_elements.specs.Collations.{elements_of}
 use Rattle.uca_order.specs.Levels.{lexicographic}
 use Rattle.uca_order.specs.Depths.{levels_at}
 use Rattle.uca_order.specs.StoredKeys.{stored_level}

@@ -4,7 +4,7 @@ ghost use Rattle.std.specs.Prelude.{◌≡◌, ◌↔◌, IsTrue, IfOk, MatchOpt
 ghost use Rattle.std.specs.List.{AllByRecursion};
 ghost use Rattle.uca_weights.specs.Kinds.{IsContinuation};
 ghost use Rattle.uca_weights.specs.Levels as weights;
-ghost use Rattle.uca_match.specs.Collations.{collation_of};
+ghost use Rattle.uca_elements.specs.Collations.{collation_of};
 ghost use Rattle.uca_tailorings.specs.Laws.{ReadsAs};
 ghost use Rattle.uca_tailorings.specs.Placing.{IsIgnorableTo, IsLow};
 ghost use Rattle.uca_tailorings.specs.Tailorings.{HasAnchor, Meets, tailored_reading};
@@ -15,7 +15,8 @@ use crate::Condition;
 use crate::inputs::Inputs;
 use crate::readings::read_elements;
 use std::alloc::{AllocError, Allocator};
-use uca_match::{Collator, Lookup, Trie};
+use uca_elements::{Collator, Lookup};
+use uca_match::Trie;
 use uca_weights::{Element, Level, Strength};
 
 /// The first primary of implicit weights (UTS #10, section 10.1.3); new primaries are below it.

@@ -2,7 +2,7 @@
 
 ghost use Rattle.std.specs.Prelude.{◌≡◌, ◌↔◌, ◌++◌, [], ℕ, IsTrue, IfNone, IfOk, MatchOption};
 ghost use Rattle.std.specs.List.{AllZip};
-ghost use Rattle.uca_match.specs.Collations.{collation_of};
+ghost use Rattle.uca_elements.specs.Collations.{collation_of};
 ghost use Rattle.uca_tailorings.specs.Laws.{ReadsAs};
 ghost use Rattle.uca_tailorings.specs.Placing as placing;
 ghost use Rattle.uca_tailorings.specs.Placing.{placed, IsOnSide};
@@ -15,7 +15,8 @@ use crate::conditions::anchors::{anchor_place, level_of, weight};
 use crate::inputs::Inputs;
 use crate::readings::Readings;
 use std::alloc::{AllocError, Allocator};
-use uca_match::{Collator, Lookup, Trie, row_of};
+use uca_elements::{Collator, Lookup, row_of};
+use uca_match::Trie;
 use uca_rules::Relation;
 use uca_weights::{Element, Level};
 

@@ -1,6 +1,6 @@
 use Rattle.std.proofs.Common.{◌≡◌, ap, subst, sym, ◌∙◌}
 use Rattle.uca_values.specs.Content.{TableContent, AreRows, keys_of}
-use Rattle.uca_match.specs.Positions.{AreDistinctKeys}
+use Rattle.uca_elements.specs.Positions.{AreDistinctKeys}
 use Rattle.uca_match.specs.NumberedKeys.{points_of}
 use Rattle.uca_match.proofs.PlacedKeys.{distinct_keys}
 use Rattle.test_texts.proofs.key_maps.map_of.Goals as goal

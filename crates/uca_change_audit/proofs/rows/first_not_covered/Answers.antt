@@ -3,7 +3,7 @@ use Rattle.uca_values.specs.Content.{TableContent}
 use Rattle.uca_tailorings.specs.Inputs.{maps_of}
 use Rattle.uca_check.specs.Searches.{FindsFirstWithout}
 use Rattle.uca_certificates.specs.Certificates.{CertificateContent}
-use Rattle.uca_match.specs.Rows.{rows_of}
+use Rattle.uca_elements.specs.Rows.{rows_of}
 use Rattle.uca_kept_rows.specs.UnlistedRows.{IsCoveredIfUnlisted}
 use Rattle.uca_changes.specs.Changes.{IsChangedText}
 use Rattle.uca_change_audit.specs.ChangeInputs.{change_in}

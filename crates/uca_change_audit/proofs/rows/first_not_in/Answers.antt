@@ -1,6 +1,6 @@
 use Rattle.std.proofs.Common.{Contains, ap, ◌∙◌}
 use Rattle.uca_values.specs.Content.{TableContent}
-use Rattle.uca_match.specs.Rows.{rows_of}
+use Rattle.uca_elements.specs.Rows.{rows_of}
 use Rattle.uca_tailorings.specs.KeptRows.{IsKnownRow}
 use Rattle.uca_change_audit.specs.ChangeInputs.{change_in}
 use Rattle.uca_change_audit.proofs.FoundRows.{found_by}

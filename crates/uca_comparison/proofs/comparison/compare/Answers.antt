@@ -1,6 +1,6 @@
 use Rattle.std.proofs.Common.{◌≡◌, rules}
 use Rattle.uca_weights.specs.declared.Depth.TheVariants.{Weights, Identical}
-use Rattle.uca_match.specs.Collations.{collation_of}
+use Rattle.uca_elements.specs.Collations.{collation_of}
 use Rattle.uca_order.specs.Depths.{read_text}
 use Rattle.uca_comparison.proofs.ComparisonLemmas.{points_decide, weights_decide, fetches_all}
 use Rattle.uca_comparison.proofs.comparison.compare.Goals as goal

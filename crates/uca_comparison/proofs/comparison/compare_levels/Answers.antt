@@ -1,5 +1,5 @@
 use Rattle.std.proofs.Common.{◌∙◌, refl, sym, subst, ℕ, ◌+◌}
-use Rattle.uca_match.specs.Collations.{collation_of, elements_of}
+use Rattle.uca_elements.specs.Collations.{collation_of, elements_of}
 use Rattle.uca_comparison.specs.Walks.{Walks}
 use Rattle.uca_comparison.proofs.LevelSteps.{next_levels, all_levels, is_equal, not_equal}
 use Rattle.uca_comparison.proofs.comparison.compare_levels.Goals as goal

@@ -1,5 +1,5 @@
 use Rattle.std.proofs.Common.{◌≡◌, ◌-◌}
-use Rattle.uca_match.specs.Collations.{collation_of, elements_of}
+use Rattle.uca_elements.specs.Collations.{collation_of, elements_of}
 use Rattle.uca_order.specs.Levels.{level_count}
 use Rattle.uca_comparison.specs.Walks.{Walks}
 use Rattle.uca_comparison.proofs.comparison.compare_levels.Given as goal

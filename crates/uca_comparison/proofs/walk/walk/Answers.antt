@@ -1,5 +1,5 @@
 use Rattle.std.proofs.Common.{◌∙◌, ap}
-use Rattle.uca_match.specs.Collations.{collation_of, elements_of}
+use Rattle.uca_elements.specs.Collations.{collation_of, elements_of}
 use Rattle.uca_comparison.specs.Fronts.{begun}
 use Rattle.uca_comparison.proofs.WalkSteps.{stands_begun}
 use Rattle.uca_comparison.proofs.walk.walk.Goals as goal

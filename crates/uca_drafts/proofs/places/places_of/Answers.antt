@@ -1,7 +1,7 @@
 use Rattle.std.proofs.Common.{List, subst, sym}
 use Rattle.uca_values.specs.Content.{keys_of}
 use Rattle.uca_rules.specs.declared.relations.Relation.{Relation}
-use Rattle.uca_match.specs.Positions.{AreDistinctKeys}
+use Rattle.uca_elements.specs.Positions.{AreDistinctKeys}
 use Rattle.uca_match.specs.NumberedKeys.{points_of}
 use Rattle.uca_match.specs.Tries.{positions}
 use Rattle.uca_drafts.specs.Places.{AreListed}

@@ -1,6 +1,6 @@
 -- The anchor is read first. Then it gets the new weight, if there is a level, and the expansion comes after it.
 use Rattle.std.proofs.Common.{◌≡◌, ◌++◌, ◌∷◌, [], List, Option, Some, None, inl, option_map, refl, sym, ap, ◌∙◌}
-use Rattle.uca_match.specs.Positions.{Positions, is_placed}
+use Rattle.uca_elements.specs.Positions.{Positions, is_placed}
 use Rattle.uca_match.specs.Tries.{positions}
 use Rattle.uca_plans.specs.declared.drafts.DraftElement.{DraftElement}
 use Rattle.uca_plans.specs.declared.drafts.DraftWeight.{DraftWeight}

@@ -2,7 +2,7 @@
 use Rattle.std.specs.Prelude.{⊤}
 use Rattle.std.proofs.Common.{◌≡◌, [], ◌∷◌, Ok, refl, ap, subst, ◌∙◌}
 use Rattle.uca_values.specs.Content.{properties_of}
-use Rattle.uca_match.specs.Rows.{rows_of}
+use Rattle.uca_elements.specs.Rows.{rows_of}
 use Rattle.uca_match.specs.NumberedKeys.{rows_at}
 use Rattle.uca_key_lines.specs.Keys.{weighting_by, IsCollation}
 use Rattle.uca_run_parts.specs.Files.{table_and_data, table_with}

@@ -1,6 +1,6 @@
 use Rattle.std.proofs.Common.{rules, arith, ap, length}
 use Rattle.std.specs.Str.{chars}
-use Rattle.uca_match.specs.Collations.{collation_of}
+use Rattle.uca_elements.specs.Collations.{collation_of}
 use Rattle.uca_key_writer.proofs.BeginningSteps.{judge_begun, judge_passes, judge_counts, judge_ends, passed_shorter}
 use Rattle.uca_key_writer.proofs.beginnings.count_runs.Goals as goal
 

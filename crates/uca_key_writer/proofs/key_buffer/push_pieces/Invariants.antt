@@ -2,7 +2,7 @@ use Rattle.std.proofs.Common.{[], length}
 use denote.Text.{Utf8}
 use denote.Shadow.{shadow}
 use Rattle.std.specs.Str.{chars}
-use Rattle.uca_match.specs.Collations.{collation_of}
+use Rattle.uca_elements.specs.Collations.{collation_of}
 use Rattle.uca_plain.specs.PlainPoints.{AreTrueEntries}
 use Rattle.uca_key_writer.specs.Runs.{ReadsMore}
 use Rattle.uca_key_writer.proofs.key_buffer.push_pieces.Given as goal

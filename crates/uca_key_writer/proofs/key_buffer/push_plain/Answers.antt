@@ -2,7 +2,7 @@ use Rattle.std.proofs.Common.{[], ◌∷◌, ◌++◌, true, List, ℕ, Option, 
 use Rattle.std.specs.Bool.{OnTrue}
 use Rattle.std.specs.Option.{MatchOption}
 use Rattle.std.specs.Str.{chars}
-use Rattle.uca_match.specs.Collations.{collation_of}
+use Rattle.uca_elements.specs.Collations.{collation_of}
 use Rattle.uca_key_writer.specs.Pieces.{HasRead}
 use Rattle.uca_key_writer.specs.Runs.{ReadsMore}
 use Rattle.uca_plain.proofs.Results.{no_result}

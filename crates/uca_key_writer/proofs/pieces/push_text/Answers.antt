@@ -1,7 +1,7 @@
 use Rattle.std.proofs.Common.{subst}
 use Rattle.std.specs.Str.{chars}
 use Rattle.uca_text.specs.Limits.{IsAccepted}
-use Rattle.uca_match.specs.Collations.{collation_of}
+use Rattle.uca_elements.specs.Collations.{collation_of}
 use Rattle.uca_plain.proofs.LeafReading.{classes_of}
 use Rattle.uca_key_writer.proofs.PieceSteps.{on_any}
 use Rattle.uca_key_writer.proofs.pieces.push_text.Goals as goal

@@ -4,7 +4,7 @@ use Rattle.std.proofs.lemmas.Bool.Decides.{nat_tests}
 use Rattle.std.proofs.lemmas.List.{nil_from_length}
 use Rattle.std.proofs.lemmas.Str.{chars-nil}
 use Rattle.uca_text.specs.Texts.{nfd_text}
-use Rattle.uca_match.specs.Collations.{elements_of}
+use Rattle.uca_elements.specs.Collations.{elements_of}
 use Rattle.uca_key_writer.specs.LevelBuffers.{HoldsLevels, levels_of}
 use Rattle.uca_key_writer.specs.Pieces.{HasRead}
 use Rattle.uca_key_writer.proofs.BufferLemmas.{less_room}

@@ -1,7 +1,7 @@
 use Rattle.std.proofs.Common.{ℕ, ◌≤◌, ◌*◌, ◌-◌, List}
 use denote.Text.{Utf8}
 use denote.Shadow.{shadow}
-use Rattle.uca_match.specs.Collations.{Collation}
+use Rattle.uca_elements.specs.Collations.{Collation}
 use Rattle.uca_key_writer.specs.LevelBuffers.{HasRoom, levels_of}
 use Rattle.uca_plain.specs.PlainPoints.{AreTrueEntries}
 use Rattle.uca_key_writer.specs.Runs.{ReadsUpTo, ReadsSome}

@@ -3,7 +3,7 @@ use Rattle.std.proofs.Common.{◌+◌, ◌<◌, ◌≤◌, length, map, subst, s
 use Rattle.std.proofs.lemmas.List.{length-map, get_or-map}
 use Rattle.std.specs.Borrow.{Bor}
 use Rattle.std.proofs.Common.{List, ℕ}
-use Rattle.uca_match.specs.Positions.{AreLongKeys}
+use Rattle.uca_elements.specs.Positions.{AreLongKeys}
 use Rattle.uca_match.specs.NumberedKeys.{points_of, placed_of}
 use Rattle.uca_match.specs.Tries.{MapContent, tree_of}
 use Rattle.uca_match.proofs.TrieKeys.{IsBuilt, IsShortBelow, IsBuilt-none, IsBuilt-short, IsBuilt-other, IsBuilt-long_none, IsBuilt-long, IsBuilt-long_all}

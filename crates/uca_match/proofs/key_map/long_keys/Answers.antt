@@ -2,7 +2,7 @@
 use Rattle.std.proofs.Common.{◌+◌, ◌<◌, length, map, take, subst, sym, arith, refl}
 use Rattle.std.proofs.lemmas.List.{take_all, get_or_default}
 use Rattle.std.proofs.lemmas.List.Sorted.{IsPermutation-map}
-use Rattle.uca_match.specs.Positions.{AreLongKeys}
+use Rattle.uca_elements.specs.Positions.{AreLongKeys}
 use Rattle.uca_match.specs.NumberedKeys.{points_of, placed_of}
 use Rattle.uca_match.proofs.PlacedKeys.{long_moved, long_keys_more, long_keys_same}
 use Rattle.uca_match.proofs.key_map.long_keys.Goals as goal

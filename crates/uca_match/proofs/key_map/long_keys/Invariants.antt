@@ -1,5 +1,5 @@
 use Rattle.std.proofs.Common.{map, take}
-use Rattle.uca_match.specs.Positions.{AreLongKeys}
+use Rattle.uca_elements.specs.Positions.{AreLongKeys}
 use Rattle.uca_match.specs.NumberedKeys.{points_of, placed_of}
 use Rattle.uca_match.proofs.key_map.long_keys.Given as goal
 

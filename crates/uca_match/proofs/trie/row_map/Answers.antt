@@ -1,6 +1,6 @@
 use Rattle.std.proofs.Common.{◌≡◌, ℕ, List, IfOk, ap, subst, sym, ◌∙◌}
 use Rattle.uca_values.specs.Content.{keys_of}
-use Rattle.uca_match.specs.Positions.{AreDistinctKeys, place_at}
+use Rattle.uca_elements.specs.Positions.{AreDistinctKeys, place_at}
 use Rattle.uca_match.specs.NumberedKeys.{points_of}
 use Rattle.uca_match.specs.Tries.{positions}
 use Rattle.uca_match.proofs.trie.row_map.Goals as goal

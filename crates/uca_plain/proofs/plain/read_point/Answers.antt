@@ -1,6 +1,6 @@
 use Rattle.std.proofs.Common.{◌∙◌}
 use Rattle.std.specs.Str.{chars}
-use Rattle.uca_match.specs.Collations.{collation_of}
+use Rattle.uca_elements.specs.Collations.{collation_of}
 use Rattle.uca_plain.proofs.PlainEntries.{entry_of, leaf_of, same_decomposition}
 use Rattle.uca_plain.proofs.plain.read_point.Goals as goal
 

@@ -1,6 +1,6 @@
 -- What went out, from what was written.
 use Rattle.std.proofs.Common.{◌≡◌, ◌||◌, [], length, arith, ap, ap₂, subst, sym, ◌∙◌}
-use Rattle.uca_match.specs.Collations.{Collation}
+use Rattle.uca_elements.specs.Collations.{Collation}
 use Rattle.uca_order.specs.Lengths.{HasShortRows}
 use Rattle.uca_values.specs.Content.{properties_of}
 use Rattle.uca_key_lines.specs.Keys.{key_settings_of, settings_at}

@@ -1,5 +1,5 @@
 use Rattle.std.proofs.Common.{◌≡◌, length, ap, ◌∙◌}
-use Rattle.uca_match.specs.Collations.{collation_of, elements_of}
+use Rattle.uca_elements.specs.Collations.{collation_of, elements_of}
 use Rattle.uca_comparison.specs.Fronts.{counted}
 use Rattle.uca_order.proofs.KeyLength.{shown}
 use Rattle.uca_comparison.proofs.Counts.{count_one}

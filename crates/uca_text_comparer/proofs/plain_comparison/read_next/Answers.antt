@@ -1,7 +1,7 @@
 use Rattle.std.proofs.Common.{◌≡◌, ◌++◌, subst}
 use Rattle.std.specs.Bool.{OnTrue}
 use Rattle.std.specs.Prelude.{IfOk}
-use Rattle.uca_match.specs.Collations.{collation_of}
+use Rattle.uca_elements.specs.Collations.{collation_of}
 use Rattle.uca_plain.specs.Plain.{IsPlain, elements_alone}
 use Rattle.uca_text_comparer.proofs.plain_comparison.read_next.Goals as goal
 

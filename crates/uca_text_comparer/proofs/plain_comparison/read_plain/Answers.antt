@@ -4,7 +4,7 @@ use Rattle.std.specs.Str.{chars}
 use Rattle.std.proofs.lemmas.Iterator.{YieldsList-from_chars}
 use Rattle.std.proofs.lemmas.Iterator.Consumers.{YieldsList-end}
 use Rattle.std.proofs.lemmas.List.{map-id}
-use Rattle.uca_match.specs.Collations.{collation_of}
+use Rattle.uca_elements.specs.Collations.{collation_of}
 use Rattle.uca_plain.specs.Plain.{IsPlain, elements_alone}
 use Rattle.uca_text_comparer.specs.Shared.{HasElements}
 use Rattle.uca_text_comparer.proofs.SharedSteps.{plain_on, elements_on}

@@ -2,7 +2,7 @@ use denote.Text.{Utf8}
 use denote.Shadow.{shadow}
 use Rattle.std.proofs.Common.{length}
 use Rattle.std.specs.Str.{chars}
-use Rattle.uca_match.specs.Collations.{Collation}
+use Rattle.uca_elements.specs.Collations.{Collation}
 use Rattle.uca_plain.specs.PlainPoints.{AreTrueEntries}
 use Rattle.uca_text_comparer.specs.Shared.{IsRest}
 use Rattle.uca_text_comparer.proofs.shared.skip_met.Given as goal

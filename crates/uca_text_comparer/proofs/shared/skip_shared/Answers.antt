@@ -1,6 +1,6 @@
 use Rattle.std.proofs.Common.{ap, subst, ◌∙◌, rules}
 use Rattle.std.specs.Str.{chars}
-use Rattle.uca_match.specs.Collations.{collation_of}
+use Rattle.uca_elements.specs.Collations.{collation_of}
 use Rattle.uca_plain.specs.Plain.{IsPlain, elements_alone}
 use Rattle.uca_text_comparer.proofs.SharedSteps.{rest_on}
 use Rattle.uca_text_comparer.proofs.shared.skip_shared.Goals as goal

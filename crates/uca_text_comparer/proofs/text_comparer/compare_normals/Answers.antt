@@ -2,7 +2,7 @@ use Rattle.std.proofs.Common.{◌≡◌, ◌∙◌, ap, rules}
 use Rattle.std.specs.Str.{chars}
 use Rattle.unicode_normalization.specs.Forms.{nfd}
 use Rattle.uca_text.specs.Texts.{nfd_text}
-use Rattle.uca_match.specs.Collations.{collation_of}
+use Rattle.uca_elements.specs.Collations.{collation_of}
 use Rattle.uca_order.specs.Depths.{read_text}
 use Rattle.uca_comparison.proofs.Counts.{counted_from_none}
 use Rattle.uca_comparison.proofs.ComparisonLemmas.{compares_at, same_decides, itself_and_same}

@@ -1,7 +1,7 @@
 use Rattle.std.specs.List.{list_any}
 use Rattle.std.proofs.Common.{inl, ◌≡◌, ◌<◌, ◌≤◌, ◌&&◌, ◌++◌, ◌∷◌, [], ℕ, List, length, set, None, Some, true, false, refl, sym, ap, subst, ◌∙◌, arith}
 use Rattle.uca_check.specs.WellFormed.{elements_of}
-use Rattle.uca_match.specs.Positions.{Positions}
+use Rattle.uca_elements.specs.Positions.{Positions}
 use Rattle.uca_match.specs.Tries.{positions}
 use Rattle.uca_plans.specs.declared.drafts.DraftWeight.TheVariants.{New}
 use Rattle.uca_plans.specs.Drafts.{DraftRow}

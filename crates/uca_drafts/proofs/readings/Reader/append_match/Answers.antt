@@ -1,7 +1,7 @@
 -- What a match gives is that of the row at its position, or of its code point.
 use Rattle.std.proofs.Common.{◌≡◌, ◌++◌, [], OnOk, ap, sym, subst, ◌∙◌, append-nil}
 use Rattle.uca_values.specs.Content.{properties_of}
-use Rattle.uca_match.specs.declared.matches.Match.TheVariants.{Unlisted}
+use Rattle.uca_elements.specs.declared.matches.Match.TheVariants.{Unlisted}
 use Rattle.uca_drafts.specs.MatchDrafts.{match_drafts}
 use Rattle.uca_drafts.proofs.RowLookups.{elements_there, elements_past}
 use Rattle.uca_drafts.proofs.readings.Reader.append_match.Goals as goal

@@ -1,7 +1,7 @@
 use Rattle.std.proofs.Common.{true, refl, ap, subst, arith}
 use Rattle.std.specs.Bool.{OnTrue}
 use Rattle.std.specs.Str.{chars}
-use Rattle.uca_match.specs.Collations.{collation_of}
+use Rattle.uca_elements.specs.Collations.{collation_of}
 use Rattle.uca_key_writer.specs.Buffers.{KeyState}
 use Rattle.uca_key_writer.specs.LevelBuffers.{LevelState}
 use Rattle.uca_key_writer.specs.Beginnings.{HasBegun}

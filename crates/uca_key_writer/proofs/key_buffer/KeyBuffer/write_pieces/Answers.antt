@@ -1,7 +1,7 @@
 use Rattle.std.proofs.Common.{refl, ap, arith}
 use Rattle.std.specs.Str.{chars}
 use Rattle.uca_text.specs.Texts.{nfd_text}
-use Rattle.uca_match.specs.Collations.{collation_of}
+use Rattle.uca_elements.specs.Collations.{collation_of}
 use Rattle.uca_key_writer.specs.Buffers.{KeyState}
 use Rattle.uca_plain.proofs.Results.{no_result}
 use Rattle.uca_key_writer.proofs.PieceSteps.{accepted_if_read, key_if_read, short_if_read}

@@ -1,5 +1,5 @@
 use Rattle.std.proofs.Common.{ap}
-use Rattle.uca_match.specs.Collations.{collation_of}
+use Rattle.uca_elements.specs.Collations.{collation_of}
 use Rattle.uca_key_writer.specs.Buffers.{KeyState}
 use Rattle.uca_plain.proofs.Results.{no_result}
 use Rattle.uca_order.proofs.KeyLength.{weights_short, identical_short}

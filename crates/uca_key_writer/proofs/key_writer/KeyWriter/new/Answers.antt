@@ -1,4 +1,4 @@
-use Rattle.uca_match.specs.Collations.{collation_of}
+use Rattle.uca_elements.specs.Collations.{collation_of}
 use Rattle.uca_key_writer.proofs.key_writer.KeyWriter.new.Goals as goal
 
 pub invariant_of-result : goal.invariant_of-result

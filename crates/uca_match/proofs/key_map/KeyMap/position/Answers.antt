@@ -1,6 +1,6 @@
 use Rattle.std.proofs.Common.{◌≡◌, take, Some, subst, sym, ◌∙◌}
 use Rattle.uca_match.specs.Tries.{positions, tree_of, walk}
-use Rattle.uca_match.proofs.Prefixes.{no_value, taken_more}
+use Rattle.uca_elements.proofs.Prefixes.{no_value, taken_more}
 use Rattle.uca_match.proofs.key_map.KeyMap.position.Goals as goal
 
 pub returns-in_err-node : goal.returns-in_err-node

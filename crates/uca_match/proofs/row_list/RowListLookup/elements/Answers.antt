@@ -1,5 +1,5 @@
 use Rattle.std.proofs.Common.{ap, ◌∙◌, sym, Some}
-use Rattle.uca_match.specs.Rows.{rows_of}
+use Rattle.uca_elements.specs.Rows.{rows_of}
 use Rattle.std.specs.Str.{bytes_eq}
 use Rattle.uca_match.proofs.RowPlaces.{row_here, row_later}
 use Rattle.uca_match.proofs.row_list.RowListLookup.elements.Goals as goal

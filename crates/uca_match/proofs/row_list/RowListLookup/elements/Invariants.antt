@@ -1,5 +1,5 @@
 use Rattle.std.proofs.Common.{◌≡◌, drop}
-use Rattle.uca_match.specs.Rows.{rows_of}
+use Rattle.uca_elements.specs.Rows.{rows_of}
 use Rattle.uca_match.proofs.row_list.RowListLookup.elements.Given as goal
 
 abbrev pub invariant-loop-row : goal.invariant-loop-row

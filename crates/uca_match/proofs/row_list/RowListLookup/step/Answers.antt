@@ -1,9 +1,9 @@
 use Rattle.std.proofs.Common.{◌≡◌, ◌+◌, ◌<◌, ℕ, [], ◌∷◌, ◌++◌, length, take, ap, subst, ◌∙◌, sym, below_more, arith}
 use Rattle.std.proofs.lemmas.List.{length_push}
 use Rattle.std.proofs.lemmas.Bool.{false≢true}
-use Rattle.uca_match.specs.Rows.{rows_of}
+use Rattle.uca_elements.specs.Rows.{rows_of}
 use Rattle.uca_match.specs.RowLists.{key_at}
-use Rattle.uca_match.specs.Lookups.{BeginsSomeKey, BeginsNoKey}
+use Rattle.uca_elements.specs.Lookups.{BeginsSomeKey, BeginsNoKey}
 use Rattle.uca_match.proofs.RowPlaces.{begins_later, begins_some, begins_none}
 use Rattle.uca_match.proofs.row_list.RowListLookup.step.Goals as goal
 

@@ -1,11 +1,11 @@
 use Rattle.std.proofs.Common.{ap, ◌∙◌}
 use Rattle.uca_text.specs.Texts.{Text}
-use Rattle.uca_match.specs.Places.{left_of}
-use Rattle.uca_match.specs.Positions.{is_placed}
+use Rattle.uca_elements.specs.Places.{left_of}
+use Rattle.uca_elements.specs.Positions.{is_placed}
 use Rattle.uca_match.specs.Tries.{positions}
-use Rattle.uca_match.specs.Reading.{parts}
+use Rattle.uca_elements.specs.Reading.{parts}
 use Rattle.uca_match.specs.TextMatches.{matches_of}
-use Rattle.uca_match.proofs.PlaceLemmas.{left_of_start}
+use Rattle.uca_elements.proofs.PlaceLemmas.{left_of_start}
 use Rattle.uca_match.proofs.text_matches.Matches.new.Goals as goal
 
 pub returns : goal.returns

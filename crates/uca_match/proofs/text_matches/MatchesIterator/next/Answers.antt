@@ -1,14 +1,14 @@
 -- The first part is the key that was found, or the code point.
 use Rattle.std.proofs.Common.{◌≡◌, ℕ, List, ◌∷◌, Some, unwrap_or, ap, subst, sym, ◌∙◌}
-use Rattle.uca_match.specs.Positions.{is_placed}
-use Rattle.uca_match.specs.Places.{left_of}
-use Rattle.uca_match.specs.Reading.{parts}
+use Rattle.uca_elements.specs.Positions.{is_placed}
+use Rattle.uca_elements.specs.Places.{left_of}
+use Rattle.uca_elements.specs.Reading.{parts}
 use Rattle.uca_match.specs.Tries.{positions, tree_of, walk}
 use Rattle.uca_match.specs.TextMatches.{match_of, matches_of}
-use Rattle.uca_match.specs.Matches.{IsGiven}
+use Rattle.uca_elements.specs.Matches.{IsGiven}
 use Rattle.uca_match.specs.declared.key_map.TrieNode.{TrieNode}
-use Rattle.uca_match.specs.declared.matches.Match.{Match}
-use Rattle.uca_match.specs.declared.matches.Match.TheVariants.{Key, Unlisted}
+use Rattle.uca_elements.specs.declared.matches.Match.{Match}
+use Rattle.uca_elements.specs.declared.matches.Match.TheVariants.{Key, Unlisted}
 use Rattle.uca_match.proofs.text_matches.MatchesIterator.next.Goals as goal
 use Rattle.uca_match.proofs.text_matches.MatchesIterator.next.Goals.{in-Key, in-Unlisted}
 

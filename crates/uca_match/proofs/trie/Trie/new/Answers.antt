@@ -2,7 +2,7 @@ use Rattle.std.proofs.Common.{◌≡◌, ℕ, List, [], Option, length, get_or, 
 use Rattle.std.proofs.lemmas.List.{length-map}
 use Rattle.uca_weights.specs.declared.Element.{Element}
 use Rattle.uca_values.specs.Content.{Entry, TableContent, AreRows, keys_of}
-use Rattle.uca_match.specs.Positions.{AreDistinctKeys, place_at}
+use Rattle.uca_elements.specs.Positions.{AreDistinctKeys, place_at}
 use Rattle.uca_match.specs.NumberedKeys.{elements_of}
 use Rattle.uca_match.proofs.PlacedKeys.{distinct_keys, placed_within, rows_by_position}
 use Rattle.uca_match.proofs.trie.Trie.new.Goals as goal

@@ -1,6 +1,6 @@
 use Rattle.std.proofs.Common.{◌≡◌, ◌∷◌, ◌++◌, [], Some, ap, subst, sym, ◌∙◌}
-use Rattle.uca_match.specs.Lookups.{BeginsNoKeyIn}
-use Rattle.uca_match.specs.Positions.{is_placed}
+use Rattle.uca_elements.specs.Lookups.{BeginsNoKeyIn}
+use Rattle.uca_elements.specs.Positions.{is_placed}
 use Rattle.uca_match.specs.Tries.{MapContent, positions, tree_of, walk}
 use Rattle.uca_match.specs.NumberedKeys.{TrieContent}
 use Rattle.uca_match.proofs.PlacedKeys.{keys_of_trie}

@@ -1,6 +1,6 @@
 use Rattle.std.proofs.Common.{arith}
 use Rattle.std.proofs.lemmas.Grind.{common_steps}
-use Rattle.uca_match.specs.Collations.{Collation}
+use Rattle.uca_elements.specs.Collations.{Collation}
 use Rattle.uca_plain.specs.PlainPoints.{IsTrueEntry, IsTrueLeaf, HasTrueDecomposition, AreTrueEntries}
 use Rattle.uca_plain.proofs.Results.{no_value}
 use Rattle.uca_plain.proofs.plain.PlainPoints.find.Goals as goal

@@ -1,4 +1,4 @@
-use Rattle.uca_match.specs.Collations.{collation_of}
+use Rattle.uca_elements.specs.Collations.{collation_of}
 use Rattle.uca_plain.proofs.plain.PlainPoints.get.Goals as goal
 
 pub returns-in-Some-clause-known : goal.returns-in-Some-clause-known

@@ -1,4 +1,4 @@
-use Rattle.uca_match.specs.Collations.{collation_of}
+use Rattle.uca_elements.specs.Collations.{collation_of}
 use Rattle.uca_plain.proofs.plain.PlainPoints.learn.Goals as goal
 
 pub returns-clause-entries : goal.returns-clause-entries

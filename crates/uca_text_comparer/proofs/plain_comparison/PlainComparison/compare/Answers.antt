@@ -1,5 +1,5 @@
 use Rattle.std.proofs.Common.{Some, arith}
-use Rattle.uca_match.specs.Collations.{collation_of}
+use Rattle.uca_elements.specs.Collations.{collation_of}
 use Rattle.uca_text_comparer.proofs.PlainComparisons.{accepted_found, accepted_compared}
 use Rattle.uca_text_comparer.proofs.plain_comparison.PlainComparison.compare.Goals as goal
 

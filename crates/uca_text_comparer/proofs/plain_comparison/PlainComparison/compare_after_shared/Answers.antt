@@ -1,7 +1,7 @@
 use Rattle.std.proofs.Common.{Option, subst}
 use Rattle.std.specs.Prelude.{IfSome}
 use Rattle.std.specs.Str.{chars}
-use Rattle.uca_match.specs.Collations.{collation_of}
+use Rattle.uca_elements.specs.Collations.{collation_of}
 use Rattle.uca_text_comparer.specs.declared.shared.Rest.{Rest}
 use Rattle.uca_text_comparer.specs.Shared.{IsRest}
 use Rattle.uca_plain.proofs.Results.{no_result}

@@ -4,7 +4,7 @@ use Rattle.std.specs.Str.{chars}
 use Rattle.unicode_normalization.specs.Forms.{nfd}
 use Rattle.uca_values.specs.Content.{properties_of}
 use Rattle.uca_text.specs.Texts.{nfd_text}
-use Rattle.uca_match.specs.Collations.{collation_of}
+use Rattle.uca_elements.specs.Collations.{collation_of}
 use Rattle.uca_comparison.specs.declared.walk.Walked.{Walked}
 use Rattle.uca_order.specs.Depths.{read_text}
 use Rattle.uca_text_comparer.specs.Comparers.{ComparerState, collation_by}

@@ -1,0 +1,14 @@
+pub mod RemovedLemmas
+pub mod MatchLemmas
+pub mod ReadingLemmas
+pub mod PlaceLemmas
+pub mod ExtensionSteps
+pub mod ExtensionEnd
+pub mod Portions
+pub mod OccurringLetters
+pub mod Parts
+pub mod CutReading
+pub mod RelatedReading
+pub mod RowsByKey
+pub mod Prefixes
+pub mod Leaves

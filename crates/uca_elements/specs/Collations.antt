@@ -1,0 +1,23 @@
+-- What texts are read by, and the collation elements that they then have (UTS #10, step S2).
+use Rattle.std.specs.Prelude.{List}
+use Rattle.uca_weights.specs.declared.Element.{Element}
+use Rattle.uca_values.specs.declared.ImplicitRange.{ImplicitRange}
+use Rattle.uca_values.specs.Content.{Properties, properties_of}
+use Rattle.uca_text.specs.Texts.{NfdText, letters_of}
+use Rattle.uca_elements.specs.Rows.{Rows}
+use Rattle.uca_elements.specs.Reading.{collation_elements}
+use Rattle.uca_elements.specs.declared.collator.Collator.{Collator}
+
+-- the rows of a table, its ranges for implicit weights, and the properties of a data file
+pub record Collation : Type 0 where
+  pub rows : Rows
+  pub ranges : List ImplicitRange
+  pub properties : Properties
+
+-- what a collator reads by, where `content` is the map that its lookup is
+abbrev pub collation_of : {L N A : Type 0} → (L → Rows) → Collator L N A → Collation
+collation_of content c = record { rows = content c.lookup.now; ranges = c.header.now.ranges; properties = properties_of c.data.now }
+
+-- the collation elements of a text
+abbrev pub elements_of : Collation → NfdText → List Element
+elements_of c text = collation_elements c.rows c.ranges c.properties (letters_of text)

@@ -1,0 +1,14 @@
+pub mod Rows
+pub mod Parts
+pub mod Reading
+pub mod Cuts
+pub mod Collations
+pub mod Lookups
+pub mod Positions
+pub mod Places
+pub mod Matches
+pub mod Extensions
+pub mod Rest
+pub mod Laws
+pub mod WorkedTable
+pub mod WorkedReadings

@@ -1,6 +1,0 @@
--- The two readings are those of one list of parts.
-use Rattle.uca_match.proofs.RelatedReading.{same_parts}
-use Rattle.uca_match.proofs.laws.same_keys_read_by_parts.Goals as goal
-
-pub returns : goal.returns
-returns c = same_parts
