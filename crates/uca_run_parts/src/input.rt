@@ -84,7 +84,7 @@ impl<A: Allocator> InputLines<A> {
         ensures not_read { IfErr result (λ kind. is_input_read_kind kind ≡ false) }
         ensures within { length self.now.line ≤ LONGEST_INPUT_LINE }
     {
-        match str::from_utf8(&self.line) {
+        match simdutf8::from_utf8_baseline(&self.line) {
             Ok(text) => Ok(text),
             Err(_) => Err(InputKind::Utf8),
         }
