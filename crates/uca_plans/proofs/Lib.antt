@@ -27,3 +27,5 @@ pub mod NewKeys
 pub mod AnchoredInsertions
 pub mod SidesOfFixed
 pub mod RoomCounts
+pub mod RelationKinds
+pub mod NoRoom

@@ -11,7 +11,6 @@ use Rattle.uca_values.specs.Content.{AreImplicitRanges}
 use Rattle.uca_check.specs.WellFormed.{elements_of}
 use Rattle.uca_weights.proofs.Lists.{each_weaker, each_append, each_parts}
 use Rattle.uca_text.specs.Texts.{NfdText}
-use Rattle.uca_elements.specs.Rows.{same_key}
 use Rattle.uca_rules.specs.declared.relations.Relation.{Relation}
 use Rattle.uca_rules.specs.Relations.{IsRuleText, HasRuleTexts}
 use Rattle.uca_plans.specs.declared.drafts.DraftWeight.{DraftWeight}
@@ -19,7 +18,7 @@ use Rattle.uca_plans.specs.declared.drafts.DraftWeight.TheVariants.{Base, New}
 use Rattle.uca_plans.specs.declared.drafts.DraftElement.{DraftElement}
 use Rattle.uca_plans.specs.Lists.{Insertion, same_level, inserted, all_inserted}
 use Rattle.uca_plans.specs.ListLaws.{IsAmong}
-use Rattle.uca_plans.specs.Drafts.{DraftRow, with_row, draft_elements, draft_weight, takes_no_weight, AnchorPart, reset, reweighted}
+use Rattle.uca_plans.specs.Drafts.{draft_elements, draft_weight, takes_no_weight, AnchorPart, reset, reweighted}
 use Rattle.uca_plans.specs.Plans.{Basis, Drafting, drafted_at, draft_expansion}
 use Rattle.uca_plans.proofs.InsertionLemmas.{inserts, inserts_new}
 use Rattle.uca_plans.proofs.GoodLists.{good_fixed, grown_through, grown_same}

@@ -1,6 +1,6 @@
 -- Targets without their last code point.
-use Rattle.std.proofs.Common.{◌≡◌, ℕ, ◌<◌, ◌≤◌, List, [], ◌∷◌, ◌++◌, length, false, ◌&&◌, not, eqb, ltb, refl, ap, ap₂, ◌∙◌}
-use Rattle.std.proofs.lemmas.Bool.{and_left, lt-ltb, le-ltb}
+use Rattle.std.proofs.Common.{◌≡◌, ℕ, ◌<◌, List, [], ◌∷◌, ◌++◌, length, ◌&&◌, not, eqb, refl, ap, ap₂, ◌∙◌}
+use Rattle.std.proofs.lemmas.Bool.{lt-ltb}
 use Rattle.uca_plans.specs.Drafts.{DraftRow, has_key}
 use Rattle.uca_plans.specs.Plans.{ends_with_non_starter, without_last, needs_prefix}
 

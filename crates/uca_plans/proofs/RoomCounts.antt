@@ -17,7 +17,7 @@ use Rattle.uca_plans.specs.ListLaws.{IsRising, IsAmong, StandsBefore}
 use Rattle.uca_plans.proofs.ListMembers.{of_each}
 use Rattle.uca_plans.proofs.BaseWeightLemmas.{bases_rising, fixed_base}
 use Rattle.uca_plans.proofs.RisingNumbers.{fixed_within, level_places}
-use Rattle.uca_plans.proofs.GoodLists.{among_bases, base_among, bases_among, bases_of_base, good_base}
+use Rattle.uca_plans.proofs.GoodLists.{among_bases, base_among, bases_of_base, good_base}
 use Rattle.uca_plans.specs.Room.{goes_low, low_count, high_count, low_total, high_total, places, RoomIsCounted}
 use Rattle.uca_plans.proofs.AnchoredInsertions.{IsAnchored, AreAnchored, all_anchored}
 use Rattle.uca_plans.proofs.SidesOfFixed.{HasSide, HasSides, goes}

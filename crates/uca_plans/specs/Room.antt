@@ -1,9 +1,10 @@
 -- How many weights a level has to number: which new weights go below the fixed weight, and which above it, is seen from the base
--- weights and the insertions alone.
-use Rattle.std.specs.Prelude.{◌≡◌, ◌↔◌, ℕ, ◌+◌, ◌-◌, ◌≤◌, Bool, true, ◌&&◌, ◌||◌, List, [], ◌∷◌, length, nat_lt, if◌then◌else◌, Ok}
+-- weights and the insertions alone. So is whether rules are rejected for lack of room, and at which level.
+use Rattle.std.specs.Prelude.{◌≡◌, ◌⊎◌, ◌↔◌, ℕ, ◌+◌, ◌-◌, ◌<◌, ◌≤◌, Bool, true, ◌&&◌, ◌||◌, List, [], ◌∷◌, length, nat_lt, if◌then◌else◌, Ok}
 use Rattle.std.specs.List.{filter, list_any}
 use Rattle.uca_weights.specs.declared.Element.{Element}
 use Rattle.uca_weights.specs.declared.Level.{Level}
+use Rattle.uca_weights.specs.Levels.{level_number}
 use Rattle.uca_values.specs.Content.{TableContent, Properties, IsTable}
 use Rattle.uca_check.specs.WellFormed.{elements_of, IsWellFormed}
 use Rattle.uca_rules.specs.declared.relations.Relation.{Relation}
@@ -11,10 +12,12 @@ use Rattle.uca_rules.specs.Relations.{AreRules}
 use Rattle.uca_plans.specs.declared.drafts.DraftWeight.{DraftWeight}
 use Rattle.uca_plans.specs.declared.drafts.DraftWeight.TheVariants.{Base, New}
 use Rattle.uca_plans.specs.declared.drafts.Segment.{Segment}
+use Rattle.uca_plans.specs.declared.faults.TailorKind.TheVariants as kinds
+use Rattle.uca_plans.specs.declared.faults.TailorFault.{TailorFault}
 use Rattle.uca_plans.specs.Lists.{fixed_weight, low_segment, high_segment, base_weights, same_weight, same_level, Insertion, members_of}
 use Rattle.uca_plans.specs.Lists.{low_members, high_members, level_has_room}
-use Rattle.uca_plans.specs.Plans.{Drafting, begun, with_relations}
-use Rattle.uca_plans.specs.Tailors.{basis_of}
+use Rattle.uca_plans.specs.Plans.{Basis, Drafting, begun, with_relations}
+use Rattle.uca_plans.specs.Tailors.{basis_of, TailorRefuses}
 
 -- ---- Sides
 
@@ -56,13 +59,17 @@ high_total level es insertions = length (filter (λ w. nat_lt (fixed_weight leve
 abbrev pub places : Segment → ℕ
 places segment = segment.top - segment.below
 
+-- on neither side are there more weights than positions
+abbrev pub HasRoom : Level → List Element → List Insertion → Type 0
+HasRoom level es insertions =
+    (low_total level es insertions ≤ places (low_segment level)) × (high_total level es insertions ≤ places (high_segment level))
+
 -- The members of each segment are as many as the base weights on its side and the new weights that go there. The level
 -- has room exactly if neither number is greater than the number of the segment's positions.
 pub record IsCounted (level : Level) (es : List Element) (insertions : List Insertion) : Type 0 where
   pub low : length (low_members level (members_of level es insertions)) ≡ low_total level es insertions
   pub high : length (high_members level (members_of level es insertions)) ≡ high_total level es insertions
-  pub room : level_has_room level (members_of level es insertions) ≡ true
-      ↔ ((low_total level es insertions ≤ places (low_segment level)) × (high_total level es insertions ≤ places (high_segment level)))
+  pub room : level_has_room level (members_of level es insertions) ≡ true ↔ HasRoom level es insertions
 
 -- over a well-formed base this is so at each level, if no relation is rejected
 abbrev pub RoomIsCounted : Type 0
@@ -70,3 +77,24 @@ RoomIsCounted = (base : TableContent) (properties : Properties) (relations : Lis
     IsTable base → IsWellFormed properties.class base.rows → AreRules relations →
     with_relations (basis_of base properties) 0 relations (begun (basis_of base properties)) ≡ Ok final →
     (level : Level) → IsCounted level (elements_of base.rows) final.insertions
+
+-- ---- No room
+
+-- on one side there are more weights than positions
+abbrev pub LacksRoom : Level → List Element → List Insertion → Type 0
+LacksRoom level es insertions =
+    (places (low_segment level) < low_total level es insertions) ⊎ (places (high_segment level) < high_total level es insertions)
+
+-- No relation is rejected. With the new weights of all of them this level lacks room, and each lower one has room.
+pub record IsLowestWithoutRoom (basis : Basis) (relations : List Relation) (level : Level) : Type 0 where
+  pub final : Drafting
+  pub drafted : with_relations basis 0 relations (begun basis) ≡ Ok final
+  pub lacks : LacksRoom level (elements_of basis.base) final.insertions
+  pub lower : (other : Level) → level_number other < level_number level → HasRoom other (elements_of basis.base) final.insertions
+
+-- Over a well-formed base an error that names the room of a level is a true one exactly if this is so. It names no relation.
+abbrev pub NoRoomIsCounted : Type 0
+NoRoomIsCounted = (base : TableContent) (properties : Properties) (relations : List Relation) (fault : TailorFault) (level : Level) →
+    IsTable base → IsWellFormed properties.class base.rows → AreRules relations → fault.kind ≡ kinds.NoRoom level →
+    TailorRefuses base properties relations fault
+    ↔ ((fault.relation ≡ 0) × IsLowestWithoutRoom (basis_of base properties) relations level)

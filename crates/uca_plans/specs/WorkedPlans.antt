@@ -3,15 +3,17 @@ use Rattle.std.specs.Prelude.{◌≡◌, ℕ, List, [], ◌∷◌, ◌++◌, tru
 use Rattle.uca_weights.specs.declared.Element.{Element}
 use Rattle.uca_weights.specs.declared.Strength.TheVariants.{Primary, Secondary, Tertiary, Identical}
 use Rattle.uca_weights.specs.declared.Strength.{Strength}
-use Rattle.uca_weights.specs.declared.Level.TheVariants.{Two, Three}
+use Rattle.uca_weights.specs.declared.Level.TheVariants.{One, Two, Three}
 use Rattle.uca_values.specs.Content.{Entry}
 use Rattle.uca_text.specs.Texts.{NfdText}
-use Rattle.uca_elements.specs.WorkedTable.{plain, variable, row, small_rows, small_ranges, small_properties}
+use Rattle.uca_elements.specs.WorkedTable.{plain, variable, row, small_rows, small_ranges, small_properties, with_contraction}
 use Rattle.uca_weights.specs.declared.maps.Run.{Run}
 use Rattle.uca_plans.specs.declared.faults.TailorKind.TheVariants as kinds
 use Rattle.uca_plans.specs.declared.faults.TailorFault.{TailorFault}
 use Rattle.uca_rules.specs.declared.relations.Relation.{Relation}
+use Rattle.uca_plans.specs.Lists.{low_segment, high_segment}
 use Rattle.uca_plans.specs.Plans.{Basis, Plan, planned}
+use Rattle.uca_plans.specs.Room.{places}
 
 -- a text with the classes of the small data file
 abbrev pub small_text : List ℕ → NfdText
@@ -62,16 +64,41 @@ same_runs = run 0x209 0x209 1 ∷ run 0x1C47 0x1C47 1 ∷ run 0x1C60 0x1C60 1 �
 abbrev pub with_rows : List Entry → Result Plan TailorFault
 with_rows rows = Ok (record { rows = small_rows ++ rows; primary = same_runs; secondary = small_secondary; tertiary = small_tertiary })
 
--- the small table with `b` directly after `a`
-abbrev pub close_rows : ℕ → List Entry
-close_rows b =
+-- the small table with other weights of `b` at level 1, of U+0300 at level 2, and of `A` at level 3
+abbrev pub weighted_rows : ℕ → ℕ → ℕ → List Entry
+weighted_rows b grave capital =
     row (0x20 ∷ []) (variable 0x209 0x20 2) ∷
     row (0x61 ∷ []) (plain 0x1C47 0x20 2) ∷
-    row (0x41 ∷ []) (plain 0x1C47 0x20 8) ∷
+    row (0x41 ∷ []) (plain 0x1C47 0x20 capital) ∷
     row (0x62 ∷ []) (plain b 0x20 2) ∷
-    row (0x300 ∷ []) (plain 0 0x25 2) ∷
+    row (0x300 ∷ []) (plain 0 grave 2) ∷
     row (0x301 ∷ []) (plain 0 0x24 2) ∷
     row (0x323 ∷ []) (plain 0 0x2C 2) ∷ []
+
+-- with `b` directly after `a`
+abbrev pub close_rows : ℕ → List Entry
+close_rows b = weighted_rows b 0x25 8
+
+-- the runs of level 2 where U+0300 moves up by one
+abbrev pub moved_grave : List Run
+moved_grave = run 0x20 0x20 1 ∷ run 0x24 0x24 1 ∷ run 0x25 0x26 1 ∷ run 0x2C 0x2C 1 ∷ []
+
+-- two letters, the second with its own weights of levels 2 and 3
+abbrev pub two_letters : ℕ → ℕ → List Entry
+two_letters secondary tertiary = row (0x61 ∷ []) (plain 0x1C47 0x20 2) ∷ row (0x62 ∷ []) (plain 0x1C60 secondary tertiary) ∷ []
+
+-- a variable space, and a letter
+abbrev pub space_before : ℕ → List Entry
+space_before a = row (0x20 ∷ []) (variable 0x1C46 0x20 2) ∷ row (0x61 ∷ []) (plain a 0x20 2) ∷ []
+
+-- `&a U+0301 < x <<< X &[before 2]b << y &U+0020 <<< z &a U+0323 U+0301 << w`
+abbrev pub five_relations : List Relation
+five_relations =
+    behind (0x61 ∷ 0x301 ∷ []) Primary (0x78 ∷ []) ∷
+    behind (0x78 ∷ []) Tertiary (0x58 ∷ []) ∷
+    ahead (0x62 ∷ []) Secondary (0x79 ∷ []) ∷
+    behind (0x20 ∷ []) Tertiary (0x7A ∷ []) ∷
+    behind (0x61 ∷ 0x323 ∷ 0x301 ∷ []) Secondary (0x77 ∷ []) ∷ []
 
 -- two variable rows, with primaries where implicit ones are
 abbrev pub high_variables : ℕ → List Entry
@@ -191,6 +218,65 @@ pub record WorkedPlans : Type 0 where
   -- `&a < b`: the row of a base key is replaced in its position, and its weight stays listed
   pub base_key : planned small (behind (0x61 ∷ []) Primary (0x62 ∷ []) ∷ [])
       ≡ Ok (record { rows = close_rows 0x1C48; primary = same_runs; secondary = small_secondary; tertiary = small_tertiary })
+  -- `&a < b &A < c &b <<< d`: the later anchor `b` is read by its new row
+  pub replaced_anchor : planned small (behind (0x61 ∷ []) Primary (0x62 ∷ []) ∷ behind (0x41 ∷ []) Primary (0x63 ∷ []) ∷
+      behind (0x62 ∷ []) Tertiary (0x64 ∷ []) ∷ [])
+      ≡ Ok (record {
+        rows = close_rows 0x1C49 ++ row (0x63 ∷ []) (plain 0x1C48 0x20 2) ∷ row (0x64 ∷ []) (plain 0x1C49 0x20 3) ∷ [];
+        primary = same_runs;
+        secondary = small_secondary;
+        tertiary = small_tertiary;
+      })
+  -- `&U+0301 << x`: the accent that has the next weight moves up
+  pub pushed_accent : planned small (behind (0x301 ∷ []) Secondary (0x78 ∷ []) ∷ [])
+      ≡ Ok (record {
+        rows = weighted_rows 0x1C60 0x26 8 ++ row (0x78 ∷ []) (plain 0 0x25 2) ∷ [];
+        primary = same_runs;
+        secondary = moved_grave;
+        tertiary = small_tertiary;
+      })
+  -- `&a < x &U+0301 << y &a <<< z`, where the next weight of each level is taken
+  pub pushed_at_each_level : planned (over (weighted_rows 0x1C48 0x25 3))
+      (behind (0x61 ∷ []) Primary (0x78 ∷ []) ∷ behind (0x301 ∷ []) Secondary (0x79 ∷ []) ∷ behind (0x61 ∷ []) Tertiary (0x7A ∷ []) ∷ [])
+      ≡ Ok (record {
+        rows = weighted_rows 0x1C49 0x26 4 ++
+            row (0x78 ∷ []) (plain 0x1C48 0x20 2) ∷ row (0x79 ∷ []) (plain 0 0x25 2) ∷ row (0x7A ∷ []) (plain 0x1C47 0x20 3) ∷ [];
+        primary = run 0x209 0x209 1 ∷ run 0x1C47 0x1C47 1 ∷ run 0x1C48 0x1C49 1 ∷ [];
+        secondary = moved_grave;
+        tertiary = run 2 2 1 ∷ run 3 4 1 ∷ [];
+      })
+  -- `&[before 2]a << x` where `b` has the last weight below 0020: it moves down
+  pub pressed_down : planned (over (two_letters 0x1F 2)) (ahead (0x61 ∷ []) Secondary (0x78 ∷ []) ∷ [])
+      ≡ Ok (record {
+        rows = two_letters 0x1E 2 ++ row (0x78 ∷ []) (plain 0x1C47 0x1F 2) ∷ [];
+        primary = run 0x1C47 0x1C47 1 ∷ run 0x1C60 0x1C60 1 ∷ [];
+        secondary = run 0x1F 0x1E 1 ∷ run 0x20 0x20 1 ∷ [];
+        tertiary = run 2 2 1 ∷ [];
+      })
+  -- `&[before 3]a <<< x` where `b` has the only weight below 0002
+  pub no_room_below : planned (over (two_letters 0x20 1)) (ahead (0x61 ∷ []) Tertiary (0x78 ∷ []) ∷ []) ≡ refused 0 (kinds.NoRoom Three)
+  -- `&U+0020 < x` where `a` has the next weight: all variable weights stay below it
+  pub pushed_by_variable : planned (over (space_before 0x1C47)) (behind (0x20 ∷ []) Primary (0x78 ∷ []) ∷ [])
+      ≡ Ok (record {
+        rows = space_before 0x1C48 ++ row (0x78 ∷ []) (variable 0x1C47 0x20 2) ∷ [];
+        primary = run 0x1C46 0x1C46 1 ∷ run 0x1C47 0x1C48 1 ∷ [];
+        secondary = run 0x20 0x20 1 ∷ [];
+        tertiary = run 2 2 1 ∷ [];
+      })
+  -- A contraction as an anchor, a capital, a letter before another at level 2, and a variable one. In the last anchor U+0323 is
+  -- between the two code points of the contraction.
+  pub tailoring : planned (over with_contraction) five_relations
+      ≡ Ok (record {
+        rows = with_contraction ++
+            row (0x78 ∷ []) (plain 0x1C51 0x20 2) ∷
+            row (0x58 ∷ []) (plain 0x1C51 0x20 4) ∷
+            row (0x79 ∷ []) (plain 0x1C60 1 2) ∷
+            row (0x7A ∷ []) (variable 0x209 0x20 3) ∷
+            record { key = 0x77 ∷ []; elements = plain 0x1C50 0x20 2 ∷ plain 0 0x2D 2 ∷ [] } ∷ [];
+        primary = run 0x209 0x209 1 ∷ run 0x1C47 0x1C47 1 ∷ run 0x1C50 0x1C50 1 ∷ run 0x1C60 0x1C60 1 ∷ [];
+        secondary = small_secondary;
+        tertiary = small_tertiary;
+      })
   -- `&[before 1]U+0020 < x`: the new element is variable as its anchor's
   pub variable_anchor : planned small (ahead (0x20 ∷ []) Primary (0x78 ∷ []) ∷ []) ≡ with_rows (row (0x78 ∷ []) (variable 1 0x20 2) ∷ [])
   -- `&a < x` where `a` has the last weight of level 1, and `&U+0300 << x` where U+0300 has that of level 2
@@ -208,3 +294,6 @@ pub record WorkedPlans : Type 0 where
         secondary = run 0x20 0x20 1 ∷ run 0xFFFF 0xFFFE 1 ∷ [];
         tertiary = run 2 2 1 ∷ [];
       })
+  -- how many positions each level has below the weight that stays, and above it
+  pub positions_below : map (λ level. places (low_segment level)) (One ∷ Two ∷ Three ∷ []) ≡ 0 ∷ 31 ∷ 1 ∷ []
+  pub positions_above : map (λ level. places (high_segment level)) (One ∷ Two ∷ Three ∷ []) ≡ 32767 ∷ 65503 ∷ 65533 ∷ []

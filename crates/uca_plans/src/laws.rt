@@ -6,7 +6,7 @@ ghost use Rattle.uca_plans.specs.Runs.{RunsSendBaseWeights};
 ghost use Rattle.uca_plans.specs.Readings.{OneMoreRow, KeysReadAsTheirRows, DraftsReadByWhatOccurs, DraftsReadAsRows, DraftsComeFromRows};
 ghost use Rattle.uca_plans.specs.Keys.{RelationsReadOverAllKeys};
 ghost use Rattle.uca_plans.specs.Sizes.{PlansHaveSizedRows};
-ghost use Rattle.uca_plans.specs.Room.{RoomIsCounted};
+ghost use Rattle.uca_plans.specs.Room.{RoomIsCounted, NoRoomIsCounted};
 ghost use Rattle.uca_plans.specs.PlanLaws.{KeysOfPlans, OneOutcome, RunsAreLongest};
 ghost use Rattle.uca_plans.specs.WorkedPlans.{WorkedPlans};
 
@@ -120,4 +120,12 @@ pub fn one_outcome()
 /// itself it goes low if it is put in before it, and high if after. So the insertions alone tell it.
 pub fn room_is_counted()
     ensures { RoomIsCounted }
+{}
+
+/// Take a well-formed base and rules. `NoRoom` of a level is the error exactly if no relation is rejected, this level lacks room,
+/// and each lower level has room. A level lacks room if one side of its fixed weight has more weights, those of the base and the
+/// new ones, than places. Below 0020 there are 31 places, and above it 65,503. Below 0002 there is one, and above it 65,533. At
+/// level 1 there are 32,767.
+pub fn no_room_is_counted()
+    ensures { NoRoomIsCounted }
 {}

@@ -11,7 +11,8 @@ pub use faults::{TailorFault, TailorKind, level_number};
 pub use laws::{
     base_weights_of_elements, drafts_come_from_rows, drafts_read_as_rows,
     drafts_read_by_what_occurs, keys_of_plans, keys_read_as_their_rows, new_weights_stand_nearest,
-    new_weights_take_places, nothing_stands_between, numbers_are_proper, numbers_rise_along_lists,
-    one_more_row, one_outcome, plans_have_sized_rows, relations_read_over_all_keys,
-    room_is_counted, runs_are_longest, runs_send_base_weights, worked_plans,
+    new_weights_take_places, no_room_is_counted, nothing_stands_between, numbers_are_proper,
+    numbers_rise_along_lists, one_more_row, one_outcome, plans_have_sized_rows,
+    relations_read_over_all_keys, room_is_counted, runs_are_longest, runs_send_base_weights,
+    worked_plans,
 };

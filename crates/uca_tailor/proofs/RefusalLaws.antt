@@ -1,6 +1,5 @@
 -- Why there is no tailored table.
-use Rattle.std.proofs.Common.{◌≡◌, inl, inr, ℕ, ◌+◌, Bool, true, false, cond, not, List, [], ◌∷◌, ◌++◌, Option, Some, None}
-use Rattle.std.proofs.Common.{Result, Ok, Err, refl, sym, subst}
+use Rattle.std.proofs.Common.{◌≡◌, inl, inr, ℕ, Bool, true, false, cond, not, List, Result, Ok, Err, refl, sym, subst}
 use Rattle.std.specs.Prelude.{◌↔◌, IsTrue, OnOk, IfErr}
 use Rattle.std.specs.Result.{is_ok}
 use Rattle.uca_values.specs.Content.{Entry, TableContent, Properties}
@@ -9,15 +8,13 @@ use Rattle.uca_check.specs.WellFormed.{IsWellFormed, IsFirstFailure, elements_of
 use Rattle.uca_check.proofs.WellFormedLemmas.{no_form_fails}
 use Rattle.uca_rules.specs.declared.relations.Relation.{Relation}
 use Rattle.uca_weights.specs.declared.Level.TheVariants.{One, Two, Three}
-use Rattle.uca_plans.specs.declared.drafts.DraftWeight.TheVariants.{New}
-use Rattle.uca_plans.proofs.PlanSteps.{target_row, level_plans}
+use Rattle.uca_plans.proofs.PlanSteps.{level_plans}
+use Rattle.uca_plans.proofs.RelationKinds.{IsRelationKind, relations_kind}
 use Rattle.uca_plans.specs.declared.faults.TailorKind.{TailorKind}
 use Rattle.uca_plans.specs.declared.faults.TailorKind.TheVariants as kinds
 use Rattle.uca_plans.specs.declared.faults.TailorFault.{TailorFault}
 use Rattle.uca_plans.specs.Lists.{level_has_room}
-use Rattle.uca_plans.specs.Drafts.{DraftRow, with_row}
-use Rattle.uca_plans.specs.Plans.{Basis, Drafting, Drafted, drafted, needs_prefix, passes_limit, holds_implicit_variable, one_drafted}
-use Rattle.uca_plans.specs.Plans.{with_relation, and_then, with_relations, begun, Plan, plan_of, no_room, plan_drafted, planned}
+use Rattle.uca_plans.specs.Plans.{Basis, Drafting, with_relations, begun, Plan, plan_of, no_room, plan_drafted, planned}
 use Rattle.uca_plans.specs.Tailors.{basis_of, IsRefusedBy, CauseOf, TailorRefuses}
 use Rattle.uca_tailor.specs.PlanParts.{IsNotMade}
 
@@ -29,42 +26,15 @@ IsPlanKind kinds.BaseIllFormed = ⊥
 IsPlanKind kinds.Memory = ⊥
 IsPlanKind _ = Unit {0}
 
--- a relation is rejected for one of these
-relation_kind : (basis : Basis) (so_far : Drafting) (n : ℕ) (r : Relation) (kind : TailorKind) → with_relation basis so_far n r ≡ Err kind → IsPlanKind kind
-relation_kind basis so_far n r kind refused = go (drafted basis so_far (New n) r) refused
-  where
-    -- by its prefix, the limits and its implicit elements
-    tests : (a b c : Bool) (after : Drafting)
-        → cond a (Err kinds.NeedsPrefix) (cond b (Err kinds.Limit) (cond c (Err kinds.ImplicitVariable) (Ok after))) ≡ Err kind → IsPlanKind kind
-    tests true b c after e = let same : kinds.NeedsPrefix ≡ kind = cc in subst IsPlanKind same tt
-    tests false true c after e = let same : kinds.Limit ≡ kind = cc in subst IsPlanKind same tt
-    tests false false true after e = let same : kinds.ImplicitVariable ≡ kind = cc in subst IsPlanKind same tt
-    tests false false false after e = absurd (cc)
-
-    -- by what it gives its target
-    go : (new : Option Drafted) → one_drafted basis so_far r.target.points new ≡ Err kind → IsPlanKind kind
-    go None e = let same : kinds.Anchor ≡ kind = cc in subst IsPlanKind same tt
-    go (Some new) e =
-        let row : DraftRow = target_row r new in
-        tests (needs_prefix basis.properties.class so_far.rows r.target.points) (passes_limit row (with_row row so_far.rows))
-        (holds_implicit_variable (elements_of basis.base) row) (record { rows = with_row row so_far.rows; insertions = so_far.insertions ++ new.insertions }) e
-
--- and so are relations
-relations_kind : (basis : Basis) (n : ℕ) (relations : List Relation) (so_far : Drafting) (fault : TailorFault)
-    → with_relations basis n relations so_far ≡ Err fault → IsPlanKind fault.kind
-relations_kind basis n [] so_far fault refused = absurd (cc)
-relations_kind basis n (r ∷ relations) so_far fault refused =
-    go (with_relation basis so_far n r) refl refused (λ next. relations_kind basis (n + 1) relations next fault)
-  where
-    -- by the first relation
-    go : (first : Result Drafting TailorKind) → with_relation basis so_far n r ≡ first
-        → and_then basis n first (λ next. with_relations basis (n + 1) relations next) ≡ Err fault
-        → ((next : Drafting) → with_relations basis (n + 1) relations next ≡ Err fault → IsPlanKind fault.kind) → IsPlanKind fault.kind
-    go (Err kind) e refused later =
-        let this : TailorFault = record { kind = kind; relation = n + 1 } in
-        let same : this ≡ fault = cc in
-        subst (λ f. IsPlanKind f.kind) same (relation_kind basis so_far n r kind e)
-    go (Ok next) e refused later = later next refused
+-- among them are those of a relation
+of_relation : (kind : TailorKind) → IsRelationKind kind → IsPlanKind kind
+of_relation kinds.BaseIllFormed is = is
+of_relation kinds.Anchor is = is
+of_relation kinds.NeedsPrefix is = is
+of_relation (kinds.NoRoom level) is = absurd is
+of_relation kinds.Limit is = is
+of_relation kinds.ImplicitVariable is = is
+of_relation kinds.Memory is = is
 
 -- an error of a plan's definition is of one of these kinds
 planned_kind : (basis : Basis) (relations : List Relation) (fault : TailorFault) → planned basis relations ≡ Err fault → IsPlanKind fault.kind
@@ -84,7 +54,7 @@ planned_kind basis relations fault refused = go (with_relations basis 0 relation
         → plan_drafted (elements_of basis.base) drafts ≡ Err fault → IsPlanKind fault.kind
     go (Err first) e refused =
         let same : first ≡ fault = cc in
-        subst (λ f. IsPlanKind f.kind) same (relations_kind basis 0 relations (begun basis) first e)
+        subst (λ f. IsPlanKind f.kind) same (of_relation first.kind (relations_kind basis 0 relations (begun basis) first e))
     go (Ok drafting) e refused =
         let plans = level_plans (elements_of basis.base) drafting.insertions in
         rooms (level_has_room One plans.primary.members) (level_has_room Two plans.secondary.members) (level_has_room Three plans.tertiary.members)
