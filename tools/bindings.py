@@ -179,7 +179,7 @@ def python(work):
 def python_with_wheel():
     """A Python that can build a wheel without a network."""
     for it in (sys.executable, "/usr/bin/python3"):
-        if os.path.exists(it) and not subprocess.run([it, "-c", "import pip, setuptools, wheel"], stderr=subprocess.DEVNULL).returncode:
+        if os.path.exists(it) and not subprocess.run([it, "-c", "import setuptools, wheel, pip"], stderr=subprocess.DEVNULL).returncode:
             return it
     raise NotHere("no Python here has pip, setuptools and wheel")
 
