@@ -10,7 +10,7 @@ First prove and build the static library: `tools/build.py uca_c`. Then this scri
 - `keys` and the module over files of examples/, whose keys and orders have to be those of `uca keys` and `uca sort`;
 - the names that libuca.so.1 exports, which have to be those of uca.h, and the header as C++;
 - a program that is compiled by what pkg-config says of a temporary installation, and the programs of docs/BINDINGS.md;
-- the tests of the module for Python, and statements of SQLite with the extension;
+- the tests of the module for Python, as it is and from a wheel with the library inside; and statements of SQLite with the extension;
 - statements of PostgreSQL with its extension. The server has a folder of its own, listens on a Unix socket there, and is stopped afterwards;
 - all four over Unicode's table, and over that table tailored for Danish: 100,000 words of nine languages have the keys of `uca keys` and the order of `uca sort`.
 
@@ -25,6 +25,7 @@ import shutil
 import subprocess
 import sys
 import tempfile
+import zipfile
 from contextlib import contextmanager
 
 TOP = os.path.dirname(os.path.dirname(os.path.realpath(__file__)))
@@ -173,6 +174,30 @@ def python_environment():
 
 def python(work):
     run([sys.executable, "-W", "error", "-m", "unittest", "discover", "-s", f"{PYTHON}/tests"], env=python_environment())
+
+
+def python_with_wheel():
+    """A Python that can build a wheel without a network."""
+    for it in (sys.executable, "/usr/bin/python3"):
+        if os.path.exists(it) and not subprocess.run([it, "-c", "import setuptools, wheel, pip"], stderr=subprocess.DEVNULL).returncode:
+            return it
+    raise NotHere("no Python here has pip, setuptools and wheel")
+
+
+def wheel(work):
+    """A wheel has the library inside, and the module in it passes the tests."""
+    python = python_with_wheel()
+    pip = [python, "-m", "pip", "-q", "--disable-pip-version-check", "--no-cache-dir"]
+    source, wheels, folder = (f"{work}/wheel/{it}" for it in ("source", "wheels", "installed"))
+    shutil.copytree(PYTHON, source, ignore=shutil.ignore_patterns("build", "*.egg-info", "__pycache__"))
+    run([*pip, "wheel", "--no-index", "--no-deps", "--no-build-isolation", "-w", wheels, source], env=python_environment())
+    made = os.listdir(wheels)
+    same(len(made), 1, f"wheels {made}")
+    if "uca/libuca.so.1" not in zipfile.ZipFile(f"{wheels}/{made[0]}").namelist():
+        raise AssertionError(f"{made[0]} has no library inside")
+    run([*pip, "install", "--no-index", "--no-deps", "--target", folder, f"{wheels}/{made[0]}"])
+    environment = {**python_environment(), "PYTHONPATH": folder, "UCA_LIBRARY": ""}
+    run([python, "-W", "error", "-m", "unittest", "discover", "-s", f"{PYTHON}/tests"], env=environment, cwd=wheels)
 
 
 SQLITE = [
@@ -403,7 +428,7 @@ def main():
     if not os.path.exists(ARCHIVE):
         sys.exit(f"there is no {ARCHIVE}: run `tools/build.py uca_c` first")
     checks = [("make", make), ("valgrind", valgrind), ("sanitizers", sanitizers), ("header in C++", header), ("exported names", exports),
-              ("installation", installed), ("stored run", stored_run), ("docs/BINDINGS.md", page), ("keys", keys_like(program)), ("Python", python), ("sort", sorted_like(program)), ("SQLite", sqlite),
+              ("installation", installed), ("stored run", stored_run), ("docs/BINDINGS.md", page), ("keys", keys_like(program)), ("Python", python), ("wheel", wheel), ("sort", sorted_like(program)), ("SQLite", sqlite),
               ("SQLite's orders", sqlite_like(program)), ("PostgreSQL", postgresql), ("PostgreSQL's orders", postgresql_like(program))]
     tried = {"C": c_words, "Python": python_words, "SQLite": sqlite_words, "PostgreSQL": postgresql_words}
     checks += [(f"100,000 words in {name}", over_unicode(program, it)) for name, it in tried.items()]

@@ -4,7 +4,6 @@ use mathlib.Core.Bool.{Bool, true, false}
 use seplogic.Ra.Ura.{Ura}
 use mir.Raw.{raw as bare}
 use mir.Syntax.{w64}
-use Rattle.std.specs.Prelude.{None}
 use Rattle.uca_weights.specs.declared.Weighting.TheVariants.{Shifted}
 use Rattle.uca_weights.specs.declared.Depth.TheVariants.{Weights}
 use mir.Val.{Val, vptr, vbool, vint, vstruct, vcons, vnil, of_list}
@@ -57,14 +56,18 @@ module _ {M : Type 1} {𝓤 : Ura M} {𝓛 : Logic 𝓤} {K : Type 0} {Γ : List
 -- a value that stands for none, in a handle that owns nothing
 abbrev pub nobody : X E
 nobody = record {
-  header = record { version = []; setting = None; ranges = [] };
-  properties = record { classes = []; core = []; other = [] };
-  rows = record { keys = record { root = record { pages = []; numbers = [] }; nodes = [] }; rows = [] };
+  writer = record {
+    lookup = record { keys = record { root = record { pages = []; numbers = [] }; nodes = [] }; rows = [] };
+    ranges = [];
+    data_file = record { classes = []; core = []; other = [] };
+    weighting = Shifted;
+    depth = Weights;
+    key = [];
+  };
   left = record { points = []; classes = [] };
   right = record { points = []; classes = [] };
   weighting = Shifted;
   depth = Weights;
-  buffer = record { weighting = Shifted; depth = Weights; key = [] };
   alike = (refl, refl);
 }
 

@@ -11,6 +11,7 @@ use Rattle.uca_text.specs.Faults.{IsCause}
 use Rattle.uca_text.specs.declared.normalize.TextFault.{TextFault}
 use Rattle.uca_text.specs.declared.normalize.TextFault.TheVariants.{Memory}
 use Rattle.uca_elements.specs.Rows.{Rows}
+use Rattle.uca_elements.specs.Collations.{Collation}
 use Rattle.uca_order.specs.Depths.{read_text, key_at}
 use Rattle.uca_key_writer.specs.Writers.{WriterState, collation_by}
 use Rattle.uca_plain.proofs.Results.{with_value, fault_is}
@@ -48,25 +49,13 @@ accepted_by w v xs accepted same flag keeps =
     subst (λ (s : WriterState _). IsAccepted (nfd_text (properties_of s.data_file) xs)) same
     (subst (λ flag. OnTrue flag (IsAccepted (nfd_text (properties_of w.data_file) xs))) flag keeps)
 
--- ---- A text that was normalized
+-- ---- A key by pieces, or of a text that was normalized
 
-pub key_of_normal : {L : Type 0} (content : L → Rows) (w v : WriterState L) (depth : Depth) (weighting : Weighting) (xs key : List ℕ) (text : NfdText)
-    → text ≡ nfd_text (properties_of w.data_file) xs → w ≡ v → depth ≡ w.depth → weighting ≡ w.weighting
-    → key ≡ key_at depth weighting (read_text (collation_by content w) text) → key ≡ key_by content v xs
-key_of_normal content w v depth weighting xs key text found same at under wrote =
-    wrote
-    ∙ (ap (λ d. key_at d weighting (read_text (collation_by content w) text)) at
-    ∙ (ap (λ x. key_at w.depth x (read_text (collation_by content w) text)) under
-    ∙ (ap (λ t. key_at w.depth w.weighting (read_text (collation_by content w) t)) found
-    ∙ ap (λ (s : WriterState _). key_by content s xs) same)))
+-- what an accepted text says
+pub by_flag : (accepted : Bool) (P : Type 0) → accepted ≡ true → OnTrue accepted P → P
+by_flag accepted P flag says = subst (λ flag. OnTrue flag P) flag says
 
-pub accepted_normal : {L : Type 0} (w v : WriterState L) (xs : List ℕ) (text : NfdText) → text ≡ nfd_text (properties_of w.data_file) xs → w ≡ v
-    → IsAccepted text → IsAccepted (nfd_text (properties_of v.data_file) xs)
-accepted_normal w v xs text found same keeps =
-    subst (λ (s : WriterState _). IsAccepted (nfd_text (properties_of s.data_file) xs)) same (subst IsAccepted found keeps)
-
--- the whole key, where it was written
-pub key_by_pieces : {L : Type 0} (content : L → Rows) (w v : WriterState L) (xs key : List ℕ) (accepted : Bool) → w ≡ v → accepted ≡ true
-    → OnTrue accepted (key ≡ key_by content w xs) → key ≡ key_by content v xs
-key_by_pieces content w v xs key accepted same flag wrote =
-    subst (λ (s : WriterState _). key ≡ key_by content s xs) same (subst (λ flag. OnTrue flag (key ≡ key_by content w xs)) flag wrote)
+pub key_of_normal : (c : Collation) (depth at : Depth) (weighting under : Weighting) (xs key : List ℕ) (text : NfdText) → text ≡ nfd_text c.properties xs
+    → at ≡ depth → under ≡ weighting → key ≡ key_at at under (read_text c text) → key ≡ key_at depth weighting (read_text c (nfd_text c.properties xs))
+key_of_normal c depth at weighting under xs key text found same_depth same_weighting wrote =
+    wrote ∙ (λ i. key_at (same_depth i) (same_weighting i) (read_text c (found i)))

@@ -1,9 +1,10 @@
 //! `KeyBuffer`: memory that is used for one key after another.
 
-ghost use Rattle.std.specs.Prelude.{◌≡◌, ℕ, [], ◌∷◌, ◌++◌, ◌<◌, ◌≤◌, ◌^◌, List, length, take, chars, OnOk, IfOk};
+ghost use Rattle.std.specs.Prelude.{◌≡◌, ℕ, [], ◌∷◌, ◌++◌, ◌<◌, ◌≤◌, ◌^◌, List, length, take, chars, OnOk, IfOk, IfErr};
 ghost use Rattle.std.specs.Bool.{OnTrue};
 ghost use Rattle.uca_text.specs.Texts.{nfd_text};
 ghost use Rattle.uca_text.specs.Limits.{IsAccepted};
+ghost use Rattle.uca_text.specs.Faults.{IsCause};
 ghost use Rattle.uca_elements.specs.Collations.{collation_of};
 ghost use Rattle.uca_order.specs.Depths.{read_text, key_at};
 ghost use Rattle.uca_order.specs.Lengths.{HasShortRows};
@@ -20,7 +21,7 @@ use std::marker::Model;
 use uca_elements::{Collator, Lookup};
 use uca_plain::plain::{Known, PlainPoints, SHORT_TEXT};
 use uca_plain::points::split_first;
-use uca_text::Normal;
+use uca_text::{Normal, TextFault};
 use uca_weights::{Depth, Weighting};
 
 // How the reading of a text goes on.
@@ -135,6 +136,40 @@ impl<A: Allocator> KeyBuffer<A> {
                 Ok(accepted)
             }
         }
+    }
+
+    /// Writes the key of a text as it is, over the key that was there. This is done piece by piece, or else by its Normalization
+    /// Form D, which is written over the other text.
+    ///
+    /// # Errors
+    ///
+    /// Those of [`normal`](uca_text::normal), and `Memory` also if an allocation for the key failed. The bytes are then
+    /// unspecified until the next successful write.
+    pub(crate) fn write_as_is<L: Lookup, T: Allocator>(
+        &mut self,
+        collator: &Collator<L, T>,
+        points: &mut PlainPoints<A>,
+        piece: &mut Piece,
+        normal: &mut Normal,
+        text: &str,
+    ) -> Result<(), TextFault>
+        requires { AreTrueEntries (collation_of L.content collator.now) points.old.entries.items }
+        ensures entries { AreTrueEntries (collation_of L.content collator.now) points.new.entries.items }
+        ensures key { let c = collation_of L.content collator.now in OnOk result (self.new.key ≡ key_at self.old.depth self.old.weighting
+            (read_text c (nfd_text c.properties (chars text.now)))) }
+        ensures accepted { let c = collation_of L.content collator.now in OnOk result (IsAccepted (nfd_text c.properties (chars text.now))) }
+        ensures fault { let c = collation_of L.content collator.now in IfErr result (IsCause (nfd_text c.properties (chars text.now))) }
+        ensures short { HasShortRows (collation_of L.content collator.now).rows → OnOk result (length self.new.key < 2 ^ 40) }
+        ensures weighting { self.new.weighting ≡ self.old.weighting }
+        ensures depth { self.new.depth ≡ self.old.depth }
+    {
+        let accepted = self.write_pieces(collator, points, piece, text)?;
+        if accepted {
+            return Ok(());
+        }
+        normal.renew(text, collator.data)?;
+        self.write_text(collator, normal)?;
+        Ok(())
     }
 
     /// Writes at least the first sixteen bytes of the key of a text, over the key that was there, and returns `true`. A shorter

@@ -92,15 +92,13 @@ impl<'a, L: Lookup, T: Allocator, A: Allocator> KeyWriter<'a, L, T, A> {
         ensures weighting { self.new.weighting ≡ self.old.weighting }
         ensures depth { self.new.depth ≡ self.old.depth }
     {
-        let accepted = self
-            .buffer
-            .write_pieces(&self.collator, &mut self.points, &mut self.piece, text)?;
-        if accepted {
-            return Ok(());
-        }
-        self.text.renew(text, self.collator.data)?;
-        self.buffer.write_text(&self.collator, &self.text)?;
-        Ok(())
+        self.buffer.write_as_is(
+            &self.collator,
+            &mut self.points,
+            &mut self.piece,
+            &mut self.text,
+            text,
+        )
     }
 
     /// Writes at least the first sixteen bytes of the key of a text, over the key that was there. A shorter key is written

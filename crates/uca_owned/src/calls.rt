@@ -12,20 +12,23 @@ use crate::OwnedCollator;
 use crate::faults::{CompareFault, KeyFault};
 use std::cmp::Ordering;
 use uca_comparison::compare;
-use uca_elements::Collator;
-use uca_text::{Normal, TextFault};
-use uca_values::Data;
+use uca_key_writer::OwnedKeyWriter;
+use uca_text::Normal;
 
 // Takes the text of these bytes in place of the one that was there.
-pub(crate) fn renew(normal: &mut Normal, bytes: &[u8], properties: &Data) -> Result<(), KeyFault>
-    ensures found { OnOk result (normal.new ≡ nfd_text (properties_of properties.now) (chars bytes.now)) }
-    ensures accepted { OnOk result (IsAcceptedText (properties_of properties.now) bytes.now) }
-    ensures fault { IfErr result (IsKeyCause (properties_of properties.now) bytes.now) }
+pub(crate) fn renew(
+    normal: &mut Normal,
+    bytes: &[u8],
+    writer: &OwnedKeyWriter,
+) -> Result<(), KeyFault>
+    ensures found { OnOk result (normal.new ≡ nfd_text (properties_of writer.now.data_file) (chars bytes.now)) }
+    ensures accepted { OnOk result (IsAcceptedText (properties_of writer.now.data_file) bytes.now) }
+    ensures fault { IfErr result (IsKeyCause (properties_of writer.now.data_file) bytes.now) }
 {
     let Ok(text) = str::from_utf8(bytes) else {
         return Err(KeyFault::Utf8);
     };
-    match normal.renew(text, properties) {
+    match normal.renew(text, writer.collator().data) {
         Ok(()) => Ok(()),
         Err(fault) => Err(KeyFault::Text(fault)),
     }
@@ -45,11 +48,12 @@ impl OwnedCollator {
         ensures fault { IfErr result (IsKeyCause (keying_in self.old).collation.properties text.now) }
         ensures keying { keying_in self.new ≡ keying_in self.old }
     {
-        renew(&mut self.left, text, &self.properties)?;
-        let collator = Collator::new(&self.rows, &self.header, &self.properties);
-        match self.buffer.write_text(&collator, &self.left) {
+        let Ok(text) = str::from_utf8(text) else {
+            return Err(KeyFault::Utf8);
+        };
+        match self.writer.write(text) {
             Ok(()) => Ok(()),
-            Err(_) => Err(KeyFault::Text(TextFault::Memory)),
+            Err(fault) => Err(KeyFault::Text(fault)),
         }
     }
 
@@ -57,7 +61,7 @@ impl OwnedCollator {
     pub fn key(&self) -> &[u8]
         ensures { result.now ≡ key_in self.now }
     {
-        self.buffer.bytes()
+        self.writer.bytes()
     }
 
     /// How two texts compare (UTS #10, section 1.1), without keys: their order, and the first level at which they
@@ -76,10 +80,10 @@ impl OwnedCollator {
         ensures keying { keying_in self.new ≡ keying_in self.old }
         ensures key { key_in self.new ≡ key_in self.old }
     {
-        if let Err(fault) = renew(&mut self.left, left, &self.properties) {
+        if let Err(fault) = renew(&mut self.left, left, &self.writer) {
             return Err(CompareFault::Left(fault));
         }
-        if let Err(fault) = renew(&mut self.right, right, &self.properties) {
+        if let Err(fault) = renew(&mut self.right, right, &self.writer) {
             return Err(CompareFault::Right(fault));
         }
         Ok(self.compared())
@@ -91,7 +95,7 @@ impl OwnedCollator {
             let answer = compared_at keying.depth keying.weighting (read_text keying.collation self.now.left) (read_text keying.collation self.now.right) in
             (result.0 ≡ answer.order) × (result.1 ≡ answer.level) }
     {
-        let collator = Collator::new(&self.rows, &self.header, &self.properties);
+        let collator = self.writer.collator();
         let compared = compare(
             &collator,
             self.weighting,

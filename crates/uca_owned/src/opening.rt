@@ -9,7 +9,7 @@ ghost use Rattle.uca_owned.specs.Opening.{MeanFiles, Opens, IsOpenCause, IsOpenS
 use crate::OwnedCollator;
 use crate::faults::OpenFault;
 use std::alloc::{AllocError, Global};
-use uca_key_writer::KeyBuffer;
+use uca_key_writer::OwnedKeyWriter;
 use uca_match::Trie;
 use uca_table::{read_data, read_table};
 use uca_text::Normal;
@@ -43,14 +43,11 @@ impl OwnedCollator {
         let weighting = chosen_weighting(asked, &table.header);
         let Table { header, .. } = table;
         Ok(OwnedCollator {
-            header,
-            properties,
-            rows,
+            writer: OwnedKeyWriter::new(alloc, rows, header, properties, weighting, depth),
             left: Normal::new(alloc),
             right: Normal::new(alloc),
             weighting,
             depth,
-            buffer: KeyBuffer::new(alloc, weighting, depth),
         })
     }
 

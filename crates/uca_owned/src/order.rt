@@ -13,8 +13,8 @@ use crate::calls::renew;
 use crate::faults::KeyFault;
 use std::alloc::AllocError;
 use std::cmp::Ordering;
+use uca_key_writer::OwnedKeyWriter;
 use uca_text::{Normal, TextFault};
-use uca_values::Data;
 
 // Whether an allocation failed.
 fn is_memory(fault: KeyFault) -> bool
@@ -33,13 +33,13 @@ fn is_memory(fault: KeyFault) -> bool
 fn renew_if_accepted(
     normal: &mut Normal,
     bytes: &[u8],
-    properties: &Data,
+    writer: &OwnedKeyWriter,
 ) -> Result<bool, AllocError>
-    ensures found { IfOk result (λ accepted. OnTrue accepted (normal.new ≡ nfd_text (properties_of properties.now) (chars bytes.now))) }
-    ensures accepted { let properties = properties_of properties.now in
+    ensures found { IfOk result (λ accepted. OnTrue accepted (normal.new ≡ nfd_text (properties_of writer.now.data_file) (chars bytes.now))) }
+    ensures accepted { let properties = properties_of writer.now.data_file in
         IfOk result (λ accepted. MatchBool accepted (IsAcceptedText properties bytes.now) (¬ (IsAcceptedText properties bytes.now))) }
 {
-    match renew(normal, bytes, properties) {
+    match renew(normal, bytes, writer) {
         Ok(()) => Ok(true),
         Err(fault) => {
             if is_memory(fault) {
@@ -64,8 +64,8 @@ impl OwnedCollator {
         ensures keying { keying_in self.new ≡ keying_in self.old }
         ensures key { key_in self.new ≡ key_in self.old }
     {
-        let has_left = renew_if_accepted(&mut self.left, left, &self.properties)?;
-        let has_right = renew_if_accepted(&mut self.right, right, &self.properties)?;
+        let has_left = renew_if_accepted(&mut self.left, left, &self.writer)?;
+        let has_right = renew_if_accepted(&mut self.right, right, &self.writer)?;
         if has_left {
             if has_right {
                 return Ok(self.compared().0);

@@ -1,0 +1,44 @@
+"""The wheel of the module.
+
+It has the library inside if the environment's UCA_LIBRARY names it, or if bindings/c/out has it. Then it is for the platform
+of this machine alone. A wheel without the library is for all platforms, and its module looks for the library when it is imported.
+"""
+import os
+import shutil
+
+from setuptools import Distribution, setup
+from setuptools.command.build_py import build_py
+
+try:
+    from setuptools.command.bdist_wheel import bdist_wheel
+except ImportError:
+    from wheel.bdist_wheel import bdist_wheel
+
+MADE = os.path.join(os.path.dirname(os.path.abspath(__file__)), "..", "c", "out", "libuca.so.1")
+LIBRARY = os.environ.get("UCA_LIBRARY") or (MADE if os.path.exists(MADE) else None)
+
+
+class Platform(Distribution):
+    """The module is for one platform if the library is inside."""
+
+    def has_ext_modules(self):
+        return LIBRARY is not None
+
+
+class Module(build_py):
+    """The module, and the library beside it."""
+
+    def run(self):
+        super().run()
+        if LIBRARY and not getattr(self, "editable_mode", False):
+            shutil.copy(LIBRARY, os.path.join(self.build_lib, "uca", "libuca.so.1"))
+
+
+class Wheel(bdist_wheel):
+    """One wheel serves every Python 3, since the module calls the library by ctypes."""
+
+    def get_tag(self):
+        return ("py3", "none", super().get_tag()[2])
+
+
+setup(distclass=Platform, cmdclass={"build_py": Module, "bdist_wheel": Wheel})
