@@ -1,14 +1,14 @@
 //! The properties of code points that collation needs: combining classes and Han ranges.
 
-ghost use Rattle.std.specs.Prelude.{◌≡◌, ℕ, ◌<◌, ◌≤◌, List, length, nat_lt, true, false, [], ◌≢◌, ◌+◌, OnOk, IfErr, MatchOption, slice_index, if◌then◌else◌};
+ghost use Rattle.std.specs.Prelude.{◌≡◌, ℕ, ◌<◌, ◌≤◌, List, length, nat_lt, true, false, [], ◌≢◌, ◌+◌, OnOk, IfErr, IfOk, MatchOption, slice_index, if◌then◌else◌};
 ghost use Rattle.std.specs.List.Sorted.{IsPartitionPoint};
 ghost use Rattle.uca_values.specs.Ranges.{is_between, is_within, class_in, AreRising, AreRisingClasses};
 ghost use Rattle.uca_values.specs.LowClasses.{AreLowClasses};
 ghost use Rattle.uca_values.specs.declared.ClassRange.{ClassRange};
 ghost use Rattle.std.specs.List.{AllByRecursion};
-ghost use Rattle.uca_values.specs.Gaps.{IsGap};
+ghost use Rattle.uca_values.specs.Gaps.{HasClassIn, HasRangeIn, IsGap};
 ghost use Rattle.uca_values.specs.Content.{IsClass};
-ghost use Rattle.uca_values.specs.Adding.{AddsClass, AddsCore, AddsOther, RefusesClass, RefusesCore, RefusesOther};
+ghost use Rattle.uca_values.specs.Adding.{AddsClass, AddsCore, AddsOther, RefusesClass, RefusesCore, RefusesOther, RefusesRange};
 
 use crate::{ClassRange, CodePointRange};
 use std::alloc::{AllocError, Allocator, Global};
@@ -104,15 +104,10 @@ impl<A: Allocator> Data<A> {
         ensures added { OnOk result (AddsClass self.old range self.new) }
         ensures refused { IfErr result (λ fault. (self.new ≡ self.old) × RefusesClass self.old range fault) }
     {
-        if range.last < range.first {
-            return Err(RangeFault::Empty);
-        }
-        let Some(at) = class_gap(&self.classes, range) else {
-            return Err(RangeFault::Overlap);
+        let at = match class_position(&self.classes, range) {
+            Ok(at) => at,
+            Err(fault) => return Err(fault),
         };
-        if self.classes.len() >= MOST_RANGES {
-            return Err(RangeFault::Limit);
-        }
         if make_low_classes(&mut self.low_classes).is_err() {
             return Err(RangeFault::Memory);
         }
@@ -137,18 +132,10 @@ impl<A: Allocator> Data<A> {
         ensures added { OnOk result (AddsCore self.old range self.new) }
         ensures refused { IfErr result (λ fault. (self.new ≡ self.old) × RefusesCore self.old range fault) }
     {
-        if range.last < range.first {
-            return Err(RangeFault::Empty);
-        }
-        let Some(at) = range_gap(&self.core, range) else {
-            return Err(RangeFault::Overlap);
+        let at = match range_position(&self.core, &self.other, range) {
+            Ok(at) => at,
+            Err(fault) => return Err(fault),
         };
-        let Some(_) = range_gap(&self.other, range) else {
-            return Err(RangeFault::Overlap);
-        };
-        if self.core.len() >= MOST_RANGES {
-            return Err(RangeFault::Limit);
-        }
         if self.core.insert(at, range).is_err() {
             return Err(RangeFault::Memory);
         }
@@ -164,18 +151,10 @@ impl<A: Allocator> Data<A> {
         ensures added { OnOk result (AddsOther self.old range self.new) }
         ensures refused { IfErr result (λ fault. (self.new ≡ self.old) × RefusesOther self.old range fault) }
     {
-        if range.last < range.first {
-            return Err(RangeFault::Empty);
-        }
-        let Some(at) = range_gap(&self.other, range) else {
-            return Err(RangeFault::Overlap);
+        let at = match range_position(&self.other, &self.core, range) {
+            Ok(at) => at,
+            Err(fault) => return Err(fault),
         };
-        let Some(_) = range_gap(&self.core, range) else {
-            return Err(RangeFault::Overlap);
-        };
-        if self.other.len() >= MOST_RANGES {
-            return Err(RangeFault::Limit);
-        }
         if self.other.insert(at, range).is_err() {
             return Err(RangeFault::Memory);
         }
@@ -300,6 +279,54 @@ fn range_gap(ranges: &[CodePointRange], range: CodePointRange) -> Option<usize>
         return None;
     }
     Some(at)
+}
+
+// The position of a further range with a class, or why it is rejected.
+fn class_position(classes: &[ClassRange], range: ClassRange) -> Result<usize, RangeFault>
+    requires rising { AreRisingClasses classes.now }
+    requires numbers { AllByRecursion (λ r. IsClass r.class) classes.now }
+    ensures found { IfOk result (λ at. (range.first ≤ range.last) × (length classes.now < 4096)
+        × ((at ≤ length classes.now) × IsGap (λ r. r.first) (λ r. r.last) range.first range.last classes.now at)) }
+    ensures refused { IfErr result (RefusesRange (HasClassIn classes.now) (length classes.now) range.first range.last) }
+{
+    if range.last < range.first {
+        return Err(RangeFault::Empty);
+    }
+    let Some(at) = class_gap(classes, range) else {
+        return Err(RangeFault::Overlap);
+    };
+    if classes.len() >= MOST_RANGES {
+        return Err(RangeFault::Limit);
+    }
+    Ok(at)
+}
+
+// The position of a further Han range among those of its kind, or why it is rejected. `beside` has those of the other kind.
+fn range_position(
+    ranges: &[CodePointRange],
+    beside: &[CodePointRange],
+    range: CodePointRange,
+) -> Result<usize, RangeFault>
+    requires rising { AreRising ranges.now }
+    requires beside { AreRising beside.now }
+    ensures found { IfOk result (λ at. (range.first ≤ range.last) × (length ranges.now < 4096)
+        × ((at ≤ length ranges.now) × IsGap (λ r. r.first) (λ r. r.last) range.first range.last ranges.now at)
+        × ((place : ℕ) × (place ≤ length beside.now) × IsGap (λ r. r.first) (λ r. r.last) range.first range.last beside.now place)) }
+    ensures refused { IfErr result (RefusesRange (HasRangeIn ranges.now beside.now) (length ranges.now) range.first range.last) }
+{
+    if range.last < range.first {
+        return Err(RangeFault::Empty);
+    }
+    let Some(at) = range_gap(ranges, range) else {
+        return Err(RangeFault::Overlap);
+    };
+    let Some(_) = range_gap(beside, range) else {
+        return Err(RangeFault::Overlap);
+    };
+    if ranges.len() >= MOST_RANGES {
+        return Err(RangeFault::Limit);
+    }
+    Ok(at)
 }
 
 fn class_at(ranges: &[ClassRange], point: char) -> u8
