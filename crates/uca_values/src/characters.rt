@@ -1,12 +1,12 @@
 //! The properties of code points that collation needs: combining classes and Han ranges.
 
-ghost use Rattle.std.specs.Prelude.{◌≡◌, ℕ, ◌<◌, ◌≤◌, List, length, nat_lt, true, false, [], ◌≢◌, ◌+◌, OnOk, IfErr, IfOk, MatchOption, slice_index, if◌then◌else◌};
+ghost use Rattle.std.specs.Prelude.{◌≡◌, ℕ, ◌<◌, ◌≤◌, List, length, nat_lt, true, false, [], ◌≢◌, ◌+◌, OnOk, IfErr, MatchOption, slice_index, if◌then◌else◌};
 ghost use Rattle.std.specs.List.Sorted.{IsPartitionPoint};
 ghost use Rattle.uca_values.specs.Ranges.{is_between, is_within, class_in, AreRising, AreRisingClasses};
 ghost use Rattle.uca_values.specs.LowClasses.{AreLowClasses};
 ghost use Rattle.uca_values.specs.declared.ClassRange.{ClassRange};
 ghost use Rattle.std.specs.List.{AllByRecursion};
-ghost use Rattle.uca_values.specs.Gaps.{HasClassIn, HasRangeIn, IsGap};
+ghost use Rattle.uca_values.specs.Gaps.{HasRangeIn, IsGap, IsPut};
 ghost use Rattle.uca_values.specs.Content.{IsClass};
 ghost use Rattle.uca_values.specs.Adding.{AddsClass, AddsCore, AddsOther, RefusesClass, RefusesCore, RefusesOther, RefusesRange};
 
@@ -104,10 +104,15 @@ impl<A: Allocator> Data<A> {
         ensures added { OnOk result (AddsClass self.old range self.new) }
         ensures refused { IfErr result (λ fault. (self.new ≡ self.old) × RefusesClass self.old range fault) }
     {
-        let at = match class_position(&self.classes, range) {
-            Ok(at) => at,
-            Err(fault) => return Err(fault),
+        if range.last < range.first {
+            return Err(RangeFault::Empty);
+        }
+        let Some(at) = class_gap(&self.classes, range) else {
+            return Err(RangeFault::Overlap);
         };
+        if self.classes.len() >= MOST_RANGES {
+            return Err(RangeFault::Limit);
+        }
         if make_low_classes(&mut self.low_classes).is_err() {
             return Err(RangeFault::Memory);
         }
@@ -132,14 +137,7 @@ impl<A: Allocator> Data<A> {
         ensures added { OnOk result (AddsCore self.old range self.new) }
         ensures refused { IfErr result (λ fault. (self.new ≡ self.old) × RefusesCore self.old range fault) }
     {
-        let at = match range_position(&self.core, &self.other, range) {
-            Ok(at) => at,
-            Err(fault) => return Err(fault),
-        };
-        if self.core.insert(at, range).is_err() {
-            return Err(RangeFault::Memory);
-        }
-        Ok(())
+        insert_range(&mut self.core, &self.other, range)
     }
 
     /// Makes the code points of a range unified ideographs outside core Han.
@@ -151,14 +149,7 @@ impl<A: Allocator> Data<A> {
         ensures added { OnOk result (AddsOther self.old range self.new) }
         ensures refused { IfErr result (λ fault. (self.new ≡ self.old) × RefusesOther self.old range fault) }
     {
-        let at = match range_position(&self.other, &self.core, range) {
-            Ok(at) => at,
-            Err(fault) => return Err(fault),
-        };
-        if self.other.insert(at, range).is_err() {
-            return Err(RangeFault::Memory);
-        }
-        Ok(())
+        insert_range(&mut self.other, &self.core, range)
     }
 
     /// The canonical combining class of a code point (UAX #44); 0 if no range of the file has it.
@@ -281,38 +272,20 @@ fn range_gap(ranges: &[CodePointRange], range: CodePointRange) -> Option<usize>
     Some(at)
 }
 
-// The position of a further range with a class, or why it is rejected.
-fn class_position(classes: &[ClassRange], range: ClassRange) -> Result<usize, RangeFault>
-    requires rising { AreRisingClasses classes.now }
-    requires numbers { AllByRecursion (λ r. IsClass r.class) classes.now }
-    ensures found { IfOk result (λ at. (range.first ≤ range.last) × (length classes.now < 4096)
-        × ((at ≤ length classes.now) × IsGap (λ r. r.first) (λ r. r.last) range.first range.last classes.now at)) }
-    ensures refused { IfErr result (RefusesRange (HasClassIn classes.now) (length classes.now) range.first range.last) }
-{
-    if range.last < range.first {
-        return Err(RangeFault::Empty);
-    }
-    let Some(at) = class_gap(classes, range) else {
-        return Err(RangeFault::Overlap);
-    };
-    if classes.len() >= MOST_RANGES {
-        return Err(RangeFault::Limit);
-    }
-    Ok(at)
-}
-
-// The position of a further Han range among those of its kind, or why it is rejected. `beside` has those of the other kind.
-fn range_position(
-    ranges: &[CodePointRange],
+// Adds a range to the Han ranges of its kind. `beside` has those of the other kind.
+fn insert_range<A: Allocator>(
+    ranges: &mut Vec<CodePointRange, A>,
     beside: &[CodePointRange],
     range: CodePointRange,
-) -> Result<usize, RangeFault>
-    requires rising { AreRising ranges.now }
+) -> Result<(), RangeFault>
+    requires rising { AreRising ranges.old.items }
+    requires few { length ranges.old.items ≤ 4096 }
     requires beside { AreRising beside.now }
-    ensures found { IfOk result (λ at. (range.first ≤ range.last) × (length ranges.now < 4096)
-        × ((at ≤ length ranges.now) × IsGap (λ r. r.first) (λ r. r.last) range.first range.last ranges.now at)
-        × ((place : ℕ) × (place ≤ length beside.now) × IsGap (λ r. r.first) (λ r. r.last) range.first range.last beside.now place)) }
-    ensures refused { IfErr result (RefusesRange (HasRangeIn ranges.now beside.now) (length ranges.now) range.first range.last) }
+    ensures rising { AreRising ranges.new.items }
+    ensures few { length ranges.new.items ≤ 4096 }
+    ensures put { OnOk result (IsPut ranges.old.items beside.now range ranges.new.items) }
+    ensures refused { IfErr result (λ fault. (ranges.new.items ≡ ranges.old.items)
+        × RefusesRange (HasRangeIn ranges.old.items beside.now) (length ranges.old.items) range.first range.last fault) }
 {
     if range.last < range.first {
         return Err(RangeFault::Empty);
@@ -326,7 +299,10 @@ fn range_position(
     if ranges.len() >= MOST_RANGES {
         return Err(RangeFault::Limit);
     }
-    Ok(at)
+    if ranges.insert(at, range).is_err() {
+        return Err(RangeFault::Memory);
+    }
+    Ok(())
 }
 
 fn class_at(ranges: &[ClassRange], point: char) -> u8
