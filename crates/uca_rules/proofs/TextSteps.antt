@@ -1,7 +1,7 @@
 -- Texts, a piece further: what is read of one, and why it is none.
 use Rattle.std.proofs.Common.{◌≡◌, ◌≢◌, inl, inr, ℕ, suc, ◌<◌, ◌≤◌, Bool, true, false, ◌==◌, ◌&&◌, IsTrue, IsFalse, List, [], ◌∷◌, ◌++◌, length, take, Option, Some, None, IfSome, if◌then◌else◌, refl, ap, sym, subst, ◌∙◌, arith}
 use Rattle.std.proofs.lemmas.List.{append-nil, append_assoc, take_at, length-drop, flat_map_more}
-use Rattle.std.proofs.lemmas.Bool.{false≢true, eqb-false}
+use Rattle.std.proofs.lemmas.Bool.{false≢true, eqb-false, ne_eqb}
 use Rattle.std.specs.Str.{byte}
 use Rattle.uca_rules.specs.declared.characters.Character.{Character}
 use Rattle.uca_rules.specs.declared.faults.RuleFaultKind.{RuleFaultKind}
@@ -267,3 +267,13 @@ quoted_piece starred cs first behind is code = rw (is, code) refl
 pub escaped_piece : (starred : Bool) (cs : List Character) (first : Character) (behind : List Character) → cs ≡ first ∷ behind → first.code ≡ backslash →
     piece_at starred cs ≡ behind_backslash first behind
 escaped_piece starred cs first behind is code = rw (is, code) refl
+
+-- Another character that may begin a piece is its only symbol.
+pub plain_piece : (starred : Bool) (cs : List Character) (first : Character) (behind : List Character) → cs ≡ first ∷ behind → first.code ≢ apostrophe → first.code ≢ backslash → is_plain first.code ≡ true →
+    piece_at starred cs ≡ Some (record { symbols = Literal first ∷ []; rest = behind })
+plain_piece starred cs first behind is quote slash plain = rw (is, ne_eqb first.code apostrophe quote, ne_eqb first.code backslash slash, plain) refl
+
+-- So is the hyphen of a starred text.
+pub hyphen_piece : (starred : Bool) (cs : List Character) (first : Character) (behind : List Character) → cs ≡ first ∷ behind → starred ≡ true → first.code ≡ hyphen →
+    piece_at starred cs ≡ Some (record { symbols = Hyphen first.place ∷ []; rest = behind })
+hyphen_piece starred cs first behind is star code = rw (is, star, code) refl
