@@ -1,7 +1,6 @@
 use Rattle.std.proofs.Common.{◌≡◌, ◌<◌, ◌≤◌, ℕ, true, false, length, refl, subst, ◌∙◌, arith}
 use Rattle.std.proofs.lemmas.Result.{err_from_is_err_and, IfErr-weaker, IfOk-weaker}
 use Rattle.uca_rules.specs.declared.signs.Preceding.TheVariants as lasts
-use Rattle.uca_rules.specs.declared.reader.Reader.{Reader}
 use Rattle.uca_rules.specs.Statements.{IsTargetDue}
 use Rattle.uca_rules.specs.Reading
 use Rattle.uca_rules.specs.Faults.{StatementCause}
