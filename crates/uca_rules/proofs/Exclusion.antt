@@ -18,7 +18,7 @@ use Rattle.uca_rules.specs.declared.signs.Preceding.TheVariants as lasts
 use Rattle.uca_rules.specs.declared.faults.RuleFaultKind.{RuleFaultKind}
 use Rattle.uca_rules.specs.declared.faults.RuleFaultKind.TheVariants as kinds
 use Rattle.uca_rules.specs.Characters.{characters, behind_gaps, ampersand, apostrophe, backslash, hyphen, bracket, less_than}
-use Rattle.uca_rules.specs.Pieces.{Symbol, Literal, Hyphen, Piece, is_plain, with_literal, inside_quotes, behind_apostrophe, number_at, numbered, behind_backslash, piece_at, ArePieces, symbols_of, BeginsText}
+use Rattle.uca_rules.specs.Pieces.{Symbol, Literal, Hyphen, Piece, is_plain, inside_quotes, behind_apostrophe, number_at, numbered, behind_backslash, piece_at, ArePieces, symbols_of, BeginsText}
 use Rattle.uca_rules.specs.Statements.{SignAt, sign_at, count_less, bracket_at, BeginsBracket, No_start, HasRanges, targets_of, Statement, Reset, Plain, Starred, BeginsStatement, Resets, Signs, opening, MayFollow, MayEnd, AreInOrder, last_is, last_of}
 use Rattle.uca_rules.specs.Relations.{AreRules, IsLate}
 use Rattle.uca_rules.specs.Meaning.{Anchor, Taken, behind_target, one_letter, anchor_behind, starred_relations, relations_in, relations_from, no_anchor, taken, relations_of, IsShort, HasShortTexts, Means}

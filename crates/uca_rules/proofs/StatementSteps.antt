@@ -21,7 +21,7 @@ use Rattle.uca_rules.specs.Views.{IsMemoryAt, IsTextFault}
 use Rattle.uca_rules.specs.Relations.{IsRuleText}
 use Rattle.uca_rules.specs.Faults.{IsWrongBracket, RelationCause}
 use Rattle.uca_rules.specs.Reading
-use Rattle.uca_rules.specs.Reading.{State, IsTextOf, BeginsNext, IsMemoryIn, IsPlainFault, IsStarredFault, IsNextFault, AreTextsOf, Keeps, Adds, AddsOne, AddsPlain, AddsStarred, GoesOn, first_code, relation_of, properties_in, anchor_of, state_of}
+use Rattle.uca_rules.specs.Reading.{State, IsTextOf, BeginsNext, HasRelationCause, IsMemoryIn, IsPlainFault, IsStarredFault, IsNextFault, AreTextsOf, Keeps, Adds, AddsOne, AddsPlain, AddsStarred, GoesOn, first_code, relation_of, properties_in, anchor_of, state_of}
 use Rattle.uca_rules.proofs.Suffixes.{anchor_due_behind, target_due_behind, expansion_due_behind, written_behind, expands_end, behind_ends, ends_trans}
 use Rattle.uca_rules.proofs.Progress.{memory_behind, keeps_both}
 
@@ -55,13 +55,18 @@ memory_in_target end cs text strength starred fault due memory =
     let ends = behind_ends cs text (target_due_behind cs strength starred text due) in
     memory_behind end cs ends.0 text fault ends.1 memory
 
-pub plain_next_fault : (properties : Properties) (end : ℕ) (state : State) (cs text : List Character) (strength : Strength) (fault : RuleFault)
-    → IsTargetDue cs strength false text → MayFollow state.last (Signs strength) → IsPlainFault properties end state strength text fault → IsNextFault properties end state cs fault
-plain_next_fault properties end state cs text strength fault due follows (Reading.IsPlainFault.In_memory memory) =
+-- a cause does not depend on what the last statement was
+caused_behind : (properties : Properties) (state : State) (last : Preceding) (s : Statement) (fault : RuleFault) → HasRelationCause properties state s fault → HasRelationCause properties (record state { last = last }) s fault
+caused_behind properties state last s fault has = record { before = has.before; t = has.t; after = has.after; are = has.are; at = has.at; cause = has.cause }
+
+-- the reader has noted already that the last statement is a relation; `last` is the one before it
+pub plain_next_fault : (properties : Properties) (end : ℕ) (state : State) (last : Preceding) (cs text : List Character) (strength : Strength) (fault : RuleFault)
+    → IsTargetDue cs strength false text → MayFollow last (Signs strength) → IsPlainFault properties end state strength text fault → IsNextFault properties end (record state { last = last }) cs fault
+plain_next_fault properties end state last cs text strength fault due follows (Reading.IsPlainFault.In_memory memory) =
     Reading.IsNextFault.In_memory (memory_in_target end cs text strength false fault due memory)
-plain_next_fault properties end state cs text strength fault due follows (Reading.IsPlainFault.In_target cause) =
+plain_next_fault properties end state last cs text strength fault due follows (Reading.IsPlainFault.In_target cause) =
     Reading.IsNextFault.In_text (record { opens = Signs strength; starred = false; text = text; follows = follows; due = inl due; cause = cause })
-plain_next_fault properties end state cs text strength fault due follows (Reading.IsPlainFault.In_expansion target more expansion begins slashed cause) =
+plain_next_fault properties end state last cs text strength fault due follows (Reading.IsPlainFault.In_expansion target more expansion begins slashed cause) =
     Reading.IsNextFault.In_text (record {
       opens = Signs strength;
       starred = false;
@@ -70,30 +75,30 @@ plain_next_fault properties end state cs text strength fault due follows (Readin
       due = inr (record { first = text; due = due; target = target; more = more; begins = begins; slashed = slashed });
       cause = cause;
     })
-plain_next_fault properties end state cs text strength fault due follows (Reading.IsPlainFault.In_relation target more expansion rest begins expands has) =
+plain_next_fault properties end state last cs text strength fault due follows (Reading.IsPlainFault.In_relation target more expansion rest begins expands has) =
     Reading.IsNextFault.In_relation (record {
       s = Plain strength target expansion;
       rest = rest;
       begins = record { text = text; due = due; more = more; begins = begins; expands = expands };
       follows = follows;
-      has = has;
+      has = caused_behind properties state last (Plain strength target expansion) fault has;
     })
 
-pub starred_next_fault : (properties : Properties) (end : ℕ) (state : State) (cs text : List Character) (strength : Strength) (fault : RuleFault)
-    → IsTargetDue cs strength true text → MayFollow state.last (Signs strength) → length state.relations < 5000 → IsStarredFault properties end state strength text fault → IsNextFault properties end state cs fault
-starred_next_fault properties end state cs text strength fault due follows few (Reading.IsStarredFault.In_memory memory) =
+pub starred_next_fault : (properties : Properties) (end : ℕ) (state : State) (last : Preceding) (cs text : List Character) (strength : Strength) (fault : RuleFault)
+    → IsTargetDue cs strength true text → MayFollow last (Signs strength) → length state.relations < 5000 → IsStarredFault properties end state strength text fault → IsNextFault properties end (record state { last = last }) cs fault
+starred_next_fault properties end state last cs text strength fault due follows few (Reading.IsStarredFault.In_memory memory) =
     Reading.IsNextFault.In_memory (memory_in_target end cs text strength true fault due memory)
-starred_next_fault properties end state cs text strength fault due follows few (Reading.IsStarredFault.In_text cause) =
+starred_next_fault properties end state last cs text strength fault due follows few (Reading.IsStarredFault.In_text cause) =
     Reading.IsNextFault.In_text (record { opens = Signs strength; starred = true; text = text; follows = follows; due = due; cause = cause })
-starred_next_fault properties end state cs text strength fault due follows few (Reading.IsStarredFault.In_relation symbols rest begins ranges has) =
+starred_next_fault properties end state last cs text strength fault due follows few (Reading.IsStarredFault.In_relation symbols rest begins ranges has) =
     Reading.IsNextFault.In_relation (record {
       s = Starred strength (targets_of symbols);
       rest = rest;
       begins = record { text = text; due = due; symbols = symbols; begins = begins; ranges = ranges; are = refl };
       follows = follows;
-      has = has;
+      has = caused_behind properties state last (Starred strength (targets_of symbols)) fault has;
     })
-starred_next_fault properties end state cs text strength fault due follows few (Reading.IsStarredFault.In_limit symbols rest begins ranges over) =
+starred_next_fault properties end state last cs text strength fault due follows few (Reading.IsStarredFault.In_limit symbols rest begins ranges over) =
     Reading.IsNextFault.In_target (record {
       strength = strength;
       targets = targets_of symbols;
@@ -104,10 +109,14 @@ starred_next_fault properties end state cs text strength fault due follows few (
       over = over;
     })
 
+-- the reader before it noted that the last statement is a relation
+abbrev pub with_last : {A T : Type 0} → Reader A T → Preceding → Reader A T
+with_last r last = record { texts = r.texts; rules = r.rules; anchor = r.anchor; before = r.before; last = last }
+
 -- the relations of a statement have been added, and it is the last one
-pub goes_on : {A T : Type 0} (s : Statement) (old new : Reader A T) (cs rest : List Character) → BeginsStatement cs s rest → MayFollow old.last (opening s) → last_is s ≡ lasts.Relation → Adds s old new
-    → GoesOn old (record { texts = new.texts; rules = new.rules; anchor = new.anchor; before = new.before; last = lasts.Relation }) cs rest
-goes_on {A} s old new cs rest begins follows is adds = record {
+pub goes_on : {A T : Type 0} (s : Statement) (old new : Reader A T) (last : Preceding) (cs rest : List Character) → BeginsStatement cs s rest → MayFollow last (opening s) → last_is s ≡ lasts.Relation → old.last ≡ lasts.Relation → Adds s old new
+    → GoesOn (with_last old last) new cs rest
+goes_on {A} s old new last cs rest begins follows is noted adds = record {
   kept = adds.kept;
   ready = record { growing = adds.growing; anchored = (λ some. adds.anchored) };
   next = record {
@@ -117,21 +126,21 @@ goes_on {A} s old new cs rest begins follows is adds = record {
     short = adds.short;
     is =
         (let at : List Relation → Anchor → Preceding → State = λ (l : List Relation) (a : Anchor) (t : Preceding). record { relations = l; anchor = a; last = t } in
-        ap (λ (l : List Relation). at l (anchor_of new) lasts.Relation) adds.relations
-        ∙ ap (λ (a : Anchor). at (old.rules.relations.items ++ relations_of (relations_in (properties_in old.texts) (anchor_of old) s)) a lasts.Relation) adds.anchor
-        ∙ ap (λ (t : Preceding). at (old.rules.relations.items ++ relations_of (relations_in (properties_in old.texts) (anchor_of old) s)) (anchor_behind (properties_in old.texts) (anchor_of old) s) t) (sym is));
+        ap (λ (l : List Relation). at l (anchor_of new) new.last) adds.relations
+        ∙ ap (λ (a : Anchor). at (old.rules.relations.items ++ relations_of (relations_in (properties_in old.texts) (anchor_of old) s)) a new.last) adds.anchor
+        ∙ ap (λ (t : Preceding). at (old.rules.relations.items ++ relations_of (relations_in (properties_in old.texts) (anchor_of old) s)) (anchor_behind (properties_in old.texts) (anchor_of old) s) t) (adds.last ∙ noted ∙ sym is));
   };
 }
 
-pub plain_goes_on : {A T : Type 0} (old new : Reader A T) (strength : Strength) (cs text rest : List Character) → IsTargetDue cs strength false text → MayFollow old.last (Signs strength) → AddsPlain old new strength text rest
-    → GoesOn old (record { texts = new.texts; rules = new.rules; anchor = new.anchor; before = new.before; last = lasts.Relation }) cs rest
-plain_goes_on {A} old new strength cs text rest due follows h =
-    goes_on (Plain strength h.target h.expansion) old new cs rest (record { text = text; due = due; more = h.more; begins = h.begins; expands = h.expands }) follows refl h.adds
+pub plain_goes_on : {A T : Type 0} (old new : Reader A T) (last : Preceding) (strength : Strength) (cs text rest : List Character) → IsTargetDue cs strength false text → MayFollow last (Signs strength) → old.last ≡ lasts.Relation → AddsPlain old new strength text rest
+    → GoesOn (with_last old last) new cs rest
+plain_goes_on {A} old new last strength cs text rest due follows noted h =
+    goes_on (Plain strength h.target h.expansion) old new last cs rest (record { text = text; due = due; more = h.more; begins = h.begins; expands = h.expands }) follows refl noted h.adds
 
-pub starred_goes_on : {A T : Type 0} (old new : Reader A T) (strength : Strength) (cs text rest : List Character) → IsTargetDue cs strength true text → MayFollow old.last (Signs strength) → AddsStarred old new strength text rest
-    → GoesOn old (record { texts = new.texts; rules = new.rules; anchor = new.anchor; before = new.before; last = lasts.Relation }) cs rest
-starred_goes_on {A} old new strength cs text rest due follows h =
-    goes_on (Starred strength (targets_of h.symbols)) old new cs rest (record { text = text; due = due; symbols = h.symbols; begins = h.begins; ranges = h.ranges; are = refl }) follows refl h.adds
+pub starred_goes_on : {A T : Type 0} (old new : Reader A T) (last : Preceding) (strength : Strength) (cs text rest : List Character) → IsTargetDue cs strength true text → MayFollow last (Signs strength) → old.last ≡ lasts.Relation → AddsStarred old new strength text rest
+    → GoesOn (with_last old last) new cs rest
+starred_goes_on {A} old new last strength cs text rest due follows noted h =
+    goes_on (Starred strength (targets_of h.symbols)) old new last cs rest (record { text = text; due = due; symbols = h.symbols; begins = h.begins; ranges = h.ranges; are = refl }) follows refl noted h.adds
 
 -- ---- A target and an expansion
 

@@ -1,7 +1,7 @@
 -- Texts, a piece further: what is read of one, and why it is none.
-use Rattle.std.proofs.Common.{◌≡◌, ◌≢◌, inl, inr, ℕ, suc, ◌<◌, ◌≤◌, Bool, true, false, ◌==◌, ◌&&◌, IsTrue, IsFalse, List, [], ◌∷◌, ◌++◌, length, take, Option, Some, None, IfSome, if◌then◌else◌, refl, ap, sym, subst, ◌∙◌, arith}
+use Rattle.std.proofs.Common.{◌≡◌, ◌≢◌, inl, inr, ℕ, suc, ◌<◌, ◌≤◌, Bool, true, false, ◌==◌, ◌&&◌, IsTrue, IsFalse, List, [], ◌∷◌, ◌++◌, length, take, Option, Some, None, IfSome, if◌then◌else◌, refl, ap, sym, subst, ◌∙◌, arith, length-append}
 use Rattle.std.proofs.lemmas.List.{append-nil, append_assoc, take_at, length-drop, flat_map_more}
-use Rattle.std.proofs.lemmas.Bool.{false≢true, eqb-false}
+use Rattle.std.proofs.lemmas.Bool.{false≢true, eqb-false, ne_eqb}
 use Rattle.std.specs.Str.{byte}
 use Rattle.uca_rules.specs.declared.characters.Character.{Character}
 use Rattle.uca_rules.specs.declared.faults.RuleFaultKind.{RuleFaultKind}
@@ -196,6 +196,10 @@ pub end_cause : (end : ℕ) (starred : Bool) (text rest : List Character) (symbo
 end_cause end false text rest symbols place star read ends hyphen = absurd (false≢true star)
 end_cause end true text rest symbols place star read ends hyphen = inr (inr (ends_in_hyphen text rest symbols place read ends hyphen))
 
+-- the old symbols are no more than those that a piece leaves
+pub within_some : (old new now : List Symbol) (behind : List Character) (piece : Option Piece) (count : ℕ) → Takes old new (Some behind) piece → count ≡ length old → now ≡ new → count ≤ length now
+within_some old new now behind piece count takes is same = omega (arith, is, ap length same, ap length takes.2, length-append old takes.0)
+
 -- the symbols of the pieces before one that is none, or that is just read
 pub front_of_none : (old new now : List Symbol) (piece : Option Piece) (count : ℕ) → Takes old new None piece → count ≡ length old → now ≡ new → take count now ≡ old
 front_of_none old new now piece count takes is same = rw (is, same) takes.1
@@ -267,3 +271,18 @@ quoted_piece starred cs first behind is code = rw (is, code) refl
 pub escaped_piece : (starred : Bool) (cs : List Character) (first : Character) (behind : List Character) → cs ≡ first ∷ behind → first.code ≡ backslash →
     piece_at starred cs ≡ behind_backslash first behind
 escaped_piece starred cs first behind is code = rw (is, code) refl
+
+-- Another character that may begin a piece is its only symbol.
+pub plain_piece : (starred : Bool) (cs : List Character) (first : Character) (behind : List Character) → cs ≡ first ∷ behind → first.code ≢ apostrophe → first.code ≢ backslash → is_plain first.code ≡ true →
+    piece_at starred cs ≡ Some (record { symbols = Literal first ∷ []; rest = behind })
+plain_piece starred cs first behind is quote slash plain = rw (is, ne_eqb first.code apostrophe quote, ne_eqb first.code backslash slash, plain) refl
+
+-- So is the hyphen of a starred text.
+pub hyphen_piece : (starred : Bool) (cs : List Character) (first : Character) (behind : List Character) → cs ≡ first ∷ behind → starred ≡ true → first.code ≡ hyphen →
+    piece_at starred cs ≡ Some (record { symbols = Hyphen first.place ∷ []; rest = behind })
+hyphen_piece starred cs first behind is star code = rw (is, star, code) refl
+
+-- At any other character there is no piece.
+pub no_piece : (starred : Bool) (cs : List Character) (first : Character) (behind : List Character) → cs ≡ first ∷ behind → first.code ≢ apostrophe → first.code ≢ backslash → is_plain first.code ≡ false → (starred && first.code == hyphen) ≡ false →
+    piece_at starred cs ≡ None
+no_piece starred cs first behind is quote slash plain other = rw (is, ne_eqb first.code apostrophe quote, ne_eqb first.code backslash slash, plain, other) refl

@@ -228,13 +228,12 @@ impl<'a, A: Allocator + Copy, T: Allocator> Reader<'a, A, T> {
     {
         let sign = sign_of_relation(self.last, self.rules.count(), characters)?;
         let text = behind_gaps(sign.rest);
-        let rest = if sign.starred {
-            self.read_starred(sign.strength, text)?
-        } else {
-            self.read_target(sign.strength, text)?
-        };
         self.last = Preceding::Relation;
-        Ok(rest)
+        if sign.starred {
+            self.read_starred(sign.strength, text)
+        } else {
+            self.read_target(sign.strength, text)
+        }
     }
 
     /// Reads a target, perhaps `/` and an expansion, and adds the relation.

@@ -12,10 +12,12 @@ use Rattle.uca_weights.proofs.Lists.{each_around}
 use Rattle.uca_weights.proofs.Tests.{cond_apart}
 use Rattle.uca_values.specs.declared.ClassRange.{ClassRange}
 use Rattle.uca_values.specs.declared.CodePointRange.{CodePointRange}
+use Rattle.uca_values.specs.declared.characters.RangeFault.{RangeFault}
+use Rattle.uca_values.specs.declared.characters.RangeFault.TheVariants as faults
 use Rattle.uca_values.specs.Ranges.{is_between, is_within, class_in, RiseBy, AreRising, AreRisingClasses}
-use Rattle.uca_values.specs.Gaps.{IsGap}
-use Rattle.uca_values.specs.Content.{properties_of, IsClass, IsData, DataContent, Properties, HasClassBetween, HasHanBetween}
-use Rattle.uca_values.specs.Adding.{AddsClass, AddsCore, AddsOther}
+use Rattle.uca_values.specs.Gaps.{HasRangeIn, IsGap, IsPut}
+use Rattle.uca_values.specs.Content.{IsClass, IsData, DataContent, Properties, HasClassBetween, properties_of}
+use Rattle.uca_values.specs.Adding.{AddsClass, AddsCore, AddsOther, RefusesCore, RefusesOther, RefusesRange}
 use Rattle.uca_values.proofs.Rising.{all_at, sound_at, apart_at, IsPlace, between_true, between_false, between_from}
 
 -- the position of a is a gap if the range there, if any, begins above b
@@ -243,16 +245,43 @@ full_class old xs slice core other r at view lent fits full =
     let Q : DataContent → Type 0 = λ content. (HasClassBetween (properties_of content) r.first r.last → ⊥) × (4096 ≤ length content.classes) in
     subst Q view (λ has. has.3 (no_class_in_gap xs r.first r.last at here.1 has.0 has.1 has.2), full)
 
-pub full_core : (old : DataContent) (classes : List ClassRange) (xs slice other other_slice : List CodePointRange) (r : CodePointRange) (at beside : ℕ) → record { classes = classes; core = xs; other = other } ≡ old → slice ≡ xs → other_slice ≡ other → Fits (λ s. s.first) (λ s. s.last) r.first r.last slice at → Fits (λ s. s.first) (λ s. s.last) r.first r.last other_slice beside → 4096 ≤ length xs → (HasHanBetween (properties_of old) r.first r.last → ⊥) × (4096 ≤ length old.core)
-full_core old classes xs slice other other_slice r at beside view lent lent_other fits also full =
-    let here = fits_lent xs slice r at lent fits in
-    let there = fits_lent other other_slice r beside lent_other also in
-    let Q : DataContent → Type 0 = λ content. (HasHanBetween (properties_of content) r.first r.last → ⊥) × (4096 ≤ length content.core) in
-    subst Q view (λ has. no_han xs other has.0 (none_in_gap xs r.first r.last at here.1 has.0 has.1 has.2) (none_in_gap other r.first r.last beside there.1 has.0 has.1 has.2) has.3, full)
+-- a range in two gaps has no code point in common with the others
+pub no_range : (xs beside : List CodePointRange) (r : CodePointRange) (at place : ℕ) → Fits (λ s. s.first) (λ s. s.last) r.first r.last xs at → Fits (λ s. s.first) (λ s. s.last) r.first r.last beside place → HasRangeIn xs beside r.first r.last → ⊥
+no_range xs beside r at place fits also has =
+    no_han xs beside has.0 (none_in_gap xs r.first r.last at fits.1 has.0 has.1 has.2) (none_in_gap beside r.first r.last place also.1 has.0 has.1 has.2) has.3
 
-pub full_other : (old : DataContent) (classes : List ClassRange) (core core_slice xs slice : List CodePointRange) (r : CodePointRange) (at beside : ℕ) → record { classes = classes; core = core; other = xs } ≡ old → slice ≡ xs → core_slice ≡ core → Fits (λ s. s.first) (λ s. s.last) r.first r.last slice at → Fits (λ s. s.first) (λ s. s.last) r.first r.last core_slice beside → 4096 ≤ length xs → (HasHanBetween (properties_of old) r.first r.last → ⊥) × (4096 ≤ length old.other)
-full_other old classes core core_slice xs slice r at beside view lent lent_core fits also full =
-    let here = fits_lent xs slice r at lent fits in
-    let there = fits_lent core core_slice r beside lent_core also in
-    let Q : DataContent → Type 0 = λ content. (HasHanBetween (properties_of content) r.first r.last → ⊥) × (4096 ≤ length content.other) in
-    subst Q view (λ has. no_han core xs has.0 (none_in_gap core r.first r.last beside there.1 has.0 has.1 has.2) (none_in_gap xs r.first r.last at here.1 has.0 has.1 has.2) has.3, full)
+-- the two lists may change their places
+in_either : (xs beside : List CodePointRange) (first last : ℕ) → HasRangeIn xs beside first last → HasRangeIn beside xs first last
+in_either xs beside first last has = (has.0, has.1, has.2, elim has.3 [ inl e ↦ inr e | inr e ↦ inl e ])
+
+pub refused_either : (xs beside : List CodePointRange) (count first last : ℕ) (fault : RangeFault) → RefusesRange (HasRangeIn xs beside) count first last fault → RefusesRange (HasRangeIn beside xs) count first last fault
+refused_either xs beside count first last faults.Empty h = h
+refused_either xs beside count first last faults.Overlap h = (h.0, in_either xs beside first last h.1)
+refused_either xs beside count first last faults.Limit h = (h.0, (λ has. h.1 (in_either beside xs first last has)), h.2)
+refused_either xs beside count first last faults.Memory h = h
+
+-- a range that was put is added to those of its kind
+pub put_core : (old : DataContent) (classes : List ClassRange) (xs slice other ys : List CodePointRange) (r : CodePointRange) → record { classes = classes; core = xs; other = other } ≡ old → slice ≡ other → IsPut xs slice r ys → AddsCore old r (record { classes = classes; core = ys; other = other })
+put_core old classes xs slice other ys r view lent put =
+    gains_core old classes xs xs ys other slice r put.at put.place view refl lent put.is put.rising (put.within, put.gap) (put.within_beside, put.gap_beside) put.room
+
+pub put_other : (old : DataContent) (classes : List ClassRange) (core slice xs ys : List CodePointRange) (r : CodePointRange) → record { classes = classes; core = core; other = xs } ≡ old → slice ≡ core → IsPut xs slice r ys → AddsOther old r (record { classes = classes; core = core; other = ys })
+put_other old classes core slice xs ys r view lent put =
+    gains_other old classes core slice xs xs ys r put.at put.place view refl lent put.is put.rising (put.within, put.gap) (put.within_beside, put.gap_beside) put.room
+
+-- a range that was rejected leaves all as it was
+pub left_core : (old : DataContent) (classes : List ClassRange) (xs slice other ys : List CodePointRange) (r : CodePointRange) (fault : RangeFault) → record { classes = classes; core = xs; other = other } ≡ old → slice ≡ other
+    → (ys ≡ xs) × RefusesRange (HasRangeIn xs slice) (length xs) r.first r.last fault → (record { classes = classes; core = ys; other = other } ≡ old) × RefusesCore old r fault
+left_core old classes xs slice other ys r fault view lent left =
+    let P : List CodePointRange → Type 0 = λ zs. RefusesRange (HasRangeIn xs zs) (length xs) r.first r.last fault in
+    let Q : DataContent → Type 0 = λ content. RefusesCore content r fault in
+    let content : List CodePointRange → DataContent = λ zs. record { classes = classes; core = zs; other = other } in
+    (ap content left.0 ∙ view, subst Q view (subst P lent left.1))
+
+pub left_other : (old : DataContent) (classes : List ClassRange) (core slice xs ys : List CodePointRange) (r : CodePointRange) (fault : RangeFault) → record { classes = classes; core = core; other = xs } ≡ old → slice ≡ core
+    → (ys ≡ xs) × RefusesRange (HasRangeIn xs slice) (length xs) r.first r.last fault → (record { classes = classes; core = core; other = ys } ≡ old) × RefusesOther old r fault
+left_other old classes core slice xs ys r fault view lent left =
+    let P : List CodePointRange → Type 0 = λ zs. RefusesRange (HasRangeIn xs zs) (length xs) r.first r.last fault in
+    let Q : DataContent → Type 0 = λ content. RefusesOther content r fault in
+    let content : List CodePointRange → DataContent = λ zs. record { classes = classes; core = core; other = zs } in
+    (ap content left.0 ∙ view, subst Q view (refused_either xs core (length xs) r.first r.last fault (subst P lent left.1)))

@@ -6,9 +6,9 @@ ghost use Rattle.uca_values.specs.Ranges.{is_between, is_within, class_in, AreRi
 ghost use Rattle.uca_values.specs.LowClasses.{AreLowClasses};
 ghost use Rattle.uca_values.specs.declared.ClassRange.{ClassRange};
 ghost use Rattle.std.specs.List.{AllByRecursion};
-ghost use Rattle.uca_values.specs.Gaps.{IsGap};
+ghost use Rattle.uca_values.specs.Gaps.{HasRangeIn, IsGap, IsPut};
 ghost use Rattle.uca_values.specs.Content.{IsClass};
-ghost use Rattle.uca_values.specs.Adding.{AddsClass, AddsCore, AddsOther, RefusesClass, RefusesCore, RefusesOther};
+ghost use Rattle.uca_values.specs.Adding.{AddsClass, AddsCore, AddsOther, RefusesClass, RefusesCore, RefusesOther, RefusesRange};
 
 use crate::{ClassRange, CodePointRange};
 use std::alloc::{AllocError, Allocator, Global};
@@ -137,22 +137,7 @@ impl<A: Allocator> Data<A> {
         ensures added { OnOk result (AddsCore self.old range self.new) }
         ensures refused { IfErr result (λ fault. (self.new ≡ self.old) × RefusesCore self.old range fault) }
     {
-        if range.last < range.first {
-            return Err(RangeFault::Empty);
-        }
-        let Some(at) = range_gap(&self.core, range) else {
-            return Err(RangeFault::Overlap);
-        };
-        let Some(_) = range_gap(&self.other, range) else {
-            return Err(RangeFault::Overlap);
-        };
-        if self.core.len() >= MOST_RANGES {
-            return Err(RangeFault::Limit);
-        }
-        if self.core.insert(at, range).is_err() {
-            return Err(RangeFault::Memory);
-        }
-        Ok(())
+        insert_range(&mut self.core, &self.other, range)
     }
 
     /// Makes the code points of a range unified ideographs outside core Han.
@@ -164,22 +149,7 @@ impl<A: Allocator> Data<A> {
         ensures added { OnOk result (AddsOther self.old range self.new) }
         ensures refused { IfErr result (λ fault. (self.new ≡ self.old) × RefusesOther self.old range fault) }
     {
-        if range.last < range.first {
-            return Err(RangeFault::Empty);
-        }
-        let Some(at) = range_gap(&self.other, range) else {
-            return Err(RangeFault::Overlap);
-        };
-        let Some(_) = range_gap(&self.core, range) else {
-            return Err(RangeFault::Overlap);
-        };
-        if self.other.len() >= MOST_RANGES {
-            return Err(RangeFault::Limit);
-        }
-        if self.other.insert(at, range).is_err() {
-            return Err(RangeFault::Memory);
-        }
-        Ok(())
+        insert_range(&mut self.other, &self.core, range)
     }
 
     /// The canonical combining class of a code point (UAX #44); 0 if no range of the file has it.
@@ -300,6 +270,39 @@ fn range_gap(ranges: &[CodePointRange], range: CodePointRange) -> Option<usize>
         return None;
     }
     Some(at)
+}
+
+// Adds a range to the Han ranges of its kind. `beside` has those of the other kind.
+fn insert_range<A: Allocator>(
+    ranges: &mut Vec<CodePointRange, A>,
+    beside: &[CodePointRange],
+    range: CodePointRange,
+) -> Result<(), RangeFault>
+    requires rising { AreRising ranges.old.items }
+    requires few { length ranges.old.items ≤ 4096 }
+    requires beside { AreRising beside.now }
+    ensures rising { AreRising ranges.new.items }
+    ensures few { length ranges.new.items ≤ 4096 }
+    ensures put { OnOk result (IsPut ranges.old.items beside.now range ranges.new.items) }
+    ensures refused { IfErr result (λ fault. (ranges.new.items ≡ ranges.old.items)
+        × RefusesRange (HasRangeIn ranges.old.items beside.now) (length ranges.old.items) range.first range.last fault) }
+{
+    if range.last < range.first {
+        return Err(RangeFault::Empty);
+    }
+    let Some(at) = range_gap(ranges, range) else {
+        return Err(RangeFault::Overlap);
+    };
+    let Some(_) = range_gap(beside, range) else {
+        return Err(RangeFault::Overlap);
+    };
+    if ranges.len() >= MOST_RANGES {
+        return Err(RangeFault::Limit);
+    }
+    if ranges.insert(at, range).is_err() {
+        return Err(RangeFault::Memory);
+    }
+    Ok(())
 }
 
 fn class_at(ranges: &[ClassRange], point: char) -> u8

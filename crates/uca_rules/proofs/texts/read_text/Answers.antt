@@ -1,9 +1,9 @@
 -- A piece further, and why none follows.
-use Rattle.std.proofs.Common.{refl, ◌≡◌, inr, sym, subst, ◌∙◌, length, rules}
+use Rattle.std.proofs.Common.{refl, ◌≡◌, inl, inr, sym, subst, ◌∙◌, length, rules}
 use Rattle.std.proofs.lemmas.Result.{err_from_is_err_and}
 use Rattle.std.proofs.lemmas.Bool.{false≢true}
 use Rattle.uca_rules.specs.Statements.{HasRangesSoFar}
-use Rattle.uca_rules.proofs.TextSteps.{read_more, takes_shorter, front_of_none, front_of_some, breaks_off, hyphen_cause, end_cause, read_none, no_ranges, begins_so, ranges_end, some_points}
+use Rattle.uca_rules.proofs.TextSteps.{within_some, read_more, takes_shorter, front_of_none, front_of_some, breaks_off, hyphen_cause, end_cause, read_none, no_ranges, begins_so, ranges_end, some_points}
 use Rattle.uca_rules.proofs.texts.read_text.Goals as goal
 use Rattle.uca_rules.proofs.texts.read_text.Goals.{in_default-via-in-Some+else-starred-2, in_default-via-in_default}
 
@@ -89,3 +89,12 @@ pub returns-in-Some-clause-fault : goal.returns-in-Some-clause-fault
 returns-in-Some-clause-fault g c =
     inr (end_cause c.args.end c.args.starred c.args.text.now c.loop-symbols.rest.now c.loop-symbols.symbols.items c.in-Some.byte c.if-starred-2.true c.loop-symbols.invariant.read
     (c.loop-symbols-test.ensures.is refl) (rw c.deref-2.ensures.value at c.in-Some.ensures))
+
+pub test_hyphens-requires-clause-within : goal.test_hyphens-requires-clause-within
+test_hyphens-requires-clause-within g c =
+    let old = c.loop-symbols.symbols.items in
+    let count : c.len-count.result ≡ length old = search rules in
+    within_some old c.take_piece.new.symbols.items c.deref-then-starred.result.now _ _ c.len-count.result (rw c.in-Ok-Some.field-0-is at c.in-Ok-Some.ensures) count c.deref-then-starred.ensures.value
+
+pub returns-in-Err-clause-fault : goal.returns-in-Err-clause-fault
+returns-in-Err-clause-fault g c = inl (refl, c.place_of-place.ensures)
