@@ -6,12 +6,10 @@ pub mod key_buffer;
 pub mod key_writer;
 pub mod keys;
 mod level_buffers;
-pub mod owned_key_writer;
-mod pieces;
+pub mod pieces;
 mod places;
 mod runs;
 
 pub use key_buffer::KeyBuffer;
 pub use key_writer::KeyWriter;
 pub use keys::{key, key_of};
-pub use owned_key_writer::OwnedKeyWriter;

@@ -24,7 +24,7 @@ use uca_weights::Weighting;
 
 /// The code points of a text from its last plain one on.
 #[derive(Drop)]
-pub(crate) struct Piece {
+pub struct Piece {
     // the piece, where it is one plain code point
     alone: Option<Known>,
     // otherwise its code points
@@ -37,7 +37,7 @@ pub(crate) struct Piece {
 
 impl Piece {
     /// The empty piece, which takes no memory.
-    pub(crate) fn new(global: Global) -> Piece {
+    pub fn new(global: Global) -> Piece {
         Piece {
             alone: None,
             text: String::new(global),

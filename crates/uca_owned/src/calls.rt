@@ -8,11 +8,10 @@ ghost use Rattle.uca_owned.specs.Keyings.{key_of_bytes, bytes_compared};
 ghost use Rattle.uca_owned.specs.Owned.{keying_in, key_in};
 ghost use Rattle.uca_owned.specs.Causes.{IsAcceptedText, IsKeyCause, IsCompareCause};
 
-use crate::OwnedCollator;
 use crate::faults::{CompareFault, KeyFault};
+use crate::{OwnedCollator, OwnedKeyWriter};
 use std::cmp::Ordering;
 use uca_comparison::compare;
-use uca_key_writer::OwnedKeyWriter;
 use uca_text::Normal;
 
 // Takes the text of these bytes in place of the one that was there.

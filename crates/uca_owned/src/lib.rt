@@ -8,6 +8,8 @@ pub mod laws;
 mod opening;
 mod order;
 mod owned;
+mod owned_key_writer;
 
 pub use faults::{CompareFault, KeyFault, OpenFault};
 pub use owned::OwnedCollator;
+pub use owned_key_writer::OwnedKeyWriter;

@@ -6,10 +6,9 @@ ghost use Rattle.uca_owned.specs.Keyings.{keying, weighting_by};
 ghost use Rattle.uca_owned.specs.Owned.{keying_in};
 ghost use Rattle.uca_owned.specs.Opening.{MeanFiles, Opens, IsOpenCause, IsOpenStop};
 
-use crate::OwnedCollator;
 use crate::faults::OpenFault;
+use crate::{OwnedCollator, OwnedKeyWriter};
 use std::alloc::{AllocError, Global};
-use uca_key_writer::OwnedKeyWriter;
 use uca_match::Trie;
 use uca_table::{read_data, read_table};
 use uca_text::Normal;

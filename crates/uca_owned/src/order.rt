@@ -8,12 +8,11 @@ ghost use Rattle.uca_owned.specs.Owned.{keying_in, key_in};
 ghost use Rattle.uca_owned.specs.Causes.{IsAcceptedText, is_memory_fault};
 ghost use Rattle.uca_owned.specs.Orders.{IsOrder};
 
-use crate::OwnedCollator;
 use crate::calls::renew;
 use crate::faults::KeyFault;
+use crate::{OwnedCollator, OwnedKeyWriter};
 use std::alloc::AllocError;
 use std::cmp::Ordering;
-use uca_key_writer::OwnedKeyWriter;
 use uca_text::{Normal, TextFault};
 
 // Whether an allocation failed.

@@ -2,7 +2,7 @@
 
 ghost use Rattle.std.specs.Prelude.{◌≡◌};
 
-use uca_key_writer::OwnedKeyWriter;
+use crate::OwnedKeyWriter;
 use uca_text::Normal;
 use uca_weights::{Depth, Weighting};
 

@@ -8,18 +8,18 @@ ghost use Rattle.uca_match.specs.NumberedKeys.{rows_at};
 ghost use Rattle.uca_order.specs.Depths.{read_text, key_at};
 ghost use Rattle.uca_key_writer.specs.Writers.{collation_by};
 
-use crate::KeyBuffer;
-use crate::pieces::Piece;
 use std::alloc::Global;
 use std::marker::Model;
 use uca_elements::Collator;
+use uca_key_writer::KeyBuffer;
+use uca_key_writer::pieces::Piece;
 use uca_match::Trie;
 use uca_plain::plain::PlainPoints;
 use uca_text::{Normal, TextFault};
 use uca_values::{Data, Header};
 use uca_weights::{Depth, Weighting};
 
-/// Writes the sort keys of texts as a [`KeyWriter`](crate::KeyWriter) does. It owns the rows, the header and the data file that
+/// Writes the sort keys of texts as a [`KeyWriter`](uca_key_writer::KeyWriter) does. It owns the rows, the header and the data file that
 /// it reads texts by, so that a program can keep it.
 #[derive(Drop)]
 pub struct OwnedKeyWriter {
@@ -95,7 +95,7 @@ impl OwnedKeyWriter {
     ///
     /// # Errors
     ///
-    /// Those of [`KeyWriter::write`](crate::KeyWriter::write). The bytes are then unspecified until the next successful write.
+    /// Those of [`KeyWriter::write`](uca_key_writer::KeyWriter::write). The bytes are then unspecified until the next successful write.
     pub fn write(&mut self, text: &str) -> Result<(), TextFault>
         ensures key { OnOk result (self.new.key ≡ key_at self.old.depth self.old.weighting
             (read_text (collation_by rows_at self.old) (nfd_text (collation_by rows_at self.old).properties (chars text.now)))) }

@@ -12,7 +12,7 @@ use Rattle.uca_order.specs.Depths.{read_text, key_at}
 use Rattle.uca_plain.specs.PlainPoints.{AreTrueEntries}
 use Rattle.uca_key_writer.specs.Writers.{WriterState, collation_by}
 use Rattle.uca_key_writer.proofs.WriterSteps.{key_by}
-use Rattle.uca_key_writer.proofs.owned_key_writer.OwnedKeyWriter.write.Goals as goal
+use Rattle.uca_owned.proofs.owned_key_writer.OwnedKeyWriter.write.Goals as goal
 
 pub write_as_is-requires : goal.write_as_is-requires
 write_as_is-requires c =
