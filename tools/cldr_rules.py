@@ -80,7 +80,7 @@ def rules_text(folder, name):
         sys.exit(f"{folder}: no such folder of CLDR. Debian has it in the package unicode-cldr-core.")
     read = [collations(folder, it) for it in chain(locale)]
     if locale != "root" and not any(os.path.exists(os.path.join(folder, "collation", f"{it}.xml")) for it in chain(locale) if it != "root"):
-        sys.exit(f"{name}: CLDR has no collation for this language")
+        sys.exit(f"{name}: CLDR has no collation of this name: name a language by its code, such as pl")
     kind = kind or next(default for _, default in read if default)
     text = next((found[kind] for found, _ in read if kind in found), None)
     return sys.exit(f"{name}: CLDR has no such collation") if text is None else text
