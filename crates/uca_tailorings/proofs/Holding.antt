@@ -1,5 +1,5 @@
 -- How the elements of an anchor and an expansion compare with those of a target that has a new weight.
-use Rattle.std.proofs.Common.{◌≡◌, ◌≢◌, ℕ, List, [], ◌∷◌, ◌++◌, map, Bool, true, false, not, cond, nat_eq, filter, Some, refl, ap, ap₂, ◌∙◌}
+use Rattle.std.proofs.Common.{◌≡◌, ◌≢◌, ℕ, suc, List, [], ◌∷◌, ◌++◌, map, Bool, true, false, not, cond, nat_eq, filter, Some, refl, ap, ap₂, ◌∙◌}
 use Rattle.std.proofs.Common.{append_assoc}
 use Rattle.std.specs.List.{AllByRecursion}
 use Rattle.std.specs.Ordering.{nat_cmp, ordering_then}
@@ -11,6 +11,7 @@ use Rattle.std.proofs.lemmas.List.Elements.{filter-append}
 use Rattle.uca_weights.specs.declared.Element.{Element}
 use Rattle.uca_weights.specs.declared.Level.{Level}
 use Rattle.uca_weights.specs.declared.Level.TheVariants.{One, Two, Three}
+use Rattle.uca_weights.specs.declared.Weighting.{Weighting}
 use Rattle.uca_weights.specs.declared.Weighting.TheVariants.{NonIgnorable}
 use Rattle.uca_weights.specs.Levels.{weight, level_number}
 use Rattle.uca_weights.proofs.Lists.{each_weaker}
@@ -51,24 +52,25 @@ level_lists_are : (es : List Element) → level_lists NonIgnorable es ≡ level_
 level_lists_are es = λ i. level_list_is One [] es i ∷ level_list_is Two [] es i ∷ level_list_is Three [] es i ∷ []
 
 -- what three levels say
-abbrev by_orders : Ordering → Ordering → Ordering → Comparison
+abbrev pub by_orders : Ordering → Ordering → Ordering → Comparison
 by_orders first second third = decided first 1 (decided second 2 (decided third 3 (record { order = Equal; level = 0 })))
 
 -- how elements compare at a level
-abbrev order_at : Level → List Element → List Element → Ordering
+abbrev pub order_at : Level → List Element → List Element → Ordering
 order_at level es fs = lexicographic (level_weights level es) (level_weights level fs)
 
 -- elements compare by the three levels
-compared_by_levels : (es fs : List Element) → compared NonIgnorable es fs ≡ by_orders (order_at One es fs) (order_at Two es fs) (order_at Three es fs)
+pub compared_by_levels : (es fs : List Element) → compared NonIgnorable es fs ≡ by_orders (order_at One es fs) (order_at Two es fs) (order_at Three es fs)
 compared_by_levels es fs = ap₂ (compare_from 1) (level_lists_are es) (level_lists_are fs)
 
--- elements differ from themselves at no level
-pub compared_itself : (es : List Element) → compared NonIgnorable es es ≡ record { order = Equal; level = 0 }
-compared_itself es =
-    compared_by_levels es es
-    ∙ ap (λ o. by_orders o (order_at Two es es) (order_at Three es es)) (lexicographic_itself (level_weights One es))
-    ∙ ap (λ o. by_orders Equal o (order_at Three es es)) (lexicographic_itself (level_weights Two es))
-    ∙ ap (by_orders Equal Equal) (lexicographic_itself (level_weights Three es))
+-- lists differ from themselves at no level
+compare_itself : (n : ℕ) (levels : List (List ℕ)) → compare_from n levels levels ≡ record { order = Equal; level = 0 }
+compare_itself n [] = refl
+compare_itself n (ws ∷ levels) = ap (λ o. decided o n (compare_from (suc n) levels levels)) (lexicographic_itself ws) ∙ compare_itself (suc n) levels
+
+-- nor do elements
+pub compared_itself : (weighting : Weighting) (es : List Element) → compared weighting es es ≡ record { order = Equal; level = 0 }
+compared_itself weighting es = compare_itself 1 (level_lists weighting es)
 
 -- ---- One level
 

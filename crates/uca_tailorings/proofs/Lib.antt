@@ -11,6 +11,7 @@ pub mod Parts
 pub mod ReadingEach
 pub mod Sound
 pub mod Holding
+pub mod Shifting
 pub mod Relating
 pub mod TailoredWeights
 pub mod Nearest

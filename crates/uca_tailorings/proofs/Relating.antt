@@ -5,7 +5,8 @@ use Rattle.std.specs.List.{AllByRecursion}
 use Rattle.uca_weights.specs.declared.Element.{Element}
 use Rattle.uca_weights.specs.declared.Level.{Level}
 use Rattle.uca_weights.specs.declared.Level.TheVariants.{One, Two, Three}
-use Rattle.uca_weights.specs.declared.Weighting.TheVariants.{NonIgnorable}
+use Rattle.uca_weights.specs.declared.Weighting.{Weighting}
+use Rattle.uca_weights.specs.declared.Weighting.TheVariants.{NonIgnorable, Shifted}
 use Rattle.uca_weights.specs.Levels.{weight, level_of}
 use Rattle.uca_values.specs.Implicit.{implicit}
 use Rattle.uca_text.specs.Texts.{NfdText, code_points, letters_of}
@@ -16,15 +17,16 @@ use Rattle.uca_elements.specs.Collations.{elements_of}
 use Rattle.uca_elements.proofs.ReadingLemmas.{key_reads_as_row}
 use Rattle.uca_order.specs.Levels.{compared}
 use Rattle.uca_tailorings.specs.Placing.{IsIgnorableTo, reweighted, placed, IsOnSide}
-use Rattle.uca_tailorings.specs.Tailorings.{Tailoring, IsTailoring, tailored_reading, anchor_elements, expansion_elements, IsTargetRow, IsPlacedAt}
+use Rattle.uca_tailorings.specs.Tailorings.{Tailoring, IsTailoring, tailored_reading, expansion_elements, IsTargetRow, IsPlacedAt}
 use Rattle.uca_tailorings.specs.Tailorings.{IsPlacedBy, IsPlaced, IsPairWeight, IsBetween, IsAccepted}
-use Rattle.uca_tailorings.specs.Meaning.{Holds, stands}
+use Rattle.uca_tailorings.specs.Meaning.{AreNotVariable, Holds, HoldsShifted, HoldsUnder, source_elements, stands}
 use Rattle.uca_tailorings.specs.declared.conditions.Condition.TheVariants.{TailoredIllFormed, NotPlaced, NotNearest}
 use Rattle.uca_weights.proofs.Lists.{each_parts}
 use Rattle.uca_tailorings.proofs.Parts.{each_by_parts, of_part}
 use Rattle.uca_tailorings.proofs.ReadingEach.{points_of_text}
 use Rattle.uca_tailorings.proofs.Sound.{IsSound, sound_row, sound_elements, old_is_some, new_is_some}
 use Rattle.uca_tailorings.proofs.Holding.{compared_itself, holds_placed}
+use Rattle.uca_tailorings.proofs.Shifting.{placed_not_variable, shifted_stands}
 
 -- ---- Relations hold
 
@@ -41,15 +43,19 @@ pub target_reads : (tailoring : Tailoring) (r : Relation) (row : List Element) �
     elements_of (tailored_reading tailoring) r.target ≡ row
 target_reads tailoring r row is found = key_reads tailoring r.target row is found
 
+-- a relation of identical strength holds under each weighting
+holds_same : (weighting : Weighting) (tailoring : Tailoring) (r : Relation) → HasRuleTexts r → level_of r.strength ≡ None →
+    IsTargetRow tailoring r (source_elements tailoring r) → HoldsUnder weighting tailoring r
+holds_same weighting tailoring r texts strength row =
+    ap (compared weighting (source_elements tailoring r)) (target_reads tailoring r (source_elements tailoring r) texts.targets row)
+    ∙ compared_itself weighting (source_elements tailoring r)
+    ∙ sym (ap (stands r.before) strength)
+
 -- a relation holds, be it of strength 1 to 3 or identical
 holds_by : (tailoring : Tailoring) → IsTailoring tailoring → IsAccepted tailoring → (before : List Relation) (r : Relation) (after : List Relation) →
     tailoring.relations ≡ before ++ r ∷ after → HasRuleTexts r → (level : Option Level) → level_of r.strength ≡ level → IsPlacedBy tailoring r level →
     Holds tailoring r
-holds_by tailoring is accepted before r after whole texts None strength row =
-    ap (compared NonIgnorable (anchor_elements tailoring r ++ expansion_elements tailoring r))
-    (target_reads tailoring r (anchor_elements tailoring r ++ expansion_elements tailoring r) texts.targets row)
-    ∙ compared_itself (anchor_elements tailoring r ++ expansion_elements tailoring r)
-    ∙ sym (ap (stands r.before) strength)
+holds_by tailoring is accepted before r after whole texts None strength row = holds_same NonIgnorable tailoring r texts strength row
 holds_by tailoring is accepted before r after whole texts (Some level) strength placement =
     let old = placement.0 in
     let new = placement.1 in
@@ -79,6 +85,34 @@ all_hold tailoring is accepted =
     each_by_parts (Holds tailoring) tailoring.relations
     (λ before r after whole.
     holds_by tailoring is accepted before r after whole (of_part HasRuleTexts tailoring.relations before r after is.rules.texts whole)
+    (level_of r.strength) refl (of_part (IsPlaced tailoring) tailoring.relations before r after (accepted NotPlaced) whole))
+
+-- ---- Relations hold under shifted weighting
+
+-- a relation that holds, and whose anchor and expansion have no variable element, holds so too
+shifted_by : (tailoring : Tailoring) (r : Relation) → HasRuleTexts r → Holds tailoring r → (level : Option Level) → level_of r.strength ≡ level →
+    IsPlacedBy tailoring r level → HoldsShifted tailoring r
+shifted_by tailoring r texts holds None strength row = λ not_variable. holds_same Shifted tailoring r texts strength row
+shifted_by tailoring r texts holds (Some level) strength placement = λ not_variable.
+    let new = placement.1 in
+    let at : IsPlacedAt tailoring r level placement.0 new = placement.2 in
+    let expansion : List Element = expansion_elements tailoring r in
+    let source : AreNotVariable ((at.before ++ at.last ∷ at.trailing) ++ expansion) =
+    subst (λ (es : List Element). AreNotVariable (es ++ expansion)) at.anchor.whole not_variable in
+    let target : AreNotVariable (elements_of (tailored_reading tailoring) r.target) =
+    subst AreNotVariable (sym (target_reads tailoring r (placed level at.before at.last expansion new) texts.targets at.row))
+    (placed_not_variable level at.before at.last at.trailing expansion new source) in
+    shifted_stands r.before level (source_elements tailoring r) (elements_of (tailored_reading tailoring) r.target) not_variable target
+    (holds ∙ ap (stands r.before) strength)
+    ∙ sym (ap (stands r.before) strength)
+
+-- each relation of an accepted tailoring does
+pub all_hold_shifted : (tailoring : Tailoring) → IsTailoring tailoring → IsAccepted tailoring → AllByRecursion (HoldsShifted tailoring) tailoring.relations
+all_hold_shifted tailoring is accepted =
+    each_by_parts (HoldsShifted tailoring) tailoring.relations
+    (λ before r after whole.
+    shifted_by tailoring r (of_part HasRuleTexts tailoring.relations before r after is.rules.texts whole)
+    (of_part (Holds tailoring) tailoring.relations before r after (all_hold tailoring is accepted) whole)
     (level_of r.strength) refl (of_part (IsPlaced tailoring) tailoring.relations before r after (accepted NotPlaced) whole))
 
 -- ---- A relation has one new weight

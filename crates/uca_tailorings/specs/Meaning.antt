@@ -3,9 +3,10 @@ use Rattle.std.specs.Prelude.{◌≡◌, ◌⊎◌, ℕ, ◌<◌, List, ◌++◌
 use Rattle.std.specs.List.{AllByRecursion}
 use Rattle.std.specs.declared.cmp.Ordering.TheVariants.{Less, Equal, Greater}
 use Rattle.uca_weights.specs.declared.Depth.{Depth}
+use Rattle.uca_weights.specs.declared.Element.{Element}
 use Rattle.uca_weights.specs.declared.Level.{Level}
 use Rattle.uca_weights.specs.declared.Weighting.{Weighting}
-use Rattle.uca_weights.specs.declared.Weighting.TheVariants.{NonIgnorable}
+use Rattle.uca_weights.specs.declared.Weighting.TheVariants.{NonIgnorable, Shifted}
 use Rattle.uca_weights.specs.Levels.{weight, level_of, level_number}
 use Rattle.uca_values.specs.Content.{Entry}
 use Rattle.uca_values.specs.Implicit.{implicit}
@@ -28,10 +29,25 @@ stands before None = record { order = Equal; level = 0 }
 stands false (Some level) = record { order = Less; level = level_number level }
 stands true (Some level) = record { order = Greater; level = level_number level }
 
+-- the elements of anchor and expansion under the tailored table
+abbrev pub source_elements : Tailoring → Relation → List Element
+source_elements tailoring r = anchor_elements tailoring r ++ expansion_elements tailoring r
+
 -- Under the tailored table, anchor and expansion differ from the target at the level of the relation's strength. They
 -- come before it, or after it in a before-relation. At identical strength they differ at no level.
+abbrev pub HoldsUnder : Weighting → Tailoring → Relation → Type 0
+HoldsUnder weighting tailoring r = compared weighting (source_elements tailoring r) (elements_of (tailored_reading tailoring) r.target) ≡ stands r.before (level_of r.strength)
+
 abbrev pub Holds : Tailoring → Relation → Type 0
-Holds tailoring r = compared NonIgnorable (anchor_elements tailoring r ++ expansion_elements tailoring r) (elements_of (tailored_reading tailoring) r.target) ≡ stands r.before (level_of r.strength)
+Holds = HoldsUnder NonIgnorable
+
+-- no element is variable
+abbrev pub AreNotVariable : List Element → Type 0
+AreNotVariable es = AllByRecursion (λ (e : Element). e.mark ≡ false) es
+
+-- where no element of anchor and expansion is variable, that is so under shifted weighting too
+abbrev pub HoldsShifted : Tailoring → Relation → Type 0
+HoldsShifted tailoring r = AreNotVariable (source_elements tailoring r) → HoldsUnder Shifted tailoring r
 
 -- an element of some tailored row, or of the implicit weights of some code point, has the weight at the level
 pub record IsRowWeight (tailoring : Tailoring) (level : Level) (w : ℕ) : Type 0 where
@@ -80,8 +96,10 @@ KeepsKey tailoring depth weighting text =
 pub record IsFaithful (tailoring : Tailoring) : Type 0 where
   -- the tailored table is well-formed
   pub well_formed : IsWellFormed tailoring.properties.class tailoring.tailored.rows
-  -- each relation holds, and each target of strength 1 to 3 is next to its anchor
+  -- Each relation holds under non-ignorable weighting. Where no element of its anchor and its expansion is variable, it
+  -- holds under shifted weighting too. Each target of strength 1 to 3 is next to its anchor.
   pub holds : AllByRecursion (Holds tailoring) tailoring.relations
+  pub shifted : AllByRecursion (HoldsShifted tailoring) tailoring.relations
   pub nearest : AllRelations (StandsNearest tailoring) tailoring.relations
   -- texts in which no target occurs in order compare as before, at either depth and under either weighting
   pub untouched : (depth : Depth) (weighting : Weighting) (left right : NfdText) → IsNormal left → IsNormal right →

@@ -7,7 +7,9 @@ ghost use Rattle.uca_tailorings.specs.WorkedKeys.{WorkedMovedKeys};
 /// Acceptance is about all texts. If a tailoring is accepted:
 ///
 /// - The tailored table is well-formed.
-/// - Each relation holds, and the target of each relation of strength 1 to 3 is next to its anchor.
+/// - Each relation holds under non-ignorable weighting. Where no element of its anchor and its expansion is variable, it
+///   holds under shifted weighting too.
+/// - The target of each relation of strength 1 to 3 is next to its anchor.
 /// - Any two texts in which no target occurs in order compare as under the base, by order and level, at either depth
 ///   and under either weighting.
 /// - If the maps change no weight, such a text keeps its key.
