@@ -1,4 +1,4 @@
--- The files that two tables and their data files are read from. Only private contracts cite this file.
+-- The files that two tables and their data files are read from. Only contracts of the parts of the command cite this file.
 use Rattle.std.specs.Prelude.{ℕ, List}
 use Rattle.uca_named_files.specs.declared.opening.EditionNames.{EditionNames}
 use Rattle.uca_named_files.specs.NamedFiles.{NamedFile, change_files, edition_files}

@@ -1,5 +1,5 @@
--- A run that writes some bytes for each line of its input, after some of its lines. Only contracts of private functions
--- cite this: no promise of the crate rests on it.
+-- A run that writes some bytes for each line of its input, after some of its lines. Contracts of the parts of runs
+-- cite this, and no contract of a whole run: no promise of a run rests on it.
 use Rattle.std.specs.Prelude.{◌≡◌, ℕ, List, ◌++◌, Option, IfSome, Result, Ok, Err}
 use Rattle.std.specs.List.{flat_map}
 use Rattle.uca_weights.specs.Streams.{SourceState, SinkState}

@@ -1,5 +1,5 @@
--- The lines of an input that were read so far. Only contracts of private functions cite this: no promise of the crate
--- rests on it.
+-- The lines of an input that were read so far. Contracts of the parts of runs cite this, and no contract of a whole run:
+-- no promise of a run rests on it.
 use Rattle.std.specs.Prelude.{◌≡◌, ℕ, List, [], ◌∷◌, ◌++◌, Bool, MatchBool, Option, Some, None, length, ⊤}
 use Rattle.std.specs.List.{flat_map}
 use Rattle.uca_values.specs.Content.{Properties}

@@ -1,4 +1,5 @@
--- The lines of an input. Only contracts of private functions cite this: no promise of the crate rests on it.
+-- The lines of an input. Contracts of the parts of runs cite this, and no contract of a whole run: no promise of a run
+-- rests on it.
 use Rattle.std.specs.Prelude.{◌≡◌, ℕ, suc, ◌+◌, Bool, false, MatchBool, List, [], ◌∷◌, ◌++◌, Option, Some, Result, Ok, Err, IfSome, length, ⊤}
 use Rattle.uca_weights.specs.Streams.{SourceState}
 use Rattle.uca_values.specs.Content.{Properties}
