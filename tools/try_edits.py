@@ -6,6 +6,9 @@
 They have the format of the must-fail edits of `rt ci`, which tries only those under crates/*/must-fail/. For each it says
 that the prover rejects it, as it must, that it no longer applies, or NOT REJECTED: it was proved. Then the status is 1.
 
+The folders tools/edits/CRATE/by_tests have bugs that a test rejects, and maybe no contract: out of memory where memory is there. The first line of each
+names the test that rejects it. This script tries those only if they are named, and then says NOT REJECTED.
+
 Each edit is tried over a copy of what `tools/check.py CRATE` keeps, which runs first: so only what the edit changes is proved.
 """
 import os
@@ -29,10 +32,10 @@ def named(names):
         if name.endswith(".edit"):
             path = os.path.realpath(name)
             folder = os.path.dirname(path)
-            crate = os.path.basename(os.path.dirname(folder) if os.path.basename(folder) == "must-fail" else folder)
+            crate = os.path.basename(os.path.dirname(folder) if os.path.basename(folder) in ("must-fail", "by_tests") else folder)
             found.setdefault(crate, []).append(path)
-        else:
-            found.setdefault(name, []).extend(edits_of(name))
+        elif edits := edits_of(name):
+            found.setdefault(name, []).extend(edits)
     return found
 
 
