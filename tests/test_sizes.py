@@ -236,7 +236,7 @@ class Rules(ProgramTest):
                     self.expect("affected d r", f"{text}\n{text[1:]}\nx\n", out=f"{target}\n")
 
     def test_numbers_of_rows(self):
-        for count in sizes(17_000):
+        for count in sizes(5000):
             table = "@version 1\n" + rows_of(range(0x30000, 0x30000 + count), (1 + number % 0x7000 for number in range(count)))
             self.accept(table, "&\U00030000 < x", count=count)
 
@@ -263,7 +263,7 @@ class PressedDown(ProgramTest):
     def test_numbers_of_weights(self):
         """A new weight after the last of so many: all of them move by one."""
         for level, sign, last in self.LEVELS:
-            for count in sizes(5000 if level == 1 else 300):
+            for count in sizes(2500 if level == 1 else 150):
                 first = last + 1 - count
                 rules, runs = f"&{chr(0x30000 + count - 1)} {sign} x", f"{level} {first:04X} {first - 1:04X} {count:04X}\n"
                 tailored = rows_at(level, first - 1, count) + f"0078 ; {element(level, last)}\n"
@@ -305,7 +305,7 @@ class Changes(ProgramTest):
     def test_numbers_of_letters_that_are_new_or_gone(self):
         """The change is found and accepted, and a line of each stored key is mended. So is the change back."""
         self.write(o=TABLE, d=DATA)
-        for count in sizes(10_001):
+        for count in sizes(5000):
             letters = range(0x30000, 0x30000 + count)
             self.write(n=TABLE.replace("1C60", "7C60") + rows_of(letters, range(0x1D00, 0x1D00 + count)))
             changes = listed(f"text {code:04X}" for code in letters)

@@ -7,7 +7,7 @@ They have the format of the must-fail edits of `rt ci`, which tries only those u
 that the prover rejects it, as it must, that it no longer applies, or NOT REJECTED: it was proved. Then the status is 1.
 
 The folders tools/edits/CRATE/by_tests have bugs that a test rejects, and maybe no contract: out of memory where memory is there. The first line of each
-names the test that rejects it. This script tries those only if they are named, and then says NOT REJECTED.
+names the test that rejects it. This script tries those only if they are named, and the prover may accept them.
 
 Each edit is tried over a copy of what `tools/check.py CRATE` keeps, which runs first: so only what the edit changes is proved.
 """
