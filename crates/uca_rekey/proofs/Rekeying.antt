@@ -6,11 +6,10 @@ use Rattle.std.specs.List.{flat_map}
 use Rattle.std.specs.Option.{option_and_then}
 use Rattle.std.proofs.lemmas.Bool.{cond_both}
 use Rattle.std.proofs.lemmas.Grind.{flat_map-append}
-use Rattle.std.proofs.lemmas.List.{length-drop, map_push}
+use Rattle.std.proofs.lemmas.List.{map_push}
 use Rattle.uca_weights.specs.declared.Depth.{Depth}
 use Rattle.uca_weights.specs.declared.Weighting.{Weighting}
 use Rattle.uca_weights.specs.Streams.{SourceState, SinkState}
-use Rattle.uca_weights.specs.Writes.{WentOut}
 use Rattle.uca_weights.proofs.Tests.{map_some}
 use Rattle.uca_lines.specs.Buffered.{HasWrittenThrough, count_of}
 use Rattle.uca_lines.specs.Lines.{ended, lines_of}
@@ -24,6 +23,8 @@ use Rattle.uca_run_parts.specs.declared.faults.RunFault.TheVariants.{File, Memor
 use Rattle.uca_run_parts.specs.declared.faults.StoredKeyKind.{StoredKeyKind}
 use Rattle.uca_run_parts.specs.declared.faults.StoredKeyKind.TheVariants as kinds
 use Rattle.uca_run_parts.specs.Input.{is_stored_key_read}
+use Rattle.uca_run_parts.specs.Runs.{PartWentOut, ended_by_output}
+use Rattle.uca_run_parts.proofs.Finishing.{count_is, piece_fails, rest_fails}
 use Rattle.uca_run_parts.specs.LinesSoFar.{OnKnown}
 use Rattle.uca_rekey.specs.RekeyedLines.{key_in, rekeyed_by, with_digits, with_key}
 use Rattle.uca_rekey.specs.RekeyRun.{AreRekeyed, HasCause, IsLineCause, IsLineFault, RunsRekey, WritesRekeyed}
@@ -78,10 +79,6 @@ length-with_digits (b ∷ line) [] = refl
 length-with_digits (b ∷ line) (d ∷ digits) =
     cond_both (b == 9) _ _ (λ l. length l ≡ suc (length line)) (λ tab. refl)
     (λ no_tab. cond_both (b == 32) _ _ (λ l. length l ≡ suc (length line)) (λ space. ap suc (length-with_digits line (d ∷ digits))) (λ no_space. ap suc (length-with_digits line digits)))
-
--- a buffer counts the bytes of its text
-count_is : (begun now : Option (List ℕ)) (text : List ℕ) (buffer : BufferState) → IsBuffered begun now text buffer → length text ≡ count_of buffer
-count_is begun now text buffer h = omega (arith, h.went_out.1, ap length h.held, length-drop buffer.written text)
 
 module _ (moved : List ℕ → Option (List ℕ)) where
   -- a new line is as long as the line
@@ -158,6 +155,47 @@ module _ (moved : List ℕ → Option (List ℕ)) where
       go (Some bytes) None after = absurd after
       go (Some bytes) (Some xs) after = (lines_of xs, after.lines)
 
+  -- ---- The end
+
+  module _ (start begun left : Option (List ℕ)) (out now : SinkState) (buffer : BufferState) (written : ℕ)
+      (flush : (text : List ℕ) → IsBuffered begun out.contents text buffer → PartWentOut begun now.contents text written) where
+    -- the new lines of some first lines did not go out whole
+    first_lines : (before new : List (List ℕ)) → IfSome start (λ bytes. (rest : List (List ℕ)) × (lines_of bytes ≡ before ++ rest)) → AreRekeyed moved before new
+        → IsBuffered begun out.contents (flat_map ended new) buffer
+        → IfSome start (λ bytes. WritesRekeyed {A = Unit {0}} moved bytes left begun now.contents (Err (Write written)))
+    first_lines before new first are text = go start first
+      where
+        go : (s : Option (List ℕ)) → IfSome s (λ bytes. (rest : List (List ℕ)) × (lines_of bytes ≡ before ++ rest))
+            → IfSome s (λ bytes. WritesRekeyed {A = Unit {0}} moved bytes left begun now.contents (Err (Write written)))
+        go None first = tt
+        go (Some bytes) first = (before, new, first.0, first.1, are, flush (flat_map ended new) text)
+
+    -- all lines are some first lines
+    of_all : (before : List (List ℕ)) → IfSome start (λ bytes. lines_of bytes ≡ before) → IfSome start (λ bytes. (rest : List (List ℕ)) × (lines_of bytes ≡ before ++ rest))
+    of_all before all = go start all
+      where
+        go : (s : Option (List ℕ)) → IfSome s (λ bytes. lines_of bytes ≡ before) → IfSome s (λ bytes. (rest : List (List ℕ)) × (lines_of bytes ≡ before ++ rest))
+        go None all = tt
+        go (Some bytes) all = ([], all ∙ sym (append-nil before))
+
+    -- so are the lines before an error
+    of_fault : (input : SourceState) (before : List (List ℕ)) (number : ℕ) (kind : StoredKeyKind) → IfSome start (λ bytes. IsLineFault moved bytes input.remaining before number kind)
+        → IfSome start (λ bytes. (rest : List (List ℕ)) × (lines_of bytes ≡ before ++ rest))
+    of_fault input before number kind fault = go start fault
+      where
+        go : (s : Option (List ℕ)) → IfSome s (λ bytes. IsLineFault moved bytes input.remaining before number kind)
+            → IfSome s (λ bytes. (rest : List (List ℕ)) × (lines_of bytes ≡ before ++ rest))
+        go None fault = tt
+        go (Some bytes) fault = (fault.rest, fault.lines)
+
+    -- what waited did not go out whole
+    pub not_flushed : (input : SourceState) (end : Result (Unit {0}) RunFault) → RekeysRest moved start begun input buffer out end → ended_by_output end ≡ false
+        → IfSome start (λ bytes. WritesRekeyed {A = Unit {0}} moved bytes left begun now.contents (Err (Write written)))
+    not_flushed input (Ok x) rest no_write = first_lines rest.0 rest.1 (of_all rest.0 rest.2) rest.3 rest.4
+    not_flushed input (Err (StoredKey number kind)) rest no_write = first_lines rest.0 rest.1 (of_fault input rest.0 number kind rest.2) rest.3 rest.4
+    not_flushed input (Err (Write count)) rest no_write = let never : ⊥ = cc in absurd never
+    not_flushed input (Err _) rest no_write = absurd rest
+
   module _ (start begun : Option (List ℕ)) (before new : List (List ℕ)) (lines : LinesState) (input : SourceState) (written : WrittenState) (out : SinkState)
       (so_far : HasRekeyed moved start begun before new lines input written out) where
     -- no line is left
@@ -199,7 +237,7 @@ module _ (moved : List ℕ → Option (List ℕ)) where
         new ++ after.line ∷ [],
         begins_with start (before ++ next.0 ∷ []) after now next.1,
         rekeyed_more,
-        subst (λ (text : List ℕ). WentOut begun sink.contents text count) text_more (stops.went_out begun (flat_map ended new) so_far.text),
+        subst (λ (text : List ℕ). PartWentOut begun sink.contents text count) text_more (piece_fails begun (flat_map ended new) stops so_far.text),
       )
       line_not_written held sink (StoredKey number kind) stops =
           let long = same_length next.0 after.line next.2 in

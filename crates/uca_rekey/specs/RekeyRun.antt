@@ -6,7 +6,6 @@ use Rattle.std.specs.Io.KnownBytes.{Appends}
 use Rattle.uca_weights.specs.declared.Depth.{Depth}
 use Rattle.uca_weights.specs.declared.Weighting.{Weighting}
 use Rattle.uca_weights.specs.Streams.{SourceState, SinkState}
-use Rattle.uca_weights.specs.Writes.{WentOut}
 use Rattle.uca_lines.specs.Lines.{is_lf, Lacks, ended, lines_of}
 use Rattle.uca_certificates.specs.Certificates.{CertificateContent}
 use Rattle.uca_tailorings.specs.Inputs.{maps_of}
@@ -17,6 +16,7 @@ use Rattle.uca_run_parts.specs.declared.faults.RunFault.TheVariants.{StoredKey, 
 use Rattle.uca_run_parts.specs.declared.faults.StoredKeyKind.{StoredKeyKind}
 use Rattle.uca_run_parts.specs.declared.faults.StoredKeyKind.TheVariants as kinds
 use Rattle.uca_run_parts.specs.EachLine.{PrintsEach}
+use Rattle.uca_run_parts.specs.Runs.{PartWentOut}
 use Rattle.uca_run_parts.specs.ReadFiles.{certificate_file}
 use Rattle.uca_rekey.specs.RekeyedLines.{key_in, rekeyed_by}
 
@@ -73,7 +73,7 @@ WritesRekeyed moved bytes left begun now (Ok x) =
 WritesRekeyed moved bytes left begun now (Err (StoredKey number kind)) =
     (before new : List (List ℕ)) × IsLineFault moved bytes left before number kind × AreRekeyed moved before new × Appends begun now (flat_map ended new)
 WritesRekeyed moved bytes left begun now (Err (Write written)) =
-    (before new rest : List (List ℕ)) × (lines_of bytes ≡ before ++ rest) × AreRekeyed moved before new × WentOut begun now (flat_map ended new) written
+    (before new rest : List (List ℕ)) × (lines_of bytes ≡ before ++ rest) × AreRekeyed moved before new × PartWentOut begun now (flat_map ended new) written
 WritesRekeyed moved bytes left begun now (Err _) = ⊥
 
 -- What a run returns under a certificate. An allocation that failed before the input says nothing of the lines.

@@ -4,7 +4,6 @@ use Rattle.std.specs.List.{flat_map}
 use Rattle.uca_weights.specs.declared.Depth.{Depth}
 use Rattle.uca_weights.specs.declared.Weighting.{Weighting}
 use Rattle.uca_weights.specs.Streams.{SourceState, SinkState}
-use Rattle.uca_weights.specs.Writes.{WentOut}
 use Rattle.uca_lines.specs.Buffered.{HasWrittenThrough, FailsToWriteThrough, count_of}
 use Rattle.uca_lines.specs.Lines.{ended, lines_of}
 use Rattle.uca_lines.specs.OutputBuffer.{BufferState, IsBuffered}
@@ -13,6 +12,7 @@ use Rattle.uca_moved_keys.specs.Moving.{MoverState}
 use Rattle.uca_run_parts.specs.declared.faults.RunFault.{RunFault}
 use Rattle.uca_run_parts.specs.declared.faults.RunFault.TheVariants.{StoredKey, Write}
 use Rattle.uca_run_parts.specs.declared.faults.StoredKeyKind.TheVariants as kinds
+use Rattle.uca_run_parts.specs.Runs.{PartWentOut}
 use Rattle.uca_tailorings.specs.Inputs.{maps_of}
 use Rattle.uca_tailorings.specs.Moves.{moved_key}
 use Rattle.uca_rekey.specs.RekeyedLines.{rekeyed_by}
@@ -77,5 +77,5 @@ RekeysRest moved start begun input buffer out (Err (StoredKey number kind)) =
     × IsBuffered begun out.contents (flat_map ended new) buffer
 RekeysRest moved start begun input buffer out (Err (Write written)) =
     (before new : List (List ℕ)) × IfSome start (λ bytes. (rest : List (List ℕ)) × (lines_of bytes ≡ before ++ rest)) × AreRekeyed moved before new
-    × WentOut begun out.contents (flat_map ended new) written
+    × PartWentOut begun out.contents (flat_map ended new) written
 RekeysRest moved start begun input buffer out (Err _) = ⊥

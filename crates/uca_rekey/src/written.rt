@@ -111,10 +111,20 @@ impl WrittenLines {
         ensures failed { (before : Bool) → out.old.failed ≡ (before || ended_by_output end) →
             out.new.failed ≡ (before || ended_by_output result) }
     {
-        if let Err(RunFault::Write { .. }) = end {
+        if is_write_fault(&end) {
             return end;
         }
         self.output.flush(out)?;
         end
+    }
+}
+
+// Whether the writer has failed.
+fn is_write_fault(end: &Result<(), RunFault>) -> bool
+    ensures { result ≡ ended_by_output end.now }
+{
+    match end {
+        Err(RunFault::Write { .. }) => true,
+        _ => false,
     }
 }

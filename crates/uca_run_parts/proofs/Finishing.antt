@@ -1,13 +1,14 @@
 -- How a run begins and ends that writes some bytes for each line.
-use Rattle.std.proofs.Common.{◌≡◌, ℕ, List, [], ◌++◌, true, false, Option, Some, None, IfSome, Result, Ok, Err, refl, ap, subst, sym, ◌∙◌, arith, length-append}
+use Rattle.std.proofs.Common.{◌≡◌, ℕ, ◌+◌, ◌<◌, ◌≤◌, List, [], ◌++◌, true, false, Option, Some, None, IfSome, Result, Ok, Err, refl, ap, subst, sym, ◌∙◌, arith, length, length-append}
 use Rattle.std.specs.Io.KnownBytes.{Appends}
 use Rattle.std.specs.List.{flat_map}
 use Rattle.std.proofs.lemmas.Grind.{flat_map-append}
-use Rattle.std.proofs.lemmas.List.{take-append-le}
+use Rattle.std.proofs.lemmas.List.{take-append-le, length-drop}
 use Rattle.uca_weights.specs.Streams.{SourceState, SinkState}
 use Rattle.uca_weights.specs.Writes.{WentOut}
 use Rattle.uca_values.specs.Content.{Properties}
 use Rattle.uca_lines.specs.Lines.{lines_of}
+use Rattle.uca_lines.specs.Buffered.{FailsToWriteThrough, count_of}
 use Rattle.uca_lines.specs.OutputBuffer.{BufferState, IsBuffered}
 use Rattle.uca_lines.proofs.BufferedLemmas.{none_buffered}
 use Rattle.uca_run_parts.specs.declared.faults.RunFault.{RunFault}
@@ -15,16 +16,32 @@ use Rattle.uca_run_parts.specs.declared.faults.RunFault.TheVariants.{File, Input
 use Rattle.uca_run_parts.specs.declared.faults.InputKind.{InputKind}
 use Rattle.uca_run_parts.specs.Files.{ended_by_file}
 use Rattle.uca_run_parts.specs.Input.{clean_lines}
-use Rattle.uca_run_parts.specs.Runs.{IsInputFault, ended_by_output}
+use Rattle.uca_run_parts.specs.Runs.{IsInputFault, PartWentOut, ended_by_output}
 use Rattle.uca_run_parts.specs.EachLine.{WritesEach, ended_before_input}
 use Rattle.uca_run_parts.specs.LinesSoFar.{AreAll}
 use Rattle.uca_run_parts.specs.Texts.{LinesState, HasRead}
 use Rattle.uca_run_parts.specs.EachLineSoFar.{HasWritten, IsPartOfOutput, WritesRest}
 
+-- a buffer counts the bytes of its text
+pub count_is : (begun now : Option (List ℕ)) (text : List ℕ) (buffer : BufferState) → IsBuffered begun now text buffer → length text ≡ count_of buffer
+count_is begun now text buffer h = omega (arith, h.went_out.1, ap length h.held, length-drop buffer.written text)
+
 -- of a longer text as much went out
-WentOut-more : (start now : Option (List ℕ)) (text more : List ℕ) (n : ℕ) → WentOut start now text n → WentOut start now (text ++ more) n
-WentOut-more start now text more n (went, few) =
-    (subst (λ (l : List ℕ). Appends start now l) (sym (take-append-le n text more few)) went, omega (arith, length-append text more))
+part_of_more : (begun now : Option (List ℕ)) (text more : List ℕ) (n : ℕ) → PartWentOut begun now text n → PartWentOut begun now (text ++ more) n
+part_of_more begun now text more n (went, few) =
+    let within : n ≤ length text = omega arith in
+    (subst (λ (l : List ℕ). Appends begun now l) (sym (take-append-le n text more within)) went, omega (arith, length-append text more))
+
+-- where a piece does not go out whole, neither does the text that ends with it
+pub piece_fails : {piece : List ℕ} {buffer : BufferState} {out now : SinkState} {written : ℕ} (begun : Option (List ℕ)) (before : List ℕ)
+    → FailsToWriteThrough piece buffer out now written → IsBuffered begun out.contents before buffer → PartWentOut begun now.contents (before ++ piece) written
+piece_fails {piece} {buffer} {out} {now} {written} begun before fails h =
+    ((fails.went_out begun before h).0, omega (arith, fails.not_all, count_is begun out.contents before buffer h, length-append before piece))
+
+-- where what waits does not go out whole, neither does its text
+pub rest_fails : (begun now end : Option (List ℕ)) (text : List ℕ) (buffer : BufferState) (written : ℕ) → WentOut begun end text written
+    → written < buffer.written + length buffer.held → IsBuffered begun now text buffer → PartWentOut begun end text written
+rest_fails begun now end text buffer written went some h = (went.0, omega (arith, some, count_is begun now text buffer h))
 
 module _ (properties : Properties) (bytes_of : List ℕ → List ℕ) where
   -- the whole output: the bytes of each line before the first one with an error
@@ -39,10 +56,10 @@ module _ (properties : Properties) (bytes_of : List ℕ → List ℕ) where
 
   -- part of what begins the output is part of the output
   part_of : (start begun now : Option (List ℕ)) (written : ℕ) → IsPartOfOutput properties bytes_of start begun now written
-      → IfSome start (λ bytes. WentOut begun now (output_of bytes) written)
+      → IfSome start (λ bytes. PartWentOut begun now (output_of bytes) written)
   part_of None begun now written part = tt
   part_of (Some bytes) begun now written part =
-      subst (λ output. WentOut begun now output written) (sym part.begins.1) (WentOut-more begun now part.text part.begins.0 written part.went_out)
+      subst (λ output. PartWentOut begun now output written) (sym part.begins.1) (part_of_more begun now part.text part.begins.0 written part.went_out)
 
   -- a write that failed before the end
   pub write_stays : (start begun left : Option (List ℕ)) (input : SourceState) (buffer : BufferState) (out : SinkState) (end : Result (Unit {0}) RunFault)
@@ -78,22 +95,22 @@ module _ (properties : Properties) (bytes_of : List ℕ → List ℕ) where
 
   -- a part of it did
   all_part : (start begun now : Option (List ℕ)) (all : List (List ℕ)) (written : ℕ) → IfSome start (λ bytes. AreAll properties bytes all)
-      → WentOut begun now (flat_map bytes_of all) written → IfSome start (λ bytes. WentOut begun now (output_of bytes) written)
+      → PartWentOut begun now (flat_map bytes_of all) written → IfSome start (λ bytes. PartWentOut begun now (output_of bytes) written)
   all_part None begun now all written are out = tt
   all_part (Some bytes) begun now all written are out =
-      subst (λ output. WentOut begun now output written) (ap (flat_map bytes_of) (sym are.clean)) out
+      subst (λ output. PartWentOut begun now output written) (ap (flat_map bytes_of) (sym are.clean)) out
 
   stopped_part : (start begun now left : Option (List ℕ)) (before : List (List ℕ)) (number : ℕ) (kind : InputKind) (written : ℕ)
-      → IfSome start (λ bytes. IsInputFault properties bytes left before number kind) → WentOut begun now (flat_map bytes_of before) written
-      → IfSome start (λ bytes. WentOut begun now (output_of bytes) written)
+      → IfSome start (λ bytes. IsInputFault properties bytes left before number kind) → PartWentOut begun now (flat_map bytes_of before) written
+      → IfSome start (λ bytes. PartWentOut begun now (output_of bytes) written)
   stopped_part None begun now left before number kind written fault out = tt
   stopped_part (Some bytes) begun now left before number kind written fault out =
-      subst (λ output. WentOut begun now output written) (sym (ap (flat_map bytes_of) fault.clean.1 ∙ flat_map-append _ before fault.clean.0))
-      (WentOut-more begun now (flat_map bytes_of before) (flat_map bytes_of fault.clean.0) written out)
+      subst (λ output. PartWentOut begun now output written) (sym (ap (flat_map bytes_of) fault.clean.1 ∙ flat_map-append _ before fault.clean.0))
+      (part_of_more begun now (flat_map bytes_of before) (flat_map bytes_of fault.clean.0) written out)
 
   pub not_flushed : (start begun left : Option (List ℕ)) (input : SourceState) (buffer : BufferState) (out now : SinkState) (end : Result (Unit {0}) RunFault) (written : ℕ)
       → WritesRest properties bytes_of start begun input buffer out end → ended_by_output end ≡ false
-      → ((text : List ℕ) → IsBuffered begun out.contents text buffer → WentOut begun now.contents text written)
+      → ((text : List ℕ) → IsBuffered begun out.contents text buffer → PartWentOut begun now.contents text written)
       → IfSome start (λ bytes. WritesEach {A = Unit {0}} properties bytes_of bytes left begun now.contents (Err (Write written)))
   not_flushed start begun left input buffer out now (Ok x) written rest h flush = all_part start begun now.contents rest.all written rest.are_all (flush _ rest.written)
   not_flushed start begun left input buffer out now (Err (Input number kind)) written rest h flush =

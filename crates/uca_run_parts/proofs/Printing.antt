@@ -3,7 +3,6 @@ use Rattle.std.proofs.Common.{◌≡◌, ℕ, ◌+◌, ◌*◌, ◌^◌, ◌<◌
 use Rattle.std.specs.List.{flat_map}
 use Rattle.std.proofs.lemmas.Grind.{flat_map-append}
 use Rattle.uca_weights.specs.Streams.{SourceState, SinkState}
-use Rattle.uca_weights.specs.Writes.{WentOut}
 use Rattle.uca_values.specs.Content.{Properties}
 use Rattle.uca_lines.specs.LineReader.{left_of}
 use Rattle.uca_lines.specs.Lines.{lines_of}
@@ -14,7 +13,7 @@ use Rattle.uca_run_parts.specs.declared.faults.RunFault.TheVariants.{Input, Writ
 use Rattle.uca_run_parts.specs.Input.{clean_from, clean_lines}
 use Rattle.uca_run_parts.specs.EachLineSoFar.{HasWritten, IsStopped, WritesText}
 use Rattle.uca_run_parts.specs.LinesSoFar.{IsAfter, OnKnown}
-use Rattle.uca_run_parts.specs.Runs.{ended_by_output}
+use Rattle.uca_run_parts.specs.Runs.{PartWentOut, ended_by_output}
 use Rattle.uca_run_parts.specs.Texts.{LinesState, HasRead, HasCleanLine}
 
 -- ---- Counts
@@ -72,7 +71,7 @@ module _ (properties : Properties) (bytes_of : List ℕ → List ℕ) where
         subst (λ s. IsStopped properties bytes_of start begun before input held s (Input number kind)) (sym stops.3) at_buffer
     not_written buffer held out sink (Write written) before_it stops = record {
       text = flat_map bytes_of (before ++ lines.line ∷ []);
-      went_out = subst (λ output. WentOut begun sink.contents output written) written_line stops;
+      went_out = subst (λ output. PartWentOut begun sink.contents output written) written_line stops;
       begins = goes_on start (left_of lines.reader input) (before ++ lines.line ∷ []) lines.is_cut t.read.after;
     }
     not_written buffer held out sink _ written stops = absurd stops

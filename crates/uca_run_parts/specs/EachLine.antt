@@ -3,7 +3,6 @@ use Rattle.std.specs.Prelude.{◌≡◌, ℕ, List, ◌||◌, Bool, true, false,
 use Rattle.std.specs.List.{flat_map}
 use Rattle.std.specs.Io.KnownBytes.{Appends}
 use Rattle.uca_weights.specs.Streams.{SourceState, SinkState}
-use Rattle.uca_weights.specs.Writes.{WentOut}
 use Rattle.uca_values.specs.Content.{Properties}
 use Rattle.uca_lines.specs.Lines.{lines_of}
 use Rattle.uca_run_parts.specs.declared.faults.RunFault.{RunFault}
@@ -11,14 +10,14 @@ use Rattle.uca_run_parts.specs.declared.faults.RunFault.TheVariants.{File, Input
 use Rattle.uca_run_parts.specs.declared.faults.Role.{Role}
 use Rattle.uca_run_parts.specs.Files.{Reading, Over, HaveFailed}
 use Rattle.uca_run_parts.specs.Input.{clean_lines}
-use Rattle.uca_run_parts.specs.Runs.{IsClean, IsInputFault, is_input_read, ended_by_output}
+use Rattle.uca_run_parts.specs.Runs.{IsClean, IsInputFault, PartWentOut, is_input_read, ended_by_output}
 
 -- What is written of an input: the bytes of each line before the first one with an error. The source has something left,
 -- and the writer held `begun` and holds `now`.
 abbrev pub WritesEach : {A : Type 0} → Properties → (List ℕ → List ℕ) → List ℕ → Option (List ℕ) → Option (List ℕ) → Option (List ℕ) → Result A RunFault → Type 0
 WritesEach properties bytes_of bytes left begun now (Ok x) = IsClean properties bytes × Appends begun now (flat_map bytes_of (lines_of bytes))
 WritesEach properties bytes_of bytes left begun now (Err (Input number kind)) = (before : List (List ℕ)) × IsInputFault properties bytes left before number kind × Appends begun now (flat_map bytes_of before)
-WritesEach properties bytes_of bytes left begun now (Err (Write written)) = WentOut begun now (flat_map bytes_of (clean_lines properties (lines_of bytes))) written
+WritesEach properties bytes_of bytes left begun now (Err (Write written)) = PartWentOut begun now (flat_map bytes_of (clean_lines properties (lines_of bytes))) written
 WritesEach properties bytes_of bytes left begun now (Err _) = ⊥
 
 -- The same where the bytes of the input are known: they went out, or as much of them as an error of the input or of the

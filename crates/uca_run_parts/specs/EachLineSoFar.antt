@@ -3,7 +3,6 @@
 use Rattle.std.specs.Prelude.{◌≡◌, ℕ, List, ◌++◌, Option, IfSome, Result, Ok, Err}
 use Rattle.std.specs.List.{flat_map}
 use Rattle.uca_weights.specs.Streams.{SourceState, SinkState}
-use Rattle.uca_weights.specs.Writes.{WentOut}
 use Rattle.uca_values.specs.Content.{Properties}
 use Rattle.uca_lines.specs.Lines.{lines_of}
 use Rattle.uca_lines.specs.OutputBuffer.{BufferState, IsBuffered}
@@ -11,6 +10,7 @@ use Rattle.uca_run_parts.specs.declared.faults.RunFault.{RunFault}
 use Rattle.uca_run_parts.specs.declared.faults.RunFault.TheVariants.{Input, Write}
 use Rattle.uca_run_parts.specs.declared.faults.InputKind.TheVariants.{Memory as InputMemory}
 use Rattle.uca_run_parts.specs.Input.{clean_lines}
+use Rattle.uca_run_parts.specs.Runs.{PartWentOut}
 use Rattle.uca_run_parts.specs.Texts.{LinesState, HasRead, HasReadAll, HasNoText}
 
 -- The bytes of these lines, which were read since the input had `start` and the output held `begun`, were written.
@@ -27,7 +27,7 @@ pub record HasWrittenAll (properties : Properties) (bytes_of : List ℕ → List
 -- part of a text went out with which the output begins
 pub record IsPartOfOutput (properties : Properties) (bytes_of : List ℕ → List ℕ) (start begun now : Option (List ℕ)) (written : ℕ) : Type 0 where
   pub text : List ℕ
-  pub went_out : WentOut begun now text written
+  pub went_out : PartWentOut begun now text written
   pub begins : IfSome start (λ bytes. (rest : List ℕ) × (flat_map bytes_of (clean_lines properties (lines_of bytes)) ≡ text ++ rest))
 
 -- why the bytes of the line after these were not written
@@ -41,7 +41,7 @@ IsStopped properties bytes_of start begun before input buffer out _ = ⊥
 abbrev pub WritesText : {A : Type 0} → Option (List ℕ) → List ℕ → List ℕ → ℕ → BufferState → SinkState → BufferState → SinkState → Result A RunFault → Type 0
 WritesText begun before text number buffer out held now (Ok x) = IsBuffered begun now.contents (before ++ text) held
 WritesText begun before text number buffer out held now (Err (Input line kind)) = (line ≡ number) × (kind ≡ InputMemory) × (held ≡ buffer) × (now ≡ out)
-WritesText begun before text number buffer out held now (Err (Write written)) = WentOut begun now.contents (before ++ text) written
+WritesText begun before text number buffer out held now (Err (Write written)) = PartWentOut begun now.contents (before ++ text) written
 WritesText begun before text number buffer out held now (Err _) = ⊥
 
 -- what is returned of all lines that are left: their bytes were written, or why those of one were not

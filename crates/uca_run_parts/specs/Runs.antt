@@ -1,7 +1,7 @@
 -- What the runs return of their input and their output.
-use Rattle.std.specs.Prelude.{◌≡◌, ◌≢◌, [], ℕ, suc, ◌≤◌, List, ◌∷◌, ◌++◌, Bool, true, false, Option, Some, IsSomeAnd, Result, Ok, Err, length}
+use Rattle.std.specs.Prelude.{◌≡◌, ◌≢◌, [], ℕ, suc, ◌<◌, ◌≤◌, List, ◌∷◌, ◌++◌, Bool, true, false, Option, Some, IsSomeAnd, Result, Ok, Err, length, take}
 use Rattle.std.specs.List.{flat_map}
-use Rattle.uca_weights.specs.Writes.{WentOut}
+use Rattle.std.specs.Io.KnownBytes.{Appends}
 use Rattle.uca_values.specs.Content.{Properties}
 use Rattle.uca_lines.specs.Lines.{is_lf, Lacks, ended, lines_of}
 use Rattle.uca_run_parts.specs.declared.faults.InputKind.{InputKind}
@@ -71,6 +71,10 @@ ended_before_output (Ok x) = false
 ended_before_output (Err (Write written)) = false
 ended_before_output (Err _) = true
 
+-- of a text the first `written` bytes went out, and not all of it
+abbrev pub PartWentOut : Option (List ℕ) → Option (List ℕ) → List ℕ → ℕ → Type 0
+PartWentOut begun now text written = Appends begun now (take written text) × (written < length text)
+
 -- The error of a sink says how much of a text went out to it.
 abbrev pub FailsToWrite : (ℕ → RunFault) → Option (List ℕ) → Option (List ℕ) → List ℕ → RunFault → Type 0
-FailsToWrite Fault begun now text fault = (written : ℕ) × (fault ≡ Fault written) × WentOut begun now text written
+FailsToWrite Fault begun now text fault = (written : ℕ) × (fault ≡ Fault written) × PartWentOut begun now text written

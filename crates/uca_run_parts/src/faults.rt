@@ -221,7 +221,7 @@ pub enum RunFault {
     },
     /// The writer failed.
     Write {
-        /// How many bytes of the whole output went out before.
+        /// How many bytes of the whole output went out before: less than all.
         written: u64,
     },
     /// An allocation failed that belongs to no file and to no line.

@@ -6,7 +6,6 @@ use Rattle.std.specs.Io.KnownBytes.{Appends}
 use Rattle.uca_weights.specs.declared.Depth.{Depth}
 use Rattle.uca_weights.specs.declared.Weighting.{Weighting}
 use Rattle.uca_weights.specs.Streams.{SourceState, SinkState}
-use Rattle.uca_weights.specs.Writes.{WentOut}
 use Rattle.uca_values.specs.Content.{Properties}
 use Rattle.uca_text.specs.Texts.{nfd_text}
 use Rattle.uca_text.specs.Limits.{IsAccepted}
@@ -16,7 +15,7 @@ use Rattle.uca_order.specs.Levels.{Comparison}
 use Rattle.uca_run_parts.specs.declared.faults.RunFault.{RunFault}
 use Rattle.uca_run_parts.specs.declared.faults.RunFault.TheVariants.{Write, Memory, Text}
 use Rattle.uca_run_parts.specs.Files.{TableAndData, Over, HaveFailed, table_and_data, table_and_data_roles}
-use Rattle.uca_run_parts.specs.Runs.{ended_before_output, ended_by_output}
+use Rattle.uca_run_parts.specs.Runs.{PartWentOut, ended_before_output, ended_by_output}
 use Rattle.uca_key_lines.specs.Keys.{KeySettings, key_settings}
 use Rattle.uca_runs.specs.Laws.{lines_compared}
 
@@ -44,7 +43,7 @@ abbrev pub WritesComparison : {A : Type 0} → KeySettings → List ℕ → List
 WritesComparison c left right begun now (Ok x) = IsWithinLimits c.collation.properties left × IsWithinLimits c.collation.properties right × Appends begun now (comparison_line (lines_compared c left right))
 WritesComparison c left right begun now (Err (Text false fault)) = IsCause (nfd_text c.collation.properties (chars left)) fault
 WritesComparison c left right begun now (Err (Text true fault)) = IsWithinLimits c.collation.properties left × IsCause (nfd_text c.collation.properties (chars right)) fault
-WritesComparison c left right begun now (Err (Write written)) = IsWithinLimits c.collation.properties left × IsWithinLimits c.collation.properties right × WentOut begun now (comparison_line (lines_compared c left right)) written
+WritesComparison c left right begun now (Err (Write written)) = IsWithinLimits c.collation.properties left × IsWithinLimits c.collation.properties right × PartWentOut begun now (comparison_line (lines_compared c left right)) written
 WritesComparison c left right begun now (Err _) = ⊥
 
 -- What a run of compare returns under a table and properties. An allocation that failed for looking up rows says

@@ -1,13 +1,14 @@
 -- Which lines are written.
 use Rattle.std.proofs.Common.{List, ℕ, ◌++◌, ◌-◌, ◌<◌, true, false, length, arith, ap, append-nil, subst, sym, ◌∙◌}
 use Rattle.std.proofs.lemmas.Result.{err_from_is_err_and}
-use Rattle.uca_weights.specs.Writes.{WentOut}
 use Rattle.uca_text.specs.Texts.{NfdText}
 use Rattle.uca_lines.specs.Buffered.{count_of}
 use Rattle.uca_lines.specs.Lines.{ended}
 use Rattle.uca_lines.specs.OutputBuffer.{IsBuffered}
 use Rattle.uca_run_parts.proofs.AffectedLines.{affected_is_short, line_affected, nothing_affected, test_gives}
+use Rattle.uca_run_parts.proofs.Finishing.{piece_fails}
 use Rattle.uca_run_parts.proofs.Printing.{small_enough}
+use Rattle.uca_run_parts.specs.Runs.{PartWentOut}
 use Rattle.uca_run_parts.proofs.affected.AffectedRun.print_text.Goals as goal
 
 pub returns-then-not-affects-clause-prints : goal.returns-then-not-affects-clause-prints
@@ -34,8 +35,8 @@ returns-in_err-write_line-clause-prints g c = λ begun before h.
     let affected = test_gives is_so c.text.result.now texts.text.points c.affects.result true c.affects.ensures c.if-not-affects.false
     (ap (λ (text : NfdText). text.points) c.text.ensures) in
     let piece = line_affected is_so texts.text.points texts.lines.line affected ∙ ap ended (sym c.line.ensures.value) in
-    rw (p.1, p.2) (subst (λ (text : List ℕ). WentOut begun c.write_line.new.out.contents (before ++ text) c.in_err-write_line.field-0.0.written) (sym piece)
-    (c.in_err-write_line.ensures.writes.went_out begun before h))
+    rw (p.1, p.2) (subst (λ (text : List ℕ). PartWentOut begun c.write_line.new.out.contents (before ++ text) c.in_err-write_line.field-0.0.written) (sym piece)
+    (piece_fails begun before c.in_err-write_line.ensures.writes h))
 
 pub returns-clause-prints : goal.returns-clause-prints
 returns-clause-prints g c = λ begun before h.

@@ -1,8 +1,10 @@
--- The counts of what is written fit.
+-- The counts of what is written fit, and a write that fails leaves some of it.
 use Rattle.std.proofs.Common.{◌≡◌, ◌+◌, ◌-◌, ◌<◌, ◌≤◌, length, arith, subst}
+use Rattle.std.proofs.lemmas.Result.{err_from_is_err_and}
 use Rattle.uca_lines.specs.Buffered.{count_of}
 use Rattle.uca_runs.specs.KeyForms.{printed_as}
 use Rattle.uca_runs.proofs.KeyLines.{printed_is_short}
+use Rattle.uca_run_parts.proofs.Finishing.{piece_fails}
 use Rattle.uca_run_parts.proofs.Printing.{small_enough, still_small}
 use Rattle.uca_runs.proofs.keys.KeyRun.print_line.Goals as goal
 
@@ -15,6 +17,11 @@ print_as-requires g c =
     rw (c.bytes.ensures, c.chars.ensures.value, c.line.ensures.value)
     (small_enough (number - 1) (count_of run.output) _ c.requires.small few
     (printed_is_short c.args.form c.args.depth run.key.key run.text.points run.lines.line c.requires.short c.chars.ensures.accepted.few line_short))
+
+pub returns-in_err-print_as-clause-prints : goal.returns-in_err-print_as-clause-prints
+returns-in_err-print_as-clause-prints g c = λ begun before h.
+    let p = err_from_is_err_and c.from_residual.result c.from_residual.ensures.1 in
+    rw (p.1, p.2) (rw (c.bytes.ensures, c.chars.ensures.value, c.line.ensures.value) at (piece_fails begun before c.in_err-print_as.ensures h))
 
 pub returns-clause-small : goal.returns-clause-small
 returns-clause-small g c =
