@@ -46,7 +46,8 @@ pub fn audit<A: Allocator + Copy, T: Allocator>(
     ensures accepted { OnOk result (IsAccepted (tailoring_of base.now (properties_of properties.now) rules.now tailored.now certificate.now)) }
 
     // So the tailored table is well-formed. Each relation holds under non-ignorable weighting. It holds under shifted
-    // weighting too, if no element of its anchor and its expansion is variable. Each target of strength 1 to 3 is next to its anchor. Any two texts in which no target occurs in order compare as under the base, at either depth and under
+    // weighting too, if no element of its anchor and its expansion is variable. Each target of strength 1 to 3 is next to its
+    // anchor. Any two texts in which no target occurs in order compare as under the base, at either depth and under
     // either weighting. If no weight is changed, they keep their keys.
     ensures faithful { OnOk result (IsFaithful (tailoring_of base.now (properties_of properties.now) rules.now tailored.now certificate.now)) }
 

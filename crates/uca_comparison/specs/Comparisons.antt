@@ -1,4 +1,4 @@
--- How two texts compare at all levels of a weighting, and after them. Only private contracts cite this file.
+-- How two texts compare at all levels of a weighting, and after them. Only contracts of the parts of comparisons cite this file.
 use Rattle.std.specs.Prelude.{◌≡◌, ℕ, suc, List, ⊤}
 use Rattle.std.specs.declared.cmp.Ordering.TheVariants.{Equal}
 use Rattle.std.specs.declared.cmp.Ordering.{Ordering}

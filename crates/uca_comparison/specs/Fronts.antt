@@ -1,4 +1,4 @@
--- Where a comparison is in a text. Only private contracts cite this file.
+-- Where a comparison is in a text. Only contracts of the parts of comparisons cite this file.
 use Rattle.std.specs.Prelude.{◌≡◌, ℕ, zero, suc, ◌+◌, List, [], ◌∷◌, Bool, true, false, map, min, Option, Some, None}
 use Rattle.uca_weights.specs.declared.Element.{Element}
 use Rattle.uca_weights.specs.declared.Weighting.{Weighting}

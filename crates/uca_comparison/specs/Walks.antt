@@ -1,4 +1,4 @@
--- Comparing levels of two texts in one walk over both. Only private contracts cite this file.
+-- Comparing levels of two texts in one walk over both. Only contracts of the parts of comparisons cite this file.
 use Rattle.std.specs.Prelude.{◌≡◌, ◌≢◌, ◌<◌, ◌≤◌, ℕ, suc, ◌-◌, List, Bool, true, false, map, filter, nat_eq, nat_lt, not, if◌then◌else◌, Option, Some, None}
 use Rattle.std.specs.Ordering.{nat_cmp}
 use Rattle.std.specs.declared.cmp.Ordering.{Ordering}

@@ -1,5 +1,5 @@
 -- Positions in a text, and what is left of it from there on where some of its non-starters have been removed.
--- Only clauses inside this crate cite this file.
+-- Only clauses of this crate and the model of `Matches` cite this file.
 use Rattle.std.specs.Prelude.{◌≡◌, ℕ, suc, ◌-◌, ◌<◌, ◌≤◌, [], ◌∷◌, Bool, true, ◌&&◌, nat_le, nat_eq, if◌then◌else◌, drop, length, slice_index}
 use Rattle.std.specs.Int.{bit_at}
 use Rattle.uca_text.specs.Texts.{Text, NfdText, letters_of}

@@ -15,14 +15,14 @@ use uca_weights::Element;
 /// It takes no memory: the elements of a row are those that the lookup lends.
 #[derive(Drop)]
 pub struct Elements<'a, L: Lookup, A: Allocator = Global> {
-    pub collator: Collator<'a, L, A>,
-    pub text: &'a Normal,
+    pub(crate) collator: Collator<'a, L, A>,
+    pub(crate) text: &'a Normal,
     // what follows the elements below is what the text is read as from here on
-    pub place: Place,
+    pub(crate) place: Place,
     // the second element of an implicit pair, whose first has been given
-    pub second: Option<Element>,
+    pub(crate) second: Option<Element>,
     // the elements of a row that have not been given
-    pub row: &'a [Element],
+    pub(crate) row: &'a [Element],
 }
 
 impl<'a, L: Lookup, A: Allocator> Model for Elements<'a, L, A> {

@@ -56,8 +56,7 @@ pub fn rows_are_short()
     ensures { RowsAreShort }
 {}
 
-/// The weights of elements may be worked out one at a time (UTS #10, section 4), by `weights_of` and `is_after_variable`
-/// of the crate `uca_key`.
+/// The weights of elements may be worked out one at a time (UTS #10, section 4), by `weights_of` and `is_after_variable`.
 pub fn weights_may_be_streamed()
     ensures { WeightsMayBeStreamed }
 {}

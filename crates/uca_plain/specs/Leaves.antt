@@ -1,4 +1,4 @@
--- Code points that read alone in Normalization Form D, whatever follows them. Only private contracts cite this file.
+-- Code points that read alone in Normalization Form D, whatever follows them. Only contracts of the parts of keys and comparisons cite this file.
 use Rattle.std.specs.Prelude.{ℕ, List, [], ◌∷◌, map}
 use Rattle.std.specs.List.{AllByRecursion}
 use Rattle.uca_weights.specs.declared.Element.{Element}

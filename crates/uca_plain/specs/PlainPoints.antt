@@ -1,4 +1,4 @@
--- What is kept of code points that were met. Only private contracts cite this file.
+-- What is kept of code points that were met. Only contracts of the parts of keys and comparisons cite this file.
 use Rattle.std.specs.Prelude.{◌≡◌, ℕ, ◌+◌, ◌≤◌, List, ◌∷◌, true, length, take, if◌then◌else◌}
 use Rattle.std.specs.List.{AllByRecursion}
 use Rattle.ucd_normal.specs.CanonicalCombiningClass.{canonical_combining_class}
