@@ -305,7 +305,7 @@ class Changes(ProgramTest):
     def test_numbers_of_letters_that_are_new_or_gone(self):
         """The change is found and accepted, and a line of each stored key is mended. So is the change back."""
         self.write(o=TABLE, d=DATA)
-        for count in sizes(5000):
+        for count in sizes(20_000):
             letters = range(0x30000, 0x30000 + count)
             self.write(n=TABLE.replace("1C60", "7C60") + rows_of(letters, range(0x1D00, 0x1D00 + count)))
             changes = listed(f"text {code:04X}" for code in letters)
