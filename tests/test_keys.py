@@ -224,9 +224,9 @@ class Keys(ProgramTest):
         self.expect(BY_THREE, ACUTE * 65, status=1, err="input line 1: LongRun at 0\n")
 
     def test_keys_about_the_size_of_what_is_printed_at_a_time(self):
-        """How many `a` each line has, and how many bytes their keys have as they are printed. 16,384 bytes wait before they go out."""
+        """How many `a` each line has, and how many bytes their keys have as they are printed. 65,536 bytes wait before they go out."""
         self.write(t=TABLE, d=DATA)
-        for counts, size in ([0, 0, 821], 12_345), ([0, 0, 1090], 16_380), ([0, 1091], 16_385), ([2184], 32_770):
+        for counts, size in ([0, 0, 821], 12_345), ([0, 0, 4367], 65_535), ([0, 4368], 65_540), ([8737], 131_075):
             keys = "".join(key_of(many("1C47", count), many("0020", count), many("0002", count)) for count in counts)
             self.assertEqual(len(keys), size)
             self.expect(BY_THREE, "".join("a" * count + "\n" for count in counts), out=keys)
@@ -283,7 +283,7 @@ class KeyedLines(ProgramTest):
 
     def test_keys_about_the_size_of_what_is_printed_at_a_time(self):
         """With n letters a key has 6n + 4 bytes, of which 256 are printed at a time, and the line of output 13n + 10 bytes, of
-        which 16,384 wait before they go out."""
+        which 65,536 wait before they go out."""
         self.write(t=TABLE, d=DATA)
-        for count in 41, 42, 43, 84, 85, 1259, 1260, 1365, 2600:
+        for count in 41, 42, 43, 84, 85, 5040, 5041, 5460, 5461, 10_400:
             self.expect(f"{BY_THREE} --lines", "a" * count, out=keyed(count))

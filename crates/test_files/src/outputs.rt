@@ -9,7 +9,7 @@ use uca_lines::OutputBuffer;
 use uca_weights::{Sink, WriteFault};
 
 /// The sizes of pieces.
-const PIECES: [usize; 9] = [1, 2, 3, 7, 4096, 16_383, 16_384, 16_385, 50_000];
+const PIECES: [usize; 9] = [1, 2, 3, 7, 4096, 65_535, 65_536, 65_537, 200_000];
 
 /// Writes the text in pieces, and lets all of it go out.
 fn write_in_pieces(
@@ -44,9 +44,9 @@ fn check_first(alloc: Global, text: &[u8], length: usize, piece: usize) -> Resul
 
 #[test]
 fn pieces_of_each_size(rt: HostRuntime) -> Result<(), Fail> {
-    let text = many_bytes(rt.alloc(), 50_000)?;
+    let text = many_bytes(rt.alloc(), 200_000)?;
     for piece in PIECES {
-        for length in [0, 1, 16_383, 16_384, 16_385, 32_768, 49_999, 50_000] {
+        for length in [0, 1, 65_535, 65_536, 65_537, 131_072, 199_999, 200_000] {
             check_first(rt.alloc(), &text, length, piece)?;
         }
     }
@@ -55,8 +55,11 @@ fn pieces_of_each_size(rt: HostRuntime) -> Result<(), Fail> {
 
 #[test]
 fn each_length_in_pieces(rt: HostRuntime) -> Result<(), Fail> {
-    let text = many_bytes(rt.alloc(), LONGEST)?;
+    let text = many_bytes(rt.alloc(), 66_000)?;
     for length in 0..LONGEST {
+        check_first(rt.alloc(), &text, length, 4096)?;
+    }
+    for length in 65_000..66_000 {
         check_first(rt.alloc(), &text, length, 4096)?;
     }
     Ok(())
@@ -73,8 +76,8 @@ fn check_failed(alloc: Global, text: &[u8], failure: Failure, good: usize) -> Re
 
 #[test]
 fn a_fault_counts_from_the_first_byte(rt: HostRuntime) -> Result<(), Fail> {
-    let text = many_bytes(rt.alloc(), 50_000)?;
-    for good in [0, 1, 16_384, 16_385, 30_000, 49_999] {
+    let text = many_bytes(rt.alloc(), 200_000)?;
+    for good in [0, 1, 65_536, 65_537, 120_000, 199_999] {
         check_failed(
             rt.alloc(),
             &text,

@@ -25,20 +25,6 @@ pub no_chars : (text : List ℕ) (len : ℕ) (is_empty : Bool) → is_empty ≡ 
 no_chars text len is_empty tests empty is = ap chars (nil_from_length text (grind (arith, nat_tests))) ∙ chars-nil
 
 -- the piece that is one plain code point
-pub up_to_alone : (c : Collation) (weighting : Weighting) (xs : List ℕ) (b : LevelState) (piece : Piece) (known : Known)
-    → piece.alone ≡ Some known → ReadsTo c weighting xs b piece → ReadsUpTo c weighting xs b known
-unfolding HasRead
-up_to_alone c weighting xs b piece known is reads =
-    let points : piece_points piece ≡ known.point ∷ [] = ap (λ o. points_by o (chars (string_bytes piece.text))) is in
-    let alone = subst (IsTrueAlone c) is reads.alone in
-    record {
-      before = reads.before;
-      split = reads.split ∙ ap (λ l. reads.before ++ l) points;
-      read = (reads.held, reads.runs);
-      few = alone.0;
-      entry = alone.1;
-    }
-
 pub alone_up_to : (c : Collation) (weighting : Weighting) (xs : List ℕ) (b : LevelState) (piece : Piece) (known : Known)
     → piece.alone ≡ Some known → ReadsUpTo c weighting xs b known → ReadsTo c weighting xs b piece
 unfolding HasRead

@@ -292,8 +292,7 @@ fn push_plain<'t, L: Lookup, T: Allocator, A: Allocator>(
     if !piece.end(levels, weighting, collator, points)? {
         return Ok(Reading::Ended(false));
     }
-    piece.begin(known);
-    match piece.run_on(levels, weighting, points, text)? {
+    match piece.run_on(levels, weighting, points, known, text)? {
         Some(rest) => Ok(Reading::GoesOn(rest)),
         None => Ok(Reading::Ended(true)),
     }

@@ -12,7 +12,7 @@ ghost use Rattle.uca_key_writer.specs.LevelBuffers.{LevelState, HoldsLevels};
 ghost use Rattle.uca_key_writer.specs.Pieces.{piece_points, ReadsTo, HasRead};
 ghost use Rattle.uca_plain.specs.Plain.{elements_alone};
 ghost use Rattle.uca_plain.specs.PlainPoints.{IsTrueEntry, AreTrueEntries};
-ghost use Rattle.uca_key_writer.specs.Runs.{ReadsMore};
+ghost use Rattle.uca_key_writer.specs.Runs.{ReadsMore, ReadsUpTo};
 
 use crate::level_buffers::LevelBuffers;
 use crate::runs::{LEAVES, Run, split_bound};
@@ -134,24 +134,22 @@ impl Piece {
         Ok(accepted)
     }
 
-    /// Goes on by the plain code points that come next in the text and were met. Their weights are added to the levels, but
-    /// not those of the last, which is the piece then. Returns what comes after them, or none if they end the text: all
-    /// weights are added then.
+    /// Goes on by a plain code point and by those that come next in the text and were met. Their weights are added to the
+    /// levels, but not those of the last, which is the piece then. Returns what comes after them, or none if they end the
+    /// text: all weights are added then, and the piece is unspecified.
     #[inline(always)]
     pub(crate) fn run_on<'t, A: Allocator>(
         &mut self,
         levels: &mut LevelBuffers<A>,
         weighting: Weighting,
         points: &PlainPoints<A>,
+        first: Known,
         text: &'t str,
     ) -> Result<Option<&'t str>, AllocError>
-        ensures { (c : Collation) (xs : List ℕ) → AreTrueEntries c points.now.entries.items → ReadsTo c weighting xs levels.old self.old →
+        ensures { (c : Collation) (xs : List ℕ) → AreTrueEntries c points.now.entries.items → ReadsUpTo c weighting xs levels.old first →
             IfOk result (λ rest. MatchOption rest (HasRead c weighting (xs ++ chars text.now) levels.new)
             (λ rest. ReadsMore c weighting xs text.now rest.now levels.new self.new)) }
     {
-        let Some(first) = self.alone else {
-            return Ok(Some(text));
-        };
         match levels.push_run(weighting, points, first, text)? {
             Run::Ended => Ok(None),
             Run::Stopped(last, rest) => {

@@ -11,7 +11,7 @@ use std::marker::Model;
 use uca_weights::{Sink, WriteFault};
 
 /// How many bytes the buffer has room for.
-const SIZE: usize = 16_384;
+const SIZE: usize = 65_536;
 
 /// Gathers what goes to one sink, and counts the bytes that went out.
 ///
@@ -31,7 +31,7 @@ impl Model for OutputBuffer {
 
     ghost view = { λ b. record { held = take b.len b.bytes; written = b.written } };
 
-    ghost invariant = { λ b. (b.len ≤ 16384) × (b.written + b.len < 2 ^ 64) };
+    ghost invariant = { λ b. (b.len ≤ 65536) × (b.written + b.len < 2 ^ 64) };
 }
 
 impl OutputBuffer {
@@ -52,6 +52,7 @@ impl OutputBuffer {
     /// # Errors
     ///
     /// The sink failed: `written` says how many bytes went out, counted over all that was written to this buffer.
+    #[inline(always)]
     pub fn write<W: Write>(&mut self, out: &mut Sink<W>, text: &[u8]) -> Result<(), WriteFault>
         requires { HasRoom self.old (length text.now) }
         ensures writes { WritesThrough text.now self.old self.new out.old out.new result }
@@ -68,6 +69,7 @@ impl OutputBuffer {
     }
 
     // Writes a text through the empty buffer.
+    #[inline(never)]
     fn write_first<W: Write>(&mut self, out: &mut Sink<W>, text: &[u8]) -> Result<(), WriteFault>
         requires room { HasRoom self.old (length text.now) }
         requires empty { self.old.held ≡ [] }
@@ -92,6 +94,7 @@ impl OutputBuffer {
     /// # Errors
     ///
     /// The sink failed: `written` says how many bytes went out, counted over all that was written to this buffer.
+    #[inline(never)]
     pub fn flush<W: Write>(&mut self, out: &mut Sink<W>) -> Result<(), WriteFault>
         ensures text { (start : Option (List ℕ)) (before : List ℕ) →
             IsBuffered start out.old.contents before self.old →

@@ -1,12 +1,11 @@
-use Rattle.std.proofs.Common.{[], ◌∷◌, ◌++◌, true, List, ℕ, Option, Bor, subst}
+use Rattle.std.proofs.Common.{[], ◌∷◌, ◌++◌, List, ℕ, Option, Bor, refl, subst}
 use Rattle.std.specs.Bool.{OnTrue}
 use Rattle.std.specs.Option.{MatchOption}
 use Rattle.std.specs.Str.{chars}
 use Rattle.uca_elements.specs.Collations.{collation_of}
 use Rattle.uca_key_writer.specs.Pieces.{HasRead}
-use Rattle.uca_key_writer.specs.Runs.{ReadsMore}
+use Rattle.uca_key_writer.specs.Runs.{ReadsMore, ReadsUpTo}
 use Rattle.uca_plain.proofs.Results.{no_result}
-use Rattle.uca_key_writer.proofs.PieceSteps.{next_piece}
 use Rattle.uca_key_writer.proofs.key_buffer.push_plain.Goals as goal
 
 pub returns-in_err-end : goal.returns-in_err-end
@@ -29,8 +28,13 @@ returns-in-Some g c = record {
       let more = xs ++ c.args.known.point ∷ [] in
       let read = subst (λ accepted. OnTrue accepted (HasRead collation c.args.weighting xs c.end.new.levels)) c.if-not-branch.false
       (c.in_ok-end.ensures.read xs reads) in
-      let went = next_piece collation c.args.weighting xs c.end.new.levels c.begin.new.self c.args.known true c.begin.ensures.alone c.requires.few
-      c.requires.entry read in
+      let went : ReadsUpTo collation c.args.weighting more c.end.new.levels c.args.known = record {
+        before = xs;
+        split = refl;
+        read = read;
+        few = c.requires.few;
+        entry = c.requires.entry;
+      } in
       subst
       (λ (rest : Option (Bor (List ℕ))). MatchOption rest (HasRead collation c.args.weighting (more ++ chars c.args.text.now) c.run_on.new.levels)
       (λ rest. ReadsMore collation c.args.weighting more c.args.text.now rest.now c.run_on.new.levels c.run_on.new.self))
@@ -45,8 +49,13 @@ returns-in-None g c = record {
       let more = xs ++ c.args.known.point ∷ [] in
       let read = subst (λ accepted. OnTrue accepted (HasRead collation c.args.weighting xs c.end.new.levels)) c.if-not-branch.false
       (c.in_ok-end.ensures.read xs reads) in
-      let went = next_piece collation c.args.weighting xs c.end.new.levels c.begin.new.self c.args.known true c.begin.ensures.alone c.requires.few
-      c.requires.entry read in
+      let went : ReadsUpTo collation c.args.weighting more c.end.new.levels c.args.known = record {
+        before = xs;
+        split = refl;
+        read = read;
+        few = c.requires.few;
+        entry = c.requires.entry;
+      } in
       subst
       (λ (rest : Option (Bor (List ℕ))). MatchOption rest (HasRead collation c.args.weighting (more ++ chars c.args.text.now) c.run_on.new.levels)
       (λ rest. ReadsMore collation c.args.weighting more c.args.text.now rest.now c.run_on.new.levels c.run_on.new.self))
