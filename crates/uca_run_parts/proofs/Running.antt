@@ -1,5 +1,5 @@
 -- How runs end that read files first.
-use Rattle.std.proofs.Common.{◌≡◌, true, false, ◌||◌, Bool, Option, Some, None, IfSome, Result, Ok, Err, OnOk, is_err, refl, sym}
+use Rattle.std.proofs.Common.{◌≡◌, true, false, ◌||◌, Bool, Option, Some, None, IfSome, Result, Ok, Err, OnOk, is_err, refl, sym, ◌∙◌}
 use Rattle.std.specs.Prelude.{⊤}
 use Rattle.uca_run_parts.specs.declared.faults.RunFault.{RunFault}
 use Rattle.uca_run_parts.specs.declared.faults.RunFault.TheVariants.{File, Memory}
@@ -29,6 +29,11 @@ file_before A B _ file = let never : ⊥ = cc in absurd never
 pub as_before : (failed now : Bool) → now ≡ false → failed ≡ (failed || now)
 as_before true now same = refl
 as_before false now same = sym same
+
+-- where nothing fails, what has failed is what had failed before
+pub still_failed : (before old now : Bool) → now ≡ (old || false) → old ≡ before → now ≡ before
+still_failed before true now step same = step ∙ same
+still_failed before false now step same = step ∙ same
 
 -- what is true of all bytes
 pub whatever_bytes : {X : Type 0} (known : Option X) → IfSome known (λ bytes. ⊤)

@@ -1,14 +1,37 @@
--- Where no text was read, or its line was not written.
+-- After each line, and where no text was read, or its line was not written.
 use Rattle.std.specs.Prelude.{⊤}
-use Rattle.std.proofs.Common.{Bool, ap, ◌∙◌}
+use Rattle.std.proofs.Common.{Bool, [], ◌∷◌, ◌++◌, ◌+◌, ◌*◌, ◌^◌, ◌≤◌, length, ap, subst, sym, ◌∙◌}
 use Rattle.std.specs.List.{flat_map}
 use Rattle.std.proofs.lemmas.Result.{err_from_is_err_and}
 use Rattle.uca_text.specs.Texts.{NfdText}
 use Rattle.uca_values.specs.Content.{properties_of}
 use Rattle.uca_run_parts.specs.AffectedRun.{if_so, line_if}
-use Rattle.uca_run_parts.proofs.Printing.{not_written, no_write}
-use Rattle.uca_run_parts.proofs.Running.{as_before}
+use Rattle.uca_run_parts.specs.Texts.{TextsState}
+use Rattle.uca_run_parts.proofs.Printing.{line_written, not_written, no_write}
+use Rattle.uca_run_parts.proofs.Running.{as_before, still_failed}
 use Rattle.uca_run_parts.proofs.affected.AffectedRun.print_rest.Goals as goal
+
+pub loop-self-preserved : goal.loop-self-preserved
+loop-self-preserved g c =
+    let properties = properties_of c.args.properties.now in
+    let bytes_of = line_if (g.X.Affects.affects c.args.affects.now) properties in
+    let texts = c.next.new.self in
+    let inv = c.loop-self.invariant in
+    let next = rw c.if-branch.true at c.in_ok-next.ensures in
+    let now = c.in_ok-print_text.ensures in
+    let same = ap (λ (text : NfdText). if_so (g.X.Affects.affects c.args.affects.now) text.points texts.lines.line) next.text in
+    record {
+      small = subst (λ (t : TextsState). c.print_text.new.self.output.written + length c.print_text.new.self.output.held ≤ t.lines.reader.number * 2 ^ 42) (sym now.texts) now.small;
+      written = λ start begun before p.
+          let i = inv.written start begun before p in
+          let t = next.reads start i.0 i.1.read in (
+            i.0 ++ texts.lines.line ∷ [],
+            line_written properties bytes_of start begun i.0 texts.lines c.next.new.input t _ same c.print_text.new.self.texts.lines c.print_text.new.self.output c.print_text.new.out
+                (ap (λ (t : TextsState). t.lines) now.texts) (now.prints begun (flat_map bytes_of i.0) i.1.written),
+          );
+      input_failed = still_failed _ _ _ next.failed inv.input_failed;
+      out_failed = still_failed _ _ _ now.failed inv.out_failed;
+    }
 
 pub returns-in_err-next-clause-out_failed : goal.returns-in_err-next-clause-out_failed
 returns-in_err-next-clause-out_failed g c =
