@@ -7,6 +7,9 @@ use std::alloc::{AllocError, Allocator};
 /// How many weights of 16 bits there are.
 const WEIGHT_COUNT: usize = 0x1_0000;
 
+/// The node of all weights.
+const ROOT: usize = 1;
+
 /// How many nodes there are from the leaf of a weight up to the root.
 const TREE_DEPTH: usize = 17;
 
@@ -48,24 +51,24 @@ pub(crate) fn heaviest_chain<A: Allocator + Copy>(
 // The moves, each once with its count. Equal ones follow one another.
 fn counted<A: Allocator>(alloc: A, moves: &[Move]) -> Result<Vec<Step, A>, AllocError> {
     let mut steps = Vec::new(alloc);
-    let mut current: Option<Step> = None;
     for is in moves {
-        current = match current {
-            Some(step) if step.is == *is => Some(Step {
-                votes: step.votes.saturating_add(1),
-                ..step
-            }),
-            Some(step) => {
-                steps.push(step)?;
-                Some(first_vote(*is))
-            }
-            None => Some(first_vote(*is)),
-        };
-    }
-    if let Some(step) = current {
-        steps.push(step)?;
+        count(&mut steps, *is)?;
     }
     Ok(steps)
+}
+
+// Counts a move: for the last step if it has the same move, and as a step of its own otherwise.
+fn count<A: Allocator>(steps: &mut Vec<Step, A>, is: Move) -> Result<(), AllocError> {
+    if let Some(last) = steps.last_mut() {
+        if last.is == is {
+            last.votes = last.votes.saturating_add(1);
+            return Ok(());
+        }
+    }
+    match steps.push(first_vote(is)) {
+        Ok(()) => Ok(()),
+        Err(_) => Err(AllocError),
+    }
 }
 
 // A move that occurred once.
@@ -81,20 +84,28 @@ fn first_vote(is: Move) -> Step {
 // that ends in it: its leaves are the weights, and the two halves of node n are nodes 2n and 2n + 1.
 fn link_steps<A: Allocator>(alloc: A, steps: &mut [Step]) -> Result<Chain, AllocError> {
     let mut tree = vec![in alloc; EMPTY; 2 * WEIGHT_COUNT]?;
+    link_in(&mut tree, steps);
+    Ok(chain_at(&tree, ROOT))
+}
+
+// The same, in a tree that has no chain yet.
+fn link_in(tree: &mut [Chain], steps: &mut [Step]) {
     let mut number: usize = 0;
-    let mut heaviest = EMPTY;
     for step in steps.iter_mut() {
         number = number.saturating_add(1);
-        let below = heaviest_below(&tree, step.is.new);
-        step.before = below.end;
-        let chain = Chain {
-            votes: below.votes.saturating_add(step.votes),
-            end: number,
-        };
-        put_chain(&mut tree, step.is.new, chain);
-        heaviest = heavier(heaviest, chain);
+        link_step(tree, step, number);
     }
-    Ok(heaviest)
+}
+
+// Finds the step before a step, and puts the chain that ends with the step in.
+fn link_step(tree: &mut [Chain], step: &mut Step, number: usize) {
+    let below = heaviest_below(tree, step.is.new);
+    step.before = below.end;
+    let chain = Chain {
+        votes: below.votes.saturating_add(step.votes),
+        end: number,
+    };
+    put_chain(tree, step.is.new, chain);
 }
 
 // The heaviest chain that ends with a lower new weight than this one.

@@ -5,14 +5,23 @@ use crate::Editions;
 use std::alloc::{AllocError, Allocator};
 use std::collections::BTreeSet;
 use uca_change_files::{ChangeList, CodePointRange, FaultKind};
-use uca_values::{ClassRange, Data, Header, ImplicitRange};
+use uca_values::{ClassRange, Data, Header, ImplicitRange, Table};
 
 /// The last code point below the surrogates.
 const BELOW_SURROGATES: char = '\u{D7FF}';
-/// The first code point above the surrogates.
-const ABOVE_SURROGATES: char = '\u{E000}';
 /// The last code point.
 const LAST_POINT: char = '\u{10FFFF}';
+/// All code points: those below the surrogates, and those above.
+const EVERY_POINT: &[CodePointRange] = &[
+    CodePointRange {
+        first: '\0',
+        last: BELOW_SURROGATES,
+    },
+    CodePointRange {
+        first: '\u{E000}',
+        last: LAST_POINT,
+    },
+];
 
 /// Lists the ranges of code points that change. An error means that it ran out of memory.
 pub(crate) fn list_ranges<A: Allocator + Copy>(
@@ -35,18 +44,28 @@ fn push_between<A: Allocator + Copy>(
     let mut open: Option<char> = None;
     for border in borders {
         let changes = is_changed(alloc, editions, *border);
-        open = match open {
-            None if changes => Some(*border),
-            Some(first) if !changes => {
-                push_range(list, first, point_before(*border))?;
-                None
-            }
-            _ => open,
-        };
+        open = open_after(list, open, *border, changes)?;
     }
     match open {
         None => Ok(()),
         Some(first) => push_range(list, first, LAST_POINT),
+    }
+}
+
+// The first code point of the range that is open after a border, if one is. A range that ends there is listed.
+fn open_after<A: Allocator>(
+    list: &mut ChangeList<A>,
+    open: Option<char>,
+    border: char,
+    changes: bool,
+) -> Result<Option<char>, AllocError> {
+    match open {
+        None if changes => Ok(Some(border)),
+        Some(first) if !changes => match push_range(list, first, point_before(border)) {
+            Ok(()) => Ok(None),
+            Err(error) => Err(error),
+        },
+        _ => Ok(open),
     }
 }
 
@@ -56,10 +75,10 @@ fn push_range<A: Allocator>(
     first: char,
     last: char,
 ) -> Result<(), AllocError> {
-    if list.push_range(CodePointRange { first, last }) == Err(FaultKind::Memory) {
-        return Err(AllocError);
+    match list.push_range(CodePointRange { first, last }) {
+        Err(FaultKind::Memory) => Err(AllocError),
+        _ => Ok(()),
     }
-    Ok(())
 }
 
 // The code point before another one.
@@ -82,8 +101,17 @@ fn is_changed<A: Allocator + Copy>(alloc: A, editions: &Editions<A>, point: char
 // Whether a code point has other implicit weights by the ranges of the headers alone.
 fn has_other_weights<A: Allocator + Copy>(alloc: A, editions: &Editions<A>, point: char) -> bool {
     let (old, new) = (editions.old, editions.new);
-    let nothing = Data::new(alloc);
-    old.header.implicit(&nothing, point) != new.header.implicit(&nothing, point)
+    have_other_weights(&old.header, &new.header, &Data::new(alloc), point)
+}
+
+// The same, with a data file that has nothing.
+fn have_other_weights<A: Allocator>(
+    old: &Header<A>,
+    new: &Header<A>,
+    nothing: &Data<A>,
+    point: char,
+) -> bool {
+    old.implicit(nothing, point) != new.implicit(nothing, point)
 }
 
 // Puts in the borders of all ranges, and those of all code points.
@@ -91,13 +119,19 @@ fn insert_all<A: Allocator + Copy>(
     borders: &mut BTreeSet<char, A>,
     editions: &Editions<A>,
 ) -> Result<(), AllocError> {
-    let (old, new) = (editions.old, editions.new);
-    borders.insert('\0')?;
-    borders.insert(ABOVE_SURROGATES)?;
-    insert_header(borders, &old.header)?;
-    insert_header(borders, &new.header)?;
-    insert_data(borders, editions.old_data)?;
-    insert_data(borders, editions.new_data)
+    insert_ranges(borders, EVERY_POINT)?;
+    insert_edition(borders, editions.old, editions.old_data)?;
+    insert_edition(borders, editions.new, editions.new_data)
+}
+
+// Puts in the borders of the ranges of a table and its data file.
+fn insert_edition<A: Allocator + Copy>(
+    borders: &mut BTreeSet<char, A>,
+    table: &Table<A>,
+    data: &Data<A>,
+) -> Result<(), AllocError> {
+    insert_header(borders, &table.header)?;
+    insert_data(borders, data)
 }
 
 // Puts in the borders of the ranges of a header.
@@ -141,8 +175,19 @@ fn insert_borders<A: Allocator + Copy>(
     last: char,
 ) -> Result<(), AllocError> {
     borders.insert(first)?;
-    if let Some(after) = char::from_u32(u32::from(last) + 1) {
-        borders.insert(after)?;
+    match char::from_u32(u32::from(last) + 1) {
+        None => Ok(()),
+        Some(after) => insert_border(borders, after),
     }
-    Ok(())
+}
+
+// Puts in a border.
+fn insert_border<A: Allocator + Copy>(
+    borders: &mut BTreeSet<char, A>,
+    border: char,
+) -> Result<(), AllocError> {
+    match borders.insert(border) {
+        Ok(_) => Ok(()),
+        Err(_) => Err(AllocError),
+    }
 }

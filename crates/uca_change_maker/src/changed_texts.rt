@@ -11,12 +11,12 @@ use uca_match::Trie;
 use uca_values::Row;
 
 /// Lists the texts that change. An error means that it ran out of memory.
-pub(crate) fn list_texts<A: Allocator + Copy>(
+pub(crate) fn list_texts<A: Allocator + Copy, L: Lookup>(
     alloc: A,
     list: &mut ChangeList<A>,
     editions: &Editions<A>,
     certificate: &Certificate<A>,
-    new: &Trie<A>,
+    new: &L,
 ) -> Result<(), AllocError> {
     let mut texts = BTreeSet::new(alloc);
     insert_old_keys(alloc, &mut texts, editions, certificate, new)?;
@@ -25,12 +25,12 @@ pub(crate) fn list_texts<A: Allocator + Copy>(
 }
 
 // Puts in the keys of the old rows that do not become their images.
-fn insert_old_keys<A: Allocator + Copy>(
+fn insert_old_keys<A: Allocator + Copy, L: Lookup>(
     alloc: A,
     texts: &mut BTreeSet<Vec<char, A>, A>,
     editions: &Editions<A>,
     certificate: &Certificate<A>,
-    new: &Trie<A>,
+    new: &L,
 ) -> Result<(), AllocError> {
     let images = Images::new(alloc, certificate)?;
     let old = editions.old;
@@ -40,16 +40,16 @@ fn insert_old_keys<A: Allocator + Copy>(
 }
 
 // Puts in the keys of those rows that do not become their images.
-fn insert_not_kept<A: Allocator + Copy>(
+fn insert_not_kept<A: Allocator + Copy, L: Lookup>(
     alloc: A,
     texts: &mut BTreeSet<Vec<char, A>, A>,
     rows: &[Row<A>],
     images: &Images<A, A>,
-    new: &Trie<A>,
+    new: &L,
 ) -> Result<(), AllocError> {
     for row in rows {
         if !is_kept(images, row, new) {
-            insert_key(alloc, texts, row)?;
+            insert_key(alloc, texts, &row.key)?;
         }
     }
     Ok(())
@@ -59,10 +59,12 @@ fn insert_not_kept<A: Allocator + Copy>(
 fn insert_key<A: Allocator + Copy>(
     alloc: A,
     texts: &mut BTreeSet<Vec<char, A>, A>,
-    row: &Row<A>,
+    key: &[char],
 ) -> Result<(), AllocError> {
-    texts.insert(Vec::from_slice(alloc, &row.key)?)?;
-    Ok(())
+    match texts.insert(Vec::from_slice(alloc, key)?) {
+        Ok(_) => Ok(()),
+        Err(_) => Err(AllocError),
+    }
 }
 
 // Whether a row's key has a new row, and it is the image of the row.
@@ -91,15 +93,15 @@ fn insert_new_keys<A: Allocator + Copy>(
 }
 
 // Puts in the keys of those rows that the old table has no row of.
-fn insert_missing<A: Allocator + Copy>(
+fn insert_missing<A: Allocator + Copy, L: Lookup>(
     alloc: A,
     texts: &mut BTreeSet<Vec<char, A>, A>,
     rows: &[Row<A>],
-    old: &Trie<A>,
+    old: &L,
 ) -> Result<(), AllocError> {
     for row in rows {
         if row_of(old, &row.key).is_none() {
-            insert_key(alloc, texts, row)?;
+            insert_key(alloc, texts, &row.key)?;
         }
     }
     Ok(())
@@ -112,11 +114,20 @@ fn push_texts<A: Allocator + Copy>(
     texts: &BTreeSet<Vec<char, A>, A>,
 ) -> Result<(), AllocError> {
     for text in texts {
-        let points = Vec::from_slice(alloc, text)?;
-        // A text that a list cannot have is left out: the audit names its row.
-        if list.push_text(ChangedText { points }) == Err(FaultKind::Memory) {
-            return Err(AllocError);
-        }
+        push_text(alloc, list, text)?;
     }
     Ok(())
+}
+
+// Lists a text. One that a list cannot have is left out: the audit names its row.
+fn push_text<A: Allocator + Copy>(
+    alloc: A,
+    list: &mut ChangeList<A>,
+    text: &[char],
+) -> Result<(), AllocError> {
+    let points = Vec::from_slice(alloc, text)?;
+    match list.push_text(ChangedText { points }) {
+        Err(FaultKind::Memory) => Err(AllocError),
+        _ => Ok(()),
+    }
 }

@@ -60,24 +60,24 @@ fn least_runs<A: Allocator>(alloc: A, level: Level) -> Result<Vec<Run, A>, Alloc
 // The runs of a chain.
 fn runs_of<A: Allocator>(alloc: A, chain: &[Step]) -> Result<Vec<Run, A>, AllocError> {
     let mut runs = Vec::new(alloc);
-    let mut current: Option<Run> = None;
     for step in chain {
-        current = match current {
-            Some(run) if is_next(run, step.is) => Some(Run {
-                count: run.count.saturating_add(1),
-                ..run
-            }),
-            Some(run) => {
-                runs.push(run)?;
-                Some(first_run(step.is.old, step.is.new))
-            }
-            None => Some(first_run(step.is.old, step.is.new)),
-        };
-    }
-    if let Some(run) = current {
-        runs.push(run)?;
+        add_to_runs(&mut runs, step.is)?;
     }
     Ok(runs)
+}
+
+// Adds a move: to the last run if it comes directly after it, and as a run of its own otherwise.
+fn add_to_runs<A: Allocator>(runs: &mut Vec<Run, A>, step: Move) -> Result<(), AllocError> {
+    if let Some(last) = runs.last_mut() {
+        if is_next(*last, step) {
+            last.count = last.count.saturating_add(1);
+            return Ok(());
+        }
+    }
+    match runs.push(first_run(step.old, step.new)) {
+        Ok(()) => Ok(()),
+        Err(_) => Err(AllocError),
+    }
 }
 
 // The run of one weight and its image.

@@ -19,8 +19,9 @@ use uca_change_audit::{ChangeFault, ChangeInputs, audit_change};
 use uca_change_files::ChangeList;
 use uca_change_lists::Changes;
 use uca_changes::changes_keep_unaffected_texts;
+use uca_elements::Lookup;
 use uca_match::Trie;
-use uca_values::{Header, Table};
+use uca_values::{Header, Row, Table};
 use uca_weights::Level;
 
 /// Finds what changes from an old table and its data file to new ones: changed texts, changed ranges of code points, and maps
@@ -67,12 +68,13 @@ fn found_changes<A: Allocator + Copy>(
 }
 
 // What changes, by the rows of the new table.
-fn found_by<A: Allocator + Copy>(
+fn found_by<A: Allocator + Copy, L: Lookup>(
     alloc: A,
     editions: &Editions<A>,
-    new: &Trie<A>,
+    new: &L,
 ) -> Result<FoundChanges<A>, AllocError> {
-    let certificate = certificate_of(alloc, editions, new)?;
+    let old = editions.old;
+    let certificate = certificate_of(alloc, &old.rows, new)?;
     match list_of(alloc, editions, &certificate, new) {
         Ok(list) => Ok(FoundChanges { list, certificate }),
         Err(error) => Err(error),
@@ -80,11 +82,11 @@ fn found_by<A: Allocator + Copy>(
 }
 
 // The texts and the ranges that change.
-fn list_of<A: Allocator + Copy>(
+fn list_of<A: Allocator + Copy, L: Lookup>(
     alloc: A,
     editions: &Editions<A>,
     certificate: &Certificate<A>,
-    new: &Trie<A>,
+    new: &L,
 ) -> Result<ChangeList<A>, AllocError> {
     let mut list = ChangeList::new(alloc);
     list_texts(alloc, &mut list, editions, certificate, new)?;
@@ -93,16 +95,15 @@ fn list_of<A: Allocator + Copy>(
 }
 
 // The maps of the weights of all levels.
-fn certificate_of<A: Allocator + Copy>(
+fn certificate_of<A: Allocator + Copy, T: Allocator, L: Lookup>(
     alloc: A,
-    editions: &Editions<A>,
-    new: &Trie<A>,
+    old: &[Row<T>],
+    new: &L,
 ) -> Result<Certificate<A>, AllocError> {
-    let old = editions.old;
     Ok(Certificate {
-        primary: level_map(alloc, Level::One, &old.rows, new)?,
-        secondary: level_map(alloc, Level::Two, &old.rows, new)?,
-        tertiary: level_map(alloc, Level::Three, &old.rows, new)?,
+        primary: level_map(alloc, Level::One, old, new)?,
+        secondary: level_map(alloc, Level::Two, old, new)?,
+        tertiary: level_map(alloc, Level::Three, old, new)?,
     })
 }
 

@@ -74,22 +74,26 @@ fn push_moves<A: Allocator>(
         return Ok(());
     }
     for (old, new) in old.iter().zip(new) {
-        push_move(moves, level, weight(level, *old), weight(level, *new))?;
+        push_move(moves, level, *old, *new)?;
     }
     Ok(())
 }
 
-// Adds a move, if a map of the level may have it.
+// Adds the move of two elements, if a map of the level may have it.
 fn push_move<A: Allocator>(
     moves: &mut Vec<Move, A>,
     level: Level,
-    old: u16,
-    new: u16,
+    old: Element,
+    new: Element,
 ) -> Result<(), AllocError> {
-    if is_possible(level, old, new) {
-        moves.push(Move { old, new })?;
+    let (old, new) = (weight(level, old), weight(level, new));
+    if !is_possible(level, old, new) {
+        return Ok(());
     }
-    Ok(())
+    match moves.push(Move { old, new }) {
+        Ok(()) => Ok(()),
+        Err(_) => Err(AllocError),
+    }
 }
 
 // Whether a map of the level may send one weight to the other.
