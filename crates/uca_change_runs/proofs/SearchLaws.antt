@@ -114,3 +114,19 @@ module _ (texts : List (List ℕ)) (place point : ℕ) (points : List ℕ) (orde
       let low = placed.1 (place + j) d (omega arith) here in
       let rise = firsts_rise texts order (place + j) k d past inside in
       differs (omega (arith, ap first_of is, low, rise, begins)))
+
+  -- one more text does not occur
+  pub none_more : (j : ℕ) (other : List ℕ) → j < length rest → other ≡ get_or rest j other → ¬ (OccursInOrder other points) → NoneFirst j → NoneFirst (j + 1)
+  none_more j other within there never seen k d from upto occurs =
+      elim (cases_lt k j) [
+        | inl before ↦ seen k d from before occurs
+        | inr last ↦
+            let position : k ≡ j = omega arith in
+            let is : get_or rest k d ≡ other = ap (λ (i : ℕ). get_or rest i d) position ∙ sym (get_or_read rest j other within there d) in
+            never (subst (λ (t : List ℕ). OccursInOrder t points) is occurs)
+      ]
+
+  -- a text from the place on that occurs is one of all
+  pub one_found : (j : ℕ) (other : List ℕ) → j < length rest → other ≡ get_or rest j other → OccursInOrder other points
+      → (text : List ℕ) × Contains texts text × OccursInOrder text points
+  one_found j other within there occurs = (other, (place + j, omega (arith, rest_length), sym (there ∙ at_rest j other)), occurs)
