@@ -1,7 +1,7 @@
 -- The key of a line, read and written digit by digit.
 use Rattle.std.proofs.Common.{◌≡◌, ℕ, ◌+◌, ◌*◌, ◌<◌, ◌≤◌, List, [], ◌∷◌, ◌++◌, length, take, drop, get_or, map, Option, Some, None, refl, ap, sym, ◌∙◌, append_assoc, arith, take-append-drop}
 use Rattle.std.specs.List.{flat_map, range_with_len}
-use Rattle.std.specs.Option.{option_map}
+use Rattle.std.specs.Option.{option_and_then, option_map}
 use Rattle.std.proofs.lemmas.List.{drop_all}
 use Rattle.std.proofs.lemmas.List.FromFn.{get_or-map-range_with_len}
 use Rattle.uca_lines.specs.Numbers.{hex_of}
@@ -9,7 +9,7 @@ use Rattle.uca_lines.specs.DigitValues.{value_or_more, number_or_more}
 use Rattle.uca_lines.proofs.DigitValues.{hex_read, hex_not_read, hex-lt}
 use Rattle.uca_run_parts.specs.Print.{byte_digits}
 use Rattle.uca_rekey.specs.declared.line.TheConstants.{VALUES}
-use Rattle.uca_rekey.specs.RekeyedLines.{digits_of, byte_before, bytes_of, key_in, with_digits}
+use Rattle.uca_rekey.specs.RekeyedLines.{digits_of, byte_before, bytes_of, key_in, rekeyed_by, with_digits, with_key}
 
 -- ---- Digits
 
@@ -66,3 +66,13 @@ pub all_written : (line key : List ℕ) (at i : ℕ) → length key ≤ i → wr
 all_written line key at i end =
     ap (λ rest. written_from line at (flat_map byte_digits rest)) (drop_all i key end)
     ∙ ap (λ l. take at line ++ l) (with_no_digits (drop at line)) ∙ take-append-drop at line
+
+-- ---- The line
+
+-- the key of a line was moved, and written in its place
+pub key_replaced : (moved : List ℕ → Option (List ℕ)) (line key given new written now : List ℕ) → key_in line ≡ Some key → given ≡ key → moved given ≡ Some new
+    → written ≡ new → now ≡ with_key line written → rekeyed_by moved line ≡ Some now
+key_replaced moved line key given new written now read same done out put =
+    ap (λ k. option_map (with_key line) (option_and_then moved k)) read
+    ∙ ap (option_map (with_key line)) (ap moved (sym same) ∙ done)
+    ∙ ap (λ k. Some (with_key line k)) (sym out) ∙ ap (λ l. Some l) (sym put)

@@ -1,8 +1,10 @@
 -- Where lines lie in a buffer.
-use Rattle.std.proofs.Common.{◌≡◌, ℕ, ◌+◌, ◌-◌, ◌^◌, ◌<◌, ◌≤◌, List, [], ◌∷◌, ◌++◌, length, take, drop, get_or, Option, Some, None, refl, ap, sym, subst, ◌∙◌, append_assoc, arith, take-append-drop}
-use Rattle.std.specs.Io.KnownBytes.{Consumes, Keeps, prepend_known}
+use Rattle.std.proofs.Common.{◌≡◌, ℕ, zero, suc, ltb, ◌+◌, ◌-◌, ◌^◌, ◌<◌, ◌≤◌, List, [], ◌∷◌, ◌++◌, length, take, drop, get_or, Option, Some, None, refl, ap, sym, subst, ◌∙◌, append_assoc, append-nil, length-append, arith, take-append-drop}
+use Rattle.std.specs.Bool.{MatchBool}
+use Rattle.std.specs.Io.KnownBytes.{Consumes, IsAtEnd, Keeps, prepend_known}
+use lib.Seq.{take-append_seam}
 use Rattle.std.specs.List.{before_first, position_or_len, slice_range}
-use Rattle.std.proofs.lemmas.Bool.{eqb-true}
+use Rattle.std.proofs.lemmas.Bool.{eqb-true, lt-ltb}
 use borrow.Rule.Slice.PartMut.{put_mid, post_of}
 use Rattle.std.proofs.lemmas.List.{drop-drop, drop-take, drop_at, get_or-drop, take-take, take-append-le, length-drop, length-take-le}
 use Rattle.std.proofs.lemmas.Slice.{drop-put_mid, take-put_mid_below}
@@ -42,6 +44,13 @@ range_filled xs ys e n within few =
     ∙ ap (λ l. take e xs ++ take n l) (drop_at (take e xs) (ys ++ post) e (length-take-le e xs within))
     ∙ ap (λ l. take e xs ++ l) (take-append-le n ys post few)
 
+-- members before a part that is written stay
+pub range_kept : (xs ys : List ℕ) (e : ℕ) → e ≤ length xs → slice_range (put_mid e (length xs - e) xs ys) 0 e ≡ take e xs
+range_kept xs ys e within =
+    let all = put_mid e (length xs - e) xs ys in
+    let whole : e - 0 ≡ e = omega arith in
+    ap (λ m. take m all) whole ∙ take-put_mid_below e (length xs - e) xs ys e (omega arith) within
+
 -- ---- The first line
 
 module _ (bytes rest : List ℕ) (seen : ℕ) (is : rest ≡ drop seen bytes) (lacks : Lacks is_lf (take seen bytes)) where
@@ -78,6 +87,24 @@ filled None new pending later part takes is = tt
 filled (Some x) None pending later part takes is = absurd takes
 filled (Some x) (Some y) pending later part takes is =
     ap (λ l. l ++ y) is ∙ append_assoc pending part y ∙ ap (λ l. pending ++ l) (sym takes)
+
+-- the others wait first
+pub begins_so : (pending part later : List ℕ) → later ≡ pending ++ part → take (length pending) later ≡ pending
+begins_so pending part later is = ap (take (length pending)) is ∙ take-append_seam pending part
+
+-- there are more bytes, or the source is at its end
+pub some_more : (n : ℕ) (pending part later : List ℕ) (rest : Option (List ℕ)) → later ≡ pending ++ part → length part ≡ n → (n ≡ 0 → IsAtEnd rest)
+    → MatchBool (ltb 0 n) (length pending < length later) ((later ≡ pending) × IsAtEnd rest)
+some_more zero pending [] later rest is many end = (is ∙ append-nil pending, end refl)
+some_more zero pending (b ∷ part) later rest is many end = absurd (omega (arith, many))
+some_more (suc n) pending part later rest is many end = rw (lt-ltb 0 (suc n) (omega arith)) (omega (arith, ap length is, length-append pending part, many))
+
+-- the same bytes wait, and none was read
+pub nothing_filled : (old new : Option (List ℕ)) (pending later : List ℕ) → Keeps old new → later ≡ pending
+    → Keeps (prepend_known pending old) (prepend_known later new)
+nothing_filled None new pending later keeps is = tt
+nothing_filled (Some x) None pending later keeps is = absurd keeps
+nothing_filled (Some x) (Some y) pending later keeps is = ap (λ l. l ++ y) is ∙ ap (λ l. pending ++ l) keeps
 
 -- ---- What was found
 

@@ -1,10 +1,10 @@
 -- The bytes that were read wait after the others.
-use Rattle.std.proofs.Common.{◌≡◌, ◌+◌, ◌-◌, ◌++◌, length, take, ap, ◌∙◌, arith, rules}
+use Rattle.std.proofs.Common.{◌≡◌, ◌+◌, ◌-◌, ◌++◌, length, take, ap, sym, ◌∙◌, arith, rules}
 use Rattle.std.specs.List.{slice_range}
-use Rattle.std.proofs.lemmas.List.{places, with_items_is}
+use Rattle.std.proofs.lemmas.List.{places, take_all, with_items_is}
 use borrow.Rule.Slice.PartMut.{put_mid}
 use Rattle.uca_rekey.specs.LinesInPlace.{LinesState}
-use Rattle.uca_rekey.proofs.Places.{filled, range_filled}
+use Rattle.uca_rekey.proofs.Places.{begins_so, filled, nothing_filled, range_filled, range_kept, some_more}
 use Rattle.uca_rekey.proofs.lines.KeyLines.fill.Goals as goal
 
 pub returns-in-Ok-clause-bytes : goal.returns-in-Ok-clause-bytes
@@ -19,3 +19,52 @@ returns-in-Ok-clause-bytes g c =
     (ap (λ b. slice_range b 0 (e + n)) (with_items_is c.make_room-has_room.new.buffer (put_mid e (length xs - e) xs ys) long)
     ∙ range_filled xs ys e n (omega arith) (omega (arith, c.in-Ok.ensures.bound.0))
     ∙ ap (λ l. l ++ take n ys) (ap (take e) c.deref_mut.ensures.value ∙ c.make_room-has_room.ensures.front ∙ ap (λ (s : LinesState). s.pending) c.self.view_is))
+
+pub returns-in-Ok-clause-front : goal.returns-in-Ok-clause-front
+returns-in-Ok-clause-front g c =
+    let i = c.self.inside in
+    let e = i.end - i.next in
+    let n = c.in-Ok.count in
+    let xs = c.deref_mut.result.now in
+    let ys = c.read.new.buf in
+    let long : length (put_mid e (length xs - e) xs ys) ≡ c.make_room-has_room.new.buffer.len = search (rules, places) in
+    let joined =
+    ap (λ b. slice_range b 0 (e + n)) (with_items_is c.make_room-has_room.new.buffer (put_mid e (length xs - e) xs ys) long)
+    ∙ range_filled xs ys e n (omega arith) (omega (arith, c.in-Ok.ensures.bound.0))
+    ∙ ap (λ l. l ++ take n ys) (ap (take e) c.deref_mut.ensures.value ∙ c.make_room-has_room.ensures.front ∙ ap (λ (s : LinesState). s.pending) c.self.view_is) in
+    begins_so c.args.self.now.pending (take n ys) _ joined
+
+pub returns-in-Ok-clause-more : goal.returns-in-Ok-clause-more
+returns-in-Ok-clause-more g c =
+    let i = c.self.inside in
+    let e = i.end - i.next in
+    let n = c.in-Ok.count in
+    let xs = c.deref_mut.result.now in
+    let ys = c.read.new.buf in
+    let long : length (put_mid e (length xs - e) xs ys) ≡ c.make_room-has_room.new.buffer.len = search (rules, places) in
+    let joined =
+    ap (λ b. slice_range b 0 (e + n)) (with_items_is c.make_room-has_room.new.buffer (put_mid e (length xs - e) xs ys) long)
+    ∙ range_filled xs ys e n (omega arith) (omega (arith, c.in-Ok.ensures.bound.0))
+    ∙ ap (λ l. l ++ take n ys) (ap (take e) c.deref_mut.ensures.value ∙ c.make_room-has_room.ensures.front ∙ ap (λ (s : LinesState). s.pending) c.self.view_is) in
+    some_more n c.args.self.now.pending (take n ys) _ c.read.new.self.remaining joined (sym c.in-Ok.ensures.bound.1)
+    (λ none. c.in-Ok.ensures.bytes.1 none (omega (arith, c.read.auto.buf, c.deref_mut.ensures.len, c.if-not-has_room.ensures.room)))
+
+pub returns-in-Err-clause-err : goal.returns-in-Err-clause-err
+returns-in-Err-clause-err g c =
+    let i = c.self.inside in
+    let e = i.end - i.next in
+    let xs = c.deref_mut.result.now in
+    let ys = c.read.new.buf in
+    let long : length (put_mid e (length xs - e) xs ys) ≡ c.make_room-has_room.new.buffer.len = search (rules, places) in
+    ap (λ b. slice_range b 0 e) (with_items_is c.make_room-has_room.new.buffer (put_mid e (length xs - e) xs ys) long)
+    ∙ range_kept xs ys e (omega arith)
+    ∙ ap (take e) c.deref_mut.ensures.value ∙ c.make_room-has_room.ensures.front ∙ ap (λ (s : LinesState). s.pending) c.self.view_is
+
+pub returns-in-Err-clause-front : goal.returns-in-Err-clause-front
+returns-in-Err-clause-front g c =
+    let pending = c.args.self.now.pending in
+    ap (take (length pending)) (returns-in-Err-clause-err g c) ∙ take_all (length pending) pending (omega arith)
+
+pub returns-in-Err-clause-bytes : goal.returns-in-Err-clause-bytes
+returns-in-Err-clause-bytes g c =
+    nothing_filled c.args.source.now.remaining c.read.new.self.remaining c.args.self.now.pending _ c.in-Err.ensures.bytes (returns-in-Err-clause-err g c)
