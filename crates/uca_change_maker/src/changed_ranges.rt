@@ -75,10 +75,10 @@ fn push_range<A: Allocator>(
     first: char,
     last: char,
 ) -> Result<(), AllocError> {
-    match list.push_range(CodePointRange { first, last }) {
-        Err(FaultKind::Memory) => Err(AllocError),
-        _ => Ok(()),
+    if list.push_range(CodePointRange { first, last }) == Err(FaultKind::Memory) {
+        return Err(AllocError);
     }
+    Ok(())
 }
 
 // The code point before another one.
