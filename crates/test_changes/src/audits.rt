@@ -64,26 +64,39 @@ const CASES: &str = r"-- nothing changes
 . | -0061, +0063 ; [.1C70.0020.0002] | 230 => 231 | . | . | RowMissing old row 2
 . | +0063 ; [.1C70.0020.0002] | 230 => 231 | . | . | RowExtra new row 8";
 
-fn check(alloc: Global, case: &str) -> Result<(), Fail> {
-    if is_remark(case) {
-        return Ok(());
-    }
-    let (old, new, rest) = thirds(case)?;
-    let (data, listed, rest) = thirds(rest)?;
-    let (certificate, wanted) = halves(rest)?;
+/// The verdict, by what is different in the old table, and then in the new one and its data file.
+fn verdict_of(
+    alloc: Global,
+    old: &str,
+    new: [&str; 2],
+    listed: &str,
+    certificate: &str,
+) -> Result<String, Fail> {
     let old = read_edition(alloc, [TABLE, DATA], [old, "."])?;
-    let found = match read_edition(alloc, [TABLE, DATA], [new, data]) {
+    let found = match read_edition(alloc, [TABLE, DATA], new) {
         Ok(new) => verdict(alloc, &old, &new, listed, certificate),
         Err(fail) => Err(fail),
     };
     drop(old);
-    same(&found?, wanted, case)
+    found
+}
+
+fn check(alloc: Global, case: &str) -> Result<(), Fail> {
+    let (old, new, rest) = thirds(case)?;
+    let (data, listed, rest) = thirds(rest)?;
+    let (certificate, wanted) = halves(rest)?;
+    match verdict_of(alloc, old, [new, data], listed, certificate) {
+        Ok(found) => same(&found, wanted, case),
+        Err(fail) => Err(fail),
+    }
 }
 
 #[test]
 fn verdicts(rt: HostRuntime) -> Result<(), Fail> {
     for case in CASES.lines() {
-        check(rt.alloc(), case)?;
+        if !is_remark(case) {
+            check(rt.alloc(), case)?;
+        }
     }
     Ok(())
 }

@@ -1,8 +1,8 @@
 //! The files of a change: those of a first one that changes nothing, and others by what is different in them.
 
-use std::alloc::Global;
+use std::alloc::{AllocError, Global};
 use std::test::Fail;
-use test_kit::{bytes_of, code_point, data_of, joined, table_of};
+use test_kit::{code_point, data_of, joined, table_of};
 use uca_certificates::{Certificate, read_certificate, write_certificate};
 use uca_change_audit::{ChangeFault, ChangeInputs, Changes, audit_change};
 use uca_change_files::write_changes;
@@ -27,31 +27,45 @@ pub struct Edition {
     data: Data,
 }
 
-/// A text with one change: `+LINE` adds a line, `-LINE` takes one away, `OLD => NEW` replaces a text.
-fn changed(alloc: Global, text: &str, change: &str) -> Result<String, Fail> {
+/// The two parts of a text around what is looked for.
+fn around<'x>(text: &'x str, looked_for: &str) -> Result<(&'x str, &'x str), Fail> {
+    Ok(text.split_once(looked_for).ok_or("not in the text")?)
+}
+
+/// The parts of a text with one change: `+LINE` adds a line, `-LINE` takes one away, `OLD => NEW` replaces a text.
+fn parts<'x>(text: &'x str, change: &'x str) -> Result<(&'x str, &'x str, &'x str), Fail> {
     if let Some(line) = change.strip_prefix("+") {
-        return Ok(joined(alloc, &[text, line, "\n"])?);
+        return Ok((text, line, "\n"));
     }
     if let Some(line) = change.strip_prefix("-") {
-        let (front, rest) = text.split_once(line).ok_or("no such line")?;
-        let (_, rest) = rest.split_once("\n").ok_or("no end of line")?;
-        return Ok(joined(alloc, &[front, rest])?);
+        let (front, rest) = around(text, line)?;
+        let (_, rest) = around(rest, "\n")?;
+        return Ok((front, "", rest));
     }
-    let (old, new) = change.split_once(" => ").ok_or("no change")?;
-    let (front, rest) = text.split_once(old).ok_or("nothing to change")?;
-    let new = bytes_of(alloc, new)?;
-    Ok(joined(alloc, &[front, str::from_utf8(&new)?, rest])?)
+    let (old, new) = around(change, " => ")?;
+    let (front, rest) = around(text, old)?;
+    Ok((front, new, rest))
+}
+
+/// A text with one change. A change writes an LF as `\n`, at most once.
+fn changed(alloc: Global, text: &str, change: &str) -> Result<String, Fail> {
+    let (front, new, rest) = parts(text, change)?;
+    let (line, end, next) = match new.split_once("\\n") {
+        Some((line, next)) => (line, "\n", next),
+        None => (new, "", ""),
+    };
+    Ok(joined(alloc, &[front, line, end, next, rest])?)
 }
 
 /// A text with changes, which `, ` separates. There are none if the field is `.`.
-fn edited(alloc: Global, text: &str, field: &str) -> Result<Vec<u8>, Fail> {
+fn edited(alloc: Global, text: &str, field: &str) -> Result<String, Fail> {
     let mut text = String::from_str(alloc, text)?;
     if field != "." {
         for change in field.split(", ") {
             text = changed(alloc, &text, change)?;
         }
     }
-    Ok(text.into_bytes())
+    Ok(text)
 }
 
 /// The edition of a table and a data file, with changes.
@@ -60,8 +74,8 @@ pub fn read_edition(alloc: Global, texts: [&str; 2], fields: [&str; 2]) -> Resul
     let [table_field, data_field] = fields;
     let table = edited(alloc, table_text, table_field)?;
     let data = edited(alloc, data_text, data_field)?;
-    let table = table_of(alloc, &mut Source::new(table.as_slice()))?;
-    match data_of(alloc, &mut Source::new(data.as_slice())) {
+    let table = table_of(alloc, &mut Source::new(table.as_bytes()))?;
+    match data_of(alloc, &mut Source::new(data.as_bytes())) {
         Ok(data) => Ok(Edition { table, data }),
         Err(fault) => {
             drop(table);
@@ -70,20 +84,29 @@ pub fn read_edition(alloc: Global, texts: [&str; 2], fields: [&str; 2]) -> Resul
     }
 }
 
+/// The text of these code points, which a space separates.
+fn text_of(alloc: Global, points: &str) -> Result<Vec<char>, Fail> {
+    let mut text = Vec::new(alloc);
+    for digits in points.split(" ") {
+        text.push(code_point(digits)?)?;
+    }
+    Ok(text)
+}
+
+/// The range of `range 0041..005A`.
+fn range_of(item: &str) -> Result<CodePointRange, Fail> {
+    let range = item.strip_prefix("range ").ok_or("no text and no range")?;
+    let (first, last) = around(range, "..")?;
+    let (first, last) = (code_point(first)?, code_point(last)?);
+    Ok(CodePointRange { first, last })
+}
+
 /// Lists what an item says: `text 0061 0301`, or `range 0041..005A`.
 fn list_item(alloc: Global, changes: &mut Changes, item: &str) -> Result<(), Fail> {
-    if let Some(points) = item.strip_prefix("text ") {
-        let mut text = Vec::new(alloc);
-        for digits in points.split(" ") {
-            text.push(code_point(digits)?)?;
-        }
-        changes.insert_text(text)?;
-        return Ok(());
+    match item.strip_prefix("text ") {
+        Some(points) => changes.insert_text(text_of(alloc, points)?)?,
+        None => changes.push_range(range_of(item)?)?,
     }
-    let range = item.strip_prefix("range ").ok_or("no text and no range")?;
-    let (first, last) = range.split_once("..").ok_or("no range")?;
-    let (first, last) = (code_point(first)?, code_point(last)?);
-    changes.push_range(CodePointRange { first, last })?;
     Ok(())
 }
 
@@ -99,8 +122,8 @@ fn list_items(alloc: Global, changes: &mut Changes, field: &str) -> Result<(), F
 
 /// The certificate of a case.
 fn certificate_of(alloc: Global, field: &str) -> Result<Certificate, Fail> {
-    let bytes = edited(alloc, CERTIFICATE, field)?;
-    Ok(read_certificate(alloc, &mut Source::new(bytes.as_slice()))?)
+    let text = edited(alloc, CERTIFICATE, field)?;
+    Ok(read_certificate(alloc, &mut Source::new(text.as_bytes()))?)
 }
 
 /// What an audit returns, as text. If an allocation failed, that is the error.
@@ -175,8 +198,8 @@ pub fn found(alloc: Global, old: &Edition, new: &Edition) -> Result<String, Fail
     }
 }
 
-/// The text that the maker has to find, by what is listed and by what is different in the certificate.
-pub fn wanted_text(alloc: Global, listed: &str, certificate: &str) -> Result<String, Fail> {
+/// A file of changes that lists these items, and a text after it.
+fn with_items(alloc: Global, listed: &str, rest: &str) -> Result<String, AllocError> {
     let mut text = String::from_str(alloc, "@changes 1\n")?;
     if listed != "." {
         for item in listed.split(", ") {
@@ -184,7 +207,12 @@ pub fn wanted_text(alloc: Global, listed: &str, certificate: &str) -> Result<Str
             text.push_str("\n")?;
         }
     }
-    let bytes = edited(alloc, CERTIFICATE, certificate)?;
-    text.push_str(str::from_utf8(&bytes)?)?;
+    text.push_str(rest)?;
     Ok(text)
+}
+
+/// The text that the maker has to find, by what is listed and by what is different in the certificate.
+pub fn wanted_text(alloc: Global, listed: &str, certificate: &str) -> Result<String, Fail> {
+    let certificate = edited(alloc, CERTIFICATE, certificate)?;
+    Ok(with_items(alloc, listed, &certificate)?)
 }

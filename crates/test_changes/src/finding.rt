@@ -61,19 +61,21 @@ fn found_between<'x>(
 }
 
 fn check(alloc: Global, case: &str) -> Result<(), Fail> {
-    if is_remark(case) {
-        return Ok(());
-    }
     let (old, new, rest) = thirds(case)?;
     let (data, listed, certificate) = thirds(rest)?;
     let text = found_between(alloc, old, new, data)?;
-    same(&text, &wanted_text(alloc, listed, certificate)?, case)
+    match wanted_text(alloc, listed, certificate) {
+        Ok(wanted) => same(&text, &wanted, case),
+        Err(fail) => Err(fail),
+    }
 }
 
 #[test]
 fn changes_that_are_found(rt: HostRuntime) -> Result<(), Fail> {
     for case in CASES.lines() {
-        check(rt.alloc(), case)?;
+        if !is_remark(case) {
+            check(rt.alloc(), case)?;
+        }
     }
     Ok(())
 }
