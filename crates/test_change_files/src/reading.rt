@@ -1,13 +1,10 @@
 //! What files list, and the first error of those that are rejected.
 
-use std::alloc::Global;
+use std::alloc::{AllocError, Global};
 use std::io::ErrorKind;
 use std::test::Fail;
-use test_kit::{
-    Calls, Failure, FakeReader, Pace, bytes_of, halves, holds, is_remark, joined, repeated, same,
-    same_bytes,
-};
-use uca_change_files::{ChangeList, TableFault, read_changes, write_changes};
+use test_kit::{Calls, Failure, FakeReader, Pace, bytes_of, halves, holds, is_remark, same};
+use uca_change_files::{ChangeList, CodePointRange, TableFault, read_changes, write_changes};
 use uca_weights::{Sink, Source};
 
 /// A file, and what is read of it: each code point of a text after `.`, and the ends of a range; or the first error.
@@ -76,64 +73,97 @@ text 0061\n | line 1: Order
 @changes 1\ntext 0061 | line 2: Line
 @changes 1\ntext 0061\ntext 0061 | line 3: Order";
 
+/// Adds the code points of a text that changes.
+fn push_points(text: &mut String, points: &[char]) -> Result<(), AllocError> {
+    text.push_str(" t")?;
+    for point in points {
+        write!(text, ".{:x}", u32::from(*point))?;
+    }
+    Ok(())
+}
+
+/// Adds the ends of a range.
+fn push_ends(text: &mut String, range: &CodePointRange) -> Result<(), AllocError> {
+    let (first, last) = (u32::from(range.first), u32::from(range.last));
+    write!(text, " r.{first:x}.{last:x}")
+}
+
 /// What a list has, as text.
-fn listed(alloc: Global, list: &ChangeList) -> Result<String, Fail> {
+fn listed(alloc: Global, list: &ChangeList) -> Result<String, AllocError> {
     let mut text = String::from_str(alloc, "read")?;
     for changed in list.texts() {
-        text.push_str(" t")?;
-        for point in &changed.points {
-            text.push_str(&format!(in alloc; ".{:x}", u32::from(*point))?)?;
-        }
+        push_points(&mut text, &changed.points)?;
     }
     for range in list.ranges() {
-        let (first, last) = (u32::from(range.first), u32::from(range.last));
-        text.push_str(&format!(in alloc; " r.{first:x}.{last:x}")?)?;
+        push_ends(&mut text, range)?;
     }
     Ok(text)
 }
 
-/// The text of a list is the file that was read.
-fn check_again(alloc: Global, list: &ChangeList, file: &[u8], case: &str) -> Result<(), Fail> {
+/// The text of a list is this file.
+pub fn check_text(alloc: Global, list: &ChangeList, file: &[u8], case: &str) -> Result<(), Fail> {
     let mut out = Sink::new(Vec::new(alloc));
-    write_changes(list, &mut out)?;
-    same_bytes(&out.into_inner(), file, case)
+    let is_written = write_changes(list, &mut out).is_ok();
+    let text = out.into_inner();
+    holds(is_written && text.as_slice() == file, case)
 }
 
-fn fault_text(alloc: Global, fault: TableFault) -> Result<String, Fail> {
-    Ok(format!(in alloc; "line {}: {}", fault.line, fault.kind)?)
+/// The list that was read, and its text, which is the file.
+fn check_list(
+    alloc: Global,
+    list: &ChangeList,
+    file: &[u8],
+    wanted: &str,
+    case: &str,
+) -> Result<(), Fail> {
+    check_text(alloc, list, file, case)?;
+    let found = listed(alloc, list)?;
+    same(&found, wanted, case)
+}
+
+fn check_fault(alloc: Global, fault: TableFault, wanted: &str, case: &str) -> Result<(), Fail> {
+    let found = format!(in alloc; "line {}: {}", fault.line, fault.kind)?;
+    same(&found, wanted, case)
 }
 
 fn check(alloc: Global, file: &[u8], wanted: &str, case: &str) -> Result<(), Fail> {
-    let found = match read_changes(alloc, &mut Source::new(file)) {
-        Ok(list) => {
-            check_again(alloc, &list, file, case)?;
-            listed(alloc, &list)?
-        }
-        Err(fault) => fault_text(alloc, fault)?,
-    };
-    same(&found, wanted, case)
+    match read_changes(alloc, &mut Source::new(file)) {
+        Ok(list) => check_list(alloc, &list, file, wanted, case),
+        Err(fault) => check_fault(alloc, fault, wanted, case),
+    }
+}
+
+fn check_case(alloc: Global, case: &str) -> Result<(), Fail> {
+    let (file, wanted) = halves(case)?;
+    let file = bytes_of(alloc, file)?;
+    check(alloc, &file, wanted, case)
 }
 
 #[test]
 fn what_files_list(rt: HostRuntime) -> Result<(), Fail> {
     for case in CASES.lines() {
         if !is_remark(case) {
-            let (file, wanted) = halves(case)?;
-            check(rt.alloc(), &bytes_of(rt.alloc(), file)?, wanted, case)?;
+            check_case(rt.alloc(), case)?;
         }
     }
     Ok(())
 }
 
+/// The second line of a file has this many bytes.
+fn check_length(alloc: Global, length: usize, wanted: &str) -> Result<(), Fail> {
+    let mut file = String::from_str(alloc, "@changes 1\n")?;
+    for _ in 0..length {
+        file.push_str("x")?;
+    }
+    file.push_str("\n")?;
+    check(alloc, file.as_bytes(), wanted, "a long line")
+}
+
 /// A line has at most 4,096 bytes.
 #[test]
 fn long_lines(rt: HostRuntime) -> Result<(), Fail> {
-    for (length, wanted) in [(4_096, "line 2: Line"), (4_097, "line 2: Limit")] {
-        let line = repeated(rt.alloc(), "x", length)?;
-        let file = joined(rt.alloc(), &["@changes 1\n", &line, "\n"])?;
-        check(rt.alloc(), file.as_bytes(), wanted, "a long line")?;
-    }
-    Ok(())
+    check_length(rt.alloc(), 4_096, "line 2: Line")?;
+    check_length(rt.alloc(), 4_097, "line 2: Limit")
 }
 
 /// After this many bytes the source fails.
@@ -142,12 +172,11 @@ fn check_broken(alloc: Global, good: usize, wanted: &str) -> Result<(), Fail> {
     let pace = Pace::failing(3, good, Failure::Error(ErrorKind::Other));
     let reader = FakeReader::new(b"@changes 1\ntext 0061\n", pace, &calls);
     let mut source = Source::new(reader);
-    let found = match read_changes(alloc, &mut source) {
-        Ok(list) => listed(alloc, &list)?,
-        Err(fault) => fault_text(alloc, fault)?,
-    };
-    holds(source.failed() && calls.late.get() == 0, "no failure")?;
-    same(&found, wanted, "a source that fails")
+    match read_changes(alloc, &mut source) {
+        Ok(_) => Err(Fail::new("a list")),
+        Err(fault) => check_fault(alloc, fault, wanted, "a source that fails"),
+    }?;
+    holds(source.failed() && calls.late.get() == 0, "no failure")
 }
 
 #[test]

@@ -1,9 +1,10 @@
 //! Lists that are made by calls, and writers that fail.
 
+use crate::reading::check_text;
 use std::alloc::Global;
 use std::io::ErrorKind;
 use std::test::Fail;
-use test_kit::{Calls, Failure, FakeWriter, Pace, holds, same_bytes};
+use test_kit::{Calls, Failure, FakeWriter, Pace, holds};
 use uca_change_files::{ChangeList, ChangedText, CodePointRange, FaultKind, write_changes};
 use uca_weights::Sink;
 
@@ -50,9 +51,7 @@ fn made(alloc: Global) -> Result<ChangeList, Fail> {
 #[test]
 fn lists_that_are_made(rt: HostRuntime) -> Result<(), Fail> {
     let list = made(rt.alloc())?;
-    let mut out = Sink::new(Vec::new(rt.alloc()));
-    write_changes(&list, &mut out)?;
-    same_bytes(&out.into_inner(), TEXT, "the text of a list")
+    check_text(rt.alloc(), &list, TEXT, "the text of a list")
 }
 
 /// After this many bytes the writer fails.
@@ -64,9 +63,12 @@ fn check_cut(alloc: Global, list: &ChangeList, good: usize) -> Result<(), Fail> 
         Ok(()) => false,
         Err(fault) => fault.written == good as u64,
     };
-    holds(is_told && out.failed(), "no failure")?;
+    let is_told = is_told && out.failed();
     let text = out.into_inner().text;
-    holds(Some(text.as_slice()) == TEXT.get(..good), "other bytes")
+    let is_front = Some(text.as_slice()) == TEXT.get(..good);
+    drop(text);
+    holds(is_told, "no failure")?;
+    holds(is_front, "other bytes")
 }
 
 #[test]
