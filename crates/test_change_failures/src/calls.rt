@@ -43,9 +43,11 @@ fn file(at: usize) -> Source<&'static [u8]> {
 }
 
 // Writes what was found. No writer fails then.
-fn show<A: Allocator>(found: &FoundChanges<A>, out: &mut Sink<Vec<u8>>) {
+fn show<A: Allocator>(found: FoundChanges<A>, out: &mut Sink<Vec<u8>>) -> End {
     let _ = write_changes(&found.list, out);
     let _ = write_certificate(&found.certificate, out);
+    drop(found);
+    Ok(())
 }
 
 fn changes(tried: &Refusing, out: &mut Sink<Vec<u8>>) -> End {
@@ -55,10 +57,11 @@ fn changes(tried: &Refusing, out: &mut Sink<Vec<u8>>) -> End {
         &mut file(1),
         &mut file(2),
         &mut file(3),
-    )?;
-    show(&found, out);
-    drop(found);
-    Ok(())
+    );
+    match found {
+        Ok(found) => show(found, out),
+        Err(fault) => Err(fault),
+    }
 }
 
 fn audit(tried: &Refusing, out: &mut Sink<Vec<u8>>) -> End {

@@ -96,18 +96,24 @@ fn pace(good: usize) -> Pace {
     Pace::failing(7, good, Failure::Error(ErrorKind::Other))
 }
 
+// The end of a run that rekeys lines, and what it writes.
+fn check_said(ample: Global, end: &End, out: &[u8], wanted: &str) -> Result<(), Fail> {
+    let mut said = String::new(ample);
+    check_end(end, out, KEYS[1].as_bytes(), &mut said)?;
+    same(said.trim_end(), wanted, "a read that fails")
+}
+
 // The error names the line that is being read, and the lines before it are written.
 fn check_read(ample: Global, good: usize, wanted: &str, written: usize) -> Result<(), Fail> {
-    let [keys, moved] = KEYS;
+    let [keys, _] = KEYS;
     let calls = Calls::new();
     let mut input = Source::new(FakeReader::new(keys.as_bytes(), pace(good), &calls));
     let mut out = Sink::new(Vec::new(ample));
     let end = rekey(ample, &mut input, &mut out);
-    let mut said = String::new(ample);
     let out = out.into_inner();
-    check_end(&end, &out, moved.as_bytes(), &mut said)?;
-    holds(out.len() == written && calls.late.get() == 0, wanted)?;
-    same(said.trim_end(), wanted, "a read that fails")
+    let is_so = out.len() == written && calls.late.get() == 0;
+    check_said(ample, &end, &out, wanted)?;
+    holds(is_so, wanted)
 }
 
 #[test]
@@ -125,17 +131,15 @@ fn check_write(ample: Global, good: usize) -> Result<(), Fail> {
     let calls = Calls::new();
     let mut out = Sink::new(FakeWriter::new(ample, pace(good), &calls));
     let end = rekey(ample, &mut Source::new(keys.as_bytes()), &mut out);
-    let written = match end {
-        Err(RunFault::Write { written }) => Some(written),
-        _ => None,
+    let is_told = match end {
+        Err(RunFault::Write { written }) => written == good as u64 && calls.late.get() == 0,
+        _ => false,
     };
-    let is_told = written == Some(good as u64) && calls.late.get() == 0;
-    holds(is_told, "a write that fails")?;
     let text = out.into_inner().text;
-    holds(
-        moved.as_bytes().get(..good) == Some(text.as_slice()),
-        "what went out",
-    )
+    let is_front = moved.as_bytes().get(..good) == Some(text.as_slice());
+    drop(text);
+    holds(is_told, "a write that fails")?;
+    holds(is_front, "what went out")
 }
 
 #[test]
