@@ -35,6 +35,12 @@ pub record AreEnds (text : List ℕ) (r : CodePointRange) : Type 0 where
 
 -- ---- One item more
 
+-- the item may be added
+pub record MayAdd (content : ChangeContent) (item : Item) : Type 0 where
+  pub fits : IsItem item
+  pub due : MayFollow content item
+  pub few : length content.texts + length content.ranges < 999999
+
 -- the item is added
 pub record Adds (old : ChangeContent) (item : Item) (new : ChangeContent) : Type 0 where
   pub fits : IsItem item

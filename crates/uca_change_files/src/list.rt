@@ -1,9 +1,9 @@
 //! What changes: texts and ranges of code points, in their order.
 
-ghost use Rattle.std.specs.Prelude.{◌≡◌, ◌↔◌, ◌⊎◌, [], IsTrue, OnOk, OnErr, IfErr};
+ghost use Rattle.std.specs.Prelude.{◌≡◌, ◌↔◌, ◌⊎◌, [], IsTrue, OnOk, OnErr, IfErr, IfNone, IfSome};
 ghost use Rattle.uca_values.specs.declared.faults.FaultKind.{FaultKind};
 ghost use Rattle.uca_change_files.specs.Changes.{OfText, OfRange, IsBelow, IsBefore, IsChangeList, MayCome};
-ghost use Rattle.uca_change_files.specs.Steps.{Adds, Refuses};
+ghost use Rattle.uca_change_files.specs.Steps.{Adds, MayAdd, Refuses};
 
 use std::alloc::{Allocator, Global};
 use std::cmp::Ordering;
@@ -77,14 +77,8 @@ impl<A: Allocator> ChangeList<A> {
         ensures same { OnErr result (self.new ≡ self.old) }
         ensures fault { IfErr result (λ kind. (kind ≡ FaultKind.Memory) ⊎ Refuses (λ item. OfText text ≡ item) self.old kind) }
     {
-        if text.points.is_empty() || text.points.len() > MOST_POINTS {
-            return Err(FaultKind::Line);
-        }
-        if !self.ranges.is_empty() || !is_above(&self.texts, &text.points) {
-            return Err(FaultKind::Order);
-        }
-        if self.texts.len() >= MOST_ITEMS {
-            return Err(FaultKind::Limit);
+        if let Some(kind) = text_fault(&self.texts, &self.ranges, &text.points) {
+            return Err(kind);
         }
         self.texts.push(text)?;
         Ok(())
@@ -133,6 +127,27 @@ impl<A: Allocator> ChangeList<A> {
     {
         &self.ranges
     }
+}
+
+// Why a text may not come after these texts and ranges, if so.
+fn text_fault<A: Allocator>(
+    texts: &[ChangedText<A>],
+    ranges: &[CodePointRange],
+    text: &[char],
+) -> Option<FaultKind>
+    ensures ok { IfNone result (MayAdd (record { texts = texts.now; ranges = ranges.now }) (OfText text.now)) }
+    ensures fault { IfSome result (λ kind. Refuses (λ item. OfText text.now ≡ item) (record { texts = texts.now; ranges = ranges.now }) kind) }
+{
+    if text.is_empty() || text.len() > MOST_POINTS {
+        return Some(FaultKind::Line);
+    }
+    if !ranges.is_empty() || !is_above(texts, text) {
+        return Some(FaultKind::Order);
+    }
+    if texts.len() >= MOST_ITEMS {
+        return Some(FaultKind::Limit);
+    }
+    None
 }
 
 // Whether the text is above the last one, if there is one.
