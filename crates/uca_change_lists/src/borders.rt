@@ -44,10 +44,7 @@ pub(crate) fn point_borders<A: Allocator + Copy, T: Allocator>(
 fn first_points<A: Allocator>(alloc: A) -> Result<Vec<char, A>, AllocError>
     ensures { IfOk result (λ list. HasFirsts list.items) }
 {
-    let mut list = Vec::new(alloc);
-    list.push('\0')?;
-    list.push('\u{E000}')?;
-    Ok(list)
+    Vec::from_slice(alloc, &['\0', '\u{E000}'])
 }
 
 // Adds the borders of the ranges of a data file.
