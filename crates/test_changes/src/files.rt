@@ -32,19 +32,29 @@ fn around<'x>(text: &'x str, looked_for: &str) -> Result<(&'x str, &'x str), Fai
     Ok(text.split_once(looked_for).ok_or("not in the text")?)
 }
 
+/// The parts of a text without the line that begins so.
+fn without<'x>(text: &'x str, line: &str) -> Result<(&'x str, &'x str, &'x str), Fail> {
+    let (front, rest) = around(text, line)?;
+    let (_, rest) = around(rest, "\n")?;
+    Ok((front, "", rest))
+}
+
+/// The parts of a text in which a new one replaces an old one.
+fn replaced<'x>(text: &'x str, change: &'x str) -> Result<(&'x str, &'x str, &'x str), Fail> {
+    let (old, new) = around(change, " => ")?;
+    let (front, rest) = around(text, old)?;
+    Ok((front, new, rest))
+}
+
 /// The parts of a text with one change: `+LINE` adds a line, `-LINE` takes one away, `OLD => NEW` replaces a text.
 fn parts<'x>(text: &'x str, change: &'x str) -> Result<(&'x str, &'x str, &'x str), Fail> {
     if let Some(line) = change.strip_prefix("+") {
         return Ok((text, line, "\n"));
     }
-    if let Some(line) = change.strip_prefix("-") {
-        let (front, rest) = around(text, line)?;
-        let (_, rest) = around(rest, "\n")?;
-        return Ok((front, "", rest));
+    match change.strip_prefix("-") {
+        Some(line) => without(text, line),
+        None => replaced(text, change),
     }
-    let (old, new) = around(change, " => ")?;
-    let (front, rest) = around(text, old)?;
-    Ok((front, new, rest))
 }
 
 /// A text with one change. A change writes an LF as `\n`, at most once.
@@ -203,8 +213,7 @@ fn with_items(alloc: Global, listed: &str, rest: &str) -> Result<String, AllocEr
     let mut text = String::from_str(alloc, "@changes 1\n")?;
     if listed != "." {
         for item in listed.split(", ") {
-            text.push_str(item)?;
-            text.push_str("\n")?;
+            write!(text, "{item}\n")?;
         }
     }
     text.push_str(rest)?;
