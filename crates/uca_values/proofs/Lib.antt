@@ -3,3 +3,4 @@ pub mod Leads
 pub mod ImplicitPairs
 pub mod Gaps
 pub mod LowClasses
+pub mod RowParts

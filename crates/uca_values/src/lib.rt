@@ -6,11 +6,13 @@ pub mod characters;
 pub mod faults;
 pub mod implicit;
 pub mod limits;
+pub mod packed;
 pub mod tables;
 
 pub use characters::{Data, RangeFault};
 pub use faults::{FaultKind, TableFault};
 pub use implicit::worked_implicit_weights;
+pub use packed::{PackedRows, PackedTable};
 pub use tables::{Header, Row, Table};
 
 /// The code points from `first` to `last`, both included.
