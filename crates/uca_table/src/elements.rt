@@ -12,22 +12,22 @@ use uca_values::FaultKind;
 use uca_values::limits::MOST_ELEMENTS;
 use uca_weights::Element;
 
-/// How many bytes the text of an element has: `[.1C47.0020.0002]`.
-const ELEMENT_LENGTH: usize = 17;
-
-/// The elements that a text spells, with or without blanks around them.
+/// The elements that a text spells, with or without blanks around them. They are put into `elements`, in place of what it
+/// has.
 ///
 /// # Errors
 ///
 /// At the first text that is not an element: `Line` if it does not begin as an element does, `Weight` if
 /// it does not go on like one. `Limit` at the thirty-third element, `Line` if there is no element, `Memory` if an
 /// allocation failed.
-pub fn read_elements<A: Allocator>(alloc: A, text: &[u8]) -> Result<Vec<Element, A>, FaultKind>
+pub fn read_elements<A: Allocator>(
+    mut elements: Vec<Element, A>,
+    text: &[u8],
+) -> Result<Vec<Element, A>, FaultKind>
     ensures found { IfOk result (λ elements. AreElements text.now elements.items) }
     ensures fault { IfErr result (λ kind. (kind ≡ FaultKind.Memory) ⊎ ElementsCause text.now kind) }
 {
-    let most = (text.len() / ELEMENT_LENGTH).min(MOST_ELEMENTS);
-    let mut elements = Vec::with_capacity(alloc, most)?;
+    elements.clear();
     let mut rest = skip_blanks(text);
     while !rest.is_empty() {
         if !opens(rest) {

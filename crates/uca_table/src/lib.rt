@@ -16,6 +16,6 @@ mod rows;
 pub use canonical::write_table;
 pub use data_file::read_data;
 pub use laws::{canonical_text_means_its_table, canonical_text_means_the_same, worked_lines};
-pub use read::read_table;
+pub use read::{read_packed_table, read_table};
 pub use uca_check::{IllFormed, check};
-pub use uca_values::{Data, FaultKind, Header, ImplicitRange, Row, Table, TableFault};
+pub use uca_values::{Data, FaultKind, Header, ImplicitRange, PackedTable, Row, Table, TableFault};

@@ -8,11 +8,12 @@ use crate::keys::RowKeys;
 use crate::rows::read_row;
 use std::alloc::{Allocator, Global};
 use std::marker::Model;
+use std::mem;
 use std::str;
 use uca_lines::fields::{cut_word, line_text, skip_blanks};
 use uca_lines::files::{FileForm, LineParser, TABLE_FORM};
 use uca_values::limits::MOST_ROWS;
-use uca_values::{FaultKind, Header, ImplicitRange, Row, Table};
+use uca_values::{FaultKind, Header, ImplicitRange, PackedRows, PackedTable, Row};
 use uca_weights::Weighting;
 
 /// How many `@implicitweights` lines a table may have.
@@ -25,8 +26,10 @@ pub struct TableLines<A: Allocator + Copy = Global> {
     version: Option<String<A>>,
     setting: Option<Weighting>,
     ranges: Vec<ImplicitRange, A>,
-    rows: Vec<Row<A>, A>,
+    rows: PackedRows<A>,
     keys: RowKeys<A>,
+    // the lists of the row before, for the next one
+    spare: Row<A>,
 }
 
 impl<A: Allocator + Copy> Model for TableLines<A> {
@@ -44,7 +47,7 @@ impl<A: Allocator + Copy> Model for TableLines<A> {
       version = option_map string_bytes t.version;
       setting = t.setting;
       ranges = t.ranges.items;
-      rows = t.rows.items;
+      rows = t.rows;
     } };
 
     ghost invariant = { λ t. Keeps (λ k. k.items)
@@ -53,7 +56,7 @@ impl<A: Allocator + Copy> Model for TableLines<A> {
           version = option_map string_bytes t.version;
           setting = t.setting;
           ranges = t.ranges.items;
-          rows = t.rows.items;
+          rows = t.rows;
         }) };
 }
 
@@ -70,13 +73,14 @@ impl<A: Allocator + Copy> TableLines<A> {
             version: None,
             setting: None,
             ranges: Vec::new(alloc),
-            rows: Vec::new(alloc),
+            rows: PackedRows::new(alloc),
             keys: RowKeys::new(alloc),
+            spare: empty_row(alloc),
         }
     }
 
     /// The table, or `None` if there was no version.
-    pub fn into_table(self) -> Option<Table<A>>
+    pub fn into_table(self) -> Option<PackedTable<A>>
         ensures { MatchOption result (IsUnfinished self) (λ table. Gives self table) }
     {
         let TableLines {
@@ -86,6 +90,7 @@ impl<A: Allocator + Copy> TableLines<A> {
             ranges,
             rows,
             keys: _,
+            spare: _,
         } = self;
         let version = version?;
         let header = Header {
@@ -93,7 +98,7 @@ impl<A: Allocator + Copy> TableLines<A> {
             setting,
             ranges,
         };
-        Some(Table { header, rows })
+        Some(PackedTable { header, rows })
     }
 }
 
@@ -148,13 +153,13 @@ impl<A: Allocator + Copy> TableLines<A> {
         self.version.is_some()
             && self.setting.is_none()
             && self.ranges.is_empty()
-            && self.rows.is_empty()
+            && self.rows.len() == 0
     }
 
     fn is_range_due(&self) -> bool
         ensures { IsTrue result ↔ IsDue self.now ForRange }
     {
-        self.version.is_some() && self.rows.is_empty()
+        self.version.is_some() && self.rows.len() == 0
     }
 
     fn take_setting(&mut self, text: &[u8]) -> Result<(), FaultKind>
@@ -201,18 +206,21 @@ impl<A: Allocator + Copy> TableLines<A> {
         if self.version.is_none() {
             return Err(FaultKind::Order);
         }
-        let row = read_row(self.alloc, text)?;
-        self.add_row(row)
+        let spare = mem::replace(&mut self.spare, empty_row(self.alloc));
+        let row = read_row(spare, text)?;
+        let added = self.add_row(&row);
+        self.spare = row;
+        added
     }
 
     // Adds a row after the others.
-    fn add_row(&mut self, row: Row<A>) -> Result<(), FaultKind>
-        requires entry { IsEntry row }
+    fn add_row(&mut self, row: &Row<A>) -> Result<(), FaultKind>
+        requires entry { IsEntry row.now }
         requires versioned { IsSome self.old.version }
-        ensures new { OnOk result (Contains (keys_of self.old.rows) row.key → ⊥) }
+        ensures new { OnOk result (Contains (keys_of self.old.rows) row.now.key → ⊥) }
         ensures few { OnOk result (length self.old.rows < 200000) }
-        ensures ok { OnOk result (self.new ≡ record self.old { rows = self.old.rows ++ row ∷ [] }) }
-        ensures fault { IfErr result (λ kind. (kind ≡ FaultKind.Memory) ⊎ AddCause self.old.rows row kind) }
+        ensures ok { OnOk result (self.new ≡ record self.old { rows = self.old.rows ++ row.now ∷ [] }) }
+        ensures fault { IfErr result (λ kind. (kind ≡ FaultKind.Memory) ⊎ AddCause self.old.rows row.now kind) }
         ensures unchanged { OnErr result (self.new ≡ self.old) }
     {
         if self.keys.contains(&row.key) {
@@ -221,10 +229,15 @@ impl<A: Allocator + Copy> TableLines<A> {
         if self.rows.len() >= MOST_ROWS {
             return Err(FaultKind::Limit);
         }
-        self.rows.reserve(1)?;
-        self.keys.insert(self.alloc, &row.key)?;
-        self.rows.push(row)?;
-        Ok(())
+        let before = self.rows.len();
+        self.rows.push(&row.key, &row.elements)?;
+        match self.keys.insert(self.alloc, &row.key) {
+            Ok(()) => Ok(()),
+            Err(error) => {
+                self.rows.truncate(before);
+                Err(error.into())
+            }
+        }
     }
 }
 
@@ -272,6 +285,14 @@ impl<A: Allocator + Copy> LineParser for TableLines<A> {
 
     fn take(&mut self, line: &[u8]) -> Result<(), FaultKind> {
         self.take_line(line)
+    }
+}
+
+// A row with no key and no elements, for lists that take no memory.
+fn empty_row<A: Allocator + Copy>(alloc: A) -> Row<A> {
+    Row {
+        key: Vec::new(alloc),
+        elements: Vec::new(alloc),
     }
 }
 

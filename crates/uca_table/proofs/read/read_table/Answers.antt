@@ -1,13 +1,6 @@
--- Bytes mean one table at most, and none if they have an error.
-use Rattle.uca_lines.proofs.FileLemmas.{only_known}
-use Rattle.uca_lines.specs.declared.files.TheConstants.{TABLE_FORM}
-use Rattle.uca_values.specs.declared.faults.TableFault.{TableFault}
-use Rattle.uca_values.specs.Content.{TableContent}
-use Rattle.uca_table.specs.TableLines.{Says, Cause, IsUnfinished, Gives}
-use Rattle.uca_table.proofs.TableMeanings.{exact, gives_one, gives_finished}
+-- The table with its own lists is the one that was read.
+use Rattle.uca_table.proofs.ReadLaws.{only_of}
 use Rattle.uca_table.proofs.read.read_table.Goals as goal
 
-pub returns-clause-only : goal.returns-clause-only
-returns-clause-only g c =
-    only_known {X = TableContent} {F = TableFault} (λ table. table) (λ fault. fault.line) (λ fault. fault.kind) TABLE_FORM Says Cause IsUnfinished
-    Gives exact gives_one gives_finished _ _ c.read_to_end.result c.read_to_end.ensures.found c.read_to_end.ensures.fault
+pub returns-in-Ok-unpack-clause-only : goal.returns-in-Ok-unpack-clause-only
+returns-in-Ok-unpack-clause-only g c = only_of c.args.source.now.remaining _ _ c.in-Ok.ensures.only c.in-Ok-unpack.ensures

@@ -24,5 +24,5 @@ pub returns : goal.returns
 returns g c =
     let b = c.self.inside in
     let with_version : Option (List ℕ) → TableSoFar
-    = λ v. record { version = v; setting = b.setting; ranges = b.ranges.items; rows = b.rows.items } in
+    = λ v. record { version = v; setting = b.setting; ranges = b.ranges.items; rows = b.rows } in
     sym c.self.view_is ∙ ap with_version (ap (option_map string_bytes) c.in_ok-version.was)
