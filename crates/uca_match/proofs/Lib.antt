@@ -7,4 +7,3 @@ pub mod TrieKeys
 pub mod TrieLookups
 pub mod CharMapLemmas
 pub mod Followers
-pub mod Spans

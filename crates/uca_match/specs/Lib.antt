@@ -2,5 +2,4 @@ pub mod RowLists
 pub mod CharMaps
 pub mod Tries
 pub mod NumberedKeys
-pub mod Spans
 pub mod TextMatches

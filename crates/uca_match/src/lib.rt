@@ -5,7 +5,6 @@
 #![tactic(auto)]
 
 mod char_map;
-mod element_lists;
 mod key_map;
 mod row_list;
 mod text_matches;
