@@ -46,7 +46,7 @@ impl<A: Allocator + Copy> Trie<A> {
             ⟦<Trie<A> as Lookup>⟧.content trie key ≡ rows_of table.now.rows key) }
     {
         let rows = PackedRows::of_rows(alloc, &table.rows)?;
-        of_rows(alloc, rows)
+        trie_of(alloc, rows)
     }
 
     /// The header of `table`, and the trie of its rows, which takes them over.
@@ -60,7 +60,7 @@ impl<A: Allocator + Copy> Trie<A> {
             ⟦<Trie<A> as Lookup>⟧.content both.1 key ≡ rows_of table.rows key) }
     {
         let PackedTable { header, rows } = table;
-        match of_rows(alloc, rows) {
+        match trie_of(alloc, rows) {
             Ok(trie) => Ok((header, trie)),
             Err(error) => Err(error),
         }
@@ -68,7 +68,7 @@ impl<A: Allocator + Copy> Trie<A> {
 }
 
 // The trie of rows, which takes them over.
-fn of_rows<A: Allocator + Copy>(alloc: A, rows: PackedRows<A>) -> Result<Trie<A>, AllocError>
+fn trie_of<A: Allocator + Copy>(alloc: A, rows: PackedRows<A>) -> Result<Trie<A>, AllocError>
     requires { AreRows rows }
     ensures { IfOk result (λ trie. (key : List ℕ) →
         ⟦<Trie<A> as Lookup>⟧.content trie key ≡ rows_of rows key) }

@@ -4,7 +4,7 @@ use Rattle.std.proofs.lemmas.List.{length-map}
 use Rattle.uca_values.specs.Content.{Entry, keys_of}
 use Rattle.uca_match.specs.NumberedKeys.{elements_of}
 use Rattle.uca_match.proofs.PlacedKeys.{distinct_keys, placed_within, rows_by_position}
-use Rattle.uca_match.proofs.trie.of_rows.Goals as goal
+use Rattle.uca_match.proofs.trie.trie_of.Goals as goal
 
 pub row_map-requires : goal.row_map-requires
 row_map-requires g c = distinct_keys c.args.rows c.requires.distinct
