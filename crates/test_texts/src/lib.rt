@@ -19,6 +19,8 @@ mod keys;
 #[cfg(test)]
 mod lookups;
 #[cfg(test)]
+mod packed_rows;
+#[cfg(test)]
 mod samples;
 #[cfg(test)]
 mod stored_keys;

@@ -1,8 +1,8 @@
-//! What lookups say of code points: over tables of a few rows, where a list of rows and a trie say the same, and
+//! What lookups say of code points: over tables of a few rows, where a list of rows, a trie and a trie of packed rows say the same, and
 //! over one of many.
 
 use crate::cases::{code_point, halves, holds, same};
-use crate::samples::table_of;
+use crate::samples::{packed_table_of, table_of};
 use std::alloc::{AllocError, Global};
 use std::test::Fail;
 use uca_match::{Lookup, RowList, Trie, row_of};
@@ -73,12 +73,22 @@ fn check_both(alloc: Global, table: &Table, cases: &str) -> Result<(), Fail> {
     check_trie(alloc, table, cases)
 }
 
-/// Cases over both lookups of a table file.
+/// Cases over a trie that takes over the rows of a table file.
+fn check_packed(alloc: Global, file: &str, cases: &str) -> Result<(), Fail> {
+    let (header, trie) = Trie::of_table(alloc, packed_table_of(alloc, file)?)?;
+    drop(header);
+    let checked = check_lookup(alloc, &trie, cases);
+    drop(trie);
+    checked
+}
+
+/// Cases over all lookups of a table file.
 fn check(alloc: Global, file: &str, cases: &str) -> Result<(), Fail> {
     let table = table_of(alloc, file)?;
     let checked = check_both(alloc, &table, cases);
     drop(table);
-    checked
+    checked?;
+    check_packed(alloc, file, cases)
 }
 
 /// A key of 16 code points.

@@ -4,9 +4,9 @@ use crate::cases::text_of;
 use std::alloc::Global;
 use std::test::Fail;
 use uca_match::{Collator, Lookup, RowList, Trie};
-use uca_table::{read_data, read_table};
+use uca_table::{read_data, read_packed_table, read_table};
 use uca_text::{Normal, normal};
-use uca_values::{Data, Table};
+use uca_values::{Data, PackedTable, Table};
 use uca_weights::Source;
 
 /// Letters, accents and a variable space.
@@ -35,6 +35,14 @@ pub const CLASSES: &str = "@data 1\n\
 /// The table of a table file.
 pub fn table_of(alloc: Global, file: &str) -> Result<Table, Fail> {
     Ok(read_table(alloc, &mut Source::new(file.as_bytes()))?)
+}
+
+/// The table of a table file, with its rows in a few lists.
+pub fn packed_table_of(alloc: Global, file: &str) -> Result<PackedTable, Fail> {
+    Ok(read_packed_table(
+        alloc,
+        &mut Source::new(file.as_bytes()),
+    )?)
 }
 
 /// The properties of a data file.

@@ -1,7 +1,8 @@
 -- What keys go by under a table and a data file.
-use Rattle.std.proofs.Common.{◌≡◌, Option, ap, ◌∙◌}
+use Rattle.std.proofs.Common.{◌≡◌, Option, ap, ap₂, ◌∙◌}
 use Rattle.uca_weights.specs.declared.Depth.{Depth}
 use Rattle.uca_weights.specs.declared.Weighting.{Weighting}
+use Rattle.uca_values.specs.Content.{HeaderContent}
 use Rattle.uca_elements.specs.Rows.{Rows, rows_of}
 use Rattle.uca_elements.specs.Collations.{Collation}
 use Rattle.uca_run_parts.specs.Files.{TableAndData}
@@ -17,7 +18,8 @@ same_keying asked depth made read weighting files same is =
     ap (λ m. key_settings_by m weighting depth) (same ∙ is.0) ∙ ap (λ w. key_settings_by (collation files.table files.properties) w depth) is.1
 
 -- what is made of files goes by them
-pub made_of_files : (asked : Option Weighting) (rows : Rows) (weighting : Weighting) (files : TableAndData)
-    → rows ≡ rows_of files.table.rows → weighting ≡ weighting_by asked files.table.header.setting
-    → IsCollation asked (collation_in rows files) weighting files
-made_of_files asked rows weighting files same_rows same_weighting = (ap (λ r. collation_in r files) same_rows, same_weighting)
+pub made_of_files : (asked : Option Weighting) (rows : Rows) (header : HeaderContent) (weighting : Weighting) (files : TableAndData)
+    → rows ≡ rows_of files.table.rows → header ≡ files.table.header → weighting ≡ weighting_by asked header.setting
+    → IsCollation asked (collation_in rows header files.properties) weighting files
+made_of_files asked rows header weighting files same_rows same_header same_weighting =
+    (ap₂ (λ r h. collation_in r h files.properties) same_rows same_header, same_weighting ∙ ap (λ (h : HeaderContent). weighting_by asked h.setting) same_header)

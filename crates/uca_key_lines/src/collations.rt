@@ -5,26 +5,29 @@ ghost use Rattle.uca_values.specs.Content.{properties_of};
 ghost use Rattle.uca_elements.specs.Rows.{rows_of};
 ghost use Rattle.uca_elements.specs.Collations.{collation_of};
 ghost use Rattle.uca_order.specs.Lengths.{HasShortRows};
-ghost use Rattle.uca_run_parts.specs.Files.{HaveFailed, Over, table_and_data, table_and_data_roles, table_with};
+ghost use Rattle.uca_run_parts.specs.Files.{HaveFailed, Over, table_and_data, table_and_data_roles};
 ghost use Rattle.uca_run_parts.specs.EachLine.{ended_before_input};
 ghost use Rattle.uca_key_lines.specs.Keys.{IsCollation, collation_in, weighting_by};
 
+use crate::packed_files::read_packed_files;
 use std::alloc::{Allocator, Global};
 use std::io::Read;
 use uca_elements::{Collator, Lookup};
 use uca_match::Trie;
 use uca_order::laws::rows_are_short;
 use uca_run_parts::RunFault;
-use uca_run_parts::files::{Files, read_files};
-use uca_values::{Header, Table};
+use uca_values::{Data, Header, PackedTable};
 use uca_weights::{Source, Weighting};
-/// What keys go by: what the two files mean, the rows of the table, and a weighting.
+
+/// What keys go by: the header of the table, its rows, the properties of code points, and a weighting.
 #[derive(Drop)]
 pub struct ReadCollation<A: Allocator = Global> {
-    /// What the two files mean.
-    pub files: Files<A>,
+    /// The header of the table.
+    pub header: Header<A>,
     /// The rows of the table.
     pub rows: Trie<A>,
+    /// The properties of code points.
+    pub properties: Data<A>,
     /// The weighting.
     pub weighting: Weighting,
 }
@@ -33,10 +36,9 @@ impl<A: Allocator> ReadCollation<A> {
     /// What texts are read by.
     pub fn collator(&self) -> Collator<'_, Trie<A>, A>
         ensures { collation_of ⟦<Trie<A> as Lookup>⟧.content result
-            ≡ collation_in (⟦<Trie<A> as Lookup>⟧.content self.now.rows)
-            (table_with self.now.files.table (properties_of self.now.files.properties)) }
+            ≡ collation_in (⟦<Trie<A> as Lookup>⟧.content self.now.rows) self.now.header (properties_of self.now.properties) }
     {
-        Collator::new(&self.rows, &self.files.table.header, &self.files.properties)
+        Collator::new(&self.rows, &self.header, &self.properties)
     }
 }
 
@@ -54,39 +56,45 @@ pub fn read_collation<A: Allocator + Copy, T: Read, D: Read>(
 ) -> Result<ReadCollation<A>, RunFault>
     ensures read { Over table_and_data (table.old ∷ properties.old ∷ []) (table.new ∷ properties.new ∷ [])
         (λ content. MatchResult result
-        (λ read. IsCollation weighting (collation_in (⟦<Trie<A> as Lookup>⟧.content read.rows)
-        (table_with read.files.table (properties_of read.files.properties))) read.weighting content)
+        (λ read. IsCollation weighting (collation_in (⟦<Trie<A> as Lookup>⟧.content read.rows) read.header
+        (properties_of read.properties)) read.weighting content)
         (λ fault. fault ≡ RunFault.Memory)) result }
     ensures short { IfOk result (λ read. HasShortRows (⟦<Trie<A> as Lookup>⟧.content read.rows)) }
     ensures before_input { IfErr result (λ _. ended_before_input result ≡ true) }
     ensures failed { HaveFailed table_and_data_roles (table.old ∷ properties.old ∷ [])
         (table.new ∷ properties.new ∷ []) result }
 {
-    let files = read_files(alloc, table, properties)?;
-    match rows_of_table(alloc, &files.table) {
-        Ok(rows) => Ok(ReadCollation {
-            weighting: chosen_weighting(weighting, &files.table.header),
-            files,
+    let files = read_packed_files(alloc, table, properties)?;
+    let (table, properties) = files;
+    match rows_of_table(alloc, table) {
+        Ok((header, rows)) => Ok(ReadCollation {
+            weighting: chosen_weighting(weighting, &header),
+            header,
             rows,
+            properties,
         }),
         Err(fault) => {
-            drop(files);
+            drop(properties);
             Err(fault)
         }
     }
 }
 
-// The rows of a table, ready to be looked up.
-fn rows_of_table<A: Allocator + Copy>(alloc: A, table: &Table<A>) -> Result<Trie<A>, RunFault>
-    ensures rows { IfOk result (λ rows. ⟦<Trie<A> as Lookup>⟧.content rows ≡ rows_of table.now.rows) }
-    ensures short { IfOk result (λ rows. HasShortRows (⟦<Trie<A> as Lookup>⟧.content rows)) }
+// The header of a table, and its rows, ready to be looked up.
+fn rows_of_table<A: Allocator + Copy>(
+    alloc: A,
+    table: PackedTable<A>,
+) -> Result<(Header<A>, Trie<A>), RunFault>
+    ensures header { IfOk result (λ both. both.0 ≡ table.header) }
+    ensures rows { IfOk result (λ both. ⟦<Trie<A> as Lookup>⟧.content both.1 ≡ rows_of table.rows) }
+    ensures short { IfOk result (λ both. HasShortRows (⟦<Trie<A> as Lookup>⟧.content both.1)) }
     ensures refused { IfErr result (λ fault. fault ≡ RunFault.Memory) }
 {
     // The rows keep the limits of a table, so they are short.
     let _ = &table.rows;
     rows_are_short();
-    match Trie::new(alloc, table) {
-        Ok(rows) => Ok(rows),
+    match Trie::of_table(alloc, table) {
+        Ok(both) => Ok(both),
         Err(_) => Err(RunFault::Memory),
     }
 }

@@ -3,3 +3,4 @@
 
 pub mod collations;
 pub mod line_keys;
+mod packed_files;

@@ -12,12 +12,12 @@ use Rattle.uca_key_lines.proofs.collations.read_collation.Goals as goal
 
 pub returns-in-Ok-clause-read : goal.returns-in-Ok-clause-read
 returns-in-Ok-clause-read g c =
-    let files = c.in_ok-files.files in
-    runs_over_all {A = ⊤} {B = ⊤} table_and_data (c.args.table.now ∷ c.args.properties.now ∷ []) (c.read_files.new.table ∷ c.read_files.new.properties ∷ [])
-    (λ content. table_with files.table (properties_of files.properties) ≡ content)
+    let read = table_with c.in_ok-files.files.0 (properties_of c.in_ok-files.files.1) in
+    runs_over_all {A = ⊤} {B = ⊤} table_and_data (c.args.table.now ∷ c.args.properties.now ∷ [])
+    (c.read_packed_files.new.table ∷ c.read_packed_files.new.properties ∷ [])
+    (λ content. read ≡ content)
     _ tt (Ok tt) refl
     (λ content same. subst (IsCollation c.args.weighting _ _) same
-    (made_of_files c.args.weighting (rows_at c.in-Ok.rows) c.chosen_weighting.result (table_with files.table (properties_of files.properties))
-    (c.in-Ok.ensures.rows ∙ ap (λ f. rows_of f.table.rows) c.files.view_is)
-    (c.chosen_weighting.ensures ∙ ap (λ f. weighting_by c.args.weighting f.table.header.setting) c.files.view_is)))
+    (made_of_files c.args.weighting (rows_at c.in-Ok.rows) c.in-Ok.header c.chosen_weighting.result read c.in-Ok.ensures.rows c.in-Ok.ensures.header
+    c.chosen_weighting.ensures))
     c.in_ok-files.ensures.read

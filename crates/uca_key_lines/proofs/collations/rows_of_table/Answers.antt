@@ -6,8 +6,8 @@ use Rattle.uca_match.specs.NumberedKeys.{rows_at}
 use Rattle.uca_key_lines.proofs.collations.rows_of_table.Goals as goal
 
 pub returns-in-Ok-clause-rows : goal.returns-in-Ok-clause-rows
-returns-in-Ok-clause-rows g c = fun_ext c.in-Ok.ensures
+returns-in-Ok-clause-rows g c = fun_ext c.in-Ok.ensures.rows
 
 pub returns-in-Ok-clause-short : goal.returns-in-Ok-clause-short
 returns-in-Ok-clause-short g c =
-    c.rows_are_short.ensures c.args.table.now.rows (rows_at c.in-Ok.rows) (subst (λ t. AreRows t.rows) c.table.view_is c.table.invariant) c.in-Ok.ensures
+    c.rows_are_short.ensures c.args.table.rows (rows_at c.in-Ok.both.1) (subst (λ t. AreRows t.rows) c.table.view_is c.table.invariant) c.in-Ok.ensures.rows

@@ -34,8 +34,7 @@ print_lines-end-requires g c = subst (λ made. HasShortRows made.rows) (sym c.co
 pub returns : goal.returns
 returns g c =
     let read = c.in_ok-read.read in
-    let files = table_with read.files.table (properties_of read.files.properties) in
-    let made = collation_in (rows_at read.rows) files in
+    let made = collation_in (rows_at read.rows) read.header (properties_of read.properties) in
     ended_by_lines table_and_data table_and_data_roles (λ content. IsCollation c.args.weighting made read.weighting content)
     (RunsUnder (line_as c.args.form) c.args.weighting c.args.depth c.args.input.now c.print_lines-end.new.input c.args.out.now c.print_lines-end.new.out c.print_lines-end.result)
     (c.args.table.now ∷ c.args.properties.now ∷ []) (c.read_collation.new.table ∷ c.read_collation.new.properties ∷ []) {B = ⊤}

@@ -1,0 +1,66 @@
+//! Rows that are kept in a few lists, one after another.
+
+use crate::cases::{halves, holds};
+use crate::lookups::points_of;
+use std::alloc::Global;
+use std::test::Fail;
+use uca_values::PackedRows;
+use uca_weights::Element;
+
+/// Elements with these primary weights, each in hexadecimal digits.
+fn elements_of(alloc: Global, primaries: &str) -> Result<Vec<Element>, Fail> {
+    let mut elements = Vec::new(alloc);
+    for digits in primaries.split_whitespace() {
+        elements.push(Element {
+            primary: u16::from_str_radix(digits, 16)?,
+            secondary: 0x20,
+            tertiary: 2,
+            mark: false,
+        })?;
+    }
+    Ok(elements)
+}
+
+/// Adds rows: the code points of a key, and the primary weights of its elements.
+fn push_rows(alloc: Global, rows: &mut PackedRows, cases: &[&str]) -> Result<(), Fail> {
+    for case in cases {
+        let (key, primaries) = halves(case)?;
+        rows.push(&points_of(alloc, key)?, &elements_of(alloc, primaries)?)?;
+    }
+    Ok(())
+}
+
+/// Fails unless these are the rows.
+fn check_rows(alloc: Global, rows: &PackedRows, cases: &[&str]) -> Result<(), Fail> {
+    holds(rows.len() == cases.len(), "the number of rows")?;
+    for (at, case) in cases.iter().enumerate() {
+        let (key, primaries) = halves(case)?;
+        let key = points_of(alloc, key)?;
+        let elements = elements_of(alloc, primaries)?;
+        holds(
+            at < rows.len() && rows.key(at) == key && rows.elements(at) == elements,
+            case,
+        )?;
+    }
+    Ok(())
+}
+
+#[test]
+fn keeps_keys_and_elements_apart(rt: HostRuntime) -> Result<(), Fail> {
+    let first = ["0061 | 0001", "0061 0062 0063 | 0002 0003"];
+    let all = [
+        "0061 | 0001",
+        "0061 0062 0063 | 0002 0003",
+        "0064 | 0004 0005 0006",
+    ];
+    let mut rows = PackedRows::new(rt.alloc());
+    check_rows(rt.alloc(), &rows, &[])?;
+    push_rows(rt.alloc(), &mut rows, &all)?;
+    check_rows(rt.alloc(), &rows, &all)?;
+    rows.truncate(4);
+    check_rows(rt.alloc(), &rows, &all)?;
+    rows.truncate(2);
+    check_rows(rt.alloc(), &rows, &first)?;
+    push_rows(rt.alloc(), &mut rows, &["0064 | 0004 0005 0006"])?;
+    check_rows(rt.alloc(), &rows, &all)
+}
