@@ -2,7 +2,6 @@
 
 use crate::Editions;
 use std::alloc::{AllocError, Allocator};
-use std::collections::BTreeSet;
 use uca_certificates::Certificate;
 use uca_change_files::{ChangeList, ChangedText, FaultKind};
 use uca_elements::{Lookup, row_of};
@@ -18,53 +17,41 @@ pub(crate) fn list_texts<A: Allocator + Copy, L: Lookup>(
     certificate: &Certificate<A>,
     new: &L,
 ) -> Result<(), AllocError> {
-    let mut texts = BTreeSet::new(alloc);
-    insert_old_keys(alloc, &mut texts, editions, certificate, new)?;
-    insert_new_keys(alloc, &mut texts, editions)?;
-    push_texts(alloc, list, &texts)
+    let mut keys = Vec::new(alloc);
+    push_old_keys(alloc, &mut keys, editions, certificate, new)?;
+    push_new_keys(alloc, &mut keys, editions)?;
+    keys.sort_unstable();
+    push_texts(alloc, list, &keys)
 }
 
-// Puts in the keys of the old rows that do not become their images.
-fn insert_old_keys<A: Allocator + Copy, L: Lookup>(
+// Adds the keys of the old rows that do not become their images.
+fn push_old_keys<'a, A: Allocator + Copy, L: Lookup>(
     alloc: A,
-    texts: &mut BTreeSet<Vec<char, A>, A>,
-    editions: &Editions<A>,
+    keys: &mut Vec<&'a [char], A>,
+    editions: &Editions<'a, A>,
     certificate: &Certificate<A>,
     new: &L,
 ) -> Result<(), AllocError> {
     let images = Images::new(alloc, certificate)?;
     let old = editions.old;
-    let inserted = insert_not_kept(alloc, texts, &old.rows, &images, new);
+    let pushed = push_not_kept(keys, &old.rows, &images, new);
     drop(images);
-    inserted
+    pushed
 }
 
-// Puts in the keys of those rows that do not become their images.
-fn insert_not_kept<A: Allocator + Copy, L: Lookup>(
-    alloc: A,
-    texts: &mut BTreeSet<Vec<char, A>, A>,
-    rows: &[Row<A>],
+// Adds the keys of those rows that do not become their images.
+fn push_not_kept<'a, A: Allocator + Copy, L: Lookup>(
+    keys: &mut Vec<&'a [char], A>,
+    rows: &'a [Row<A>],
     images: &Images<A, A>,
     new: &L,
 ) -> Result<(), AllocError> {
     for row in rows {
         if !is_kept(images, row, new) {
-            insert_key(alloc, texts, &row.key)?;
+            keys.push(&row.key)?;
         }
     }
     Ok(())
-}
-
-// Puts in the key of a row.
-fn insert_key<A: Allocator + Copy>(
-    alloc: A,
-    texts: &mut BTreeSet<Vec<char, A>, A>,
-    key: &[char],
-) -> Result<(), AllocError> {
-    match texts.insert(Vec::from_slice(alloc, key)?) {
-        Ok(_) => Ok(()),
-        Err(_) => Err(AllocError),
-    }
 }
 
 // Whether a row's key has a new row, and it is the image of the row.
@@ -79,29 +66,28 @@ fn is_kept<A: Allocator + Copy, T: Allocator, L: Lookup>(
     }
 }
 
-// Puts in the keys that the old table does not have.
-fn insert_new_keys<A: Allocator + Copy>(
+// Adds the keys that the old table does not have.
+fn push_new_keys<'a, A: Allocator + Copy>(
     alloc: A,
-    texts: &mut BTreeSet<Vec<char, A>, A>,
-    editions: &Editions<A>,
+    keys: &mut Vec<&'a [char], A>,
+    editions: &Editions<'a, A>,
 ) -> Result<(), AllocError> {
     let old = Trie::new(alloc, editions.old)?;
     let new = editions.new;
-    let inserted = insert_missing(alloc, texts, &new.rows, &old);
+    let pushed = push_missing(keys, &new.rows, &old);
     drop(old);
-    inserted
+    pushed
 }
 
-// Puts in the keys of those rows that the old table has no row of.
-fn insert_missing<A: Allocator + Copy, L: Lookup>(
-    alloc: A,
-    texts: &mut BTreeSet<Vec<char, A>, A>,
-    rows: &[Row<A>],
+// Adds the keys of those rows that the old table has no row of.
+fn push_missing<'a, A: Allocator, L: Lookup>(
+    keys: &mut Vec<&'a [char], A>,
+    rows: &'a [Row<A>],
     old: &L,
 ) -> Result<(), AllocError> {
     for row in rows {
         if row_of(old, &row.key).is_none() {
-            insert_key(alloc, texts, &row.key)?;
+            keys.push(&row.key)?;
         }
     }
     Ok(())
@@ -111,7 +97,7 @@ fn insert_missing<A: Allocator + Copy, L: Lookup>(
 fn push_texts<A: Allocator + Copy>(
     alloc: A,
     list: &mut ChangeList<A>,
-    texts: &BTreeSet<Vec<char, A>, A>,
+    texts: &[&[char]],
 ) -> Result<(), AllocError> {
     for text in texts {
         push_text(alloc, list, text)?;

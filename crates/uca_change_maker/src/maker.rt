@@ -1,11 +1,7 @@
 //! `find_changes`: what changes, and its audit.
 
 ghost use Rattle.std.specs.Prelude.{IfOk, IfErr, OnOk};
-ghost use Rattle.uca_values.specs.Content.{IsHeader, IsTable};
-ghost use Rattle.uca_tailorings.specs.Images.{AreRisingMaps};
-ghost use Rattle.uca_tailorings.specs.Inputs.{maps_of};
-ghost use Rattle.uca_change_lists.specs.ChangeLists.{ChangesContent};
-ghost use Rattle.uca_changes.specs.Changes.{IsChange, IsAcceptedChange};
+ghost use Rattle.uca_changes.specs.Changes.{IsAcceptedChange};
 ghost use Rattle.uca_change_audit.specs.ChangeInputs.{MeansUnaffectedTextsStay};
 ghost use Rattle.uca_change_maker.specs.Found.{change_by, change_with, RefusesChanges};
 
@@ -18,10 +14,9 @@ use uca_certificates::Certificate;
 use uca_change_audit::{ChangeFault, ChangeInputs, audit_change};
 use uca_change_files::ChangeList;
 use uca_change_lists::Changes;
-use uca_changes::changes_keep_unaffected_texts;
 use uca_elements::Lookup;
 use uca_match::Trie;
-use uca_values::{Header, Row, Table};
+use uca_values::Row;
 use uca_weights::Level;
 
 /// Finds what changes from an old table and its data file to new ones: changed texts, changed ranges of code points, and maps
@@ -52,7 +47,6 @@ pub fn find_changes<A: Allocator + Copy>(
 {
     let found = found_changes(alloc, editions)?;
     audit_found(alloc, editions, &found)?;
-    meaning(editions, &found);
     Ok(found)
 }
 
@@ -114,6 +108,7 @@ fn audit_found<A: Allocator + Copy>(
     found: &FoundChanges<A>,
 ) -> Result<(), ChangeFault>
     ensures accepted { OnOk result (IsAcceptedChange (change_by editions.now found.now)) }
+    ensures meaning { OnOk result (MeansUnaffectedTextsStay (change_by editions.now found.now)) }
     ensures refused { IfErr result (RefusesChanges editions.now) }
 {
     let changes = changes_of(alloc, &found.list)?;
@@ -128,6 +123,7 @@ fn audit_lists<A: Allocator + Copy>(
     certificate: &Certificate<A>,
 ) -> Result<(), ChangeFault>
     ensures accepted { OnOk result (IsAcceptedChange (change_with editions.now changes.now certificate.now)) }
+    ensures meaning { OnOk result (MeansUnaffectedTextsStay (change_with editions.now changes.now certificate.now)) }
     ensures refused { IfErr result (RefusesChanges editions.now) }
 {
     let inputs = ChangeInputs {
@@ -139,46 +135,4 @@ fn audit_lists<A: Allocator + Copy>(
         certificate,
     };
     audit_change(alloc, &inputs)
-}
-
-// What follows if what was found is accepted.
-fn meaning<T: Allocator>(editions: &Editions<T>, found: &FoundChanges<T>)
-    requires { IsAcceptedChange (change_by editions.now found.now) }
-    ensures { MeansUnaffectedTextsStay (change_by editions.now found.now) }
-{
-    know(editions, &found.certificate);
-    changes_keep_unaffected_texts();
-}
-
-// The arguments' invariants, brought into scope for the proof.
-fn know<T: Allocator>(editions: &Editions<T>, certificate: &Certificate<T>)
-    ensures { (changes : ChangesContent) → IsChange (change_with editions.now changes certificate.now) }
-{
-    know_table(editions.old);
-    know_table(editions.new);
-    know_certificate(certificate);
-}
-
-// What a table keeps.
-fn know_table<T: Allocator>(table: &Table<T>)
-    ensures { IsTable table.now }
-{
-    know_header(&table.header);
-    let _ = &table.rows;
-}
-
-// What a header keeps.
-fn know_header<T: Allocator>(header: &Header<T>)
-    ensures { IsHeader header.now }
-{
-    let _ = &header.ranges;
-}
-
-// What the maps of a certificate keep.
-fn know_certificate<T: Allocator>(certificate: &Certificate<T>)
-    ensures { AreRisingMaps (maps_of certificate.now) }
-{
-    let _ = certificate.primary.runs();
-    let _ = certificate.secondary.runs();
-    let _ = certificate.tertiary.runs();
 }
