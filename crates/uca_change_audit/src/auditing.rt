@@ -82,7 +82,9 @@ fn audit_old_rows<A: Allocator + Copy, T: Allocator>(
     ensures { Passes (change_in inputs.now) 7 result }
 {
     let images = Images::new(alloc, inputs.certificate)?;
-    audit_images(alloc, inputs, &images)
+    let audited = audit_images(alloc, inputs, &images);
+    drop(images);
+    audited
 }
 
 // The same, by the images.
@@ -97,7 +99,9 @@ fn audit_images<A: Allocator + Copy, T: Allocator>(
 {
     weights_are_covered(inputs, images)?;
     let new = Trie::new(alloc, inputs.new)?;
-    audit_lookup(inputs, images, &new)
+    let audited = audit_lookup(inputs, images, &new);
+    drop(new);
+    audited
 }
 
 // Conditions 5 and 6, by a lookup of the new table.

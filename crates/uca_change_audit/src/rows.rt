@@ -65,7 +65,9 @@ pub(crate) fn first_not_known<A: Allocator + Copy, T: Allocator>(
         (change_in inputs.now).new.rows) }
 {
     let old = Trie::new(alloc, inputs.old)?;
-    Ok(first_not_in(inputs, &old))
+    let found = first_not_in(inputs, &old);
+    drop(old);
+    Ok(found)
 }
 
 // The same, by a lookup of the old table.

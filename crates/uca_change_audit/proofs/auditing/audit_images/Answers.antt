@@ -7,10 +7,10 @@ pub returns-in_err-weights_are_covered : goal.returns-in_err-weights_are_covered
 returns-in_err-weights_are_covered g c =
     passes_refused (change_in c.args.inputs.now) 7 Uncovered _ _ c.from_residual.ensures.1 c.requires.met c.in_err-weights_are_covered.ensures
 
-pub audit_lookup-requires-clause-met : goal.audit_lookup-requires-clause-met
-audit_lookup-requires-clause-met g c =
+pub audit_lookup-audited-requires-clause-met : goal.audit_lookup-audited-requires-clause-met
+audit_lookup-audited-requires-clause-met g c =
     meets_more (change_in c.args.inputs.now) Uncovered c.requires.met c.in_ok-weights_are_covered.ensures
 
 pub returns : goal.returns
 returns g c =
-    c.audit_lookup.ensures
+    c.audit_lookup-audited.ensures
