@@ -4,9 +4,10 @@ use std::alloc::{AllocError, Global};
 use std::test::Fail;
 use test_kit::{code_point, data_of, joined, table_of};
 use uca_certificates::{Certificate, read_certificate, write_certificate};
-use uca_change_audit::{ChangeFault, ChangeInputs, Changes, audit_change};
 use uca_change_files::write_changes;
-use uca_change_maker::{Editions, FoundChanges, find_changes};
+use uca_editions::{
+    ChangeFault, ChangeInputs, Changes, Editions, FoundChanges, audit_change, find_changes,
+};
 use uca_values::{CodePointRange, Data, Table};
 use uca_weights::{Sink, Source};
 

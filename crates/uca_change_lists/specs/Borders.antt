@@ -1,4 +1,4 @@
--- Where ranges begin, and where they have ended. Only clauses inside this crate cite this file.
+-- Where ranges begin, and where they have ended.
 use Rattle.std.specs.Prelude.{ℕ, ◌+◌, ◌<◌, List, Option, MatchOption, IsTrue, Contains, ⊤}
 use Rattle.std.specs.Char.{IsScalar}
 use Rattle.std.specs.List.{AllByRecursion}

@@ -47,8 +47,8 @@ fn first_points<A: Allocator>(alloc: A) -> Result<Vec<char, A>, AllocError>
     Vec::from_slice(alloc, &['\0', '\u{E000}'])
 }
 
-// Adds the borders of the ranges of a data file.
-fn push_data<A: Allocator, T: Allocator>(
+/// Adds the borders of the ranges of a data file. An error means that it ran out of memory; some may then be added.
+pub fn push_data<A: Allocator, T: Allocator>(
     list: &mut Vec<char, A>,
     data: &Data<T>,
 ) -> Result<(), AllocError>
@@ -86,8 +86,8 @@ fn push_ranges<A: Allocator>(
     Ok(())
 }
 
-// Adds the borders of ranges for implicit weights.
-fn push_implicit_ranges<A: Allocator>(
+/// Adds the borders of ranges for implicit weights. An error means that it ran out of memory; some may then be added.
+pub fn push_implicit_ranges<A: Allocator>(
     list: &mut Vec<char, A>,
     ranges: &[ImplicitRange],
 ) -> Result<(), AllocError>
@@ -109,9 +109,20 @@ fn push_border<A: Allocator>(
     ensures first { OnOk result (Contains list.new.items first) }
     ensures after { OnOk result (IsScalar (last + 1) → Contains list.new.items (last + 1)) }
 {
-    list.push(first)?;
-    if let Some(after) = char::from_u32(u32::from(last) + 1) {
-        list.push(after)?;
+    push_point(list, first)?;
+    match char::from_u32(u32::from(last) + 1) {
+        None => Ok(()),
+        Some(after) => push_point(list, after),
     }
-    Ok(())
+}
+
+// Adds a code point.
+fn push_point<A: Allocator>(list: &mut Vec<char, A>, point: char) -> Result<(), AllocError>
+    ensures kept { OnOk result ((other : ℕ) → Contains list.old.items other → Contains list.new.items other) }
+    ensures added { OnOk result (Contains list.new.items point) }
+{
+    match list.push(point) {
+        Ok(()) => Ok(()),
+        Err(_) => Err(AllocError),
+    }
 }

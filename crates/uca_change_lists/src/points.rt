@@ -111,9 +111,8 @@ fn is_same_pair<A: Allocator + Copy, T: Allocator>(
     changes.has_point(point) || have_same_pair(alloc, old, new, point)
 }
 
-// Whether the implicit weights of a code point by the ranges of both headers are the same. By a data file that says nothing
-// they are the same exactly then.
-fn have_same_pair<A: Allocator + Copy, T: Allocator>(
+/// Whether the implicit weights of a code point by the ranges of both headers are the same.
+pub fn have_same_pair<A: Allocator + Copy, T: Allocator>(
     alloc: A,
     old: &Header<T>,
     new: &Header<T>,
@@ -124,6 +123,7 @@ fn have_same_pair<A: Allocator + Copy, T: Allocator>(
     // Looked at, so that the proof knows which leads the ranges may have.
     let _ = &old.ranges;
     let _ = &new.ranges;
+    // By a data file that says nothing the weights are the same exactly then.
     let nothing = Data::new(alloc);
     old.implicit(&nothing, point) == new.implicit(&nothing, point)
 }
@@ -140,8 +140,8 @@ fn is_same_point<T: Allocator>(
     changes.has_point(point) || say_same(old, new, point)
 }
 
-// Whether both data files say the same of a code point.
-fn say_same<T: Allocator>(old: &Data<T>, new: &Data<T>, point: char) -> bool
+/// Whether both data files say the same of a code point: its class, and whether it is an ideograph of either kind.
+pub fn say_same<T: Allocator>(old: &Data<T>, new: &Data<T>, point: char) -> bool
     ensures { IsTrue result ↔ IsSamePoint (properties_of old.now) (properties_of new.now) point }
 {
     old.class(point) == new.class(point)

@@ -3,7 +3,7 @@ use Rattle.std.specs.Prelude.{◌≡◌, ℕ, Bool, List, true, false, Result, O
 use Rattle.std.proofs.Common.{refl, subst, sym, true≢false}
 use Rattle.uca_weights.specs.Streams.{SinkState}
 use Rattle.uca_changes.specs.Changes.{Change, IsAcceptedChange}
-use Rattle.uca_change_audit.proofs.NotAccepted.{refused_not_accepted}
+use Rattle.uca_editions.proofs.NotAccepted.{refused_not_accepted}
 use Rattle.uca_run_parts.specs.declared.faults.RunFault.{RunFault}
 use Rattle.uca_run_parts.specs.declared.faults.RunFault.TheVariants.{File, Memory, Write}
 use Rattle.uca_run_parts.specs.Files.{ended_by_file}

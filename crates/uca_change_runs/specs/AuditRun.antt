@@ -3,8 +3,8 @@ use Rattle.std.specs.Prelude.{◌≡◌, ℕ, List, [], ◌∷◌, ◌++◌, ◌
 use Rattle.uca_weights.specs.Streams.{SourceState, SinkState}
 use Rattle.uca_changes.specs.Changes.{Change, IsAcceptedChange}
 use Rattle.uca_changes.specs.declared.faults.ChangeFault.{ChangeFault}
-use Rattle.uca_change_audit.specs.ChangeInputs.{MeansUnaffectedTextsStay}
-use Rattle.uca_change_audit.specs.ChangeRefusals.{IsFirstRefusal}
+use Rattle.uca_editions.specs.ChangeInputs.{MeansUnaffectedTextsStay}
+use Rattle.uca_editions.specs.ChangeRefusals.{IsFirstRefusal}
 use Rattle.uca_run_parts.specs.declared.faults.RunFault.{RunFault}
 use Rattle.uca_run_parts.specs.declared.faults.RunFault.TheVariants.{Memory}
 use Rattle.uca_run_parts.specs.ChangeFaultText.{change_verdict_text}

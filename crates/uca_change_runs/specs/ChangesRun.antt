@@ -5,9 +5,9 @@ use Rattle.uca_certificates.specs.Certificates.{CertificateContent}
 use Rattle.uca_change_files.specs.Changes.{ChangeContent}
 use Rattle.uca_changes.specs.Changes.{IsAcceptedChange}
 use Rattle.uca_changes.specs.declared.faults.ChangeFault.{ChangeFault}
-use Rattle.uca_change_audit.specs.ChangeInputs.{MeansUnaffectedTextsStay}
-use Rattle.uca_change_audit.specs.ChangeRefusals.{IsFirstRefusal}
-use Rattle.uca_change_maker.specs.declared.found.FoundChanges.{FoundChanges}
+use Rattle.uca_editions.specs.ChangeInputs.{MeansUnaffectedTextsStay}
+use Rattle.uca_editions.specs.ChangeRefusals.{IsFirstRefusal}
+use Rattle.uca_editions.specs.declared.found.FoundChanges.{FoundChanges}
 use Rattle.uca_run_parts.specs.declared.faults.RunFault.{RunFault}
 use Rattle.uca_run_parts.specs.declared.faults.RunFault.TheVariants.{Changes, File, Memory}
 use Rattle.uca_run_parts.specs.Files.{HaveFailed, IsFileStop, Mean, Over}

@@ -2,8 +2,8 @@
 
 ghost use Rattle.std.specs.Prelude.{◌≡◌, ◌⊎◌, ◌||◌, ◌∷◌, [], Err, IfErr, OnOk, MatchResult};
 ghost use Rattle.uca_changes.specs.Changes.{Change, IsAcceptedChange};
-ghost use Rattle.uca_change_audit.specs.ChangeInputs.{MeansUnaffectedTextsStay};
-ghost use Rattle.uca_change_audit.specs.ChangeRefusals.{IsFirstRefusal};
+ghost use Rattle.uca_editions.specs.ChangeInputs.{MeansUnaffectedTextsStay};
+ghost use Rattle.uca_editions.specs.ChangeRefusals.{IsFirstRefusal};
 ghost use Rattle.uca_run_parts.specs.Runs.{ended_by_output};
 ghost use Rattle.uca_run_parts.specs.Verdicts.{WritesVerdict};
 ghost use Rattle.uca_change_runs.specs.ReadChanges.{change_by, change_of};
@@ -12,9 +12,8 @@ ghost use Rattle.uca_change_runs.specs.AuditRun.{AuditsChanges, IsVerdict, RunsA
 use crate::files::{ChangeFiles, read_change_files};
 use std::alloc::{Allocator, Global};
 use std::io::{Read, Write};
-use uca_change_audit::{ChangeFault, ChangeInputs, audit_change};
 use uca_change_lists::Changes;
-use uca_change_maker::changes_of;
+use uca_editions::{ChangeFault, ChangeInputs, audit_change, changes_of};
 use uca_run_parts::RunFault;
 use uca_run_parts::change_faults::change_verdict;
 use uca_run_parts::output::write_text;

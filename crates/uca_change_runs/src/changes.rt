@@ -7,7 +7,7 @@ ghost use Rattle.uca_change_runs.specs.ChangesRun.{FindsChanges, RunsChanges};
 use crate::files::{EditionFiles, read_editions};
 use std::alloc::{Allocator, Global};
 use std::io::Read;
-use uca_change_maker::{Editions, FoundChanges, find_changes};
+use uca_editions::{Editions, FoundChanges, find_changes};
 use uca_run_parts::RunFault;
 use uca_weights::Source;
 

@@ -12,7 +12,7 @@ use Rattle.uca_values.specs.Content.{TableContent}
 use Rattle.uca_table.specs.Canonical.{canonical}
 use Rattle.uca_certificates.specs.Certificates.{CertificateContent}
 use Rattle.uca_change_files.specs.ChangeTexts.{changes_text}
-use Rattle.uca_change_maker.specs.declared.found.FoundChanges.{FoundChanges}
+use Rattle.uca_editions.specs.declared.found.FoundChanges.{FoundChanges}
 use Rattle.uca_words.specs.declared.Words.{Words as WordsType}
 use Rattle.uca_words.specs.declared.Words.TheVariants.{Check, Keys, Sort, Compare, Tailor, Audit, Affected, Changes, AuditChanges, Rekey}
 use Rattle.uca_words.specs.Words.{AreRead, IsFaultOf}

@@ -8,7 +8,7 @@ use crate::printing::print_changes;
 use crate::reporting::{checked, done};
 use std::alloc::Global;
 use std::io::{Read, Write};
-use uca_change_maker::FoundChanges;
+use uca_editions::FoundChanges;
 use uca_change_runs::{run_audit_changes, run_changes};
 use uca_named_files::Opens;
 use uca_named_files::keeping::{find_certificate_of_editions, keep_certificate};

@@ -1,11 +1,14 @@
 -- Lists of elements and of their images, element by element.
-use Rattle.std.proofs.Common.{◌≡◌, ℕ, zero, suc, ◌<◌, List, [], ◌∷◌, length, Bool, true, false, IsTrue, ◌↔◌, refl, sym, ◌∙◌, arith}
+use Rattle.std.proofs.Common.{◌≡◌, ℕ, zero, suc, ◌+◌, ◌<◌, ◌≤◌, List, [], ◌∷◌, ◌++◌, length, take, drop, get_or, Bool, true, false, IsTrue, ◌↔◌, refl, sym, subst, ◌∙◌, arith}
 use Rattle.std.proofs.lemmas.Bool.{false≢true}
 use Rattle.std.specs.Bool.{MatchBool}
-use Rattle.std.specs.List.{zip, AllByRecursion, AllWithin, HoldsAt}
+use Rattle.std.specs.List.{AllByRecursion, AllWithin, HoldsAt}
+use Rattle.std.proofs.lemmas.List.{take_all, get_or_default}
 use Rattle.std.proofs.lemmas.List.Elements.{recursion_from_All, All-from_all_within}
 use Rattle.uca_weights.specs.declared.Element.{Element}
+use Rattle.uca_weights.proofs.Lists.{each_push, inside, split_at, taken_more}
 use Rattle.uca_tailorings.specs.Images.{Maps, IsImage, AreImages}
+use Rattle.uca_tailorings.proofs.Images.{images-append}
 
 -- images have the length of their originals
 pub images_length : (maps : Maps) (es fs : List Element) → AreImages maps es fs → length es ≡ length fs
@@ -14,30 +17,43 @@ images_length maps [] (f ∷ fs) h = absurd h
 images_length maps (e ∷ es) [] h = absurd h
 images_length maps (e ∷ es) (f ∷ fs) h = let rest = images_length maps es fs h.1 in omega (arith, rest)
 
--- pairs that are images make lists that are
-pairs_are : (maps : Maps) (es fs : List Element) → length es ≡ length fs →
-    AllWithin (λ (p : Element × Element). IsImage maps p.0 p.1) (zip es fs) 0 (length (zip es fs)) → AreImages maps es fs
-pairs_are maps [] [] same all = tt
-pairs_are maps [] (f ∷ fs) same all = absurd (omega arith)
-pairs_are maps (e ∷ es) [] same all = absurd (omega arith)
-pairs_are maps (e ∷ es) (f ∷ fs) same all =
-    (all zero (e, f) (omega arith) (omega arith), pairs_are maps es fs (omega arith) (λ k d low high. all (suc k) d (omega arith) (omega arith)))
+-- one element more, and its image
+pub images_further : (maps : Maps) (es fs : List Element) (at : ℕ) (e f : Element) → at < length es → at < length fs
+    → AreImages maps (take at es) (take at fs) → IsImage maps (get_or es at e) (get_or fs at f) → AreImages maps (take (at + 1) es) (take (at + 1) fs)
+images_further maps es fs at e f within both so_far image =
+    let x = get_or es at e in
+    let y = get_or fs at f in
+    subst (λ xs. AreImages maps xs (take (at + 1) fs)) (sym (taken_more es at x within (get_or_default es at e x within)))
+    (subst (AreImages maps (take at es ++ x ∷ [])) (sym (taken_more fs at y both (get_or_default fs at f y both)))
+    (images-append maps (take at es) (take at fs) (x ∷ []) (y ∷ []) so_far (image, tt)))
 
--- and one pair that is not makes lists that are not
-pair_fails : (maps : Maps) (es fs : List Element) (k : ℕ) → k < length (zip es fs) →
-    HoldsAt (λ (p : Element × Element). IsImage maps p.0 p.1 → ⊥) (zip es fs) k → AreImages maps es fs → ⊥
-pair_fails maps [] fs k within fails h = absurd (omega arith)
-pair_fails maps (e ∷ es) [] k within fails h = h
-pair_fails maps (e ∷ es) (f ∷ fs) zero within fails h = fails (e, f) h.0
-pair_fails maps (e ∷ es) (f ∷ fs) (suc k) within fails h = pair_fails maps es fs k (omega arith) fails h.1
+-- all elements
+pub images_whole : (maps : Maps) (es fs : List Element) (at : ℕ) → length es ≤ at → length fs ≤ at → AreImages maps (take at es) (take at fs) → AreImages maps es fs
+images_whole maps es fs at over both images =
+    subst (λ xs. AreImages maps xs fs) (take_all at es over) (subst (AreImages maps (take at es)) (take_all at fs both) images)
 
--- a test of all pairs is one of the lists
-pub images_tested : (maps : Maps) (es fs : List Element) (test : Bool) → length es ≡ length fs
-    → MatchBool test (AllWithin (λ (p : Element × Element). IsImage maps p.0 p.1) (zip es fs) 0 (length (zip es fs)))
-    ((k : ℕ) × (k < length (zip es fs)) × HoldsAt (λ (p : Element × Element). IsImage maps p.0 p.1 → ⊥) (zip es fs) k)
-    → IsTrue test ↔ AreImages maps es fs
-images_tested maps es fs true same all = (λ h. pairs_are maps es fs same all, λ h. refl)
-images_tested maps es fs false same fault = (λ h. absurd (false≢true h), λ h. absurd (pair_fails maps es fs fault.0 fault.1 fault.2 h))
+-- of lists that are images the elements at one place are
+pub image_at : (maps : Maps) (es fs : List Element) (at : ℕ) (e f : Element) → at < length es → at < length fs → AreImages maps es fs
+    → IsImage maps (get_or es at e) (get_or fs at f)
+image_at maps [] fs at e f within both h = absurd (omega arith)
+image_at maps (x ∷ es) [] at e f within both h = absurd h
+image_at maps (x ∷ es) (y ∷ fs) zero e f within both h = h.0
+image_at maps (x ∷ es) (y ∷ fs) (suc at) e f within both h = image_at maps es fs at e f (omega arith) (omega arith) h.1
+
+-- one element more has a property
+pub each_further : (P : Element → Type 0) (xs : List Element) (at : ℕ) (d : Element) → at < length xs → AllByRecursion P (take at xs) → P (get_or xs at d)
+    → AllByRecursion P (take (at + 1) xs)
+each_further P xs at d within so_far has =
+    let x = get_or xs at d in
+    subst (AllByRecursion P) (sym (taken_more xs at x within (get_or_default xs at d x within))) ((each_push P (take at xs) x).1 (so_far, has))
+
+-- all elements have it
+pub each_whole : (P : Element → Type 0) (xs : List Element) (at : ℕ) → length xs ≤ at → AllByRecursion P (take at xs) → AllByRecursion P xs
+each_whole P xs at over each = subst (AllByRecursion P) (take_all at xs over) each
+
+-- so the one at a place has it
+pub each_at : (P : Element → Type 0) (xs : List Element) (at : ℕ) (d : Element) → at < length xs → AllByRecursion P xs → P (get_or xs at d)
+each_at P xs at d within each = inside P (take at xs) (get_or xs at d) (drop (at + 1) xs) (subst (AllByRecursion P) (split_at xs at d within) each)
 
 -- a test that says whether the property holds
 abbrev pub Told : Type 0 → Bool → Type 0

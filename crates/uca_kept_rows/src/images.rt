@@ -99,8 +99,8 @@ fn images_of<A: Allocator + Copy, T: Allocator>(
     ensures images { IfOk result (λ images. AreImagesBelow 0x1_0000 map.now images.items) }
 {
     let mut images = Vec::with_capacity(alloc, WEIGHT_COUNT)?;
-    for weight in 0..=u16::MAX {
-        images.push(map.get(weight))?;
+    for weight in 0..WEIGHT_COUNT {
+        images.push(map.get(weight as u16))?;
     }
     Ok(images)
 }

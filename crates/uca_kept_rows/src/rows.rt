@@ -138,7 +138,12 @@ fn are_covered<A: Allocator + Copy, T: Allocator>(
 ) -> bool
     ensures { IsTrue result ↔ AllByRecursion (IsCovered (maps_of images.now)) elements.now }
 {
-    elements.iter().all(|element| is_covered(images, *element))
+    for element in elements {
+        if !is_covered(images, *element) {
+            return false;
+        }
+    }
+    true
 }
 
 /// Whether each weight of the element has an image at its level.
@@ -161,9 +166,12 @@ pub fn are_images<A: Allocator + Copy, T: Allocator>(
     if old.len() != new.len() {
         return false;
     }
-    old.iter()
-        .zip(new)
-        .all(|(old, new)| is_image(images, *old, *new))
+    for (at, element) in old.iter().enumerate() {
+        if !is_image(images, *element, new[at]) {
+            return false;
+        }
+    }
+    true
 }
 
 /// Whether each weight is put through the map of its level, and the element stays variable or not.

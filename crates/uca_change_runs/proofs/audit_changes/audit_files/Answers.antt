@@ -3,8 +3,8 @@ use Rattle.std.proofs.Common.{◌≡◌, ◌⊎◌, ⊎_elim, inl, inr}
 use Rattle.std.proofs.lemmas.Result.{IfErr-weaker, on_ok_weaker}
 use Rattle.uca_changes.specs.declared.faults.ChangeFault.TheVariants.{Memory}
 use Rattle.uca_changes.proofs.SameLists.{accepted_by_same}
-use Rattle.uca_change_audit.specs.ChangeRefusals.{IsFirstRefusal}
-use Rattle.uca_change_audit.proofs.SameChanges.{meaning_by_same, refused_by_same}
+use Rattle.uca_editions.specs.ChangeRefusals.{IsFirstRefusal}
+use Rattle.uca_editions.proofs.SameChanges.{meaning_by_same, refused_by_same}
 use Rattle.uca_change_runs.specs.ReadChanges.{change_by, change_of}
 use Rattle.uca_change_runs.proofs.audit_changes.audit_files.Goals as goal
 

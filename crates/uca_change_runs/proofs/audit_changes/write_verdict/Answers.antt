@@ -1,7 +1,7 @@
 -- The verdict and its line belong together.
 use Rattle.std.proofs.Common.{◌∷◌, [], ◌++◌, ℕ, List, ⊎_elim, refl, ap, subst, ◌∙◌}
 use Rattle.uca_changes.specs.declared.faults.ChangeFault.TheVariants.{NotMet}
-use Rattle.uca_change_audit.specs.ChangeRefusals.{IsFirstRefusal}
+use Rattle.uca_editions.specs.ChangeRefusals.{IsFirstRefusal}
 use Rattle.uca_change_runs.specs.ReadChanges.{change_of}
 use Rattle.uca_change_runs.proofs.audit_changes.write_verdict.Goals as goal
 

@@ -1,14 +1,24 @@
-use Rattle.std.proofs.Common.{rules}
-use Rattle.std.proofs.lemmas.Iterator.{cases_from_all, YieldsList-from_slice}
-use Rattle.uca_tailorings.specs.Tailorings.{IsCovered}
+use Rattle.std.proofs.Common.{refl, sym, ◌∙◌}
+use Rattle.std.proofs.lemmas.Bool.{false≢true}
 use Rattle.uca_tailorings.specs.Inputs.{maps_of}
-use Rattle.uca_kept_rows.proofs.ImageLists.{all_told, told_true, told_false}
+use Rattle.uca_tailorings.specs.Tailorings.{IsCovered}
+use Rattle.uca_kept_rows.proofs.ImageLists.{each_further, each_whole, each_at}
 use Rattle.uca_kept_rows.proofs.rows.are_covered.Goals as goal
 
+pub loop-element-preserved : goal.loop-element-preserved
+loop-element-preserved g c =
+    each_further (IsCovered (maps_of c.args.images.now)) c.args.elements.now c.loop-element.element-index _ c.loop-element-test.true c.loop-element.invariant
+    (c.is_covered.ensures.0 c.if-not-is_covered.false)
+
+pub returns-then-not-is_covered : goal.returns-then-not-is_covered
+returns-then-not-is_covered g c = (
+  λ h. absurd (false≢true h),
+  λ h. absurd (false≢true (sym c.if-not-is_covered.true
+      ∙ c.is_covered.ensures.1 (each_at (IsCovered (maps_of c.args.images.now)) c.args.elements.now c.loop-element.element-index _ c.loop-element-test.true h))),
+)
+
 pub returns : goal.returns
-returns g c =
-    all_told (IsCovered (maps_of c.args.images.now)) c.all.result c.args.elements.now
-    (cases_from_all c.all.new.self _ _ (IsCovered (maps_of c.args.images.now)) (λ e. IsCovered (maps_of c.args.images.now) e → ⊥) c.all.ensures.ran
-    (YieldsList-from_slice c.args.elements.now c.iter.ensures.rest)
-    (λ x q k. (search rules, told_true (IsCovered (maps_of c.args.images.now) x.now) (search rules)))
-    (λ x q k. told_false (IsCovered (maps_of c.args.images.now) x.now) (search rules)))
+returns g c = (
+  λ h. each_whole (IsCovered (maps_of c.args.images.now)) c.args.elements.now c.loop-element.element-index c.loop-element-test.false c.loop-element.invariant,
+  λ h. refl,
+)

@@ -1,4 +1,0 @@
-pub mod Chaining
-pub mod NotAccepted
-pub mod FoundRows
-pub mod SameChanges

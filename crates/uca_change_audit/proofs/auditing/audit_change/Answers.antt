@@ -1,6 +1,0 @@
-use Rattle.uca_change_audit.specs.ChangeInputs.{change_in}
-use Rattle.uca_change_audit.proofs.Chaining.{meets_all}
-use Rattle.uca_change_audit.proofs.auditing.audit_change.Goals as goal
-
-pub meaning-requires : goal.meaning-requires
-meaning-requires g c = meets_all (change_in c.args.inputs.now) c.in_ok-audit_inputs.ensures

@@ -1,5 +1,0 @@
-use Rattle.uca_change_audit.proofs.auditing.audit_old_rows.Goals as goal
-
-pub returns : goal.returns
-returns g c =
-    c.audit_images.ensures

@@ -1,5 +1,0 @@
-use Rattle.uca_change_audit.specs.ChangeInputs.{change_in}
-use Rattle.uca_change_audit.proofs.auditing.meaning.Goals as goal
-
-pub returns : goal.returns
-returns g c old new = c.changes_keep_unaffected_texts.ensures (change_in c.args.inputs.now) old new c.know.ensures c.requires

@@ -1,3 +1,0 @@
-pub mod ChangeInputs
-pub mod ChangeRefusals
-pub mod Chaining

@@ -1,2 +1,0 @@
-pub mod LeastRuns
-pub mod ListedTexts

@@ -1,0 +1,6 @@
+pub mod Chaining
+pub mod NotAccepted
+pub mod FoundRows
+pub mod SameChanges
+pub mod LeastRuns
+pub mod ListedTexts

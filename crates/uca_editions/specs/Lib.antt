@@ -1,0 +1,5 @@
+pub mod ChangeInputs
+pub mod ChangeRefusals
+pub mod Chaining
+pub mod Found
+pub mod LeastMaps

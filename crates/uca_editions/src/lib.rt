@@ -1,0 +1,33 @@
+//! Two editions of a table and its data file: what changes from the old one to the new one.
+//!
+//! The audit is an independent check of such changes. Texts in which no changed text occurs, and which have no code point of a
+//! changed range, have to compare as before. The maker finds changes: a list of texts and of ranges of code points, and a
+//! certificate that has the images of the old table's weights. It ends with the audit, whose modules know nothing of it.
+#![tactic(auto)]
+
+mod auditing;
+mod conditions;
+mod inputs;
+mod laws;
+mod rows;
+
+mod chains;
+mod changed_ranges;
+mod changed_texts;
+mod editions;
+mod found;
+mod levels;
+mod listed;
+mod maker;
+mod moves;
+
+pub use auditing::audit_change;
+pub use editions::Editions;
+pub use found::FoundChanges;
+pub use inputs::ChangeInputs;
+pub use laws::refused_changes_are_not_accepted;
+pub use listed::changes_of;
+pub use maker::find_changes;
+pub use uca_certificates::Certificate;
+pub use uca_change_lists::Changes;
+pub use uca_changes::{ChangeCondition, ChangeFault, ChangePlace};
