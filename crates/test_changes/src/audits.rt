@@ -1,6 +1,6 @@
 //! Verdicts of audits of changes.
 
-use crate::files::{read_edition, verdict};
+use crate::editions::{read_edition, verdict};
 use std::alloc::Global;
 use std::test::Fail;
 use test_kit::{DATA, TABLE, halves, is_remark, same, thirds};

@@ -1,6 +1,6 @@
 //! What the maker of changes finds.
 
-use crate::files::{found, read_edition, wanted_text};
+use crate::editions::{found, read_edition, wanted_text};
 use std::alloc::Global;
 use std::test::Fail;
 use test_kit::{DATA, TABLE, is_remark, same, thirds};
