@@ -2,6 +2,7 @@
 import os
 
 from program import ACUTE, DATA, DOT_BELOW, GRAVE, TABLE, TOP, ProgramTest
+from test_audits import cases_of, edited
 from test_tailor import ILL_FORMED, MOVED, NARROW, UNMOVED, WIDENED
 
 OLD, NEW = "examples/table.txt examples/data.txt", "examples/editions/table.txt examples/editions/data.txt"
@@ -20,6 +21,11 @@ def listed(*lines):
     return "".join(line + "\n" for line in ("@changes 1", *lines))
 
 
+def listed_in(field):
+    """The file of changes that a field of a case lists."""
+    return listed(*(field.split(", ") if field != "." else []))
+
+
 class Changes(ProgramTest):
     """What changes, and its audit. The certificate comes first, and nothing is written where a table is rejected."""
 
@@ -29,6 +35,20 @@ class Changes(ProgramTest):
         self.assertEqual(self.read("c").decode(), certificate)
         self.write(x=changes)
         self.expect("audit-changes t d n e x c", out="accepted\n")
+
+    def test_found_changes(self):
+        cases = cases_of("changes.txt")["found"]
+        self.assertGreater(len(cases), 20)
+        for old, new, data, field, certificate in cases:
+            self.find(edited(TABLE, old), edited(TABLE, new), edited(DATA, data), listed_in(field), edited(UNMOVED, certificate))
+
+    def test_verdicts(self):
+        """Each condition at its first position, with and without listed texts and ranges."""
+        cases = cases_of("changes.txt")["audited"]
+        self.assertGreater(len(cases), 40)
+        for old, new, data, field, certificate, verdict in cases:
+            self.write(t=edited(TABLE, old), d=DATA, n=edited(TABLE, new), e=edited(DATA, data), x=listed_in(field), c=edited(UNMOVED, certificate))
+            self.expect("audit-changes t d n e x c", status=0 if verdict == "accepted" else 1, out=verdict + "\n")
 
     def test_changes_of_the_table(self):
         """Old table, new table, changes, certificate."""

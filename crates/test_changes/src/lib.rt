@@ -1,10 +1,13 @@
-//! Tests of audits of changes: each condition at its first position and before the next one, with and without listed texts
-//! and ranges. Tests of what the maker of changes finds. Files are given as bytes, and cases as lines of text.
+//! Tests of what is for editions, where the built program cannot show it. Files of changes: what accepted files list, where
+//! others are rejected, and what is written. In the runs over changes, and in the run that rekeys lines, each allocation
+//! fails in turn. A reader and a writer of the latter fail in mid-stream.
 #![tactic(auto)]
 
 #[cfg(test)]
-mod audits;
+mod file_reading;
 #[cfg(test)]
-mod files;
+mod file_writing;
 #[cfg(test)]
-mod finding;
+mod run_failures;
+#[cfg(test)]
+mod runs;

@@ -1,6 +1,6 @@
 //! What fails, and what is then returned and written.
 
-use crate::calls::{End, KEYS, call, rekey};
+use crate::runs::{End, KEYS, call, rekey};
 use std::alloc::Global;
 use std::io::ErrorKind;
 use std::test::Fail;

@@ -1,6 +1,6 @@
 //! Lists that are made by calls, and writers that fail.
 
-use crate::reading::check_text;
+use crate::file_reading::check_text;
 use std::alloc::Global;
 use std::io::ErrorKind;
 use std::test::Fail;
