@@ -7,8 +7,7 @@ use std::io::Write;
 use std::os::fd::{AsFd, AsRawFd};
 use std::process::ExitCode;
 use std::{env, fs, io};
-use uca_cli::reporting::STREAM_FAILED;
-use uca_cli::{RunFault, report, run_command};
+use uca_cli::{RunFault, STREAM_FAILED, report, run_command};
 use uca_named_files::system::SystemFiles;
 use uca_weights::{Sink, Source};
 

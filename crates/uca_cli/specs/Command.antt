@@ -33,8 +33,8 @@ use Rattle.uca_rekey.specs.RekeyRun.{RekeysLines}
 use Rattle.uca_named_files.specs.NamedFiles.{FileSystem, NamedFile, file_for, table_and_data, tailor_files, affected_files, audit_files, edition_files, change_files, AreOpened, DoesNotOpen, AreOthers, IsFirstSame, KeepsCertificate}
 use Rattle.uca_tailor_runs.specs.AuditRun.{Audits}
 use Rattle.uca_tailor_runs.specs.TailorRun.{TailorsFiles}
-use Rattle.uca_cli.specs.Reports.{Reports}
-use Rattle.uca_cli.specs.Statuses.{IsStatus}
+use Rattle.uca_reports.specs.Reports.{Reports}
+use Rattle.uca_reports.specs.Statuses.{IsStatus}
 
 -- ---- What a command works with
 

@@ -1,3 +1,1 @@
-pub mod Statuses
-pub mod Reports
 pub mod Command

@@ -5,7 +5,7 @@ ghost use Rattle.uca_named_files.specs.NamedFiles.{file_system};
 ghost use Rattle.uca_named_files.specs.EditionNames.{change_files_of, edition_files_of};
 
 use crate::printing::print_changes;
-use crate::reporting::{checked, done};
+use crate::statuses::{checked, done};
 use std::alloc::Global;
 use std::io::{Read, Write};
 use uca_editions::FoundChanges;

@@ -9,7 +9,7 @@ ghost use Rattle.uca_runs.specs.CompareRun.{comparing};
 
 use crate::change_commands::{audit_changes, changes, rekey};
 use crate::printing::print_table;
-use crate::reporting::{checked, done, report};
+use crate::statuses::{checked, done};
 use std::alloc::Global;
 use std::io::{Read, Write};
 use uca_certificates::Certificate;
@@ -17,6 +17,7 @@ use uca_change_runs::run_affected_by_changes;
 use uca_named_files::Opens;
 use uca_named_files::keeping::{find_certificate, keep_certificate};
 use uca_named_files::opening::{EditionNames, open_audit_files, open_files, open_three, open_two};
+use uca_reports::report;
 use uca_run_parts::faults::{Role, RunFault};
 use uca_run_parts::{run_affected, run_check};
 use uca_runs::{run_compare, run_keyed_lines, run_keys};

@@ -1,20 +1,20 @@
 //! The command: it opens the files that its arguments name, runs over them, and reports what comes of it. The runs are those of
-//! `uca_run_parts`, `uca_runs`, `uca_sort_runs`, `uca_tailor_runs`, `uca_change_runs` and `uca_rekey`.
+//! `uca_run_parts`, `uca_runs`, `uca_sort_runs`, `uca_tailor_runs`, `uca_change_runs` and `uca_rekey`, and the reports those of `uca_reports`.
 #![tactic(auto)]
 
 mod change_commands;
 pub mod command;
 mod printing;
-pub mod reporting;
+mod statuses;
 
 pub use command::run_command;
-pub use reporting::report;
 pub use uca_change_runs::{
     affected_by_changes_are_the_others, run_affected_by_changes, run_affected_by_changes_in,
     run_audit_changes, run_audit_changes_in, run_changes, run_changes_in,
 };
 pub use uca_named_files::{MakeFault, OpenFault, Opens};
 pub use uca_rekey::{lines_move_with_keys, run_rekey, run_rekey_in};
+pub use uca_reports::{STREAM_FAILED, report};
 pub use uca_run_parts::{
     Affects, FileFault, InputKind, Role, RunFault, StoredKeyKind, print_affected, run_affected,
     run_affected_in, run_check,

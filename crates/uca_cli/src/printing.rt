@@ -4,9 +4,9 @@ ghost use Rattle.uca_table.specs.Canonical.{canonical};
 ghost use Rattle.uca_change_files.specs.ChangeTexts.{changes_text};
 ghost use Rattle.uca_cli.specs.Command.{PrintsText};
 
-use crate::reporting::DONE;
 use std::io::Write;
 use uca_change_files::{ChangeList, write_changes};
+use uca_reports::DONE;
 use uca_run_parts::faults::RunFault;
 use uca_table::write_table;
 use uca_values::Table;

@@ -10,7 +10,7 @@ use Rattle.uca_words.specs.declared.WordFault.TheVariants.{Refused}
 use Rattle.uca_run_parts.specs.declared.faults.RunFault.{RunFault}
 use Rattle.uca_run_parts.specs.declared.faults.RunFault.TheVariants.{Memory, Words}
 use Rattle.uca_run_parts.specs.FaultText.{fault_text}
-use Rattle.uca_cli.specs.Statuses.{is_asked_for, refusal_status}
+use Rattle.uca_reports.specs.Statuses.{is_asked_for, refusal_status}
 
 -- the text went out whole; or the writer failed, and the first bytes of it went out
 abbrev pub GoesOut : SinkState → SinkState → List ℕ → Type 0

@@ -1,10 +1,10 @@
 //! What an error writes on standard error, and the status that the program ends with.
+#![tactic(auto)]
 
 ghost use Rattle.std.specs.Prelude.{◌≡◌, ◌++◌, ◌∷◌, []};
 ghost use Rattle.uca_run_parts.specs.FaultText.{fault_text};
-ghost use Rattle.uca_cli.specs.Command.{check_result, done_result};
-ghost use Rattle.uca_cli.specs.Reports.{GoesOut, ReportsRefusal, ReportsWords, Reports};
-ghost use Rattle.uca_cli.specs.Statuses.{line_status, rule_status, certificate_status, file_status, input_status, stored_key_status, text_status, tailor_status, change_status, is_asked_for, IsWordStatus, IsStatus};
+ghost use Rattle.uca_reports.specs.Reports.{GoesOut, ReportsRefusal, ReportsWords, Reports};
+ghost use Rattle.uca_reports.specs.Statuses.{line_status, rule_status, certificate_status, file_status, input_status, stored_key_status, text_status, tailor_status, change_status, is_asked_for, IsWordStatus, IsStatus};
 
 use clap::error::ErrorKind;
 use std::alloc::Global;
@@ -31,27 +31,6 @@ pub const WRONG_WORDS: u8 = 2;
 pub const STREAM_FAILED: u8 = 3;
 /// An allocation failed.
 pub const NO_MEMORY: u8 = 4;
-
-/// The status of a run that was done.
-pub(crate) fn done(run: Result<(), RunFault>) -> Result<u8, RunFault>
-    ensures { result ≡ done_result run }
-{
-    match run {
-        Ok(()) => Ok(DONE),
-        Err(fault) => Err(fault),
-    }
-}
-
-/// The status of a check that was done.
-pub(crate) fn checked(run: Result<bool, RunFault>) -> Result<u8, RunFault>
-    ensures { result ≡ check_result run }
-{
-    match run {
-        Ok(true) => Ok(DONE),
-        Ok(false) => Ok(REFUSED),
-        Err(fault) => Err(fault),
-    }
-}
 
 fn status_of_line(kind: FaultKind) -> u8
     ensures { result ≡ line_status kind }
