@@ -1,5 +1,5 @@
-//! What lookups say of code points: over tables of a few rows, where a list of rows, a trie and a trie of packed rows say the same, and
-//! over one of many.
+//! What lookups say of code points, over tables of a few rows and over one of many. A list of rows, a trie and a trie of packed rows
+//! say the same.
 
 use crate::cases::{code_point, halves, holds, same};
 use crate::samples::{packed_table_of, table_of};
