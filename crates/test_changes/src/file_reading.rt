@@ -3,8 +3,10 @@
 use std::alloc::{AllocError, Global};
 use std::io::ErrorKind;
 use std::test::Fail;
-use test_kit::{Calls, Failure, FakeReader, Pace, bytes_of, halves, holds, is_remark, same};
-use uca_change_files::{ChangeList, CodePointRange, TableFault, read_changes, write_changes};
+use test_kit::{
+    Calls, Failure, FakeReader, Pace, bytes_of, halves, holds, is_remark, joined, repeated, same,
+};
+use uca_change_files::{ChangeList, CodePointRange, read_changes, write_changes};
 use uca_weights::{Sink, Source};
 
 /// A file, and what is read of it: each code point of a text after `.`, and the ends of a range; or the first error.
@@ -121,15 +123,10 @@ fn check_list(
     same(&found, wanted, case)
 }
 
-fn check_fault(alloc: Global, fault: TableFault, wanted: &str, case: &str) -> Result<(), Fail> {
-    let found = format!(in alloc; "line {}: {}", fault.line, fault.kind)?;
-    same(&found, wanted, case)
-}
-
 fn check(alloc: Global, file: &[u8], wanted: &str, case: &str) -> Result<(), Fail> {
     match read_changes(alloc, &mut Source::new(file)) {
         Ok(list) => check_list(alloc, &list, file, wanted, case),
-        Err(fault) => check_fault(alloc, fault, wanted, case),
+        Err(fault) => same(fault.message().as_str(), wanted, case),
     }
 }
 
@@ -151,11 +148,8 @@ fn what_files_list(rt: HostRuntime) -> Result<(), Fail> {
 
 /// The second line of a file has this many bytes.
 fn check_length(alloc: Global, length: usize, wanted: &str) -> Result<(), Fail> {
-    let mut file = String::from_str(alloc, "@changes 1\n")?;
-    for _ in 0..length {
-        file.push_str("x")?;
-    }
-    file.push_str("\n")?;
+    let line = repeated(alloc, "x", length)?;
+    let file = joined(alloc, &["@changes 1\n", &line, "\n"])?;
     check(alloc, file.as_bytes(), wanted, "a long line")
 }
 
@@ -172,11 +166,11 @@ fn check_broken(alloc: Global, good: usize, wanted: &str) -> Result<(), Fail> {
     let pace = Pace::failing(3, good, Failure::Error(ErrorKind::Other));
     let reader = FakeReader::new(b"@changes 1\ntext 0061\n", pace, &calls);
     let mut source = Source::new(reader);
-    match read_changes(alloc, &mut source) {
-        Ok(_) => Err(Fail::new("a list")),
-        Err(fault) => check_fault(alloc, fault, wanted, "a source that fails"),
-    }?;
-    holds(source.failed() && calls.late.get() == 0, "no failure")
+    let is_told = match read_changes(alloc, &mut source) {
+        Ok(_) => false,
+        Err(fault) => fault.message().as_str() == wanted,
+    };
+    holds(is_told && source.failed() && calls.late.get() == 0, wanted)
 }
 
 #[test]

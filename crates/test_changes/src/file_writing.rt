@@ -64,11 +64,8 @@ fn check_cut(alloc: Global, list: &ChangeList, good: usize) -> Result<(), Fail> 
         Err(fault) => fault.written == good as u64,
     };
     let is_told = is_told && out.failed();
-    let text = out.into_inner().text;
-    let is_front = Some(text.as_slice()) == TEXT.get(..good);
-    drop(text);
-    holds(is_told, "no failure")?;
-    holds(is_front, "other bytes")
+    let is_front = TEXT.get(..good) == Some(out.into_inner().text.as_slice());
+    holds(is_told && is_front, "a writer that fails")
 }
 
 #[test]

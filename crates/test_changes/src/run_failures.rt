@@ -4,7 +4,7 @@ use crate::runs::{End, KEYS, call, rekey};
 use std::alloc::Global;
 use std::io::ErrorKind;
 use std::test::Fail;
-use test_kit::{Calls, Failure, FakeReader, FakeWriter, Pace, bytes_of, holds, same, thirds};
+use test_kit::{Calls, Failure, FakeReader, FakeWriter, Pace, bytes_of, holds, thirds};
 use test_kit_allocator::Refusing;
 use uca_run_parts::RunFault;
 use uca_weights::{Sink, Source};
@@ -18,27 +18,42 @@ audit | old old-data new new-data changes certificate memory | accepted\n";
 const LINES: &str = r"affected | data changes memory input | c\nccccccccc\xCC\xA4\n
 rekey | certificate memory input | 1C61 0000 0020 0000 0002\n1C471C61000000200020000000020002\tab\n0000 0000\n";
 
-// Adds the place of an error of memory, unless it is the last one already: a file, the input, or `memory`.
-fn add_place(places: &mut String, said: &str) -> Result<(), Fail> {
-    let place = match said.strip_suffix(": Memory") {
-        Some(front) => front.split_once(" line ").ok_or("no line")?.0,
-        None => said,
-    };
-    if !places.trim_end().ends_with(place) {
-        places.push_str(place)?;
-        places.push_str(" ")?;
+/// The places that are left to come, and the one that came last.
+#[derive(Clone, Copy)]
+struct Places<'x> {
+    last: &'x str,
+    rest: &'x str,
+}
+
+impl Places<'_> {
+    // Whether the place is the last one again, or else the first of those that are left. It is the last one then.
+    fn pass(&mut self, place: &str) -> bool {
+        if place == self.last {
+            return true;
+        }
+        let (next, rest) = self.rest.split_once(" ").unwrap_or((self.rest, ""));
+        self.last = next;
+        self.rest = rest;
+        place == next
     }
-    Ok(())
+}
+
+// The place that an error of memory names: a file, the input, or `memory`.
+fn place_of(said: &str) -> &str {
+    let front = said.strip_suffix(": Memory").unwrap_or("");
+    match front.split_once(" line ") {
+        Some((place, _)) => place,
+        None => said,
+    }
 }
 
 // All is written if the run is done, and else whole lines before the error.
-fn check_end(end: &End, out: &[u8], whole: &[u8], places: &mut String) -> Result<(), Fail> {
+fn is_right_end(end: &End, out: &[u8], whole: &[u8], places: &mut Places) -> bool {
     match end {
-        Ok(()) => holds(out == whole, "the whole output"),
+        Ok(()) => out == whole,
         Err(fault) => {
             let is_front = whole.starts_with(out) && (out.is_empty() || out.ends_with(b"\n"));
-            holds(is_front, "what is written")?;
-            add_place(places, fault.message().as_str())
+            is_front && places.pass(place_of(fault.message().as_str()))
         }
     }
 }
@@ -50,25 +65,28 @@ fn is_done(
     name: &str,
     whole: &[u8],
     number: u32,
-    places: &mut String,
+    places: &mut Places,
 ) -> Result<bool, Fail> {
     let tried = Refusing::new(ample);
     tried.refuse(Some(number));
     let mut out = Sink::new(Vec::new(ample));
     let end = call(ample, &tried, name, &mut out);
-    check_end(&end, &out.into_inner(), whole, places)?;
-    holds(tried.held() == 0, "memory that is not given back")?;
-    holds(end.is_ok() == (tried.asked() <= number), name)?;
-    Ok(end.is_ok())
+    let is_right = is_right_end(&end, &out.into_inner(), whole, places);
+    let is_given_back = tried.held() == 0;
+    let is_done = tried.asked() <= number;
+    holds(is_right && is_given_back && end.is_ok() == is_done, name)?;
+    Ok(is_done)
 }
 
-fn check_case(ample: Global, case: &str) -> Result<(), Fail> {
-    let (name, wanted, whole) = thirds(case)?;
-    let whole = bytes_of(ample, whole)?;
-    let mut places = String::new(ample);
+// Each allocation of a run fails in turn, and then none.
+fn check_run(ample: Global, name: &str, wanted: &str, whole: &[u8]) -> Result<(), Fail> {
+    let mut places = Places {
+        last: "",
+        rest: wanted,
+    };
     for number in 0..1_000 {
-        if is_done(ample, name, &whole, number, &mut places)? {
-            return same(places.trim_end(), wanted, name);
+        if is_done(ample, name, whole, number, &mut places)? {
+            return holds(places.rest.is_empty(), name);
         }
     }
     Err(Fail::new("allocations without end"))
@@ -76,7 +94,9 @@ fn check_case(ample: Global, case: &str) -> Result<(), Fail> {
 
 fn check_cases(ample: Global, cases: &str) -> Result<(), Fail> {
     for case in cases.lines() {
-        check_case(ample, case)?;
+        let (name, wanted, whole) = thirds(case)?;
+        let whole = bytes_of(ample, whole)?;
+        check_run(ample, name, wanted, &whole)?;
     }
     Ok(())
 }
@@ -96,33 +116,44 @@ fn pace(good: usize) -> Pace {
     Pace::failing(7, good, Failure::Error(ErrorKind::Other))
 }
 
-// The end of a run that rekeys lines, and what it writes.
-fn check_said(ample: Global, end: &End, out: &[u8], wanted: &str) -> Result<(), Fail> {
-    let mut said = String::new(ample);
-    check_end(end, out, KEYS[1].as_bytes(), &mut said)?;
-    same(said.trim_end(), wanted, "a read that fails")
+// Whether a run ends with the error of this text.
+fn is_told(end: &End, wanted: &str) -> bool {
+    match end {
+        Ok(()) => false,
+        Err(fault) => fault.message().as_str() == wanted,
+    }
 }
 
 // The error names the line that is being read, and the lines before it are written.
-fn check_read(ample: Global, good: usize, wanted: &str, written: usize) -> Result<(), Fail> {
-    let [keys, _] = KEYS;
+fn check_read(ample: Global, good: usize, written: usize, wanted: &str) -> Result<(), Fail> {
+    let [keys, moved] = KEYS;
     let calls = Calls::new();
     let mut input = Source::new(FakeReader::new(keys.as_bytes(), pace(good), &calls));
     let mut out = Sink::new(Vec::new(ample));
-    let end = rekey(ample, &mut input, &mut out);
-    let out = out.into_inner();
-    let is_so = out.len() == written && calls.late.get() == 0;
-    check_said(ample, &end, &out, wanted)?;
-    holds(is_so, wanted)
+    let is_told = is_told(&rekey(ample, &mut input, &mut out), wanted);
+    let is_front = moved.as_bytes().get(..written) == Some(out.into_inner().as_slice());
+    holds(is_told && is_front && calls.late.get() == 0, wanted)
 }
 
 #[test]
 fn a_read_fails(rt: HostRuntime) -> Result<(), Fail> {
-    for (good, line, written) in [(0, 1, 0), (24, 1, 0), (25, 2, 25), (64, 3, 61)] {
-        let wanted = format!(in rt.alloc(); "input line {line}: Read")?;
-        check_read(rt.alloc(), good, &wanted, written)?;
+    for (good, written, wanted) in [
+        (0, 0, "input line 1: Read"),
+        (24, 0, "input line 1: Read"),
+        (25, 25, "input line 2: Read"),
+        (64, 61, "input line 3: Read"),
+    ] {
+        check_read(rt.alloc(), good, written, wanted)?;
     }
     Ok(())
+}
+
+// Whether the writer failed after this many bytes.
+fn is_cut(end: &End, good: usize) -> bool {
+    match end {
+        Err(RunFault::Write { written }) => *written == good as u64,
+        _ => false,
+    }
 }
 
 // The writer fails after this many bytes. These went out, and the error says how many they are.
@@ -130,16 +161,15 @@ fn check_write(ample: Global, good: usize) -> Result<(), Fail> {
     let [keys, moved] = KEYS;
     let calls = Calls::new();
     let mut out = Sink::new(FakeWriter::new(ample, pace(good), &calls));
-    let end = rekey(ample, &mut Source::new(keys.as_bytes()), &mut out);
-    let is_told = match end {
-        Err(RunFault::Write { written }) => written == good as u64 && calls.late.get() == 0,
-        _ => false,
-    };
-    let text = out.into_inner().text;
-    let is_front = moved.as_bytes().get(..good) == Some(text.as_slice());
-    drop(text);
-    holds(is_told, "a write that fails")?;
-    holds(is_front, "what went out")
+    let is_told = is_cut(
+        &rekey(ample, &mut Source::new(keys.as_bytes()), &mut out),
+        good,
+    );
+    let is_front = moved.as_bytes().get(..good) == Some(out.into_inner().text.as_slice());
+    holds(
+        is_told && is_front && calls.late.get() == 0,
+        "a write that fails",
+    )
 }
 
 #[test]
