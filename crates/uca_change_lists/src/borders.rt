@@ -18,8 +18,8 @@ pub(crate) fn pair_borders<A: Allocator + Copy, T: Allocator>(
     ensures { IfOk result (λ list. HasPairBorders old.now.ranges new.now.ranges changes.now.ranges list.items) }
 {
     let mut list = first_points(alloc)?;
-    push_implicit_ranges(&mut list, &old.ranges)?;
-    push_implicit_ranges(&mut list, &new.ranges)?;
+    push_implicit_borders(&mut list, &old.ranges)?;
+    push_implicit_borders(&mut list, &new.ranges)?;
     push_ranges(&mut list, changes.ranges())?;
     Ok(list)
 }
@@ -34,8 +34,8 @@ pub(crate) fn point_borders<A: Allocator + Copy, T: Allocator>(
     ensures { IfOk result (λ list. HasPointBorders old.now new.now changes.now.ranges list.items) }
 {
     let mut list = first_points(alloc)?;
-    push_data(&mut list, old)?;
-    push_data(&mut list, new)?;
+    push_data_borders(&mut list, old)?;
+    push_data_borders(&mut list, new)?;
     push_ranges(&mut list, changes.ranges())?;
     Ok(list)
 }
@@ -48,7 +48,7 @@ fn first_points<A: Allocator>(alloc: A) -> Result<Vec<char, A>, AllocError>
 }
 
 /// Adds the borders of the ranges of a data file. An error means that it ran out of memory; some may then be added.
-pub fn push_data<A: Allocator, T: Allocator>(
+pub fn push_data_borders<A: Allocator, T: Allocator>(
     list: &mut Vec<char, A>,
     data: &Data<T>,
 ) -> Result<(), AllocError>
@@ -87,7 +87,7 @@ fn push_ranges<A: Allocator>(
 }
 
 /// Adds the borders of ranges for implicit weights. An error means that it ran out of memory; some may then be added.
-pub fn push_implicit_ranges<A: Allocator>(
+pub fn push_implicit_borders<A: Allocator>(
     list: &mut Vec<char, A>,
     ranges: &[ImplicitRange],
 ) -> Result<(), AllocError>

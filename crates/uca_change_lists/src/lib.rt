@@ -7,7 +7,7 @@ mod changes;
 mod points;
 mod text_sets;
 
-pub use borders::{push_data, push_implicit_ranges};
+pub use borders::{push_data_borders, push_implicit_borders};
 pub use changes::Changes;
 pub use points::{first_other_pair, first_other_point, have_same_pair, say_same};
 pub use text_sets::TextSet;

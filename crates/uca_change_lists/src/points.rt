@@ -140,7 +140,7 @@ fn is_same_point<T: Allocator>(
     changes.has_point(point) || say_same(old, new, point)
 }
 
-/// Whether both data files say the same of a code point: its class, and whether it is an ideograph of either kind.
+/// Whether both data files say the same for a code point: its class, and whether it is an ideograph of either kind.
 pub fn say_same<T: Allocator>(old: &Data<T>, new: &Data<T>, point: char) -> bool
     ensures { IsTrue result ↔ IsSamePoint (properties_of old.now) (properties_of new.now) point }
 {

@@ -4,7 +4,7 @@
 use crate::Editions;
 use std::alloc::{AllocError, Allocator};
 use uca_change_files::{ChangeList, CodePointRange, FaultKind};
-use uca_change_lists::{have_same_pair, push_data, push_implicit_ranges, say_same};
+use uca_change_lists::{have_same_pair, push_data_borders, push_implicit_borders, say_same};
 use uca_values::{Data, Table};
 
 /// The last code point below the surrogates.
@@ -102,6 +102,6 @@ fn push_edition<A: Allocator>(
     table: &Table<A>,
     data: &Data<A>,
 ) -> Result<(), AllocError> {
-    push_implicit_ranges(borders, &table.header.ranges)?;
-    push_data(borders, data)
+    push_implicit_borders(borders, &table.header.ranges)?;
+    push_data_borders(borders, data)
 }

@@ -6,20 +6,19 @@
 #![tactic(auto)]
 
 mod auditing;
-mod conditions;
-mod inputs;
-mod laws;
-mod rows;
-
 mod chains;
 mod changed_ranges;
 mod changed_texts;
+mod conditions;
 mod editions;
 mod found;
+mod inputs;
+mod laws;
 mod levels;
 mod listed;
 mod maker;
 mod moves;
+mod rows;
 
 pub use auditing::audit_change;
 pub use editions::Editions;

@@ -1,14 +1,29 @@
--- Lists of elements and of their images, element by element.
-use Rattle.std.proofs.Common.{◌≡◌, ℕ, zero, suc, ◌+◌, ◌<◌, ◌≤◌, List, [], ◌∷◌, ◌++◌, length, take, drop, get_or, Bool, true, false, IsTrue, ◌↔◌, refl, sym, subst, ◌∙◌, arith}
-use Rattle.std.proofs.lemmas.Bool.{false≢true}
+-- Lists of elements and of their images, element by element; and the images of all weights.
+use Rattle.std.proofs.Common.{◌≡◌, ℕ, zero, suc, ◌+◌, ◌<◌, ◌≤◌, List, [], ◌∷◌, ◌++◌, length, take, drop, get_or, Option, None, Bool, true, false, IsTrue, ◌↔◌, ⊎_elim, refl, sym, ap, subst, ◌∙◌, arith, length-append}
+use Rattle.std.proofs.lemmas.Bool.{cases_lt, false≢true}
 use Rattle.std.specs.Bool.{MatchBool}
 use Rattle.std.specs.List.{AllByRecursion, AllWithin, HoldsAt}
-use Rattle.std.proofs.lemmas.List.{take_all, get_or_default}
+use Rattle.std.proofs.lemmas.List.{take_all, get_or_append_left, get_or_default, get_or_push}
 use Rattle.std.proofs.lemmas.List.Elements.{recursion_from_All, All-from_all_within}
 use Rattle.uca_weights.specs.declared.Element.{Element}
+use Rattle.uca_weights.specs.Runs.{MapContent, weight_image}
 use Rattle.uca_weights.proofs.Lists.{each_push, inside, split_at, taken_more}
 use Rattle.uca_tailorings.specs.Images.{Maps, IsImage, AreImages}
 use Rattle.uca_tailorings.proofs.Images.{images-append}
+use Rattle.uca_kept_rows.specs.ImageTables.{AreImagesBelow}
+
+-- a table with the image of one weight more
+pub table_further : (map : MapContent) (table new : List (Option ℕ)) (w : ℕ) (x : Option ℕ) → length table ≡ w → AreImagesBelow w map table → new ≡ table ++ x ∷ []
+    → x ≡ weight_image map.level map.runs w → (length new ≡ w + 1) × AreImagesBelow (w + 1) map new
+table_further map table new w x full so_far is image = (
+  ap length is ∙ length-append table (x ∷ []) ∙ ap (λ n. n + 1) full,
+  λ v below. ⊎_elim
+      (λ less. ap (λ l. get_or l v None) is ∙ get_or_append_left table (x ∷ []) None v (omega (arith, less, full)) ∙ so_far v less)
+      (λ over.
+      let same : v ≡ w = omega (arith, below, over) in
+      ap (λ l. get_or l v None) is ∙ get_or_push table x None v (full ∙ sym same) ∙ image ∙ ap (weight_image map.level map.runs) (sym same))
+      (cases_lt v w),
+)
 
 -- images have the length of their originals
 pub images_length : (maps : Maps) (es fs : List Element) → AreImages maps es fs → length es ≡ length fs

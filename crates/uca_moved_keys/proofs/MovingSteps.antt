@@ -1,8 +1,9 @@
 -- A key that is put through maps weight by weight.
-use Rattle.std.proofs.Common.{◌≡◌, ℕ, suc, ◌+◌, ◌-◌, ◌*◌, ◌/◌, ◌%◌, ◌<◌, ◌≤◌, Bool, true, false, List, [], ◌∷◌, ◌++◌, length, take, drop, set, get_or, Option, Some, None, nat_eq, if◌then◌else◌, refl, ap, sym, subst, ◌∙◌, append_assoc, arith}
+use Rattle.std.proofs.Common.{◌≡◌, ℕ, suc, ◌+◌, ◌-◌, ◌*◌, ◌/◌, ◌%◌, ◌<◌, ◌≤◌, Bool, true, false, List, [], ◌∷◌, ◌++◌, length, take, drop, set, get_or, Option, Some, None, nat_eq, if◌then◌else◌, refl, ap, sym, subst, ◌∙◌, append_assoc, arith, length-append, ⊎_elim}
 use Rattle.std.specs.Option.{option_map, unwrap_or}
+use Rattle.std.proofs.lemmas.Bool.{cases_lt}
 use Rattle.std.proofs.lemmas.Bool.Decides.{nat_tests}
-use Rattle.std.proofs.lemmas.List.{drop_more, take_more, take_more_set, take_all, drop_all, drop-set-lt, length-set, take-append-drop}
+use Rattle.std.proofs.lemmas.List.{get_or_append_left, get_or_push, drop_more, take_more, take_more_set, take_all, drop_all, drop-set-lt, length-set, take-append-drop}
 use Rattle.uca_weights.specs.declared.Depth.{Depth}
 use Rattle.uca_weights.specs.declared.Level.{Level}
 use Rattle.uca_weights.specs.declared.Weighting.{Weighting}
@@ -10,7 +11,7 @@ use Rattle.uca_weights.specs.Maps.{WeightImages, IsRisingMap}
 use Rattle.uca_order.specs.Levels.{weight_bytes, level_count}
 use Rattle.uca_tailorings.specs.Images.{Maps}
 use Rattle.uca_tailorings.specs.Moves.{level_images, weight_before, ended, after_weights, moved_from, moved_key}
-use Rattle.uca_moved_keys.specs.Moving.{IsImageEntry, IsImageTable, HasMoved}
+use Rattle.uca_moved_keys.specs.Moving.{IsImageEntry, AreImagesBelow, IsImageTable, HasMoved}
 
 -- ---- Images
 
@@ -24,6 +25,19 @@ image_entry level images rising w more = go (images w) refl
         let above : 0 < x = rising.rising 0 w 0 x rising.zero e more in
         let test : nat_eq x 0 ≡ false = grind (arith, nat_tests) in
         rw (e, test) refl
+
+-- a table with the image of one weight more
+pub table_further : (images : WeightImages) (table new : List ℕ) (w x : ℕ) → length table ≡ w → AreImagesBelow w images table → new ≡ table ++ x ∷ []
+    → IsImageEntry images w x → (length new ≡ w + 1) × AreImagesBelow (w + 1) images new
+table_further images table new w x full so_far is entry = (
+  ap length is ∙ length-append table (x ∷ []) ∙ ap (λ n. n + 1) full,
+  λ v below. ⊎_elim
+      (λ less. subst (IsImageEntry images v) (sym (ap (λ l. get_or l v 0) is ∙ get_or_append_left table (x ∷ []) 0 v (omega (arith, less, full)))) (so_far v less))
+      (λ over.
+      let same : v ≡ w = omega (arith, below, over) in
+      subst (IsImageEntry images v) (sym (ap (λ l. get_or l v 0) is ∙ get_or_push table x 0 v (full ∙ sym same))) (subst (λ n. IsImageEntry images n x) (sym same) entry))
+      (cases_lt v w),
+)
 
 -- ---- Lists
 

@@ -6,7 +6,7 @@ ghost use Rattle.uca_tailorings.specs.Inputs.{maps_of};
 ghost use Rattle.uca_tailorings.specs.Moves.{after_weights, ended, level_images, moved_key};
 ghost use Rattle.uca_moved_keys.specs.Moving.{IsImageTable};
 
-use crate::images::images_of;
+use crate::images::{LevelTables, tables_of};
 use crate::levels::{LevelEnd, move_level};
 use std::alloc::{AllocError, Allocator, Global};
 use std::marker::Model;
@@ -21,9 +21,7 @@ pub struct KeyMover<A: Allocator = Global> {
     certificate: Certificate<A>,
     depth: Depth,
     weighting: Weighting,
-    primary: Vec<u16, A>,
-    secondary: Vec<u16, A>,
-    tertiary: Vec<u16, A>,
+    tables: LevelTables<A>,
 }
 
 impl<A: Allocator> Model for KeyMover<A> {
@@ -34,7 +32,7 @@ impl<A: Allocator> Model for KeyMover<A> {
 
     ghost view = { λ m. record { certificate = m.certificate; depth = m.depth; weighting = m.weighting } };
 
-    ghost invariant = { λ m. AreLevelTables (maps_of m.certificate) m.primary.items m.secondary.items m.tertiary.items };
+    ghost invariant = { λ m. AreLevelTables (maps_of m.certificate) m.tables.primary.items m.tables.secondary.items m.tables.tertiary.items };
 }
 
 impl<A: Allocator + Copy> KeyMover<A> {
@@ -51,17 +49,15 @@ impl<A: Allocator + Copy> KeyMover<A> {
     ) -> Result<KeyMover<A>, AllocError>
         ensures { IfOk result (λ mover. mover ≡ record { certificate = certificate; depth = depth; weighting = weighting }) }
     {
-        let primary = images_of(alloc, &certificate.primary)?;
-        let secondary = images_of(alloc, &certificate.secondary)?;
-        let tertiary = images_of(alloc, &certificate.tertiary)?;
-        Ok(KeyMover {
-            certificate,
-            depth,
-            weighting,
-            primary,
-            secondary,
-            tertiary,
-        })
+        match tables_of(alloc, &certificate) {
+            Ok(tables) => Ok(KeyMover {
+                certificate,
+                depth,
+                weighting,
+                tables,
+            }),
+            Err(error) => Err(error),
+        }
     }
 }
 
@@ -114,9 +110,9 @@ impl<A: Allocator> KeyMover<A> {
         ensures { IsImageTable (level_images (maps_of self.now.certificate) (suc level)) result.now }
     {
         match level {
-            1 => &self.secondary,
-            2 => &self.tertiary,
-            _ => &self.primary,
+            1 => &self.tables.secondary,
+            2 => &self.tables.tertiary,
+            _ => &self.tables.primary,
         }
     }
 }

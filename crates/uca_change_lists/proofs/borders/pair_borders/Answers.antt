@@ -6,6 +6,6 @@ use Rattle.uca_change_lists.proofs.borders.pair_borders.Goals as goal
 pub returns : goal.returns
 returns g c =
     pair_lists c.args.old.now.ranges c.args.new.now.ranges _ _ c.args.changes.now.ranges _ _ _ _ _ c.in_ok-list.ensures
-    (c.deref.ensures.value ∙ ap (λ (h : HeaderContent). h.ranges) c.old.view_is) c.in_ok-push_implicit_ranges.ensures
-    (c.deref-2.ensures.value ∙ ap (λ (h : HeaderContent). h.ranges) c.new.view_is) c.in_ok-push_implicit_ranges-2.ensures
+    (c.deref.ensures.value ∙ ap (λ (h : HeaderContent). h.ranges) c.old.view_is) c.in_ok-push_implicit_borders.ensures
+    (c.deref-2.ensures.value ∙ ap (λ (h : HeaderContent). h.ranges) c.new.view_is) c.in_ok-push_implicit_borders-2.ensures
     c.ranges-2.ensures c.in_ok-push_ranges.ensures

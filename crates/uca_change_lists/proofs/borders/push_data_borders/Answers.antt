@@ -3,7 +3,7 @@ use Rattle.std.specs.Result.{OnOk}
 use Rattle.uca_values.specs.declared.CodePointRange.{CodePointRange}
 use Rattle.uca_change_lists.specs.Borders.{AddsBorders, HasDataBorders}
 use Rattle.uca_change_lists.proofs.BorderLists.{data_lists}
-use Rattle.uca_change_lists.proofs.borders.push_data.Goals as goal
+use Rattle.uca_change_lists.proofs.borders.push_data_borders.Goals as goal
 
 -- what follows from what is true of an Ok
 on_ok : {A E : Type 0} (P Q : Type 0) (result : Result A E) → (P → Q) → OnOk result P → OnOk result Q

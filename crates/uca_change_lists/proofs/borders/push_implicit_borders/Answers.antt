@@ -1,6 +1,6 @@
 use Rattle.uca_values.specs.declared.ImplicitRange.{ImplicitRange}
 use Rattle.uca_change_lists.proofs.BorderLists.{borders_further, borders_whole}
-use Rattle.uca_change_lists.proofs.borders.push_implicit_ranges.Goals as goal
+use Rattle.uca_change_lists.proofs.borders.push_implicit_borders.Goals as goal
 
 pub loop-range-preserved : goal.loop-range-preserved
 loop-range-preserved g c =
