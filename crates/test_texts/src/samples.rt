@@ -39,10 +39,7 @@ pub fn table_of(alloc: Global, file: &str) -> Result<Table, Fail> {
 
 /// The table of a table file, with its rows in a few lists.
 pub fn packed_table_of(alloc: Global, file: &str) -> Result<PackedTable, Fail> {
-    Ok(read_packed_table(
-        alloc,
-        &mut Source::new(file.as_bytes()),
-    )?)
+    Ok(read_packed_table(alloc, &mut Source::new(file.as_bytes()))?)
 }
 
 /// The properties of a data file.

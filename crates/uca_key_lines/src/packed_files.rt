@@ -7,8 +7,7 @@ ghost use Rattle.uca_run_parts.specs.ReadFiles.{ReadsFiles, table_file};
 
 use std::alloc::Allocator;
 use std::io::Read;
-use uca_run_parts::read_data_file;
-use uca_run_parts::{FileFault, Role, RunFault};
+use uca_run_parts::{FileFault, Role, RunFault, read_data_file};
 use uca_table::read_packed_table;
 use uca_values::{Data, PackedTable};
 use uca_weights::Source;

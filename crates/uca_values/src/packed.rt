@@ -134,7 +134,10 @@ fn add_points<A: Allocator>(all: &mut Vec<char, A>, more: &[char]) -> Result<Spa
 }
 
 // Adds elements after the others, and returns where they are.
-fn add_elements<A: Allocator>(all: &mut Vec<Element, A>, more: &[Element]) -> Result<Span, AllocError>
+fn add_elements<A: Allocator>(
+    all: &mut Vec<Element, A>,
+    more: &[Element],
+) -> Result<Span, AllocError>
     ensures added { OnOk result (all.new.items ≡ all.old.items ++ more.now) }
     ensures span { IfOk result (λ span. span ≡ last_span all.old.items more.now) }
     ensures unchanged { OnErr result (all.new.items ≡ all.old.items) }
@@ -198,7 +201,11 @@ fn unpacked<A: Allocator + Copy>(
 }
 
 // A copy of the row at a position.
-fn row_at<A: Allocator + Copy>(alloc: A, rows: &PackedRows<A>, at: usize) -> Result<Row<A>, AllocError>
+fn row_at<A: Allocator + Copy>(
+    alloc: A,
+    rows: &PackedRows<A>,
+    at: usize,
+) -> Result<Row<A>, AllocError>
     requires { at < length rows.now }
     ensures { IfOk result (λ row. (d : Entry) → row ≡ slice_index_or rows.now at d) }
 {

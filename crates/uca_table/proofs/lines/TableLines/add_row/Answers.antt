@@ -25,7 +25,7 @@ pub invariant_of-self-in-Err : goal.invariant_of-self-in-Err
 invariant_of-self-in-Err g c =
     let rows : List Entry = c.self.inside.rows in
     let back : c.truncate.new.self ≡ rows = c.truncate.ensures ∙ ap (take c.len-before.result) c.in_ok-push.ensures.added
-        ∙ take_at rows _ c.len-before.result (sym c.len-before.ensures) in
+    ∙ take_at rows _ c.len-before.result (sym c.len-before.ensures) in
     keeps_same _ _ _ _ _ c.self.invariant (ap (with_rows _ _ _) back) c.in-Err.ensures.same
 
 pub invariant_of-self-in-Ok : goal.invariant_of-self-in-Ok
