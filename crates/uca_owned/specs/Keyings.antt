@@ -3,8 +3,8 @@ use Rattle.std.specs.Prelude.{ℕ, List, Option, chars, unwrap_or}
 use Rattle.uca_weights.specs.declared.Depth.{Depth}
 use Rattle.uca_weights.specs.declared.Weighting.{Weighting}
 use Rattle.uca_weights.specs.declared.Weighting.TheVariants.{Shifted}
-use Rattle.uca_values.specs.Content.{TableContent, Properties}
-use Rattle.uca_elements.specs.Rows.{rows_of}
+use Rattle.uca_values.specs.Content.{HeaderContent, TableContent, Properties}
+use Rattle.uca_elements.specs.Rows.{Rows, rows_of}
 use Rattle.uca_elements.specs.Collations.{Collation}
 use Rattle.uca_order.specs.Levels.{Comparison}
 use Rattle.uca_order.specs.Laws.{text_key, texts_compared}
@@ -27,10 +27,14 @@ bytes_compared k left right = texts_compared k.collation k.depth k.weighting (ch
 abbrev pub weighting_by : Option Weighting → Option Weighting → Weighting
 weighting_by asked setting = unwrap_or asked (unwrap_or setting Shifted)
 
--- what texts are keyed by under a table and the properties of a data file
-abbrev pub keying : Option Weighting → Depth → TableContent → Properties → Keying
-keying asked depth table properties = record {
-  collation = record { rows = rows_of table.rows; ranges = table.header.ranges; properties = properties };
-  weighting = weighting_by asked table.header.setting;
+-- what texts are keyed by, with these rows, the header of a table, and the properties of a data file
+abbrev pub keying_over : Rows → HeaderContent → Option Weighting → Depth → Properties → Keying
+keying_over rows header asked depth properties = record {
+  collation = record { rows = rows; ranges = header.ranges; properties = properties };
+  weighting = weighting_by asked header.setting;
   depth = depth;
 }
+
+-- what texts are keyed by under a table and the properties of a data file
+abbrev pub keying : Option Weighting → Depth → TableContent → Properties → Keying
+keying asked depth table properties = keying_over (rows_of table.rows) table.header asked depth properties

@@ -2,7 +2,8 @@
 
 ghost use Rattle.std.specs.Prelude.{◌≡◌, IfOk, IfErr, MatchResult};
 ghost use Rattle.uca_values.specs.Content.{TableContent, Properties, properties_of};
-ghost use Rattle.uca_owned.specs.Keyings.{keying, weighting_by};
+ghost use Rattle.uca_match.specs.NumberedKeys.{rows_at};
+ghost use Rattle.uca_owned.specs.Keyings.{keying, keying_over, weighting_by};
 ghost use Rattle.uca_owned.specs.Owned.{keying_in};
 ghost use Rattle.uca_owned.specs.Opening.{MeanFiles, Opens, IsOpenCause, IsOpenStop};
 
@@ -10,9 +11,9 @@ use crate::faults::OpenFault;
 use crate::{OwnedCollator, OwnedKeyWriter};
 use std::alloc::{AllocError, Global};
 use uca_match::Trie;
-use uca_table::{read_data, read_table};
+use uca_table::{read_data, read_packed_table};
 use uca_text::Normal;
-use uca_values::{Data, Header, Table};
+use uca_values::{Data, Header, PackedTable, Table};
 use uca_weights::{Depth, Source, Weighting};
 
 // The weighting that is asked for, or else that of the table's `@variable`, or else shifted (UTS #10, section 4).
@@ -20,6 +21,41 @@ fn chosen_weighting(asked: Option<Weighting>, header: &Header) -> Weighting
     ensures { result ≡ weighting_by asked header.now.setting }
 {
     asked.or(header.setting).unwrap_or(Weighting::Shifted)
+}
+
+// A collator of a header, of rows that are ready to be looked up, and of a data file.
+fn collator_of(
+    alloc: Global,
+    header: Header,
+    rows: Trie,
+    properties: Data,
+    asked: Option<Weighting>,
+    depth: Depth,
+) -> OwnedCollator
+    ensures { keying_in result ≡ keying_over (rows_at rows) header asked depth (properties_of properties) }
+{
+    let weighting = chosen_weighting(asked, &header);
+    OwnedCollator {
+        writer: OwnedKeyWriter::new(alloc, rows, header, properties, weighting, depth),
+        left: Normal::new(alloc),
+        right: Normal::new(alloc),
+        weighting,
+        depth,
+    }
+}
+
+// A collator of a table that was read with its rows in a few lists, and of a data file.
+fn packed_collator(
+    alloc: Global,
+    table: PackedTable,
+    properties: Data,
+    asked: Option<Weighting>,
+    depth: Depth,
+) -> Result<OwnedCollator, AllocError>
+    ensures { IfOk result (λ c. keying_in c ≡ keying asked depth table (properties_of properties)) }
+{
+    let (header, rows) = Trie::of_table(alloc, table)?;
+    Ok(collator_of(alloc, header, rows, properties, asked, depth))
 }
 
 impl OwnedCollator {
@@ -39,15 +75,8 @@ impl OwnedCollator {
         ensures { IfOk result (λ c. keying_in c ≡ keying asked depth table (properties_of properties)) }
     {
         let rows = Trie::new(alloc, &table)?;
-        let weighting = chosen_weighting(asked, &table.header);
         let Table { header, .. } = table;
-        Ok(OwnedCollator {
-            writer: OwnedKeyWriter::new(alloc, rows, header, properties, weighting, depth),
-            left: Normal::new(alloc),
-            right: Normal::new(alloc),
-            weighting,
-            depth,
-        })
+        Ok(collator_of(alloc, header, rows, properties, asked, depth))
     }
 
     /// Reads a table and then a data file from their bytes, and makes a collator of them, as
@@ -55,7 +84,7 @@ impl OwnedCollator {
     ///
     /// # Errors
     ///
-    /// `Table` if the table is rejected, else `Data` if the data file is, as [`read_table`] and [`read_data`] say. Both
+    /// `Table` if the table is rejected, else `Data` if the data file is, as [`read_table`](uca_table::read_table) and [`read_data`] say. Both
     /// also if an allocation failed while that file was read. `Memory` if one failed later.
     pub fn open(
         alloc: Global,
@@ -69,7 +98,7 @@ impl OwnedCollator {
             MatchResult result (λ c. keying_in c ≡ keying asked depth meant properties) IsOpenStop }
         ensures fault { IfErr result (IsOpenCause table.now data_file.now) }
     {
-        let read = match read_table(alloc, &mut Source::new(table)) {
+        let read = match read_packed_table(alloc, &mut Source::new(table)) {
             Ok(read) => read,
             Err(fault) => return Err(OpenFault::Table(fault)),
         };
@@ -77,7 +106,7 @@ impl OwnedCollator {
             Ok(properties) => properties,
             Err(fault) => return Err(OpenFault::Data(fault)),
         };
-        match OwnedCollator::new(alloc, read, properties, asked, depth) {
+        match packed_collator(alloc, read, properties, asked, depth) {
             Ok(collator) => Ok(collator),
             Err(_) => Err(OpenFault::Memory),
         }

@@ -18,10 +18,10 @@ returns-in-Err-read_data-clause-only c meant properties mean =
     subst (λ left. IfSome left (λ bytes. (ps : Properties) → data_files.Means bytes ps → IsStop c.in-Err-read_data.fault.kind)) c.new-2.ensures.bytes c.in-Err-read_data.ensures.only
     properties mean.data_file
 
-pub returns-in-Ok-new-clause-only : goal.returns-in-Ok-new-clause-only
-returns-in-Ok-new-clause-only c meant properties mean =
+pub returns-in-Ok-packed_collator-clause-only : goal.returns-in-Ok-packed_collator-clause-only
+returns-in-Ok-packed_collator-clause-only c meant properties mean =
     let table_same = subst (λ left. IfSome left (λ bytes. (table : TableContent) → tables.Means bytes table → c.in-Ok.read ≡ table)) c.new.ensures.bytes c.in-Ok.ensures.only
     meant mean.table_file in
     let data_same = subst (λ left. IfSome left (λ bytes. (ps : Properties) → data_files.Means bytes ps → properties_of c.in-Ok-read_data.properties ≡ ps)) c.new-2.ensures.bytes c.in-Ok-read_data.ensures.only
     properties mean.data_file in
-    c.in-Ok-new.ensures ∙ (λ i. keying c.args.asked c.args.depth (table_same i) (data_same i))
+    c.in-Ok-packed_collator.ensures ∙ (λ i. keying c.args.asked c.args.depth (table_same i) (data_same i))
