@@ -26,11 +26,26 @@ const FILES: [&str; 6] = [
 /// All lines but the last one are affected.
 const LINES: &str = "c\nccccccccc\u{324}\nb\n";
 
-/// Lines with stored keys, and with those that they become.
-pub const KEYS: [&str; 2] = [
-    "1C60 0000 0020 0000 0002\n1C471C60000000200020000000020002\tab\n0000 0000\n",
-    "1C61 0000 0020 0000 0002\n1C471C61000000200020000000020002\tab\n0000 0000\n",
-];
+/// Lines with stored keys.
+pub const KEYS: &str =
+    "1C60 0000 0020 0000 0002\n1C471C60000000200020000000020002\tab\n0000 0000\n";
+
+/// The lines that they become.
+pub const MOVED: &str =
+    "1C61 0000 0020 0000 0002\n1C471C61000000200020000000020002\tab\n0000 0000\n";
+
+/// A run.
+#[derive(Clone, Copy)]
+pub enum Run {
+    /// It finds changes.
+    Changes,
+    /// It audits a change.
+    Audit,
+    /// It prints the lines that changes affect.
+    Affected,
+    /// It rekeys lines.
+    Rekey,
+}
 
 /// How a run ends.
 pub type End = Result<(), RunFault>;
@@ -90,15 +105,15 @@ pub fn rekey<A: Allocator + Copy, I: Read, W: Write>(
     run_rekey_in(alloc, &mut file(5), input, out, NonIgnorable, Weights)
 }
 
-/// The run of this name. Texts in Normalization Form D are in ample memory.
-pub fn call(ample: Global, tried: &Refusing, name: &str, out: &mut Sink<Vec<u8>>) -> End {
+/// Makes a run over these files. Texts in Normalization Form D are in ample memory.
+pub fn call(ample: Global, tried: &Refusing, run: Run, out: &mut Sink<Vec<u8>>) -> End {
     let mut lines = Source::new(LINES.as_bytes());
-    match name {
-        "changes" => changes(tried, out),
-        "audit" => audit(tried, out),
-        "affected" => {
+    match run {
+        Run::Changes => changes(tried, out),
+        Run::Audit => audit(tried, out),
+        Run::Affected => {
             run_affected_by_changes_in(tried, ample, &mut file(1), &mut file(4), &mut lines, out)
         }
-        _ => rekey(tried, &mut Source::new(KEYS[0].as_bytes()), out),
+        Run::Rekey => rekey(tried, &mut Source::new(KEYS.as_bytes()), out),
     }
 }

@@ -7,47 +7,30 @@ use Rattle.uca_rekey.specs.LinesInPlace.{LinesState}
 use Rattle.uca_rekey.proofs.Places.{begins_so, filled, nothing_filled, range_filled, range_kept, some_more}
 use Rattle.uca_rekey.proofs.lines.KeyLines.fill.Goals as goal
 
-pub returns-in-Ok-clause-bytes : goal.returns-in-Ok-clause-bytes
-returns-in-Ok-clause-bytes g c =
+pub returns-in-Ok : goal.returns-in-Ok
+returns-in-Ok g c =
     let i = c.self.inside in
     let e = i.end - i.next in
     let n = c.in-Ok.count in
     let xs = c.deref_mut.result.now in
     let ys = c.read.new.buf in
-    let long : length (put_mid e (length xs - e) xs ys) ≡ c.make_room-has_room.new.buffer.len = search (rules, places) in
-    filled c.args.source.now.remaining c.read.new.self.remaining c.args.self.now.pending _ (take n ys) c.in-Ok.ensures.bytes.0
-    (ap (λ b. slice_range b 0 (e + n)) (with_items_is c.make_room-has_room.new.buffer (put_mid e (length xs - e) xs ys) long)
-    ∙ range_filled xs ys e n (omega arith) (omega (arith, c.in-Ok.ensures.bound.0))
-    ∙ ap (λ l. l ++ take n ys) (ap (take e) c.deref_mut.ensures.value ∙ c.make_room-has_room.ensures.front ∙ ap (λ (s : LinesState). s.pending) c.self.view_is))
-
-pub returns-in-Ok-clause-front : goal.returns-in-Ok-clause-front
-returns-in-Ok-clause-front g c =
-    let i = c.self.inside in
-    let e = i.end - i.next in
-    let n = c.in-Ok.count in
-    let xs = c.deref_mut.result.now in
-    let ys = c.read.new.buf in
+    let pending = c.args.self.now.pending in
+    let rest = c.read.new.self.remaining in
     let long : length (put_mid e (length xs - e) xs ys) ≡ c.make_room-has_room.new.buffer.len = search (rules, places) in
     let joined =
     ap (λ b. slice_range b 0 (e + n)) (with_items_is c.make_room-has_room.new.buffer (put_mid e (length xs - e) xs ys) long)
     ∙ range_filled xs ys e n (omega arith) (omega (arith, c.in-Ok.ensures.bound.0))
     ∙ ap (λ l. l ++ take n ys) (ap (take e) c.deref_mut.ensures.value ∙ c.make_room-has_room.ensures.front ∙ ap (λ (s : LinesState). s.pending) c.self.view_is) in
-    begins_so c.args.self.now.pending (take n ys) _ joined
-
-pub returns-in-Ok-clause-more : goal.returns-in-Ok-clause-more
-returns-in-Ok-clause-more g c =
-    let i = c.self.inside in
-    let e = i.end - i.next in
-    let n = c.in-Ok.count in
-    let xs = c.deref_mut.result.now in
-    let ys = c.read.new.buf in
-    let long : length (put_mid e (length xs - e) xs ys) ≡ c.make_room-has_room.new.buffer.len = search (rules, places) in
-    let joined =
-    ap (λ b. slice_range b 0 (e + n)) (with_items_is c.make_room-has_room.new.buffer (put_mid e (length xs - e) xs ys) long)
-    ∙ range_filled xs ys e n (omega arith) (omega (arith, c.in-Ok.ensures.bound.0))
-    ∙ ap (λ l. l ++ take n ys) (ap (take e) c.deref_mut.ensures.value ∙ c.make_room-has_room.ensures.front ∙ ap (λ (s : LinesState). s.pending) c.self.view_is) in
-    some_more n c.args.self.now.pending (take n ys) _ c.read.new.self.remaining joined (sym c.in-Ok.ensures.bound.1)
-    (λ none. c.in-Ok.ensures.bytes.1 none (omega (arith, c.read.auto.buf, c.deref_mut.ensures.len, c.if-not-has_room.ensures.room)))
+    record {
+      bytes = filled c.args.source.now.remaining rest pending _ (take n ys) c.in-Ok.ensures.bytes.0 joined;
+      front = begins_so pending (take n ys) _ joined;
+      more = some_more n pending (take n ys) _ rest joined (sym c.in-Ok.ensures.bound.1)
+          (λ none. c.in-Ok.ensures.bytes.1 none (omega (arith, c.read.auto.buf, c.deref_mut.ensures.len, c.if-not-has_room.ensures.room)));
+      err = tt;
+      fault = tt;
+      at_end = search rules;
+      failed = search rules;
+    }
 
 pub returns-in-Err-clause-err : goal.returns-in-Err-clause-err
 returns-in-Err-clause-err g c =
