@@ -38,7 +38,9 @@ fn check_rows(alloc: Global, rows: &PackedRows, cases: &[&str]) -> Result<(), Fa
         let key = points_of(alloc, key)?;
         let elements = elements_of(alloc, primaries)?;
         holds(
-            at < rows.len() && rows.key(at) == key && rows.elements(at) == elements,
+            at < rows.len()
+                && rows.key(at) == key.as_slice()
+                && rows.elements(at) == elements.as_slice(),
             case,
         )?;
     }
