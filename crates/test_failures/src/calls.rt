@@ -10,8 +10,8 @@ printed @version 1\n@implicitweights 17000..18AFF; FB00\n0020 ; [*0209.0020.0002
 printed 0061 ; [.1C47.0020.0002]\n0061 0301 ; [.1C50.0020.0002][.0000.0024.0002]\n
 printed 0301 ; [.0000.0024.0002]\n
 end done
-asks 18
-memory line @ 1 2 3 4 5 6
+asks 25
+memory line @ 1 2 3 5 6 7
 
 read table
 reads table
@@ -28,15 +28,15 @@ printed 0069 ; [.1C47.0020.0002]\n006A ; [.1C47.0020.0002]\n006B ; [.1C47.0020.0
 printed 006D ; [.1C47.0020.0002]\n006E ; [.1C47.0020.0002]\n006F ; [.1C47.0020.0002]\n0070 ; [.1C47.0020.0002]\n
 printed 0071 ; [.1C47.0020.0002]\n
 end done
-asks 42
-memory line @ 1 2 3 4 5 6 7 8 9 10 11 12 13 14 15 16 17 18
+asks 53
+memory line @ 1 2 6 10 18 19
 
 read table
 reads table
 table @version 1\n0061 ; [.1C47.0020.0002]\n0061 ; [.1C47.0020.0002]\n
 end line 3: DuplicateKey
 asks 9
-memory line @ 1 2 3
+memory line @ 1 2
 
 read data
 reads data
@@ -101,7 +101,7 @@ make trie
 printed \x1C\x58\x1C\x90\x1C\x50\x1C\x60\x00\x00\x00\x20\x00\x20\x00\x20\x00\x20
 printed \x00\x00\x00\x02\x00\x02\x00\x02\x00\x02
 end done
-asks 17
+asks 22
 memory memory
 
 make key
@@ -136,7 +136,7 @@ memory Memory
 
 make audit
 end done
-asks 37
+asks 39
 memory refused 12 Memory
 
 make plan
@@ -152,8 +152,8 @@ pub const COMMANDS: &str = r"run check
 reads table data
 printed well-formed\n
 end true
-asks 14
-memory table line @ 1 2 3; data line @ 1 2
+asks 19
+memory table line @ 1 2 3 4; data line @ 1 2
 
 run check
 reads table data
@@ -161,8 +161,8 @@ table @version 1\n0061 ; [.1C47.0020.0002]\n0301 ; [.0000.0024.0002]\n
 table 0061 0300 0301 ; [.1C58.0020.0002]\n
 printed WF5 row 3\n
 end false
-asks 19
-memory table line @ 1 2 3 4; data line @ 1 2
+asks 25
+memory table line @ 1 2 3 4 5; data line @ 1 2
 
 run keys
 reads table data input
@@ -173,7 +173,7 @@ printed 0000 0000\n
 printed 1C47 0000 0020 0024 0000 0002 0002\n
 printed 1C47 0000 0020 0000 0002\n
 end done
-asks 35
+asks 33
 memory table line @ 1 2 3; data line @ 1 2; memory; input line @ 1 2
 
 run keys
@@ -181,7 +181,7 @@ reads table data input
 input a\n\xFF\n
 printed 1C47 0000 0020 0000 0002\n
 end input line 2: Utf8, status 1
-asks 33
+asks 31
 memory table line @ 1 2 3; data line @ 1 2; memory; input line @ 1
 
 run identical keys
@@ -189,7 +189,7 @@ reads table data input
 input a\n
 printed 1C47 0000 0020 0000 0002 0000 000061\n
 end done
-asks 33
+asks 31
 memory table line @ 1 2 3; data line @ 1 2; memory; input line @ 1
 
 run keyed lines
@@ -201,7 +201,7 @@ printed 00000000\t\n
 printed 1C47000000200024000000020002\t\xC3\xA1\n
 printed 1C470000002000000002\ta\n
 end done
-asks 35
+asks 33
 memory table line @ 1 2 3; data line @ 1 2; memory; input line @ 1 2
 
 run keyed lines
@@ -209,7 +209,7 @@ reads table data input
 input a\n\xFF\n
 printed 1C470000002000000002\ta\n
 end input line 2: Utf8, status 1
-asks 33
+asks 31
 memory table line @ 1 2 3; data line @ 1 2; memory; input line @ 1
 
 run identical keyed lines
@@ -217,7 +217,7 @@ reads table data input
 input a\n
 printed 1C4700000020000000020000000061\ta\n
 end done
-asks 31
+asks 29
 memory table line @ 1 2 3; data line @ 1 2; memory; input line @ 1
 
 run affected
@@ -241,7 +241,7 @@ reads table data input
 input b\na\n\xC3\xA1\n\na
 printed \na\na\n\xC3\xA1\nb\n
 end done
-asks 37
+asks 35
 memory table line @ 1 2 3; data line @ 1 2; memory; input line @ 1; memory; input line @ 5; memory
 
 run sort
@@ -249,7 +249,7 @@ reads table data input
 input u\na\nb\nc\nd\ne\nf\ng\nh\ni\nj\nk\nl\nm\nn\no\np\nq\nr\ns\nt\n
 printed a\nb\nc\nd\ne\nf\ng\nh\ni\nj\nk\nl\nm\nn\no\np\nq\nr\ns\nt\nu\n
 end done
-asks 42
+asks 40
 memory table line @ 1 2 3; data line @ 1 2; memory; input line @ 1; memory; input line @ 5; memory
 memory input line @ 9; memory; input line @ 17; memory
 
@@ -258,14 +258,14 @@ reads table data input
 input aaaaaaaa\xC3\xA1\naaaaaaaaa\n
 printed aaaaaaaaa\naaaaaaaa\xC3\xA1\n
 end done
-asks 48
+asks 46
 memory table line @ 1 2 3; data line @ 1 2; memory; input line @ 1; memory; input line @ 2; memory
 
 run compare
 reads table data
 printed < 1\n
 end done
-asks 24
+asks 22
 memory table line @ 1 2 3; data line @ 1 2; memory
 
 run tailor
@@ -274,8 +274,8 @@ file 1 1C47 1C47 0001\n2 0020 0020 0001\n2 0024 0024 0001\n3 0002 0002 0001\n
 printed @version 1\n0061 ; [.1C47.0020.0002]\n0301 ; [.0000.0024.0002]\n
 printed 0078 ; [.1C48.0020.0002]\n
 end done
-asks 70
-memory table line @ 1 2 3; data line @ 1 2; rules: Memory; rules byte @ 0 4 1 6; memory; done
+asks 75
+memory table line @ 1 2 3 4; data line @ 1 2; rules: Memory; rules byte @ 0 4 1 6; memory; done
 memory memory; done; memory; done; memory
 
 run tailor
@@ -286,24 +286,24 @@ printed @version 1\n0061 ; [.1C47.0020.0002]\n0301 ; [.0000.0024.0002]\n
 printed 0062 ; [.1C48.0020.0002]\n0063 ; [.1C49.0020.0002]\n0064 ; [.1C4A.0020.0002]\n
 printed 0065 ; [.1C4B.0020.0002]\n0066 ; [.1C4C.0020.0002]\n0067 ; [.1C4D.0020.0002]\n
 end done
-asks 96
-memory table line @ 1 2 3; data line @ 1 2; rules: Memory; rules byte @ 0 4 8 1 6 9; memory; done
+asks 101
+memory table line @ 1 2 3 4; data line @ 1 2; rules: Memory; rules byte @ 0 4 8 1 6 9; memory; done
 memory memory; done; memory; done; memory; done; memory; done; memory; done; memory; done; memory; done; memory
 
 run tailor
 reads table data rules
 rules &\\u0301 < x
 end tailor relation 1: Anchor, status 1
-asks 41
-memory table line @ 1 2 3; data line @ 1 2; rules: Memory; rules byte @ 0 4 8 1 11; memory
+asks 46
+memory table line @ 1 2 3 4; data line @ 1 2; rules: Memory; rules byte @ 0 4 8 1 11; memory
 
 run audit
 reads base data rules tailored certificate
 printed accepted\n
 end true
-asks 75
-memory base line @ 1 2 3; data line @ 1 2; rules: Memory; rules byte @ 0 4 1 6
-memory tailored line @ 1 2 3 4; certificate line @ 1 2 4; memory
+asks 87
+memory base line @ 1 2 3 4; data line @ 1 2; rules: Memory; rules byte @ 0 4 1 6
+memory tailored line @ 1 2 3 5; certificate line @ 1 2 4; memory
 
 run audit
 reads base data rules tailored certificate
@@ -316,9 +316,9 @@ tailored 006E ; [.1C54.0020.0002]\n006F ; [.1C55.0020.0002]\n0070 ; [.1C56.0020.
 tailored 0072 ; [.1C58.0020.0002]\n
 printed accepted\n
 end true
-asks 139
-memory base line @ 1 2 3; data line @ 1 2; rules: Memory; rules byte @ 0 4 8 1 6 9
-memory tailored line @ 1 2 3 4 5 6 7 8 9 10 11 12 13 14 15 16 17 18 19 20
+asks 166
+memory base line @ 1 2 3 4; data line @ 1 2; rules: Memory; rules byte @ 0 4 8 1 6 9
+memory tailored line @ 1 2 3 6 10 18 21
 memory certificate line @ 1 2 4; memory
 
 run audit
@@ -326,9 +326,9 @@ reads base data rules tailored certificate
 rules &a <<< x
 printed refused 9 NotPlaced relation 1\n
 end false
-asks 65
-memory base line @ 1 2 3; data line @ 1 2; rules: Memory; rules byte @ 0 4 1 8
-memory tailored line @ 1 2 3 4; certificate line @ 1 2 4; memory";
+asks 77
+memory base line @ 1 2 3 4; data line @ 1 2; rules: Memory; rules byte @ 0 4 1 8
+memory tailored line @ 1 2 3 5; certificate line @ 1 2 4; memory";
 
 /// What is documented of failures, a case for each. `fails` names the stream and the number of bytes that go well.
 /// `refused after` has an end of the call: of the allocations from the first on that is rejected with it, one is rejected

@@ -288,8 +288,8 @@ fn makes_key_list(memory: Memory, streams: &mut Streams, table: &Table) -> Resul
 // First come the pages of the root, with the page of all others, and that of U+0000 and that of U+0301. The nine nodes
 // take three (for 4, 8 and 16). Then there are the list of the keys of more than one code point, and the edges of three
 // nodes. The last three are for what follows a first code point: the pages, the page of all others, and that of U+0301.
-// A trie of that table asks for the list of the keys, for all of these, for where each row has its elements, and for the
-// elements.
+// A trie of that table asks for its rows first: twice for where they are (for 4 and 8), three times for the code points of
+// keys (for 4, 8 and 16), and twice for elements (for 4 and 8). Then it asks for the list of the keys, and for all of these.
 fn map_of<'a>(memory: Memory<'a>, table: &Table) -> Result<KeyMap<&'a Refusing>, AllocError> {
     let keys = key_list(memory.ample, &table.rows)?;
     KeyMap::new(memory.tried, &keys)
