@@ -4,7 +4,7 @@ use std::alloc::Global;
 use std::test::Fail;
 use test_kit::{holds, is_remark, same_bytes, thirds};
 use uca_certificates::{Certificate, read_certificate};
-use uca_moved_keys::KeyMover;
+use uca_images::KeyMover;
 use uca_weights::{Depth, Source, Weighting};
 
 /// At level 1, 1C48 to 1C4A become 1C60 to 1C62; at level 2, 0024 becomes 0025, and 0025 becomes 0027; at level 3, 0008 becomes

@@ -23,7 +23,7 @@ use crate::targets::Targets;
 use crate::{AuditFault, Certificate};
 use std::alloc::Allocator;
 use uca_elements::{Collator, Lookup};
-use uca_kept_rows::Images;
+use uca_images::Images;
 use uca_match::Trie;
 use uca_rules::Rules;
 use uca_tailorings::accepted_tailorings_are_faithful;

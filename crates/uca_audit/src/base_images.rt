@@ -15,7 +15,7 @@ ghost use Rattle.uca_audit.specs.NewWeights.{HoldsKnown};
 use crate::inputs::Inputs;
 use crate::weight_sets::WeightSet;
 use std::alloc::{AllocError, Allocator};
-use uca_kept_rows::{Images, LevelImages};
+use uca_images::{Images, LevelImages};
 use uca_values::Row;
 use uca_weights::{Element, Level};
 

@@ -29,7 +29,7 @@ use rows::{
 use std::alloc::Allocator;
 use uca_check::check;
 use uca_elements::{Collator, Lookup};
-use uca_kept_rows::Images;
+use uca_images::Images;
 use uca_match::Trie;
 use uca_rules::Rules;
 use uca_values::Table;

@@ -17,7 +17,7 @@ use crate::{Certificate, ChangeFault, ChangeInputs};
 use std::alloc::Allocator;
 use uca_changes::changes_keep_unaffected_texts;
 use uca_elements::Lookup;
-use uca_kept_rows::Images;
+use uca_images::Images;
 use uca_match::Trie;
 use uca_values::{Header, Table};
 

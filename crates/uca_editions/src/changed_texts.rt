@@ -5,7 +5,7 @@ use std::alloc::{AllocError, Allocator};
 use uca_certificates::Certificate;
 use uca_change_files::{ChangeList, ChangedText, FaultKind};
 use uca_elements::{Lookup, row_of};
-use uca_kept_rows::{Images, are_images};
+use uca_images::{Images, are_images};
 use uca_match::Trie;
 use uca_values::Row;
 

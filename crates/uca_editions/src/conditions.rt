@@ -10,7 +10,7 @@ use std::alloc::Allocator;
 use uca_change_lists::{first_other_pair, first_other_point};
 use uca_check::check;
 use uca_elements::Lookup;
-use uca_kept_rows::Images;
+use uca_images::Images;
 use uca_match::Trie;
 use uca_values::Table;
 

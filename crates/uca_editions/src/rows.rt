@@ -4,7 +4,7 @@ ghost use Rattle.std.specs.Prelude.{◌≡◌, IfOk};
 ghost use Rattle.uca_check.specs.Searches.{FindsFirstWithout};
 ghost use Rattle.uca_elements.specs.Rows.{rows_of};
 ghost use Rattle.uca_tailorings.specs.KeptRows.{IsKeptRow, IsKnownRow};
-ghost use Rattle.uca_kept_rows.specs.UnlistedRows.{IsCoveredIfUnlisted, IsPresentIfUnlisted};
+ghost use Rattle.uca_images.specs.UnlistedRows.{IsCoveredIfUnlisted, IsPresentIfUnlisted};
 ghost use Rattle.uca_changes.specs.Changes.{IsChangedText};
 ghost use Rattle.uca_editions.specs.ChangeInputs.{change_in};
 ghost use Rattle.uca_editions.specs.Chaining.{FindsRowsOf};
@@ -12,7 +12,7 @@ ghost use Rattle.uca_editions.specs.Chaining.{FindsRowsOf};
 use crate::ChangeInputs;
 use std::alloc::{AllocError, Allocator};
 use uca_elements::Lookup;
-use uca_kept_rows::{Images, first_changed, first_missing, first_uncovered, first_unknown};
+use uca_images::{Images, first_changed, first_missing, first_uncovered, first_unknown};
 use uca_match::Trie;
 
 /// The first old row that is not listed and has a weight without an image, by its index.

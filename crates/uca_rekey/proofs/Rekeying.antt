@@ -16,7 +16,7 @@ use Rattle.uca_lines.specs.Lines.{ended, lines_of}
 use Rattle.uca_lines.specs.OutputBuffer.{BufferState, IsBuffered}
 use Rattle.uca_lines.proofs.BufferedLemmas.{none_buffered}
 use Rattle.uca_certificates.specs.Certificates.{CertificateContent}
-use Rattle.uca_moved_keys.specs.Moving.{MoverState}
+use Rattle.uca_images.specs.Moving.{MoverState}
 use Rattle.uca_run_parts.specs.EachLine.{ended_before_input}
 use Rattle.uca_run_parts.specs.declared.faults.RunFault.{RunFault}
 use Rattle.uca_run_parts.specs.declared.faults.RunFault.TheVariants.{File, Memory, StoredKey, Write}

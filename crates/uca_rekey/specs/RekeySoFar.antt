@@ -8,7 +8,7 @@ use Rattle.uca_lines.specs.Buffered.{HasWrittenThrough, FailsToWriteThrough, cou
 use Rattle.uca_lines.specs.Lines.{ended, lines_of}
 use Rattle.uca_lines.specs.OutputBuffer.{BufferState, IsBuffered}
 use Rattle.uca_certificates.specs.Certificates.{CertificateContent}
-use Rattle.uca_moved_keys.specs.Moving.{MoverState}
+use Rattle.uca_images.specs.Moving.{MoverState}
 use Rattle.uca_run_parts.specs.declared.faults.RunFault.{RunFault}
 use Rattle.uca_run_parts.specs.declared.faults.RunFault.TheVariants.{StoredKey, Write}
 use Rattle.uca_run_parts.specs.declared.faults.StoredKeyKind.TheVariants as kinds

@@ -10,7 +10,7 @@ ghost use Rattle.uca_rekey.specs.RekeyRun.{IsLineCause};
 ghost use Rattle.uca_rekey.specs.RekeySoFar.{moved_by};
 
 use std::alloc::Allocator;
-use uca_moved_keys::KeyMover;
+use uca_images::KeyMover;
 use uca_run_parts::StoredKeyKind;
 
 /// Puts the key of a line through the maps, in place. The bytes of the key need room, which is used again.

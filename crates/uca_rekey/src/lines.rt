@@ -16,7 +16,7 @@ use std::alloc::{AllocError, Allocator};
 use std::io::Read;
 use std::marker::Model;
 use uca_lines::NextLine;
-use uca_moved_keys::KeyMover;
+use uca_images::KeyMover;
 use uca_run_parts::StoredKeyKind;
 use uca_weights::Source;
 

@@ -14,7 +14,7 @@ use crate::written::WrittenLines;
 use std::alloc::{Allocator, Global};
 use std::io::{Read, Write};
 use uca_certificates::Certificate;
-use uca_moved_keys::KeyMover;
+use uca_images::KeyMover;
 use uca_run_parts::{Role, RunFault, read_certificate_file};
 use uca_weights::{Depth, Sink, Source, Weighting};
 

@@ -13,7 +13,7 @@ use crate::inputs::Inputs;
 use crate::targets::Targets;
 use std::alloc::{AllocError, Allocator};
 use uca_elements::{Lookup, row_of};
-use uca_kept_rows::{Images, are_images};
+use uca_images::{Images, are_images};
 use uca_match::Trie;
 use uca_rules::Relation;
 use uca_values::{Header, ImplicitRange, Row};

@@ -4,7 +4,7 @@ use Rattle.uca_tailorings.specs.Inputs.{maps_of}
 use Rattle.uca_check.specs.Searches.{FindsFirstWithout}
 use Rattle.uca_certificates.specs.Certificates.{CertificateContent}
 use Rattle.uca_elements.specs.Rows.{rows_of}
-use Rattle.uca_kept_rows.specs.UnlistedRows.{IsCoveredIfUnlisted}
+use Rattle.uca_images.specs.UnlistedRows.{IsCoveredIfUnlisted}
 use Rattle.uca_changes.specs.Changes.{IsChangedText}
 use Rattle.uca_editions.specs.ChangeInputs.{change_in}
 use Rattle.uca_editions.proofs.FoundRows.{found_by}

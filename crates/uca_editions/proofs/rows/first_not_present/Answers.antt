@@ -1,7 +1,7 @@
 use Rattle.std.proofs.Common.{Contains, ap, ◌∙◌}
 use Rattle.uca_values.specs.Content.{TableContent}
 use Rattle.uca_elements.specs.Rows.{rows_of}
-use Rattle.uca_kept_rows.specs.UnlistedRows.{IsPresentIfUnlisted}
+use Rattle.uca_images.specs.UnlistedRows.{IsPresentIfUnlisted}
 use Rattle.uca_editions.specs.ChangeInputs.{change_in}
 use Rattle.uca_editions.proofs.FoundRows.{found_by}
 use Rattle.uca_editions.proofs.rows.first_not_present.Goals as goal

@@ -3,7 +3,7 @@ use Rattle.std.proofs.lemmas.Bool.{false≢true}
 use Rattle.uca_values.specs.Content.{TableContent}
 use Rattle.uca_tailorings.specs.Tailorings.{IsExpectedRow}
 use Rattle.uca_audit.specs.Views.{tailoring_in}
-use Rattle.uca_kept_rows.proofs.FirstRows.{row_further, row_here, rows_whole}
+use Rattle.uca_images.proofs.FirstRows.{row_further, row_here, rows_whole}
 use Rattle.uca_audit.proofs.conditions.rows.first_unexpected.Goals as goal
 
 pub loop-at-preserved : goal.loop-at-preserved

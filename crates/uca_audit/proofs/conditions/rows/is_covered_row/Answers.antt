@@ -3,7 +3,7 @@ use Rattle.std.proofs.lemmas.Iterator.{cases_from_all, YieldsList-from_slice}
 use Rattle.uca_values.specs.Content.{Entry}
 use Rattle.uca_tailorings.specs.Tailorings.{IsCovered}
 use Rattle.uca_tailorings.specs.Inputs.{maps_of}
-use Rattle.uca_kept_rows.proofs.ImageLists.{all_told, told_true, told_false}
+use Rattle.uca_images.proofs.ImageLists.{all_told, told_true, told_false}
 use Rattle.uca_audit.proofs.conditions.rows.is_covered_row.Goals as goal
 
 pub returns : goal.returns

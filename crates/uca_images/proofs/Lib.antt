@@ -1,0 +1,4 @@
+pub mod FirstRows
+pub mod ImageLists
+pub mod ImageTables
+pub mod MovingSteps

@@ -1,0 +1,14 @@
+//! What maps of weights make of rows and of stored keys. Conditions of tailorings and of changes ask for rows that become their
+//! images, except for those of listed texts: this crate has what tests them. Stored keys are put through the maps, with no text
+//! and no table.
+#![tactic(auto)]
+
+mod images;
+mod levels;
+mod mover;
+mod rows;
+
+pub use images::{Images, LevelImages};
+pub use mover::KeyMover;
+pub use rows::{are_images, first_changed, first_missing, first_uncovered, first_unknown};
+pub use uca_certificates::Certificate;

@@ -1,0 +1,150 @@
+//! `KeyMover`: the maps of a certificate, ready for many keys.
+
+ghost use Rattle.std.specs.Prelude.{◌≡◌, ℕ, suc, ◌<◌, ◌≤◌, ◌++◌, List, option_map, if◌then◌else◌, IfOk};
+ghost use Rattle.uca_order.specs.Levels as key_levels;
+ghost use Rattle.uca_tailorings.specs.Inputs.{maps_of};
+ghost use Rattle.uca_tailorings.specs.Moves.{after_weights, ended, level_images, moved_key};
+ghost use Rattle.uca_images.specs.ImageTables.{IsImageTable};
+
+use crate::images::{LevelTables, tables_of};
+use crate::levels::{LevelEnd, move_level};
+use std::alloc::{AllocError, Allocator, Global};
+use std::marker::Model;
+use uca_certificates::Certificate;
+use uca_weights::{Depth, Weighting};
+
+/// Puts stored keys through the maps of a certificate. So the key of a text under an old table becomes its key under the
+/// new one, if each of its elements becomes its image. `keys_move_by_maps` of `uca_tailorings` says when they do. It holds
+/// the images of all weights, and needs no text and no table.
+#[derive(Drop)]
+pub struct KeyMover<A: Allocator = Global> {
+    certificate: Certificate<A>,
+    depth: Depth,
+    weighting: Weighting,
+    tables: LevelTables<A>,
+}
+
+impl<A: Allocator> Model for KeyMover<A> {
+    ghost use Rattle.uca_tailorings.specs.Inputs.{maps_of};
+    ghost use Rattle.uca_images.specs.ImageTables.{AreLevelTables};
+    ghost use Rattle.uca_images.specs.Moving.{MoverState};
+
+    ghost Value = { MoverState };
+
+    ghost view = { λ m. record { certificate = m.certificate; depth = m.depth; weighting = m.weighting } };
+
+    ghost invariant = { λ m. AreLevelTables (maps_of m.certificate) m.tables.primary.items m.tables.secondary.items m.tables.tertiary.items };
+}
+
+impl<A: Allocator + Copy> KeyMover<A> {
+    /// The maps of a certificate, for keys that were made at this depth and under this weighting.
+    ///
+    /// # Errors
+    ///
+    /// An allocation failed.
+    pub fn new(
+        alloc: A,
+        certificate: Certificate<A>,
+        depth: Depth,
+        weighting: Weighting,
+    ) -> Result<KeyMover<A>, AllocError>
+        ensures { IfOk result (λ mover. mover ≡ record { certificate = certificate; depth = depth; weighting = weighting }) }
+    {
+        match tables_of(alloc, &certificate) {
+            Ok(tables) => Ok(KeyMover {
+                certificate,
+                depth,
+                weighting,
+                tables,
+            }),
+            Err(error) => Err(error),
+        }
+    }
+}
+
+impl<A: Allocator> KeyMover<A> {
+    /// Puts a key through the maps in place, each weight through the map of its level, and returns `true`. Code points
+    /// after the levels of weights stay.
+    ///
+    /// If a weight has no image, or the bytes have too few levels, too many, or a single byte at the end, it returns
+    /// `false`. The bytes are then unspecified.
+    pub fn move_key(&self, key: &mut [u8]) -> bool
+        ensures { moved_key (maps_of self.now.certificate) self.now.depth self.now.weighting key.old
+            ≡ (if result then Some key.new else None) }
+    {
+        let levels = level_count(self.weighting);
+        let mut at = 0;
+        for level in 0..levels {
+            match move_level(self.images(level), key, at) {
+                LevelEnd::Next(next) => at = next,
+                LevelEnd::Key => return may_end(self.depth, levels - (level + 1)),
+                LevelEnd::Missing => return false,
+            }
+        }
+        may_have_points(self.depth)
+    }
+
+    /// Writes a key that was put through the maps over the bytes that were there, and returns `true`. The memory is used
+    /// again.
+    ///
+    /// If there is no such key, as for [`KeyMover::move_key`], it returns `false`. The bytes are then unspecified.
+    ///
+    /// # Errors
+    ///
+    /// An allocation failed. The bytes are then unspecified.
+    pub fn write_moved<B: Allocator>(
+        &self,
+        key: &[u8],
+        moved: &mut Vec<u8, B>,
+    ) -> Result<bool, AllocError>
+        ensures { IfOk result (λ found. moved_key (maps_of self.now.certificate) self.now.depth self.now.weighting key.now
+            ≡ (if found then Some moved.new.items else None)) }
+    {
+        moved.clear();
+        moved.extend_from_slice(key)?;
+        Ok(self.move_key(moved.as_mut_slice()))
+    }
+
+    // The images of the weights of a level, counted from 0. The fourth has those of the first.
+    fn images(&self, level: usize) -> &[u16]
+        requires { level < 4 }
+        ensures { IsImageTable (level_images (maps_of self.now.certificate) (suc level)) result.now }
+    {
+        match level {
+            1 => &self.tables.secondary,
+            2 => &self.tables.tertiary,
+            _ => &self.tables.primary,
+        }
+    }
+}
+
+// How many levels of weights a key has.
+fn level_count(weighting: Weighting) -> usize
+    ensures count { result ≡ key_levels.level_count weighting }
+    ensures few { result ≤ 4 }
+{
+    match weighting {
+        Weighting::NonIgnorable => 3,
+        Weighting::Shifted => 4,
+    }
+}
+
+// Whether a key may end in a level with so many levels of weights after it.
+fn may_end(depth: Depth, after: usize) -> bool
+    ensures { (key : List ℕ) → option_map (λ rest. key ++ rest) (ended depth after) ≡ (if result then Some key else None) }
+{
+    match depth {
+        Depth::Weights => after == 0,
+        Depth::Identical => false,
+    }
+}
+
+// Whether code points follow the levels of weights.
+fn may_have_points(depth: Depth) -> bool
+    ensures { (points : List ℕ) → after_weights depth points ≡ (if result then Some points else None) }
+{
+    match depth {
+        Depth::Weights => false,
+        Depth::Identical => true,
+    }
+}

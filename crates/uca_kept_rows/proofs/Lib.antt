@@ -1,2 +1,0 @@
-pub mod ImageLists
-pub mod FirstRows

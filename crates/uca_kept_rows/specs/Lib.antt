@@ -1,2 +1,0 @@
-pub mod ImageTables
-pub mod UnlistedRows
