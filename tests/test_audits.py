@@ -38,7 +38,7 @@ def cases_of(name):
 
 
 def unescaped(text):
-    return re.sub(r"\\(.)", lambda it: {"n": "\n", "t": "\t"}.get(it.group(1), it.group(1)), text)
+    return re.sub(r"\\(.)", lambda it: {"n": "\n", "t": "\t", "r": "\r", "0": "\0"}.get(it.group(1), it.group(1)), text)
 
 
 def changed(text, change):

@@ -2,7 +2,7 @@
 import os
 
 from program import ACUTE, DATA, DOT_BELOW, GRAVE, TABLE, TOP, ProgramTest
-from test_audits import cases_of, edited
+from test_audits import cases_of, edited, unescaped
 from test_tailor import ILL_FORMED, MOVED, NARROW, UNMOVED, WIDENED
 
 OLD, NEW = "examples/table.txt examples/data.txt", "examples/editions/table.txt examples/editions/data.txt"
@@ -185,8 +185,29 @@ class Affected(ProgramTest):
         self.write(d=DATA, x=changes)
         self.expect("affected --changes d x", lines, out=printed, **ended)
 
+    def test_files_of_changes(self):
+        """The form of a file, and its first error."""
+        cases = cases_of("changes.txt")["read"]
+        self.assertGreater(len(cases), 50)
+        for file, verdict in cases:
+            is_accepted = verdict == "accepted"
+            self.expect_lines(unescaped(file), "", "", status=0 if is_accepted else 1, err="" if is_accepted else f"changes {verdict}\n")
+
+    def test_long_lines(self):
+        """A line has at most 4,096 bytes."""
+        for length, kind in (4096, "Line"), (4097, "Limit"):
+            self.expect_lines(listed("x" * length), "", "", status=1, err=f"changes line 2: {kind}\n")
+
     def test_affected_lines(self):
+        sixteen = "text" + 16 * " 0061"
         cases = [
+            (listed("text 0061 0301", "text 0F82", "range 31350..323AF"), "a\ná\nàá\n\u0f81\n\u0f82\n\U0003134f\n\U00031350\n\U000323af\n\U000323b0\n",
+             "á\nàá\n\u0f82\n\U00031350\n\U000323af\n"),
+            (listed("text 0000", "text 10FFFF"), "a\n\0\nb\U0010ffff\n\U0010fffe\n", "\0\nb\U0010ffff\n"),
+            (listed("range 0000..10FFFF"), "\0\na\n\n\U0010ffff\n", "\0\na\n\U0010ffff\n"),
+            (listed("range D7FF..D7FF", "range E000..E000"), "\ud7fe\n\ud7ff\n\ue000\n\ue001\n", "\ud7ff\n\ue000\n"),
+            (listed(sixteen), 15 * "a" + "\n" + 16 * "a" + "\n", 16 * "a" + "\n"),
+            (listed("text FFFF", "text 10000"), "\ufffe\n\uffff\n\U00010000\n\U00010001\n", "\uffff\n\U00010000\n"),
             (listed("text 0063 0068", "text 0078"), "ch\ncah\nhc\nc\nax\n\nbach", "ch\ncah\nax\nbach\n"),
             (listed("text 0062 0061", "text 0062 0062"), "ab\nba\nbca\nbcb\nb\n", "ba\nbca\nbcb\n"),
             (listed("range 0062..0063"), "a\nb\nc\nd\nad\nda\ndab\n", "b\nc\ndab\n"),

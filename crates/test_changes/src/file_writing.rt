@@ -1,6 +1,5 @@
 //! Lists that are made by calls, and writers that fail.
 
-use crate::file_reading::check_text;
 use std::alloc::Global;
 use std::io::ErrorKind;
 use std::test::Fail;
@@ -51,7 +50,10 @@ fn made(alloc: Global) -> Result<ChangeList, Fail> {
 #[test]
 fn lists_that_are_made(rt: HostRuntime) -> Result<(), Fail> {
     let list = made(rt.alloc())?;
-    check_text(rt.alloc(), &list, TEXT, "the text of a list")
+    let mut out = Sink::new(Vec::new(rt.alloc()));
+    let is_written = write_changes(&list, &mut out).is_ok();
+    let text = out.into_inner();
+    holds(is_written && text.as_slice() == TEXT, "the text of a list")
 }
 
 /// After this many bytes the writer fails.
