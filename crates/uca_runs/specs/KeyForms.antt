@@ -6,9 +6,7 @@ use Rattle.uca_weights.specs.declared.Weighting.{Weighting}
 use Rattle.uca_weights.specs.declared.Depth.{Depth}
 use Rattle.uca_weights.specs.declared.Depth.TheVariants.{Weights, Identical}
 use Rattle.uca_text.specs.Texts.{NfdText, nfd_text}
-use Rattle.uca_elements.specs.Rows.{Rows}
 use Rattle.uca_order.specs.Depths.{read_text, key_at}
-use Rattle.uca_key_writer.specs.Writers.{WriterState, collation_by}
 use Rattle.uca_run_parts.specs.declared.faults.RunFault.{RunFault}
 use Rattle.uca_runs.specs.declared.keys.KeyForm.{KeyForm}
 use Rattle.uca_runs.specs.declared.keys.KeyForm.TheVariants.{Alone, BeforeLine}

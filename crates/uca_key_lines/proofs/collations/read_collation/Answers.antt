@@ -1,10 +1,9 @@
 -- The rows and the weighting are those of the table that was read.
 use Rattle.std.specs.Prelude.{⊤}
-use Rattle.std.proofs.Common.{◌≡◌, [], ◌∷◌, Ok, refl, ap, subst, ◌∙◌}
+use Rattle.std.proofs.Common.{◌≡◌, [], ◌∷◌, Ok, refl, subst}
 use Rattle.uca_values.specs.Content.{properties_of}
-use Rattle.uca_elements.specs.Rows.{rows_of}
 use Rattle.uca_match.specs.NumberedKeys.{rows_at}
-use Rattle.uca_key_lines.specs.Keys.{weighting_by, IsCollation}
+use Rattle.uca_key_lines.specs.Keys.{IsCollation}
 use Rattle.uca_run_parts.specs.Files.{table_and_data, table_with}
 use Rattle.uca_run_parts.proofs.FilesLemmas.{runs_over_all}
 use Rattle.uca_key_lines.proofs.KeySettings.{made_of_files}

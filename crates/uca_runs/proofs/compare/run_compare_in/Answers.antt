@@ -6,7 +6,7 @@ use Rattle.uca_values.specs.Content.{properties_of}
 use Rattle.uca_match.specs.NumberedKeys.{rows_at}
 use Rattle.uca_elements.specs.Collations.{collation_of}
 use Rattle.uca_run_parts.specs.declared.faults.RunFault.TheVariants.{Memory}
-use Rattle.uca_run_parts.specs.Files.{table_and_data, table_and_data_roles, table_with}
+use Rattle.uca_run_parts.specs.Files.{table_and_data, table_and_data_roles}
 use Rattle.uca_key_lines.specs.Keys.{IsCollation, collation_in}
 use Rattle.uca_runs.specs.CompareRun.{RunsCompare, WritesComparison}
 use Rattle.uca_runs.proofs.Comparing.{run_compares}

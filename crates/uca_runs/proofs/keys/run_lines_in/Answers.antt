@@ -8,7 +8,7 @@ use Rattle.uca_elements.specs.Collations.{collation_of}
 use Rattle.uca_order.specs.Lengths.{HasShortRows}
 use Rattle.uca_run_parts.specs.declared.faults.RunFault.TheVariants.{Memory}
 use Rattle.uca_run_parts.specs.EachLine.{RunsEach}
-use Rattle.uca_run_parts.specs.Files.{table_and_data, table_and_data_roles, table_with}
+use Rattle.uca_run_parts.specs.Files.{table_and_data, table_and_data_roles}
 use Rattle.uca_runs.specs.KeyForms.{line_as}
 use Rattle.uca_key_lines.specs.Keys.{KeySettings, IsCollation, collation_in}
 use Rattle.uca_runs.specs.KeysRun.{RunsUnder}
