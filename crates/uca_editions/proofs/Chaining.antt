@@ -1,14 +1,14 @@
 -- Conditions in turn.
-use Rattle.std.proofs.Common.{◌≡◌, ◌⊎◌, ⊎_elim, inl, inr, ℕ, ◌+◌, ◌<◌, ◌==◌, if◌then◌else◌, Result, Ok, Err, refl, ap, sym, subst, ◌∙◌, arith}
-use Rattle.std.specs.Result.{IsErrAnd}
+use Rattle.std.proofs.Common.{◌≡◌, ◌⊎◌, ⊎_elim, inl, ℕ, ◌+◌, ◌<◌, ◌==◌, if◌then◌else◌, refl, ap, sym, subst, ◌∙◌, arith}
 use Rattle.std.proofs.lemmas.Bool.{cases_lt}
 use Rattle.uca_changes.specs.declared.conditions.ChangeCondition.{ChangeCondition}
 use Rattle.uca_changes.specs.declared.conditions.ChangeCondition.TheVariants.{OldIllFormed, NewIllFormed, RangeChanged, Uncovered, RowChanged, RowMissing, RowExtra, PointChanged}
 use Rattle.uca_changes.specs.Changes.{Change, Meets, IsAcceptedChange, number_of}
 use Rattle.uca_changes.specs.declared.faults.ChangeFault.{ChangeFault}
-use Rattle.uca_changes.specs.declared.faults.ChangeFault.TheVariants.{Memory}
-use Rattle.uca_editions.specs.ChangeRefusals.{IsFirstRefusal}
-use Rattle.uca_editions.specs.Chaining.{MeetsBelow, Fails, Settles, Passes}
+use Rattle.uca_changes.specs.declared.faults.ChangeFault.TheVariants.{NotMet, Memory}
+use Rattle.uca_changes.specs.declared.faults.ChangePlace.{ChangePlace}
+use Rattle.uca_editions.specs.ChangeRefusals.{FailsFirstAt, IsFirstRefusal}
+use Rattle.uca_editions.specs.Chaining.{MeetsBelow}
 
 -- the condition of a number
 abbrev condition_of : ℕ → ChangeCondition
@@ -37,18 +37,7 @@ condition_of_number PointChanged = refl
 one_of_number : (one other : ChangeCondition) → number_of one ≡ number_of other → one ≡ other
 one_of_number one other same = sym (condition_of_number one) ∙ (ap condition_of same ∙ condition_of_number other)
 
--- numbers are above 0
-number_from_1 : (condition : ChangeCondition) → 0 < number_of condition
-number_from_1 OldIllFormed = omega arith
-number_from_1 NewIllFormed = omega arith
-number_from_1 RangeChanged = omega arith
-number_from_1 Uncovered = omega arith
-number_from_1 RowChanged = omega arith
-number_from_1 RowMissing = omega arith
-number_from_1 RowExtra = omega arith
-number_from_1 PointChanged = omega arith
-
--- and below 9
+-- numbers are below 9
 number_below_9 : (condition : ChangeCondition) → number_of condition < 9
 number_below_9 OldIllFormed = omega arith
 number_below_9 NewIllFormed = omega arith
@@ -58,10 +47,6 @@ number_below_9 RowChanged = omega arith
 number_below_9 RowMissing = omega arith
 number_below_9 RowExtra = omega arith
 number_below_9 PointChanged = omega arith
-
--- no condition comes before the first
-pub meets_none : (change : Change) → MeetsBelow change 1
-meets_none change other below = absurd (omega (arith, below, number_from_1 other))
 
 -- one more condition is met
 pub meets_more : (change : Change) (condition : ChangeCondition) → MeetsBelow change (number_of condition) → Meets change condition →
@@ -74,29 +59,7 @@ meets_more change condition so_far met other below =
 pub meets_all : (change : Change) → MeetsBelow change 9 → IsAcceptedChange change
 meets_all change met condition = met condition (number_below_9 condition)
 
--- a condition fails after those that are met, or an allocation failed
-pub refused_at : (change : Change) (condition : ChangeCondition) (fault : ChangeFault) → MeetsBelow change (number_of condition) →
-    Fails change condition fault ⊎ (fault ≡ Memory)
-    → IsFirstRefusal change fault ⊎ (fault ≡ Memory)
-refused_at change condition fault so_far (inl fails) = inl (record { condition = condition; place = fails.0; is = fails.1; lower = so_far; fails = fails.2 })
-refused_at change condition fault so_far (inr memory) = inr memory
-
--- the same, where the error is passed on
-pub passes_refused : {A : Type 0} (change : Change) (n : ℕ) (condition : ChangeCondition) (result : Result A ChangeFault) (given : ChangeFault)
-    → IsErrAnd result (λ fault. fault ≡ given)
-    → MeetsBelow change (number_of condition) → Fails change condition given ⊎ (given ≡ Memory) → Passes change n result
-passes_refused change n condition (Ok x) given passed_on so_far fails = absurd passed_on
-passes_refused change n condition (Err fault) given passed_on so_far fails =
-    refused_at change condition fault so_far (subst (λ f. Fails change condition f ⊎ (f ≡ Memory)) (sym passed_on) fails)
-
--- an error of a part of the audit is passed on
-pub passes_failed : {A : Type 0} (change : Change) (n : ℕ) (result : Result A ChangeFault) (given : ChangeFault) → IsErrAnd result (λ fault. fault ≡ given)
-    → IsFirstRefusal change given ⊎ (given ≡ Memory) → Passes change n result
-passes_failed change n (Ok x) given passed_on refused = absurd passed_on
-passes_failed change n (Err fault) given passed_on refused = subst (λ f. IsFirstRefusal change f ⊎ (f ≡ Memory)) (sym passed_on) refused
-
--- the last condition of a part is met, or its error is that of the part
-pub passes_last : {A : Type 0} (change : Change) (condition : ChangeCondition) (result : Result A ChangeFault) → MeetsBelow change (number_of condition)
-    → Settles change condition result → Passes change (number_of condition + 1) result
-passes_last change condition (Ok x) so_far met = meets_more change condition so_far met
-passes_last change condition (Err fault) so_far fails = refused_at change condition fault so_far fails
+-- a condition fails at a place, after those that are met
+pub refused_at : (change : Change) (condition : ChangeCondition) (place : ChangePlace) (fault : ChangeFault) → MeetsBelow change (number_of condition)
+    → fault ≡ NotMet condition place → FailsFirstAt change condition place → IsFirstRefusal change fault ⊎ (fault ≡ Memory)
+refused_at change condition place fault so_far is fails = inl (record { condition = condition; place = place; is = is; lower = so_far; fails = fails })

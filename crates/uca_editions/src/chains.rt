@@ -44,8 +44,7 @@ pub(crate) fn heaviest_chain<A: Allocator + Copy>(
     // Of one old weight no two moves can follow one another, since the greatest new weight comes first.
     moves.sort_unstable_by(|left, right| left.old.cmp(&right.old).then(right.new.cmp(&left.new)));
     let mut steps = counted(alloc, moves)?;
-    let heaviest = link_steps(alloc, &mut steps)?;
-    chain_to(alloc, &steps, heaviest)
+    chain_of(alloc, &mut steps)
 }
 
 // The moves, each once with its count. Equal ones follow one another.
@@ -80,21 +79,23 @@ fn first_vote(is: Move) -> Step {
     }
 }
 
-// Finds the step before each step, and returns the heaviest chain. A tree has for each range of new weights the heaviest chain
-// that ends in it: its leaves are the weights, and the two halves of node n are nodes 2n and 2n + 1.
-fn link_steps<A: Allocator>(alloc: A, steps: &mut [Step]) -> Result<Chain, AllocError> {
+// Finds the step before each step, and returns the steps of the heaviest chain. A tree has for each range of new weights the
+// heaviest chain that ends in it: its leaves are the weights, and the two halves of node n are nodes 2n and 2n + 1.
+fn chain_of<A: Allocator + Copy>(alloc: A, steps: &mut [Step]) -> Result<Vec<Step, A>, AllocError> {
     let mut tree = vec![in alloc; EMPTY; 2 * WEIGHT_COUNT]?;
-    link_in(&mut tree, steps);
-    Ok(chain_at(&tree, ROOT))
+    let heaviest = link_in(&mut tree, steps);
+    drop(tree);
+    chain_to(alloc, steps, heaviest)
 }
 
-// The same, in a tree that has no chain yet.
-fn link_in(tree: &mut [Chain], steps: &mut [Step]) {
+// Finds the step before each step, in a tree that has no chain yet, and returns the heaviest chain.
+fn link_in(tree: &mut [Chain], steps: &mut [Step]) -> Chain {
     let mut number: usize = 0;
     for step in steps.iter_mut() {
         number = number.saturating_add(1);
         link_step(tree, step, number);
     }
+    chain_at(tree, ROOT)
 }
 
 // Finds the step before a step, and puts the chain that ends with the step in.

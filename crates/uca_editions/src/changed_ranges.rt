@@ -18,8 +18,23 @@ pub(crate) fn list_ranges<A: Allocator + Copy>(
     list: &mut ChangeList<A>,
     editions: &Editions<A>,
 ) -> Result<(), AllocError> {
-    let borders = borders_of(alloc, editions)?;
-    push_between(alloc, list, editions, &borders)
+    let mut borders = Vec::from_slice(alloc, &['\0', '\u{E000}'])?;
+    let listed = list_between(alloc, list, editions, &mut borders);
+    drop(borders);
+    listed
+}
+
+// The same, by the first code points before and after the surrogates. The borders of all ranges are added to them.
+fn list_between<A: Allocator + Copy>(
+    alloc: A,
+    list: &mut ChangeList<A>,
+    editions: &Editions<A>,
+    borders: &mut Vec<char, A>,
+) -> Result<(), AllocError> {
+    push_edition(borders, editions.old, editions.old_data)?;
+    push_edition(borders, editions.new, editions.new_data)?;
+    borders.sort_unstable();
+    push_between(alloc, list, editions, borders)
 }
 
 // Lists the ranges that change, each from a border to one after it.
@@ -32,7 +47,7 @@ fn push_between<A: Allocator + Copy>(
     let mut open: Option<char> = None;
     for border in borders {
         let changes = is_changed(alloc, editions, *border);
-        open = open_after(list, open, *border, changes)?;
+        pass_border(list, &mut open, *border, changes)?;
     }
     match open {
         None => Ok(()),
@@ -40,20 +55,23 @@ fn push_between<A: Allocator + Copy>(
     }
 }
 
-// The first code point of the range that is open after a border, if one is. A range that ends there is listed.
-fn open_after<A: Allocator>(
+// Opens a range at a border if it changes, and ends the open one if it does not. A range that ends is listed.
+fn pass_border<A: Allocator>(
     list: &mut ChangeList<A>,
-    open: Option<char>,
+    open: &mut Option<char>,
     border: char,
     changes: bool,
-) -> Result<Option<char>, AllocError> {
-    match open {
-        None if changes => Ok(Some(border)),
-        Some(first) if !changes => match push_range(list, first, point_before(border)) {
-            Ok(()) => Ok(None),
-            Err(error) => Err(error),
-        },
-        _ => Ok(open),
+) -> Result<(), AllocError> {
+    match *open {
+        None if changes => {
+            *open = Some(border);
+            Ok(())
+        }
+        Some(first) if !changes => {
+            *open = None;
+            push_range(list, first, point_before(border))
+        }
+        _ => Ok(()),
     }
 }
 
@@ -79,21 +97,10 @@ fn point_before(point: char) -> char {
 
 // Whether a code point has another class, is another kind of Han, or has other implicit weights by the ranges of the headers.
 fn is_changed<A: Allocator + Copy>(alloc: A, editions: &Editions<A>, point: char) -> bool {
-    let (old, new) = (editions.old, editions.new);
+    let old = editions.old;
+    let new = editions.new;
     !say_same(editions.old_data, editions.new_data, point)
         || !have_same_pair(alloc, &old.header, &new.header, point)
-}
-
-// The borders of all ranges, and those of all code points, in rising order. One may be there more than once.
-fn borders_of<A: Allocator + Copy>(
-    alloc: A,
-    editions: &Editions<A>,
-) -> Result<Vec<char, A>, AllocError> {
-    let mut borders = Vec::from_slice(alloc, &['\0', '\u{E000}'])?;
-    push_edition(&mut borders, editions.old, editions.old_data)?;
-    push_edition(&mut borders, editions.new, editions.new_data)?;
-    borders.sort_unstable();
-    Ok(borders)
 }
 
 // Adds the borders of the ranges of a table and its data file.

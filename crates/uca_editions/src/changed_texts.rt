@@ -18,14 +18,14 @@ pub(crate) fn list_texts<A: Allocator + Copy, L: Lookup>(
     new: &L,
 ) -> Result<(), AllocError> {
     let mut keys = Vec::new(alloc);
-    push_old_keys(alloc, &mut keys, editions, certificate, new)?;
-    push_new_keys(alloc, &mut keys, editions)?;
-    keys.sort_unstable();
-    push_texts(alloc, list, &keys)
+    match push_keys(alloc, &mut keys, editions, certificate, new) {
+        Ok(()) => push_texts(alloc, list, &mut keys),
+        Err(error) => Err(error),
+    }
 }
 
-// Adds the keys of the old rows that do not become their images.
-fn push_old_keys<'a, A: Allocator + Copy, L: Lookup>(
+// Adds the keys of the old rows that do not become their images, and then those that the old table does not have.
+fn push_keys<'a, A: Allocator + Copy, L: Lookup>(
     alloc: A,
     keys: &mut Vec<&'a [char], A>,
     editions: &Editions<'a, A>,
@@ -34,35 +34,42 @@ fn push_old_keys<'a, A: Allocator + Copy, L: Lookup>(
 ) -> Result<(), AllocError> {
     let images = Images::new(alloc, certificate)?;
     let old = editions.old;
-    let pushed = push_not_kept(keys, &old.rows, &images, new);
+    let pushed = push_changed(keys, &old.rows, Some(&images), new);
     drop(images);
-    pushed
+    match pushed {
+        Ok(()) => push_new_keys(alloc, keys, editions),
+        Err(error) => Err(error),
+    }
 }
 
-// Adds the keys of those rows that do not become their images.
-fn push_not_kept<'a, A: Allocator + Copy, L: Lookup>(
+// Adds the keys of those rows that the other table has no row of. If there are images, it adds those of rows whose row of the
+// other table is not their image too.
+fn push_changed<'a, A: Allocator + Copy, L: Lookup>(
     keys: &mut Vec<&'a [char], A>,
     rows: &'a [Row<A>],
-    images: &Images<A, A>,
-    new: &L,
+    images: Option<&Images<A, A>>,
+    other: &L,
 ) -> Result<(), AllocError> {
     for row in rows {
-        if !is_kept(images, row, new) {
+        if !is_kept(images, row, other) {
             keys.push(&row.key)?;
         }
     }
     Ok(())
 }
 
-// Whether a row's key has a new row, and it is the image of the row.
-fn is_kept<A: Allocator + Copy, T: Allocator, L: Lookup>(
-    images: &Images<A, T>,
-    row: &Row<T>,
-    new: &L,
+// Whether the other table has a row of a row's key, and it is the image of the row if there are images.
+fn is_kept<A: Allocator + Copy, L: Lookup>(
+    images: Option<&Images<A, A>>,
+    row: &Row<A>,
+    other: &L,
 ) -> bool {
-    match row_of(new, &row.key) {
+    match row_of(other, &row.key) {
         None => false,
-        Some(elements) => are_images(images, &row.elements, elements),
+        Some(elements) => match images {
+            None => true,
+            Some(images) => are_images(images, &row.elements, elements),
+        },
     }
 }
 
@@ -74,32 +81,20 @@ fn push_new_keys<'a, A: Allocator + Copy>(
 ) -> Result<(), AllocError> {
     let old = Trie::new(alloc, editions.old)?;
     let new = editions.new;
-    let pushed = push_missing(keys, &new.rows, &old);
+    let no_images: Option<&'a Images<'a, A, A>> = None;
+    let pushed = push_changed(keys, &new.rows, no_images, &old);
     drop(old);
     pushed
 }
 
-// Adds the keys of those rows that the old table has no row of.
-fn push_missing<'a, A: Allocator, L: Lookup>(
-    keys: &mut Vec<&'a [char], A>,
-    rows: &'a [Row<A>],
-    old: &L,
-) -> Result<(), AllocError> {
-    for row in rows {
-        if row_of(old, &row.key).is_none() {
-            keys.push(&row.key)?;
-        }
-    }
-    Ok(())
-}
-
-// Lists the texts in their order.
+// Sorts the texts, and lists them.
 fn push_texts<A: Allocator + Copy>(
     alloc: A,
     list: &mut ChangeList<A>,
-    texts: &[&[char]],
+    texts: &mut [&[char]],
 ) -> Result<(), AllocError> {
-    for text in texts {
+    texts.sort_unstable();
+    for text in texts.iter() {
         push_text(alloc, list, text)?;
     }
     Ok(())

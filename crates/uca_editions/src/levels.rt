@@ -4,17 +4,17 @@ ghost use Rattle.std.specs.Prelude.{◌≡◌, IfOk};
 ghost use Rattle.uca_editions.specs.LeastMaps as least_maps;
 
 use crate::chains::{Step, heaviest_chain};
-use crate::moves::{Move, fixed_weight, level_moves};
+use crate::moves::{Move, fixed_weight, push_rows};
 use std::alloc::{AllocError, Allocator};
 use uca_elements::Lookup;
 use uca_values::Row;
 use uca_weights::{Level, Run, WeightMap};
 
 /// A rising map of a level's weights that sends them as most rows do. An error means that it ran out of memory.
-pub(crate) fn level_map<A: Allocator + Copy, T: Allocator, L: Lookup>(
+pub(crate) fn level_map<A: Allocator + Copy, L: Lookup>(
     alloc: A,
     level: Level,
-    rows: &[Row<T>],
+    rows: &[Row<A>],
     new: &L,
 ) -> Result<WeightMap<A>, AllocError>
     ensures { IfOk result (λ map. map.level ≡ level) }
@@ -25,15 +25,30 @@ pub(crate) fn level_map<A: Allocator + Copy, T: Allocator, L: Lookup>(
     }
 }
 
-// The runs of the heaviest chain of moves.
-fn level_runs<A: Allocator + Copy, T: Allocator, L: Lookup>(
+// The runs of the heaviest chain of moves. There is a move for each weight of each old row whose new row has the same shape.
+// There is one more for the weight that has to stay.
+fn level_runs<A: Allocator + Copy, L: Lookup>(
     alloc: A,
     level: Level,
-    rows: &[Row<T>],
+    rows: &[Row<A>],
     new: &L,
 ) -> Result<Vec<Run, A>, AllocError> {
-    let mut moves = level_moves(alloc, level, rows, new)?;
-    let chain = heaviest_chain(alloc, &mut moves)?;
+    let mut moves = Vec::new(alloc);
+    if let Some(weight) = fixed_weight(level) {
+        moves.push(Move {
+            old: weight,
+            new: weight,
+        })?;
+    }
+    match push_rows(&mut moves, level, rows, new) {
+        Ok(()) => runs_by(alloc, &mut moves),
+        Err(error) => Err(error),
+    }
+}
+
+// The runs of the heaviest chain of these moves.
+fn runs_by<A: Allocator + Copy>(alloc: A, moves: &mut [Move]) -> Result<Vec<Run, A>, AllocError> {
+    let chain = heaviest_chain(alloc, moves)?;
     runs_of(alloc, &chain)
 }
 

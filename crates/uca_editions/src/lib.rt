@@ -18,7 +18,6 @@ mod levels;
 mod listed;
 mod maker;
 mod moves;
-mod rows;
 
 pub use auditing::audit_change;
 pub use editions::Editions;

@@ -15,24 +15,26 @@ pub fn changes_of<A: Allocator + Copy>(
     ensures ranges { IfOk result (λ changes. changes.ranges ≡ list.now.ranges) }
 {
     let mut changes = Changes::new(alloc);
-    insert_texts(alloc, &mut changes, list.texts())?;
-    push_ranges(&mut changes, list.ranges())?;
-    Ok(changes)
+    match insert_items(alloc, &mut changes, list.texts(), list.ranges()) {
+        Ok(()) => Ok(changes),
+        Err(error) => Err(error),
+    }
 }
 
-// Puts the texts in.
-fn insert_texts<A: Allocator + Copy>(
+// Puts the texts in, and adds the ranges.
+fn insert_items<A: Allocator + Copy>(
     alloc: A,
     changes: &mut Changes<A>,
     texts: &[ChangedText<A>],
+    ranges: &[CodePointRange],
 ) -> Result<(), AllocError>
     ensures texts { OnOk result ((text : List ℕ) → Contains changes.new.texts text ↔ (Contains texts.now text ⊎ Contains changes.old.texts text)) }
-    ensures ranges { changes.new.ranges ≡ changes.old.ranges }
+    ensures ranges { OnOk result (changes.new.ranges ≡ changes.old.ranges ++ ranges.now) }
 {
     for text in texts {
         changes.insert_text(Vec::from_slice(alloc, &text.points)?)?;
     }
-    Ok(())
+    push_ranges(changes, ranges)
 }
 
 // Adds the ranges.

@@ -3,7 +3,7 @@
 ghost use Rattle.std.specs.Prelude.{IfOk, IfErr, OnOk};
 ghost use Rattle.uca_changes.specs.Changes.{IsAcceptedChange};
 ghost use Rattle.uca_editions.specs.ChangeInputs.{MeansUnaffectedTextsStay};
-ghost use Rattle.uca_editions.specs.Found.{change_by, change_with, RefusesChanges};
+ghost use Rattle.uca_editions.specs.Found.{change_by, RefusesChanges};
 
 use crate::changed_ranges::list_ranges;
 use crate::changed_texts::list_texts;
@@ -12,7 +12,6 @@ use crate::{ChangeFault, ChangeInputs, Editions, FoundChanges, audit_change, cha
 use std::alloc::{AllocError, Allocator};
 use uca_certificates::Certificate;
 use uca_change_files::ChangeList;
-use uca_change_lists::Changes;
 use uca_elements::Lookup;
 use uca_match::Trie;
 use uca_values::Row;
@@ -45,8 +44,10 @@ pub fn find_changes<A: Allocator + Copy>(
     ensures refused { IfErr result (RefusesChanges editions.now) }
 {
     let found = found_changes(alloc, editions)?;
-    audit_found(alloc, editions, &found)?;
-    Ok(found)
+    match audit_found(alloc, editions, &found) {
+        Ok(()) => Ok(found),
+        Err(fault) => Err(fault),
+    }
 }
 
 // What changes, before any audit.
@@ -68,36 +69,41 @@ fn found_by<A: Allocator + Copy, L: Lookup>(
 ) -> Result<FoundChanges<A>, AllocError> {
     let old = editions.old;
     let certificate = certificate_of(alloc, &old.rows, new)?;
-    match list_of(alloc, editions, &certificate, new) {
-        Ok(list) => Ok(FoundChanges { list, certificate }),
+    let mut list = ChangeList::new(alloc);
+    match list_changes(alloc, &mut list, editions, &certificate, new) {
+        Ok(()) => Ok(FoundChanges { list, certificate }),
         Err(error) => Err(error),
     }
 }
 
-// The texts and the ranges that change.
-fn list_of<A: Allocator + Copy, L: Lookup>(
+// Lists the texts and the ranges that change.
+fn list_changes<A: Allocator + Copy, L: Lookup>(
     alloc: A,
+    list: &mut ChangeList<A>,
     editions: &Editions<A>,
     certificate: &Certificate<A>,
     new: &L,
-) -> Result<ChangeList<A>, AllocError> {
-    let mut list = ChangeList::new(alloc);
-    list_texts(alloc, &mut list, editions, certificate, new)?;
-    list_ranges(alloc, &mut list, editions)?;
-    Ok(list)
+) -> Result<(), AllocError> {
+    list_texts(alloc, list, editions, certificate, new)?;
+    list_ranges(alloc, list, editions)
 }
 
 // The maps of the weights of all levels.
-fn certificate_of<A: Allocator + Copy, T: Allocator, L: Lookup>(
+fn certificate_of<A: Allocator + Copy, L: Lookup>(
     alloc: A,
-    old: &[Row<T>],
+    old: &[Row<A>],
     new: &L,
 ) -> Result<Certificate<A>, AllocError> {
-    Ok(Certificate {
-        primary: level_map(alloc, Level::One, old, new)?,
-        secondary: level_map(alloc, Level::Two, old, new)?,
-        tertiary: level_map(alloc, Level::Three, old, new)?,
-    })
+    let primary = level_map(alloc, Level::One, old, new)?;
+    let secondary = level_map(alloc, Level::Two, old, new)?;
+    match level_map(alloc, Level::Three, old, new) {
+        Ok(tertiary) => Ok(Certificate {
+            primary,
+            secondary,
+            tertiary,
+        }),
+        Err(error) => Err(error),
+    }
 }
 
 // Audits what was found.
@@ -111,27 +117,13 @@ fn audit_found<A: Allocator + Copy>(
     ensures refused { IfErr result (RefusesChanges editions.now) }
 {
     let changes = changes_of(alloc, &found.list)?;
-    audit_lists(alloc, editions, &changes, &found.certificate)
-}
-
-// Audits lists and a certificate.
-fn audit_lists<A: Allocator + Copy>(
-    alloc: A,
-    editions: &Editions<A>,
-    changes: &Changes<A>,
-    certificate: &Certificate<A>,
-) -> Result<(), ChangeFault>
-    ensures accepted { OnOk result (IsAcceptedChange (change_with editions.now changes.now certificate.now)) }
-    ensures meaning { OnOk result (MeansUnaffectedTextsStay (change_with editions.now changes.now certificate.now)) }
-    ensures refused { IfErr result (RefusesChanges editions.now) }
-{
     let inputs = ChangeInputs {
         old: editions.old,
         old_data: editions.old_data,
         new: editions.new,
         new_data: editions.new_data,
-        changes,
-        certificate,
+        changes: &changes,
+        certificate: &found.certificate,
     };
     audit_change(alloc, &inputs)
 }

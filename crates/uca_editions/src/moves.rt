@@ -18,25 +18,6 @@ pub(crate) struct Move {
     pub(crate) new: u16,
 }
 
-/// The moves of a level that a map may have. There is one for each weight of each old row whose new row has the same shape.
-/// There is one more for the weight that has to stay.
-pub(crate) fn level_moves<A: Allocator, T: Allocator, L: Lookup>(
-    alloc: A,
-    level: Level,
-    rows: &[Row<T>],
-    new: &L,
-) -> Result<Vec<Move, A>, AllocError> {
-    let mut moves = Vec::new(alloc);
-    if let Some(weight) = fixed_weight(level) {
-        moves.push(Move {
-            old: weight,
-            new: weight,
-        })?;
-    }
-    push_rows(&mut moves, level, rows, new)?;
-    Ok(moves)
-}
-
 /// The weight of a level that its map sends to itself, if it has one.
 pub(crate) fn fixed_weight(level: Level) -> Option<u16>
     ensures { result ≡ least_maps.fixed_weight level }
@@ -48,11 +29,12 @@ pub(crate) fn fixed_weight(level: Level) -> Option<u16>
     }
 }
 
-// Adds the moves of all rows.
-fn push_rows<A: Allocator, T: Allocator, L: Lookup>(
+/// Adds the moves of a level that a map may have: one for each weight of each old row whose new row has the same shape. An error
+/// means that it ran out of memory.
+pub(crate) fn push_rows<A: Allocator, L: Lookup>(
     moves: &mut Vec<Move, A>,
     level: Level,
-    rows: &[Row<T>],
+    rows: &[Row<A>],
     new: &L,
 ) -> Result<(), AllocError> {
     for row in rows {
@@ -86,7 +68,8 @@ fn push_move<A: Allocator>(
     old: Element,
     new: Element,
 ) -> Result<(), AllocError> {
-    let (old, new) = (weight(level, old), weight(level, new));
+    let old = weight(level, old);
+    let new = weight(level, new);
     if !is_possible(level, old, new) {
         return Ok(());
     }

@@ -6,12 +6,12 @@ use Rattle.uca_editions.proofs.maker.audit_found.Goals as goal
 
 pub returns-clause-accepted : goal.returns-clause-accepted
 returns-clause-accepted g c =
-    on_ok_weaker c.audit_lists.result
+    on_ok_weaker c.audit_change.result
     (accepted_by_same (change_with c.args.editions.now c.in_ok-changes.changes c.args.found.now.certificate) c.args.found.now.list.texts
-    c.args.found.now.list.ranges c.in_ok-changes.ensures.texts c.in_ok-changes.ensures.ranges) c.audit_lists.ensures.accepted
+    c.args.found.now.list.ranges c.in_ok-changes.ensures.texts c.in_ok-changes.ensures.ranges) c.audit_change.ensures.accepted
 
 pub returns-clause-meaning : goal.returns-clause-meaning
 returns-clause-meaning g c =
-    on_ok_weaker c.audit_lists.result
+    on_ok_weaker c.audit_change.result
     (meaning_by_same (change_with c.args.editions.now c.in_ok-changes.changes c.args.found.now.certificate) c.args.found.now.list.texts
-    c.args.found.now.list.ranges c.in_ok-changes.ensures.texts c.in_ok-changes.ensures.ranges) c.audit_lists.ensures.meaning
+    c.args.found.now.list.ranges c.in_ok-changes.ensures.texts c.in_ok-changes.ensures.ranges) c.audit_change.ensures.meaning

@@ -1,7 +1,7 @@
 -- The set has the texts so far, and those that it had; the ranges stay.
 use Rattle.std.proofs.Common.{◌≡◌, take}
 use Rattle.uca_editions.proofs.ListedTexts.{HasMore}
-use Rattle.uca_editions.proofs.listed.insert_texts.Given as goal
+use Rattle.uca_editions.proofs.listed.insert_items.Given as goal
 
 abbrev pub invariant-loop-text : goal.invariant-loop-text
 invariant-loop-text g l = record {
