@@ -20,12 +20,11 @@ use Rattle.uca_change_files.proofs.FileLaws.{short_line}
 
 -- ---- Texts by their parts
 
-abbrev pub spaced_parts : ℕ → List (List ℕ)
-spaced_parts c = (32 ∷ []) ∷ point_text c ∷ []
+abbrev pub point_parts : List ℕ → ℕ → List (List ℕ)
+point_parts front c = front ∷ point_text c ∷ []
 
-pub spaced_is : (c : ℕ) → spaced c ≡ flat_map part (spaced_parts c)
-unfolding spaced
-spaced_is c = simp append-nil
+pub point_is : (front : List ℕ) (c : ℕ) → front ++ point_text c ≡ flat_map part (point_parts front c)
+point_is front c = ap (λ l. front ++ l) (sym (append-nil (point_text c)))
 
 abbrev pub text_parts : List ℕ → List (List ℕ)
 text_parts text = codes "text" ∷ flat_map spaced text ∷ (10 ∷ []) ∷ []
@@ -35,7 +34,7 @@ unfolding text_line
 text_is text = simp (append_assoc, append-nil)
 
 abbrev pub range_parts : CodePointRange → List (List ℕ)
-range_parts r = codes "range " ∷ point_text r.first ∷ (46 ∷ 46 ∷ []) ∷ point_text r.last ∷ (10 ∷ []) ∷ []
+range_parts r = (codes "range " ++ point_text r.first) ∷ (46 ∷ 46 ∷ point_text r.last) ∷ (10 ∷ []) ∷ []
 
 pub range_is : (r : CodePointRange) → ended (range_line r) ≡ flat_map part (range_parts r)
 unfolding range_line

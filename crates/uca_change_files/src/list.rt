@@ -77,11 +77,13 @@ impl<A: Allocator> ChangeList<A> {
         ensures same { OnErr result (self.new ≡ self.old) }
         ensures fault { IfErr result (λ kind. (kind ≡ FaultKind.Memory) ⊎ Refuses (λ item. OfText text ≡ item) self.old kind) }
     {
-        if let Some(kind) = text_fault(&self.texts, &self.ranges, &text.points) {
-            return Err(kind);
+        match text_fault(self, &text) {
+            Some(kind) => Err(kind),
+            None => match self.texts.push(text) {
+                Ok(()) => Ok(()),
+                Err(_) => Err(FaultKind::Memory),
+            },
         }
-        self.texts.push(text)?;
-        Ok(())
     }
 
     /// Adds a range after all others.
@@ -100,16 +102,17 @@ impl<A: Allocator> ChangeList<A> {
         ensures fault { IfErr result (λ kind. (kind ≡ FaultKind.Memory) ⊎ Refuses (λ item. OfRange range ≡ item) self.old kind) }
     {
         if range.last < range.first {
-            return Err(FaultKind::Line);
+            Err(FaultKind::Line)
+        } else if !is_after(&self.ranges, range) {
+            Err(FaultKind::Order)
+        } else if self.texts.len() + self.ranges.len() >= MOST_ITEMS {
+            Err(FaultKind::Limit)
+        } else {
+            match self.ranges.push(range) {
+                Ok(()) => Ok(()),
+                Err(_) => Err(FaultKind::Memory),
+            }
         }
-        if !is_after(&self.ranges, range) {
-            return Err(FaultKind::Order);
-        }
-        if self.texts.len() + self.ranges.len() >= MOST_ITEMS {
-            return Err(FaultKind::Limit);
-        }
-        self.ranges.push(range)?;
-        Ok(())
     }
 
     /// The texts, in rising order.
@@ -129,25 +132,21 @@ impl<A: Allocator> ChangeList<A> {
     }
 }
 
-// Why a text may not come after these texts and ranges, if so.
-fn text_fault<A: Allocator>(
-    texts: &[ChangedText<A>],
-    ranges: &[CodePointRange],
-    text: &[char],
-) -> Option<FaultKind>
-    ensures ok { IfNone result (MayAdd (record { texts = texts.now; ranges = ranges.now }) (OfText text.now)) }
-    ensures fault { IfSome result (λ kind. Refuses (λ item. OfText text.now ≡ item) (record { texts = texts.now; ranges = ranges.now }) kind) }
+// Why a text may not be added, if so.
+fn text_fault<A: Allocator>(list: &ChangeList<A>, text: &ChangedText<A>) -> Option<FaultKind>
+    ensures ok { IfNone result (MayAdd list.now (OfText text.now)) }
+    ensures fault { IfSome result (λ kind. Refuses (λ item. OfText text.now ≡ item) list.now kind) }
 {
-    if text.is_empty() || text.len() > MOST_POINTS {
-        return Some(FaultKind::Line);
+    let points = text.points.as_slice();
+    if points.is_empty() || points.len() > MOST_POINTS {
+        Some(FaultKind::Line)
+    } else if !list.ranges().is_empty() || !is_above(list.texts(), points) {
+        Some(FaultKind::Order)
+    } else if list.texts().len() >= MOST_ITEMS {
+        Some(FaultKind::Limit)
+    } else {
+        None
     }
-    if !ranges.is_empty() || !is_above(texts, text) {
-        return Some(FaultKind::Order);
-    }
-    if texts.len() >= MOST_ITEMS {
-        return Some(FaultKind::Limit);
-    }
-    None
 }
 
 // Whether the text is above the last one, if there is one.

@@ -60,13 +60,17 @@ fn read_to_end<A: Allocator + Copy, R: Read>(
         started: false,
         list: ChangeList::new(alloc),
     };
-    let count = read_lines(alloc, source, &mut so_far)?;
-    let ChangesSoFar { started, list, .. } = so_far;
-    if !started {
-        return Err(TableFault {
-            line: count + 1,
-            kind: FaultKind::Order,
-        });
+    match read_lines(alloc, source, &mut so_far) {
+        Ok(count) => {
+            if so_far.started {
+                Ok(so_far.list)
+            } else {
+                Err(TableFault {
+                    line: count + 1,
+                    kind: FaultKind::Order,
+                })
+            }
+        }
+        Err(fault) => Err(TableFault::from(fault)),
     }
-    Ok(list)
 }

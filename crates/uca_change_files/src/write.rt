@@ -1,13 +1,13 @@
 //! Writing of files of changes.
 
-ghost use Rattle.std.specs.Prelude.{◌≡◌, ◌||◌, ◌<◌, IfErr, OnOk, length, is_err};
+ghost use Rattle.std.specs.Prelude.{◌≡◌, ◌||◌, ◌<◌, ◌++◌, IfErr, OnOk, length, is_err};
 ghost use Rattle.std.specs.Char.{IsScalar};
-ghost use Rattle.std.specs.List.{flat_map, AllByRecursion};
+ghost use Rattle.std.specs.List.{AllByRecursion};
 ghost use Rattle.uca_weights.specs.Writes.{Writes};
 ghost use Rattle.uca_lines.specs.Buffered.{count_of, HasRoom, WritesThrough};
 ghost use Rattle.uca_lines.specs.Lines.{ended};
 ghost use Rattle.uca_table.specs.Canonical.{point_text};
-ghost use Rattle.uca_change_files.specs.ChangeTexts.{AreScalars, Means, changes_text, spaced, text_line, range_line};
+ghost use Rattle.uca_change_files.specs.ChangeTexts.{AreScalars, Means, changes_text, text_line, range_line};
 ghost use Rattle.uca_change_files.specs.Steps.{text_lines, range_lines};
 
 use crate::points::spare_digits;
@@ -35,8 +35,10 @@ pub fn write_changes<W: Write, A: Allocator>(
     ensures failed { out.new.failed ≡ (out.old.failed || is_err result) }
 {
     let mut buffer = OutputBuffer::new();
-    write_list(&mut buffer, out, list)?;
-    buffer.flush(out)
+    match write_list(&mut buffer, out, list) {
+        Ok(()) => buffer.flush(out),
+        Err(fault) => Err(fault),
+    }
 }
 
 fn write_list<W: Write, A: Allocator>(
@@ -63,63 +65,45 @@ fn write_texts<W: Write, A: Allocator>(
     ensures scalars { OnOk result (AreScalars texts.now) }
 {
     for text in texts {
-        write_text(buffer, out, text)?;
+        write_text(buffer, out, &text.points)?;
     }
     Ok(())
 }
 
-fn write_text<W: Write, A: Allocator>(
+fn write_text<W: Write>(
     buffer: &mut OutputBuffer,
     out: &mut Sink<W>,
-    text: &ChangedText<A>,
+    text: &[char],
 ) -> Result<(), WriteFault>
     requires { HasRoom buffer.old (length (ended (text_line text.now))) }
     ensures text { WritesThrough (ended (text_line text.now)) buffer.old buffer.new out.old out.new result }
     ensures scalars { OnOk result (AllByRecursion IsScalar text.now) }
 {
     buffer.write(out, b"text")?;
-    write_points(buffer, out, &text.points)?;
+    for point in text {
+        write_point(buffer, out, b" ", *point)?;
+    }
     buffer.write(out, b"\n")
 }
 
-fn write_points<W: Write>(
-    buffer: &mut OutputBuffer,
-    out: &mut Sink<W>,
-    points: &[char],
-) -> Result<(), WriteFault>
-    requires { HasRoom buffer.old (length (flat_map spaced points.now)) }
-    ensures text { WritesThrough (flat_map spaced points.now) buffer.old buffer.new out.old out.new result }
-    ensures scalars { OnOk result (AllByRecursion IsScalar points.now) }
-{
-    for point in points {
-        write_spaced(buffer, out, *point)?;
-    }
-    Ok(())
-}
-
-// A code point after a space.
-fn write_spaced<W: Write>(
-    buffer: &mut OutputBuffer,
-    out: &mut Sink<W>,
-    point: char,
-) -> Result<(), WriteFault>
-    requires { HasRoom buffer.old (length (spaced point)) }
-    ensures { WritesThrough (spaced point) buffer.old buffer.new out.old out.new result }
-{
-    buffer.write(out, b" ")?;
-    write_point(buffer, out, point)
-}
-
+// Writes these bytes, and then a code point.
+#[inline(always)]
 fn write_point<W: Write>(
     buffer: &mut OutputBuffer,
     out: &mut Sink<W>,
+    front: &[u8],
     point: char,
 ) -> Result<(), WriteFault>
-    requires { HasRoom buffer.old (length (point_text point)) }
-    ensures { WritesThrough (point_text point) buffer.old buffer.new out.old out.new result }
+    requires { HasRoom buffer.old (length (front.now ++ point_text point)) }
+    ensures { WritesThrough (front.now ++ point_text point) buffer.old buffer.new out.old out.new result }
 {
-    let digits = six_digits(u32::from(point));
-    buffer.write(out, &digits[spare_digits(point)..])
+    match buffer.write(out, front) {
+        Ok(()) => {
+            let digits = six_digits(u32::from(point));
+            buffer.write(out, &digits[spare_digits(point)..])
+        }
+        Err(fault) => Err(fault),
+    }
 }
 
 fn write_ranges<W: Write>(
@@ -144,9 +128,7 @@ fn write_range<W: Write>(
     requires { HasRoom buffer.old (length (ended (range_line range))) }
     ensures { WritesThrough (ended (range_line range)) buffer.old buffer.new out.old out.new result }
 {
-    buffer.write(out, b"range ")?;
-    write_point(buffer, out, range.first)?;
-    buffer.write(out, b"..")?;
-    write_point(buffer, out, range.last)?;
+    write_point(buffer, out, b"range ", range.first)?;
+    write_point(buffer, out, b"..", range.last)?;
     buffer.write(out, b"\n")
 }

@@ -8,40 +8,38 @@ use crate::Changes;
 use std::alloc::{AllocError, Allocator};
 use uca_values::{ClassRange, CodePointRange, Data, Header, ImplicitRange};
 
-/// The borders of the ranges of two headers and of changed ranges. An error means that it ran out of memory.
-pub(crate) fn pair_borders<A: Allocator + Copy, T: Allocator>(
-    alloc: A,
+/// Adds the borders of the ranges of two headers and of changed ranges. An error means that it ran out of memory.
+pub(crate) fn push_pair_borders<A: Allocator, T: Allocator>(
+    list: &mut Vec<char, A>,
     old: &Header<T>,
     new: &Header<T>,
     changes: &Changes<T>,
-) -> Result<Vec<char, A>, AllocError>
-    ensures { IfOk result (λ list. HasPairBorders old.now.ranges new.now.ranges changes.now.ranges list.items) }
+) -> Result<(), AllocError>
+    requires { HasFirsts list.old.items }
+    ensures { OnOk result (HasPairBorders old.now.ranges new.now.ranges changes.now.ranges list.new.items) }
 {
-    let mut list = first_points(alloc)?;
-    push_implicit_borders(&mut list, &old.ranges)?;
-    push_implicit_borders(&mut list, &new.ranges)?;
-    push_ranges(&mut list, changes.ranges())?;
-    Ok(list)
+    push_implicit_borders(list, &old.ranges)?;
+    push_implicit_borders(list, &new.ranges)?;
+    push_ranges(list, changes.ranges())
 }
 
-/// The borders of the ranges of two data files and of changed ranges. An error means that it ran out of memory.
-pub(crate) fn point_borders<A: Allocator + Copy, T: Allocator>(
-    alloc: A,
+/// Adds the borders of the ranges of two data files and of changed ranges. An error means that it ran out of memory.
+pub(crate) fn push_point_borders<A: Allocator, T: Allocator>(
+    list: &mut Vec<char, A>,
     old: &Data<T>,
     new: &Data<T>,
     changes: &Changes<T>,
-) -> Result<Vec<char, A>, AllocError>
-    ensures { IfOk result (λ list. HasPointBorders old.now new.now changes.now.ranges list.items) }
+) -> Result<(), AllocError>
+    requires { HasFirsts list.old.items }
+    ensures { OnOk result (HasPointBorders old.now new.now changes.now.ranges list.new.items) }
 {
-    let mut list = first_points(alloc)?;
-    push_data_borders(&mut list, old)?;
-    push_data_borders(&mut list, new)?;
-    push_ranges(&mut list, changes.ranges())?;
-    Ok(list)
+    push_data_borders(list, old)?;
+    push_data_borders(list, new)?;
+    push_ranges(list, changes.ranges())
 }
 
-// The first code point, and the first after the surrogates.
-fn first_points<A: Allocator>(alloc: A) -> Result<Vec<char, A>, AllocError>
+/// The first code point, and the first after the surrogates. An error means that it ran out of memory.
+pub(crate) fn first_points<A: Allocator>(alloc: A) -> Result<Vec<char, A>, AllocError>
     ensures { IfOk result (λ list. HasFirsts list.items) }
 {
     Vec::from_slice(alloc, &['\0', '\u{E000}'])

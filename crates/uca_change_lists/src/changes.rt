@@ -63,15 +63,15 @@ impl<A: Allocator> Changes<A> {
         ensures refused { IfErr result (λ fault. (self.new ≡ self.old) × RefusesNext self.old.ranges range fault) }
     {
         if range.last < range.first {
-            return Err(RangeFault::Empty);
+            Err(RangeFault::Empty)
+        } else if !is_after(&self.ranges, range) {
+            Err(RangeFault::Overlap)
+        } else {
+            match self.ranges.push(range) {
+                Ok(()) => Ok(()),
+                Err(_) => Err(RangeFault::Memory),
+            }
         }
-        if !is_after(&self.ranges, range) {
-            return Err(RangeFault::Overlap);
-        }
-        if self.ranges.push(range).is_err() {
-            return Err(RangeFault::Memory);
-        }
-        Ok(())
     }
 
     /// The changed texts.

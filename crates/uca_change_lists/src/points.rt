@@ -7,7 +7,7 @@ ghost use Rattle.uca_change_lists.specs.Points.{IsSamePair, IsSamePoint, FindsFi
 ghost use Rattle.uca_change_lists.specs.Borders.{FindsLeast, IfOutside, IsBelow};
 
 use crate::Changes;
-use crate::borders::{pair_borders, point_borders};
+use crate::borders::{first_points, push_pair_borders, push_point_borders};
 use std::alloc::{AllocError, Allocator};
 use uca_values::{Data, Header};
 
@@ -27,8 +27,11 @@ pub fn first_other_pair<A: Allocator + Copy, T: Allocator>(
 ) -> Result<Option<char>, AllocError>
     ensures { IfOk result (FindsFirstOutside changes.now.ranges (IsSamePair old.now.ranges new.now.ranges)) }
 {
-    let borders = pair_borders(alloc, old, new, changes)?;
-    Ok(least_other_pair(alloc, old, new, changes, &borders))
+    let mut borders = first_points(alloc)?;
+    match push_pair_borders(&mut borders, old, new, changes) {
+        Ok(()) => Ok(least_other_pair(alloc, old, new, changes, &borders)),
+        Err(_) => Err(AllocError),
+    }
 }
 
 /// The first code point outside of the changed ranges that has another class, or is another kind of Han, in the new data
@@ -47,8 +50,11 @@ pub fn first_other_point<A: Allocator + Copy, T: Allocator>(
 ) -> Result<Option<char>, AllocError>
     ensures { IfOk result (FindsFirstOutside changes.now.ranges (IsSamePoint (properties_of old.now) (properties_of new.now))) }
 {
-    let borders = point_borders(alloc, old, new, changes)?;
-    Ok(least_other_point(old, new, changes, &borders))
+    let mut borders = first_points(alloc)?;
+    match push_point_borders(&mut borders, old, new, changes) {
+        Ok(()) => Ok(least_other_point(old, new, changes, &borders)),
+        Err(_) => Err(AllocError),
+    }
 }
 
 // The least of these code points whose implicit weights differ.

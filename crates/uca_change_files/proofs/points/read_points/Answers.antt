@@ -1,4 +1,5 @@
-use Rattle.std.proofs.Common.{List, ℕ, subst}
+use Rattle.std.proofs.Common.{List, ℕ, subst, arith}
+use Rattle.std.proofs.lemmas.Grind.{common_steps}
 use Rattle.uca_table.proofs.DataWords.{some_from_test}
 use Rattle.uca_change_files.proofs.Words.{HasRead, no_more, one_read, other_rest, shorter, space_read, no_space}
 use Rattle.uca_change_files.proofs.points.read_points.Goals as goal
@@ -30,3 +31,9 @@ returns-else-is_empty g c =
     let rest = c.loop-more.rest.now in
     other_rest c.args.text.now c.loop-more.points.items rest c.loop-more.invariant (some_from_test rest _ c.is_empty.ensures c.if-is_empty.false)
     (λ more e. no_space rest more c.in_default.ensures e)
+
+pub returns-then-is_empty : goal.returns-then-is_empty
+returns-then-is_empty g c = grind (arith, common_steps)
+
+pub loop-more-init : goal.loop-more-init
+loop-more-init g c = grind (arith, common_steps)

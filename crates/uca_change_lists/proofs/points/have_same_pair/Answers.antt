@@ -1,4 +1,5 @@
-use Rattle.std.proofs.Common.{rules, subst}
+use Rattle.std.proofs.Common.{arith, subst}
+use Rattle.std.proofs.lemmas.Grind.{common_steps}
 use Rattle.std.proofs.lemmas.Slice.Eq.{slice_eq-Decides}
 use Rattle.uca_values.specs.Content.{HeaderContent, AreImplicitRanges, properties_of}
 use Rattle.uca_change_lists.proofs.SamePairs.{pairs_told}
@@ -10,4 +11,4 @@ returns g c =
     (subst (λ (h : HeaderContent). AreImplicitRanges h.ranges) c.old.view_is c.old.invariant.ranges)
     (subst (λ (h : HeaderContent). AreImplicitRanges h.ranges) c.new.view_is c.new.invariant.ranges) (properties_of c.new-nothing.result) c.args.point
     c.implicit.result c.implicit-2.result c.implicit.ensures c.implicit-2.ensures c.eq.result
-    (slice_eq-Decides (λ a b. search rules) c.implicit.result c.implicit-2.result c.eq.result c.eq.ensures)
+    (slice_eq-Decides (λ a b. grind (arith, common_steps)) c.implicit.result c.implicit-2.result c.eq.result c.eq.ensures)

@@ -1,4 +1,5 @@
-use Rattle.std.proofs.Common.{inr, inl, refl}
+use Rattle.std.proofs.Common.{inr, inl, refl, arith}
+use Rattle.std.proofs.lemmas.Grind.{common_steps}
 use Rattle.uca_change_files.specs.Steps.{SpellsText, SpellsRange}
 use Rattle.uca_change_files.proofs.LineLaws.{line_of_text, line_of_range, line_takes, line_refused, no_item}
 use Rattle.uca_change_files.proofs.lines.ChangesSoFar.take_line.Goals as goal
@@ -26,3 +27,6 @@ returns-in-Some-after-clause-fault g c =
 pub returns-clause-fault : goal.returns-clause-fault
 returns-clause-fault g c =
     inr (inr (inl (refl, c.if-not-self.false, no_item c.args.line.now c.in_default.ensures c.in_default-after.ensures)))
+
+pub returns-then-ne-clause-fault : goal.returns-then-ne-clause-fault
+returns-then-ne-clause-fault g c = grind (arith, common_steps)

@@ -1,8 +1,0 @@
-use Rattle.uca_change_lists.proofs.BorderLists.{point_lists}
-use Rattle.uca_change_lists.proofs.borders.point_borders.Goals as goal
-
-pub returns : goal.returns
-returns g c =
-    point_lists c.args.old.now c.args.new.now c.args.changes.now.ranges _ _ _ _ _ c.in_ok-list.ensures
-    c.in_ok-push_data_borders.ensures.kept c.in_ok-push_data_borders.ensures.added c.in_ok-push_data_borders-2.ensures.kept c.in_ok-push_data_borders-2.ensures.added
-    c.ranges-2.ensures c.in_ok-push_ranges.ensures
