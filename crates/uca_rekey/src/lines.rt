@@ -15,8 +15,8 @@ use memchr::memchr;
 use std::alloc::{AllocError, Allocator};
 use std::io::Read;
 use std::marker::Model;
-use uca_lines::NextLine;
 use uca_images::KeyMover;
+use uca_lines::NextLine;
 use uca_run_parts::StoredKeyKind;
 use uca_weights::Source;
 
