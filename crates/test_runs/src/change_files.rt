@@ -1,11 +1,38 @@
-//! Lists that are made by calls, and writers that fail.
+//! Files of changes: sources and writers that fail, and lists that are made by calls.
 
 use std::alloc::Global;
 use std::io::ErrorKind;
 use std::test::Fail;
-use test_kit::{Calls, Failure, FakeWriter, Pace, holds};
-use uca_change_files::{ChangeList, ChangedText, CodePointRange, FaultKind, write_changes};
-use uca_weights::Sink;
+use test_kit::{Calls, Failure, FakeReader, FakeWriter, Pace, holds};
+use uca_change_files::{
+    ChangeList, ChangedText, CodePointRange, FaultKind, read_changes, write_changes,
+};
+use uca_weights::{Sink, Source};
+
+/// After this many bytes the source fails.
+fn check_broken(alloc: Global, good: usize, wanted: &str) -> Result<(), Fail> {
+    let calls = Calls::new();
+    let pace = Pace::failing(3, good, Failure::Error(ErrorKind::Other));
+    let reader = FakeReader::new(b"@changes 1\ntext 0061\n", pace, &calls);
+    let mut source = Source::new(reader);
+    let is_told = match read_changes(alloc, &mut source) {
+        Ok(_) => false,
+        Err(fault) => fault.message().as_str() == wanted,
+    };
+    holds(is_told && source.failed() && calls.late.get() == 0, wanted)
+}
+
+#[test]
+fn sources_that_fail(rt: HostRuntime) -> Result<(), Fail> {
+    for (good, wanted) in [
+        (0, "line 1: Read"),
+        (10, "line 1: Read"),
+        (12, "line 2: Read"),
+    ] {
+        check_broken(rt.alloc(), good, wanted)?;
+    }
+    Ok(())
+}
 
 /// The text of the list that is made.
 const TEXT: &[u8] = b"@changes 1\ntext 0061 10FFFF\nrange 0041..1F600\n";

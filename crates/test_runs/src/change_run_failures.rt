@@ -1,6 +1,6 @@
 //! What fails, and what is then returned and written.
 
-use crate::runs::{End, KEYS, MOVED, Run, call, rekey};
+use crate::change_runs::{End, KEYS, MOVED, Run, call, rekey};
 use std::alloc::Global;
 use std::io::ErrorKind;
 use std::test::Fail;
