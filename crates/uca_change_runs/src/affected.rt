@@ -1,9 +1,7 @@
 //! The run that prints the lines that changes affect.
 
-ghost use Rattle.std.specs.Prelude.{◌≡◌, ◌∷◌, [], true, IfErr, MatchResult};
+ghost use Rattle.std.specs.Prelude.{◌∷◌, []};
 ghost use Rattle.uca_values.specs.Content.{properties_of};
-ghost use Rattle.uca_run_parts.specs.EachLine.{ended_before_input};
-ghost use Rattle.uca_run_parts.specs.Files.{HaveFailed, Over};
 ghost use Rattle.uca_run_parts.specs.ReadFiles.{ReadsFiles};
 ghost use Rattle.uca_change_runs.specs.ChangeFiles.{changes_with, data_and_changes, data_and_changes_roles};
 ghost use Rattle.uca_change_runs.specs.AffectedRun.{AffectedByChangesAreTheOthers, PrintsAffectedByChanges};
@@ -17,22 +15,13 @@ use uca_run_parts::{Role, RunFault, print_affected, read_data_file};
 use uca_values::Data;
 use uca_weights::{Sink, Source};
 
-/// What the two files mean, where the changes are still a list.
+/// What the two files mean.
 #[derive(Drop)]
 struct DataAndChanges<A: Allocator> {
     /// The properties of code points.
     properties: Data<A>,
     /// The changes.
     list: ChangeList<A>,
-}
-
-/// What the two files mean, ready for the lines.
-#[derive(Drop)]
-struct DataAndIndex<A: Allocator> {
-    /// The properties of code points.
-    properties: Data<A>,
-    /// The changes.
-    index: ChangeIndex<A>,
 }
 
 /// Prints the lines of `input` that the changes affect, each with LF. A line is affected if a changed text occurs in order in
@@ -77,10 +66,21 @@ pub fn run_affected_by_changes_in<A: Allocator + Copy, D: Read, C: Read, I: Read
     ensures { PrintsAffectedByChanges (properties.old ∷ changes.old ∷ []) (properties.new ∷ changes.new ∷ [])
         input.old input.new out.old out.new result }
 {
-    let files = read_data_and_index(alloc, properties, changes)?;
-    let end = print_affected(alloc, global, &files.properties, &files.index, input, out);
-    drop(files);
-    end
+    match read_data_and_changes(alloc, properties, changes) {
+        Ok(DataAndChanges { properties, list }) => match ChangeIndex::new(alloc, list) {
+            Ok(index) => {
+                let end = print_affected(alloc, global, &properties, &index, input, out);
+                drop(index);
+                drop(properties);
+                end
+            }
+            Err(_) => {
+                drop(properties);
+                Err(RunFault::Memory)
+            }
+        },
+        Err(fault) => Err(fault),
+    }
 }
 
 /// A run of the lines that changes affect prints all lines but those that a change with these texts and ranges leaves as they
@@ -89,30 +89,6 @@ pub fn run_affected_by_changes_in<A: Allocator + Copy, D: Read, C: Read, I: Read
 pub fn affected_by_changes_are_the_others()
     ensures { AffectedByChangesAreTheOthers }
 {}
-
-// Reads the data file, and then the file of changes, and makes the changes ready to be looked up. The error is `File` if one
-// of them is rejected, the first if both are. It is `Memory` if an allocation failed after that.
-fn read_data_and_index<A: Allocator + Copy, D: Read, C: Read>(
-    alloc: A,
-    properties: &mut Source<D>,
-    changes: &mut Source<C>,
-) -> Result<DataAndIndex<A>, RunFault>
-    ensures read { Over data_and_changes (properties.old ∷ changes.old ∷ []) (properties.new ∷ changes.new ∷ [])
-        (λ content. MatchResult result
-        (λ files. changes_with (properties_of files.properties) files.index ≡ content) (λ fault. fault ≡ RunFault.Memory)) result }
-    ensures before_input { IfErr result (λ _. ended_before_input result ≡ true) }
-    ensures failed { HaveFailed data_and_changes_roles (properties.old ∷ changes.old ∷ [])
-        (properties.new ∷ changes.new ∷ []) result }
-{
-    let DataAndChanges { properties, list } = read_data_and_changes(alloc, properties, changes)?;
-    match ChangeIndex::new(alloc, list) {
-        Ok(index) => Ok(DataAndIndex { properties, index }),
-        Err(_) => {
-            drop(properties);
-            Err(RunFault::Memory)
-        }
-    }
-}
 
 // Reads the data file, and then the file of changes, each to its end or its first error. The error is `File` if one of them is
 // rejected, the first if both are.
@@ -124,12 +100,14 @@ fn read_data_and_changes<A: Allocator + Copy, D: Read, C: Read>(
     ensures { ReadsFiles data_and_changes data_and_changes_roles (properties.old ∷ changes.old ∷ []) (properties.new ∷ changes.new ∷ [])
         (λ files. changes_with (properties_of files.properties) files.list) result }
 {
-    let properties = read_data_file(alloc, Role::Data, properties)?;
-    match read_changes_file(alloc, changes) {
-        Ok(list) => Ok(DataAndChanges { properties, list }),
-        Err(fault) => {
-            drop(properties);
-            Err(fault)
-        }
+    match read_data_file(alloc, Role::Data, properties) {
+        Ok(properties) => match read_changes_file(alloc, changes) {
+            Ok(list) => Ok(DataAndChanges { properties, list }),
+            Err(fault) => {
+                drop(properties);
+                Err(fault)
+            }
+        },
+        Err(fault) => Err(fault),
     }
 }

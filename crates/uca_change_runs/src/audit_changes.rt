@@ -1,18 +1,17 @@
 //! The run that audits a change.
 
-ghost use Rattle.std.specs.Prelude.{◌≡◌, ◌⊎◌, ◌||◌, ◌∷◌, [], Err, IfErr, OnOk, MatchResult};
+ghost use Rattle.std.specs.Prelude.{◌≡◌, ◌⊎◌, ◌||◌, ◌∷◌, [], IfErr, OnOk};
 ghost use Rattle.uca_changes.specs.Changes.{Change, IsAcceptedChange};
 ghost use Rattle.uca_editions.specs.ChangeInputs.{MeansUnaffectedTextsStay};
 ghost use Rattle.uca_editions.specs.ChangeRefusals.{IsFirstRefusal};
 ghost use Rattle.uca_run_parts.specs.Runs.{ended_by_output};
 ghost use Rattle.uca_run_parts.specs.Verdicts.{WritesVerdict};
-ghost use Rattle.uca_change_runs.specs.ReadChanges.{change_by, change_of};
+ghost use Rattle.uca_change_runs.specs.ReadChanges.{change_of};
 ghost use Rattle.uca_change_runs.specs.AuditRun.{AuditsChanges, IsVerdict, RunsAudit};
 
 use crate::files::{ChangeFiles, read_change_files};
 use std::alloc::{Allocator, Global};
 use std::io::{Read, Write};
-use uca_change_lists::Changes;
 use uca_editions::{ChangeFault, ChangeInputs, audit_change, changes_of};
 use uca_run_parts::RunFault;
 use uca_run_parts::change_faults::change_verdict;
@@ -80,20 +79,7 @@ pub fn run_audit_changes_in<
     ensures { AuditsChanges (old.old ∷ old_data.old ∷ new.old ∷ new_data.old ∷ changes.old ∷ certificate.old ∷ [])
         (old.new ∷ old_data.new ∷ new.new ∷ new_data.new ∷ changes.new ∷ certificate.new ∷ []) out.old out.new result }
 {
-    let files = read_change_files(alloc, old, old_data, new, new_data, changes, certificate);
-    audit_read(alloc, files, out)
-}
-
-// Audits what was read. An error of the reading is returned, and then nothing is written.
-fn audit_read<M: Allocator + Copy, W: Write>(
-    alloc: M,
-    read: Result<ChangeFiles<M>, RunFault>,
-    out: &mut Sink<W>,
-) -> Result<bool, RunFault>
-    ensures runs { MatchResult read (λ files. RunsAudit out.old out.new result (change_of files)) (λ fault. (result ≡ Err fault) × (out.new ≡ out.old)) }
-    ensures failed { MatchResult read (λ _. out.new.failed ≡ (out.old.failed || ended_by_output result)) (λ _. out.new ≡ out.old) }
-{
-    match read {
+    match read_change_files(alloc, old, old_data, new, new_data, changes, certificate) {
         Ok(files) => {
             // All files are dropped in one step: that keeps the proof short.
             let verdict = write_verdict(alloc, &files, out);
@@ -128,38 +114,31 @@ fn end_verdict<W: Write>(verdict: bool, line: &[u8], out: &mut Sink<W>) -> Resul
     ensures runs { (change : Change) → IsVerdict change verdict line.now → RunsAudit out.old out.new result change }
     ensures failed { out.new.failed ≡ (out.old.failed || ended_by_output result) }
 {
-    write_text(line, out)?;
-    Ok(verdict)
+    match write_text(line, out) {
+        Ok(()) => Ok(verdict),
+        Err(fault) => Err(fault),
+    }
 }
 
-// Audits the change that the files mean.
+// Audits the change that the files mean, with lists to look up in place of the file of changes.
 fn audit_files<M: Allocator + Copy>(alloc: M, files: &ChangeFiles<M>) -> Result<(), ChangeFault>
     ensures accepted { OnOk result (IsAcceptedChange (change_of files.now)) }
     ensures meaning { OnOk result (MeansUnaffectedTextsStay (change_of files.now)) }
     ensures refused { IfErr result (λ fault. IsFirstRefusal (change_of files.now) fault ⊎ (fault ≡ ChangeFault.Memory)) }
 {
-    let changes = changes_of(alloc, &files.listed.list)?;
-    audit_listed(alloc, files, &changes)
-}
-
-// Audits the change with other lists in place of the file of changes.
-fn audit_listed<M: Allocator + Copy>(
-    alloc: M,
-    files: &ChangeFiles<M>,
-    changes: &Changes<M>,
-) -> Result<(), ChangeFault>
-    ensures accepted { OnOk result (IsAcceptedChange (change_by files.now changes.now)) }
-    ensures meaning { OnOk result (MeansUnaffectedTextsStay (change_by files.now changes.now)) }
-    ensures refused { IfErr result (λ fault. IsFirstRefusal (change_by files.now changes.now) fault ⊎ (fault ≡ ChangeFault.Memory)) }
-{
-    let editions = &files.editions;
-    let inputs = ChangeInputs {
-        old: &editions.old.table,
-        old_data: &editions.old.properties,
-        new: &editions.new.table,
-        new_data: &editions.new.properties,
-        changes,
-        certificate: &files.listed.certificate,
-    };
-    audit_change(alloc, &inputs)
+    match changes_of(alloc, &files.listed.list) {
+        Ok(changes) => {
+            let editions = &files.editions;
+            let inputs = ChangeInputs {
+                old: &editions.old.table,
+                old_data: &editions.old.properties,
+                new: &editions.new.table,
+                new_data: &editions.new.properties,
+                changes: &changes,
+                certificate: &files.listed.certificate,
+            };
+            audit_change(alloc, &inputs)
+        }
+        Err(_) => Err(ChangeFault::Memory),
+    }
 }

@@ -1,6 +1,6 @@
 //! The run that finds what changes from one edition to another.
 
-ghost use Rattle.std.specs.Prelude.{◌≡◌, ◌∷◌, [], Err, MatchResult};
+ghost use Rattle.std.specs.Prelude.{◌∷◌, []};
 ghost use Rattle.uca_change_runs.specs.ReadChanges.{editions_of};
 ghost use Rattle.uca_change_runs.specs.ChangesRun.{FindsChanges, RunsChanges};
 
@@ -44,18 +44,7 @@ pub fn run_changes_in<M: Allocator + Copy, A: Read, B: Read, C: Read, D: Read>(
 ) -> Result<FoundChanges<M>, RunFault>
     ensures { FindsChanges (old.old ∷ old_data.old ∷ new.old ∷ new_data.old ∷ []) (old.new ∷ old_data.new ∷ new.new ∷ new_data.new ∷ []) result }
 {
-    let files = read_editions(alloc, old, old_data, new, new_data);
-    find_in(alloc, files)
-}
-
-// Finds what changes between the editions that were read. An error of the reading is returned.
-fn find_in<M: Allocator + Copy>(
-    alloc: M,
-    read: Result<EditionFiles<M>, RunFault>,
-) -> Result<FoundChanges<M>, RunFault>
-    ensures { MatchResult read (λ files. RunsChanges result (editions_of files)) (λ fault. result ≡ Err fault) }
-{
-    match read {
+    match read_editions(alloc, old, old_data, new, new_data) {
         Ok(files) => {
             // All files are dropped in one step: that keeps the proof short.
             let found = find_between(alloc, &files);
@@ -79,5 +68,8 @@ fn find_between<M: Allocator + Copy>(
         new: &files.new.table,
         new_data: &files.new.properties,
     };
-    Ok(find_changes(alloc, &editions)?)
+    match find_changes(alloc, &editions) {
+        Ok(found) => Ok(found),
+        Err(fault) => Err(RunFault::from(fault)),
+    }
 }

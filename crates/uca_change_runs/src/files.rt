@@ -69,13 +69,15 @@ pub fn read_change_files<M: Allocator + Copy, A: Read, B: Read, C: Read, D: Read
     ensures { ReadsFiles change_files change_roles (old.old ∷ old_data.old ∷ new.old ∷ new_data.old ∷ changes.old ∷ certificate.old ∷ [])
         (old.new ∷ old_data.new ∷ new.new ∷ new_data.new ∷ changes.new ∷ certificate.new ∷ []) (λ files. change_of files) result }
 {
-    let editions = read_editions(alloc, old, old_data, new, new_data)?;
-    match read_listed(alloc, changes, certificate) {
-        Ok(listed) => Ok(ChangeFiles { editions, listed }),
-        Err(fault) => {
-            drop(editions);
-            Err(fault)
-        }
+    match read_editions(alloc, old, old_data, new, new_data) {
+        Ok(editions) => match read_listed(alloc, changes, certificate) {
+            Ok(listed) => Ok(ChangeFiles { editions, listed }),
+            Err(fault) => {
+                drop(editions);
+                Err(fault)
+            }
+        },
+        Err(fault) => Err(fault),
     }
 }
 
@@ -94,13 +96,15 @@ pub fn read_editions<M: Allocator + Copy, A: Read, B: Read, C: Read, D: Read>(
     ensures { ReadsFiles editions_files editions_roles (old.old ∷ old_data.old ∷ new.old ∷ new_data.old ∷ [])
         (old.new ∷ old_data.new ∷ new.new ∷ new_data.new ∷ []) (λ files. editions_of files) result }
 {
-    let old = read_edition(alloc, Role::Old, Role::OldData, old, old_data)?;
-    match read_edition(alloc, Role::New, Role::NewData, new, new_data) {
-        Ok(new) => Ok(EditionFiles { old, new }),
-        Err(fault) => {
-            drop(old);
-            Err(fault)
-        }
+    match read_edition(alloc, Role::Old, Role::OldData, old, old_data) {
+        Ok(old) => match read_edition(alloc, Role::New, Role::NewData, new, new_data) {
+            Ok(new) => Ok(EditionFiles { old, new }),
+            Err(fault) => {
+                drop(old);
+                Err(fault)
+            }
+        },
+        Err(fault) => Err(fault),
     }
 }
 
@@ -117,13 +121,15 @@ fn read_edition<M: Allocator + Copy, A: Read, B: Read>(
     ensures { ReadsFiles (edition_files role data_role) (role ∷ data_role ∷ []) (table.old ∷ properties.old ∷ [])
         (table.new ∷ properties.new ∷ []) (λ edition. edition_of edition) result }
 {
-    let table = read_table_file(alloc, role, table)?;
-    match read_data_file(alloc, data_role, properties) {
-        Ok(properties) => Ok(Edition { table, properties }),
-        Err(fault) => {
-            drop(table);
-            Err(fault)
-        }
+    match read_table_file(alloc, role, table) {
+        Ok(table) => match read_data_file(alloc, data_role, properties) {
+            Ok(properties) => Ok(Edition { table, properties }),
+            Err(fault) => {
+                drop(table);
+                Err(fault)
+            }
+        },
+        Err(fault) => Err(fault),
     }
 }
 
@@ -136,13 +142,15 @@ fn read_listed<M: Allocator + Copy, A: Read, B: Read>(
     ensures { ReadsFiles listed_files listed_roles (changes.old ∷ certificate.old ∷ []) (changes.new ∷ certificate.new ∷ [])
         (λ listed. listed_of listed) result }
 {
-    let list = read_changes_file(alloc, changes)?;
-    match read_certificate_file(alloc, certificate) {
-        Ok(certificate) => Ok(Listed { list, certificate }),
-        Err(fault) => {
-            drop(list);
-            Err(fault)
-        }
+    match read_changes_file(alloc, changes) {
+        Ok(list) => match read_certificate_file(alloc, certificate) {
+            Ok(certificate) => Ok(Listed { list, certificate }),
+            Err(fault) => {
+                drop(list);
+                Err(fault)
+            }
+        },
+        Err(fault) => Err(fault),
     }
 }
 
