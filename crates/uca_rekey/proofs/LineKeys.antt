@@ -1,14 +1,14 @@
 -- The key of a line, read and written digit by digit.
-use Rattle.std.proofs.Common.{◌≡◌, ℕ, ◌+◌, ◌*◌, ◌<◌, ◌≤◌, List, [], ◌∷◌, ◌++◌, length, take, drop, get_or, map, Option, Some, None, refl, ap, sym, ◌∙◌, append_assoc, arith, take-append-drop}
+use Rattle.std.proofs.Common.{◌≡◌, ℕ, ◌+◌, ◌*◌, ◌<◌, ◌≤◌, List, [], ◌∷◌, ◌++◌, length, take, drop, get_or, map, Option, Some, None, refl, ap, sym, ◌∙◌, append_assoc, append-nil, arith, take-append-drop}
 use Rattle.std.specs.List.{flat_map, range_with_len}
 use Rattle.std.specs.Option.{option_and_then, option_map}
 use Rattle.std.proofs.lemmas.List.{drop_all}
 use Rattle.std.proofs.lemmas.List.FromFn.{get_or-map-range_with_len}
-use Rattle.uca_lines.specs.Numbers.{hex_of}
+use Rattle.uca_lines.specs.Numbers.{hex_of, upper_digit}
 use Rattle.uca_lines.specs.DigitValues.{value_or_more, number_or_more}
 use Rattle.uca_lines.proofs.DigitValues.{hex_read, hex_not_read, hex-lt}
 use Rattle.uca_run_parts.specs.Print.{byte_digits}
-use Rattle.uca_rekey.specs.declared.line.TheConstants.{VALUES}
+use Rattle.uca_rekey.specs.declared.line.TheConstants.{DIGITS, VALUES}
 use Rattle.uca_rekey.specs.RekeyedLines.{digits_of, byte_before, bytes_of, key_in, rekeyed_by, with_digits, with_key}
 
 -- ---- Digits
@@ -20,6 +20,13 @@ values_are = refl
 -- the table has the value of each byte
 pub value_in_table : (byte : ℕ) → byte < 256 → get_or VALUES byte 0 ≡ value_or_more byte
 value_in_table byte h = ap (λ t. get_or t byte 0) values_are ∙ get_or-map-range_with_len value_or_more 0 256 byte byte 0 h (omega arith)
+
+digits_are : DIGITS ≡ map upper_digit (range_with_len 0 16)
+digits_are = refl
+
+-- the table has the digit of each value
+pub digit_in_table : (value : ℕ) → value < 16 → get_or DIGITS value 0 ≡ upper_digit value
+digit_in_table value h = ap (λ t. get_or t value 0) digits_are ∙ get_or-map-range_with_len upper_digit 0 16 value value 0 h (omega arith)
 
 two_values : (a b : ℕ) → number_or_more 0 (a ∷ b ∷ []) ≡ value_or_more a * 16 + value_or_more b
 unfolding number_or_more
@@ -37,6 +44,27 @@ pub no_digits_read : (a b n : ℕ) → n ≡ value_or_more a * 16 + value_or_mor
 no_digits_read a b n is large = sym (hex_not_read (a ∷ b ∷ []) (omega arith) (omega (arith, two_values a b, is)))
 
 -- ---- The key of a line
+
+-- no byte was read yet
+pub none_read : (all : Option (List ℕ)) (key : List ℕ) → key ≡ [] → all ≡ option_map (λ more. key ++ more) all
+none_read None key none = refl
+none_read (Some bytes) key none = ap (λ front. Some (front ++ bytes)) (sym none)
+
+module _ (all : Option (List ℕ)) (key text : List ℕ) (so_far : all ≡ option_map (λ more. key ++ more) (key_in text)) where
+  -- there is no digit any more
+  pub key_read : digits_of text ≡ [] → all ≡ Some key
+  key_read none = so_far ∙ ap (λ ds. option_map (λ more. key ++ more) (bytes_of ds)) none ∙ ap (λ k. Some k) (append-nil key)
+
+  -- there is one digit alone
+  pub one_digit_left : (high : ℕ) (rest : List ℕ) → digits_of text ≡ high ∷ digits_of rest → digits_of rest ≡ [] → all ≡ None
+  one_digit_left high rest one none = so_far ∙ ap (λ ds. option_map (λ more. key ++ more) (bytes_of ds)) (one ∙ ap (λ ds. high ∷ ds) none)
+
+  -- two digits are no byte
+  pub no_byte_read : (high low : ℕ) (rest after : List ℕ) → digits_of text ≡ high ∷ digits_of rest → digits_of rest ≡ low ∷ digits_of after
+      → None ≡ hex_of (high ∷ low ∷ []) → all ≡ None
+  no_byte_read high low rest after one two none =
+      so_far ∙ ap (λ ds. option_map (λ more. key ++ more) (bytes_of ds)) (one ∙ ap (λ ds. high ∷ ds) two)
+      ∙ ap (λ b. option_map (λ more. key ++ more) (byte_before b (key_in after))) (sym none)
 
 -- One more byte was read. All that comes of the line is what comes of the rest, after these bytes of the key.
 pub byte_read : (all : Option (List ℕ)) (key text : List ℕ) → all ≡ option_map (λ more. key ++ more) (key_in text) → (high low : ℕ) (rest after : List ℕ)

@@ -1,19 +1,23 @@
 -- Where lines lie in a buffer.
-use Rattle.std.proofs.Common.{◌≡◌, ℕ, zero, suc, ltb, ◌+◌, ◌-◌, ◌^◌, ◌<◌, ◌≤◌, List, [], ◌∷◌, ◌++◌, length, take, drop, get_or, Option, Some, None, refl, ap, sym, subst, ◌∙◌, append_assoc, append-nil, length-append, arith, take-append-drop}
+use Rattle.std.proofs.Common.{◌≡◌, ℕ, zero, suc, ltb, ◌+◌, ◌-◌, ◌^◌, ◌<◌, ◌≤◌, List, [], ◌∷◌, ◌++◌, length, take, drop, get_or, Option, Some, None, Ok, Err, refl, ap, sym, subst, ◌∙◌, append_assoc, append-nil, length-append, arith, take-append-drop}
 use Rattle.std.specs.Bool.{MatchBool}
 use Rattle.std.specs.Io.KnownBytes.{Consumes, IsAtEnd, Keeps, prepend_known}
 use lib.Seq.{take-append_seam}
 use Rattle.std.specs.List.{before_first, position_or_len, slice_range}
 use Rattle.std.proofs.lemmas.Bool.{eqb-true, lt-ltb}
 use borrow.Rule.Slice.PartMut.{put_mid, post_of}
-use Rattle.std.proofs.lemmas.List.{drop-drop, drop-take, drop_at, get_or-drop, take-take, take-append-le, length-drop, length-take-le}
+use Rattle.std.proofs.lemmas.List.{drop-drop, drop-take, drop_at, get_or-drop, take-take, take_all, take-append-le, length-drop, length-take-le}
 use Rattle.std.proofs.lemmas.Slice.{drop-put_mid, take-put_mid_below}
 use Rattle.memchr.specs.Find.{IsFirstByte, is_byte}
 use Rattle.uca_weights.proofs.Lists.{split_at}
-use Rattle.uca_lines.specs.Lines.{is_lf, Lacks}
+use Rattle.uca_lines.specs.Lines.{is_lf, Lacks, ended}
 use Rattle.uca_lines.proofs.LineLemmas.{line_end-memchr, before_lf-all, Lacks-append, Lacks-before_first}
-use Rattle.uca_lines.specs.NextLine.{BeginsLonger}
-use Rattle.uca_rekey.specs.LinesInPlace.{BeginsLine}
+use Rattle.uca_lines.specs.NextLine.{BeginsLonger, HasBytes}
+use Rattle.uca_lines.specs.declared.lines.NextLine.{NextLine}
+use Rattle.uca_lines.specs.declared.lines.NextLine.TheVariants.{Terminated, Unterminated, EndOfInput}
+use Rattle.uca_run_parts.specs.declared.faults.StoredKeyKind.{StoredKeyKind}
+use Rattle.uca_run_parts.specs.declared.faults.StoredKeyKind.TheVariants as kinds
+use Rattle.uca_rekey.specs.LinesInPlace.{BeginsLine, FindsLine, IsFillFault, IsLast}
 
 -- ---- Parts of lists
 
@@ -51,6 +55,18 @@ range_kept xs ys e within =
     let whole : e - 0 ≡ e = omega arith in
     ap (λ m. take m all) whole ∙ take-put_mid_below e (length xs - e) xs ys e (omega arith) within
 
+-- a part that was written
+pub range_written : (a k : ℕ) (xs ys : List ℕ) → a ≤ length xs → length ys ≡ k → take k (drop a (put_mid a k xs ys)) ≡ ys
+range_written a k xs ys within long =
+    ap (take k) (drop_at (take a xs) (ys ++ post_of a k xs) a (length-take-le a xs within)) ∙ take-append-le k ys (post_of a k xs) (omega (arith, long))
+    ∙ take_all k ys (omega (arith, long))
+
+-- what a list begins with
+pub front_range : (xs : List ℕ) (e : ℕ) → slice_range xs 0 e ≡ take e xs
+front_range xs e =
+    let whole : e - 0 ≡ e = omega arith in
+    ap (λ m. take m xs) whole
+
 -- ---- The first line
 
 module _ (bytes rest : List ℕ) (seen : ℕ) (is : rest ≡ drop seen bytes) (lacks : Lacks is_lf (take seen bytes)) where
@@ -79,6 +95,18 @@ module _ (bytes rest : List ℕ) (seen : ℕ) (is : rest ≡ drop seen bytes) (l
       (Lacks-append is_lf (take seen bytes) (drop seen bytes) lacks (subst (Lacks is_lf) whole (Lacks-before_first is_lf rest)))
 
 -- ---- More bytes
+
+-- nothing is taken
+pub keeps_all : (known : Option (List ℕ)) → Keeps known known
+keeps_all None = tt
+keeps_all (Some xs) = refl
+
+-- nothing is taken, twice
+pub keeps_on : (old now new : Option (List ℕ)) → Keeps old now → Keeps now new → Keeps old new
+keeps_on None now new first then = tt
+keeps_on (Some xs) None new first then = absurd first
+keeps_on (Some xs) (Some ys) None first then = absurd then
+keeps_on (Some xs) (Some ys) (Some zs) first then = then ∙ first
 
 -- bytes that were read wait after the others
 pub filled : (old new : Option (List ℕ)) (pending later part : List ℕ) → Consumes old new part → later ≡ pending ++ part
@@ -123,3 +151,64 @@ module _ (old : Option (List ℕ)) (pending : List ℕ) (rest : Option (List ℕ
       go (Some xs) (Some ys) same =
           let whole : front ++ (more ++ ys) ≡ xs = sym (append_assoc front more ys) ∙ ap (λ l. l ++ ys) (sym is) ∙ same in
           omega (arith, longer front (more ++ ys) lacks, ap (position_or_len is_lf) whole)
+
+  -- a line and its LF were taken
+  pub line_taken : (len : ℕ) (line left : List ℕ) → BeginsLine pending len → line ≡ take len pending → left ≡ drop (len + 1) pending
+      → Consumes old (prepend_known left rest) (ended line) × Lacks is_lf line
+  line_taken len line left first line_is left_is = (go old rest kept, subst (Lacks is_lf) (sym line_is) first.lacks)
+    where
+      go : (known after : Option (List ℕ)) → Keeps known (prepend_known pending after) → Consumes known (prepend_known left after) (ended line)
+      go None after same = tt
+      go (Some xs) None same = absurd same
+      go (Some xs) (Some ys) same =
+          sym same ∙ ap (λ l. l ++ ys) first.parts ∙ append_assoc (ended (take len pending)) (drop (len + 1) pending) ys
+          ∙ ap (λ l. ended l ++ (drop (len + 1) pending ++ ys)) (sym line_is) ∙ ap (λ l. ended line ++ (l ++ ys)) (sym left_is)
+
+  module _ (unread : Option (List ℕ)) (later : List ℕ) (same : Keeps (prepend_known pending rest) (prepend_known later unread)) (is : later ≡ pending)
+      (lacks : Lacks is_lf pending) where
+    all_kept : Keeps old (prepend_known later unread)
+    all_kept = keeps_on old (prepend_known pending rest) (prepend_known later unread) kept same
+
+    -- no more was read after some bytes without LF
+    pub not_filled : (line : List ℕ) (kind : StoredKeyKind) → IsFillFault pending kind → FindsLine old (prepend_known later unread) unread line (Err kind)
+    not_filled line kinds.NoKey fault = absurd fault
+    not_filled line kinds.NoImage fault = absurd fault
+    not_filled line kinds.TooLong fault = absurd fault
+    not_filled line kinds.Read fault = (pending, go old unread all_kept, lacks)
+      where
+        go : (known left : Option (List ℕ)) → Keeps known (prepend_known later left) → Consumes known left pending
+        go None left all = tt
+        go (Some xs) None all = absurd all
+        go (Some xs) (Some ys) all = sym all ∙ ap (λ l. l ++ ys) is
+    not_filled line kinds.Memory fault = go old rest kept
+      where
+        go : (known left : Option (List ℕ)) → Keeps known (prepend_known pending left) → HasBytes known
+        go None left all = tt
+        go (Some xs) None all = absurd all
+        go (Some xs) (Some ys) all = omega (arith, ap length all, length-append pending ys, fault)
+
+    -- the source has no more than some bytes without LF
+    pub rest_taken : IsAtEnd unread → (line left : List ℕ) → line ≡ later → left ≡ [] → (kind : NextLine) → IsLast later kind
+        → FindsLine old (prepend_known left unread) unread line (Ok kind)
+    rest_taken end line left line_is left_is Terminated last = absurd last
+    rest_taken end line left line_is left_is Unterminated last = (
+      go old unread all_kept,
+      subst (Lacks is_lf) (sym (line_is ∙ is)) lacks,
+      none unread end,
+      omega (arith, ap length line_is, last),
+    )
+      where
+        go : (known after : Option (List ℕ)) → Keeps known (prepend_known later after) → Consumes known (prepend_known left after) line
+        go None after all = tt
+        go (Some xs) None all = absurd all
+        go (Some xs) (Some ys) all = sym all ∙ ap (λ l. l ++ ys) (sym line_is) ∙ ap (λ l. line ++ (l ++ ys)) (sym left_is)
+
+        none : (after : Option (List ℕ)) → IsAtEnd after → IsAtEnd (prepend_known left after)
+        none None ends = tt
+        none (Some ys) ends = ap (λ l. l ++ ys) left_is ∙ ends
+    rest_taken end line left line_is left_is EndOfInput last = go old unread all_kept end
+      where
+        go : (known after : Option (List ℕ)) → Keeps known (prepend_known later after) → IsAtEnd after → IsAtEnd known
+        go None after all ends = tt
+        go (Some xs) None all ends = absurd all
+        go (Some xs) (Some ys) all ends = sym all ∙ ap (λ l. l ++ ys) last ∙ ends

@@ -1,7 +1,7 @@
 -- The lines that were rekeyed so far, and the next one.
-use Rattle.std.proofs.Common.{◌≡◌, ℕ, suc, ◌+◌, Bool, false, List, [], ◌∷◌, ◌++◌, map, length, Option, Some, None, IfSome, Result, Ok, Err, inr, refl, ap, sym, subst, subst₂, ◌∙◌, append_assoc, append-nil, arith, length-append}
+use Rattle.std.proofs.Common.{◌≡◌, ℕ, suc, ◌+◌, Bool, true, false, List, [], ◌∷◌, ◌++◌, map, length, Option, Some, None, IfSome, Result, Ok, Err, inr, refl, ap, sym, subst, subst₂, ◌∙◌, append_assoc, append-nil, arith, length-append}
 use Rattle.std.specs.Prelude.{◌==◌, MatchBool}
-use Rattle.std.specs.Io.KnownBytes.{prepend_known}
+use Rattle.std.specs.Io.KnownBytes.{Appends, prepend_known}
 use Rattle.std.specs.List.{flat_map}
 use Rattle.std.specs.Option.{option_and_then}
 use Rattle.std.proofs.lemmas.Bool.{cond_both}
@@ -11,7 +11,7 @@ use Rattle.uca_weights.specs.declared.Depth.{Depth}
 use Rattle.uca_weights.specs.declared.Weighting.{Weighting}
 use Rattle.uca_weights.specs.Streams.{SourceState, SinkState}
 use Rattle.uca_weights.proofs.Tests.{map_some}
-use Rattle.uca_lines.specs.Buffered.{HasWrittenThrough, count_of}
+use Rattle.uca_lines.specs.Buffered.{HasWrittenThrough}
 use Rattle.uca_lines.specs.Lines.{ended, lines_of}
 use Rattle.uca_lines.specs.OutputBuffer.{BufferState, IsBuffered}
 use Rattle.uca_lines.proofs.BufferedLemmas.{none_buffered}
@@ -24,7 +24,7 @@ use Rattle.uca_run_parts.specs.declared.faults.StoredKeyKind.{StoredKeyKind}
 use Rattle.uca_run_parts.specs.declared.faults.StoredKeyKind.TheVariants as kinds
 use Rattle.uca_run_parts.specs.Input.{is_stored_key_read}
 use Rattle.uca_run_parts.specs.Runs.{PartWentOut, ended_by_output}
-use Rattle.uca_run_parts.proofs.Finishing.{count_is, piece_fails, rest_fails}
+use Rattle.uca_run_parts.proofs.Finishing.{count_is, piece_fails}
 use Rattle.uca_run_parts.specs.LinesSoFar.{OnKnown}
 use Rattle.uca_rekey.specs.RekeyedLines.{key_in, rekeyed_by, with_digits, with_key}
 use Rattle.uca_rekey.specs.RekeyRun.{AreRekeyed, HasCause, IsLineCause, IsLineFault, RunsRekey, WritesRekeyed}
@@ -195,6 +195,38 @@ module _ (moved : List ℕ → Option (List ℕ)) where
     not_flushed input (Err (StoredKey number kind)) rest no_write = first_lines rest.0 rest.1 (of_fault input rest.0 number kind rest.2) rest.3 rest.4
     not_flushed input (Err (Write count)) rest no_write = let never : ⊥ = cc in absurd never
     not_flushed input (Err _) rest no_write = absurd rest
+
+  module _ (start begun : Option (List ℕ)) (input : SourceState) (out : SinkState) (buffer : BufferState) where
+    -- the writer had failed
+    pub had_failed : (end : Result (Unit {0}) RunFault) → RekeysRest moved start begun input buffer out end → ended_by_output end ≡ true
+        → IfSome start (λ bytes. WritesRekeyed {A = Unit {0}} moved bytes input.remaining begun out.contents end)
+    had_failed (Ok x) rest write = let never : ⊥ = cc in absurd never
+    had_failed (Err (StoredKey number kind)) rest write = let never : ⊥ = cc in absurd never
+    had_failed (Err (Write written)) rest write = go start rest.2
+      where
+        go : (s : Option (List ℕ)) → IfSome s (λ bytes. (later : List (List ℕ)) × (lines_of bytes ≡ rest.0 ++ later))
+            → IfSome s (λ bytes. WritesRekeyed {A = Unit {0}} moved bytes input.remaining begun out.contents (Err (Write written)))
+        go None first = tt
+        go (Some bytes) first = (rest.0, rest.1, first.0, first.1, rest.3, rest.4)
+    had_failed (Err _) rest write = absurd rest
+
+    -- what waited went out
+    pub all_flushed : (now : SinkState) (end : Result (Unit {0}) RunFault) → ((text : List ℕ) → IsBuffered begun out.contents text buffer → Appends begun now.contents text)
+        → RekeysRest moved start begun input buffer out end → ended_by_output end ≡ false
+        → IfSome start (λ bytes. WritesRekeyed {A = Unit {0}} moved bytes input.remaining begun now.contents end)
+    all_flushed now (Ok x) flush rest no_write = go start rest.2
+      where
+        go : (s : Option (List ℕ)) → IfSome s (λ bytes. lines_of bytes ≡ rest.0) → IfSome s (λ bytes. WritesRekeyed {A = Unit {0}} moved bytes input.remaining begun now.contents (Ok x))
+        go None all = tt
+        go (Some bytes) all = (rest.1, subst (λ (ls : List (List ℕ)). AreRekeyed moved ls rest.1) (sym all) rest.3, flush (flat_map ended rest.1) rest.4)
+    all_flushed now (Err (StoredKey number kind)) flush rest no_write = go start rest.2
+      where
+        go : (s : Option (List ℕ)) → IfSome s (λ bytes. IsLineFault moved bytes input.remaining rest.0 number kind)
+            → IfSome s (λ bytes. WritesRekeyed {A = Unit {0}} moved bytes input.remaining begun now.contents (Err (StoredKey number kind)))
+        go None fault = tt
+        go (Some bytes) fault = (rest.0, rest.1, fault, rest.3, flush (flat_map ended rest.1) rest.4)
+    all_flushed now (Err (Write written)) flush rest no_write = let never : ⊥ = cc in absurd never
+    all_flushed now (Err _) flush rest no_write = absurd rest
 
   module _ (start begun : Option (List ℕ)) (before new : List (List ℕ)) (lines : LinesState) (input : SourceState) (written : WrittenState) (out : SinkState)
       (so_far : HasRekeyed moved start begun before new lines input written out) where

@@ -148,8 +148,10 @@ impl<A: Allocator> KeyLines<A> {
             if seen > LONGEST_LINE {
                 return Err(StoredKeyKind::TooLong);
             }
-            if !self.fill(source)? {
-                return Ok(self.take_rest());
+            match self.fill(source) {
+                Ok(true) => {}
+                Ok(false) => return Ok(self.take_rest()),
+                Err(kind) => return Err(kind),
             }
         }
     }

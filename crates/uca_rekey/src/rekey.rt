@@ -157,9 +157,13 @@ pub fn run_rekey_in<A: Allocator + Copy, C: Read, I: Read, W: Write>(
 ) -> Result<(), RunFault>
     ensures { RekeysLines weighting depth (certificate.old ∷ []) (certificate.new ∷ []) input.old input.new out.old out.new result }
 {
-    let mut run = begin(alloc, certificate, weighting, depth)?;
-    let end = run.rekey_rest(input, out);
-    let end = run.written.end(out, end);
-    drop(run);
-    end
+    match begin(alloc, certificate, weighting, depth) {
+        Ok(mut run) => {
+            let end = run.rekey_rest(input, out);
+            let end = run.written.end(out, end);
+            drop(run);
+            end
+        }
+        Err(fault) => Err(fault),
+    }
 }

@@ -1,17 +1,19 @@
 -- The whole run, from what its certificate means and what is written of its lines.
 use Rattle.std.specs.Prelude.{⊤}
-use Rattle.std.proofs.Common.{◌≡◌, ◌||◌, [], ◌∷◌, sym, subst}
+use Rattle.std.proofs.Common.{◌≡◌, ◌||◌, [], ◌∷◌, Err, sym, subst}
 use Rattle.uca_run_parts.specs.ReadFiles.{certificate_file}
 use Rattle.uca_run_parts.specs.declared.faults.Role.TheVariants as roles
-use Rattle.uca_run_parts.proofs.WholeRuns.{ended_by_lines}
+use Rattle.uca_run_parts.specs.declared.faults.RunFault.{RunFault}
+use Rattle.uca_run_parts.specs.declared.faults.RunFault.TheVariants.{Memory}
+use Rattle.uca_run_parts.proofs.WholeRuns.{ended_before, ended_by_lines}
 use Rattle.uca_rekey.specs.RekeyRun.{RunsRekey}
 use Rattle.uca_rekey.specs.RekeySoFar.{HasRekeyed, IsBegun, RekeysRest, moved_by, mover_of}
 use Rattle.uca_rekey.proofs.Rekeying.{begun_so, by_same, runs_rekey}
 use Rattle.uca_rekey.proofs.rekey.run_rekey_in.Goals as goal
 
-pub returns : goal.returns
-returns g c =
-    let run = c.in_ok-run.run' in
+pub returns-in-Ok : goal.returns-in-Ok
+returns-in-Ok g c =
+    let run = c.in-Ok.run' in
     let input = c.args.input.now in
     let out = c.args.out.now in
     let input_new = c.rekey_rest-end.new.input in
@@ -27,6 +29,15 @@ returns g c =
     (c.rekey_rest-end.ensures.rekeys input.remaining out.contents [] [] begin) in
     runs_rekey c.args.weighting c.args.depth input input_new out c.end-end.new.out c.end-end.result content lines
     (c.end-end.ensures.writes (moved_by by) input.remaining out.contents input_new rest))
-    c.in_ok-run.ensures.begun c.in_ok-run.ensures.failed
+    c.in-Ok.ensures.begun c.in-Ok.ensures.failed
     (λ none. subst (λ b. input_new.failed ≡ (input.failed || b)) (sym (c.end-end.ensures.not_read none)) c.rekey_rest-end.ensures.input_failed)
     (c.end-end.ensures.failed out.failed c.rekey_rest-end.ensures.out_failed)
+
+pub returns-in-Err : goal.returns-in-Err
+returns-in-Err g c =
+    let fault = c.in-Err.fault in
+    let input = c.args.input.now in
+    let out = c.args.out.now in
+    ended_before certificate_file (roles.Certificate ∷ []) (λ content. fault ≡ Memory) (RunsRekey {A = ⊤} c.args.weighting c.args.depth input input out out (Err fault))
+    (c.args.certificate.now ∷ []) (c.begin.new.certificate ∷ []) ⊤ ⊤ input out fault
+    (λ content is. subst (λ (f : RunFault). RunsRekey {A = ⊤} c.args.weighting c.args.depth input input out out (Err f) content) (sym is) tt) c.in-Err.ensures.begun c.in-Err.ensures.before_input c.in-Err.ensures.failed

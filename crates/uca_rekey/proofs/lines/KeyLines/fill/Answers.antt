@@ -4,7 +4,7 @@ use Rattle.std.specs.List.{slice_range}
 use Rattle.std.proofs.lemmas.List.{places, take_all, with_items_is}
 use borrow.Rule.Slice.PartMut.{put_mid}
 use Rattle.uca_rekey.specs.LinesInPlace.{LinesState}
-use Rattle.uca_rekey.proofs.Places.{begins_so, filled, nothing_filled, range_filled, range_kept, some_more}
+use Rattle.uca_rekey.proofs.Places.{begins_so, filled, front_range, keeps_all, nothing_filled, range_filled, range_kept, some_more}
 use Rattle.uca_rekey.proofs.lines.KeyLines.fill.Goals as goal
 
 pub returns-in-Ok : goal.returns-in-Ok
@@ -51,3 +51,42 @@ returns-in-Err-clause-front g c =
 pub returns-in-Err-clause-bytes : goal.returns-in-Err-clause-bytes
 returns-in-Err-clause-bytes g c =
     nothing_filled c.args.source.now.remaining c.read.new.self.remaining c.args.self.now.pending _ c.in-Err.ensures.bytes (returns-in-Err-clause-err g c)
+
+pub invariant_of-self : goal.invariant_of-self
+invariant_of-self g c =
+    let len = c.make_room-has_room.ensures.len in
+    (omega arith, omega arith, omega arith, omega (arith, len), omega (arith, len), omega arith)
+
+pub invariant_of-self-in-Ok : goal.invariant_of-self-in-Ok
+invariant_of-self-in-Ok g c =
+    let len = c.make_room-has_room.ensures.len in (
+      omega arith,
+      omega arith,
+      omega arith,
+      omega (arith, len, c.if-not-has_room.ensures.room, c.in-Ok.ensures.bound.0, c.read.auto.buf, c.deref_mut.ensures.len),
+      omega (arith, len),
+      omega arith,
+    )
+
+pub invariant_of-self-in-Err : goal.invariant_of-self-in-Err
+invariant_of-self-in-Err g c =
+    let len = c.make_room-has_room.ensures.len in
+    (omega arith, omega arith, omega arith, omega (arith, len), omega (arith, len), omega arith)
+
+pub overflow_add-self : goal.overflow_add-self
+overflow_add-self g c = omega (arith, c.in-Ok.ensures.bound.0, c.read.auto.buf, c.deref_mut.ensures.len, c.if-not-has_room.ensures.room)
+
+pub returns-then-not-has_room-clause-err : goal.returns-then-not-has_room-clause-err
+returns-then-not-has_room-clause-err g c =
+    front_range c.make_room-has_room.new.buffer.items (c.self.inside.end - c.self.inside.next) ∙ c.make_room-has_room.ensures.front
+    ∙ ap (λ (s : LinesState). s.pending) c.self.view_is
+
+pub returns-then-not-has_room-clause-front : goal.returns-then-not-has_room-clause-front
+returns-then-not-has_room-clause-front g c =
+    let pending = c.args.self.now.pending in
+    ap (take (length pending)) (returns-then-not-has_room-clause-err g c) ∙ take_all (length pending) pending (omega arith)
+
+pub returns-then-not-has_room-clause-bytes : goal.returns-then-not-has_room-clause-bytes
+returns-then-not-has_room-clause-bytes g c =
+    let left = c.args.source.now.remaining in
+    nothing_filled left left c.args.self.now.pending _ (keeps_all left) (returns-then-not-has_room-clause-err g c)

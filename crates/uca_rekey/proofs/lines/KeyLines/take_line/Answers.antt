@@ -14,3 +14,25 @@ returns-clause-pending g c =
     ap (λ k. slice_range bytes k old.end) place
     ∙ rest_of_range bytes old.next (c.args.len + 1) old.end (omega (arith, c.requires.within, long, length-take (old.end - old.next) (drop old.next bytes)))
     ∙ ap (λ (s : LinesState). drop (c.args.len + 1) s.pending) c.self.view_is
+
+pub overflow_add-self : goal.overflow_add-self
+overflow_add-self g c =
+    let old = c.self.inside in
+    omega (arith, c.requires.within, ap (λ (s : LinesState). length s.pending) c.self.view_is, length-take (old.end - old.next) (drop old.next old.buffer.items))
+
+pub overflow_add-self-2 : goal.overflow_add-self-2
+overflow_add-self-2 g c =
+    let old = c.self.inside in
+    omega (arith, c.requires.within, ap (λ (s : LinesState). length s.pending) c.self.view_is, length-take (old.end - old.next) (drop old.next old.buffer.items))
+
+pub invariant_of-self : goal.invariant_of-self
+invariant_of-self g c =
+    let old = c.self.inside in
+    let long = ap (λ (s : LinesState). length s.pending) c.self.view_is in (
+      omega arith,
+      omega arith,
+      omega (arith, c.requires.within, long, length-take (old.end - old.next) (drop old.next old.buffer.items)),
+      omega arith,
+      omega arith,
+      omega (arith, c.requires.short),
+    )

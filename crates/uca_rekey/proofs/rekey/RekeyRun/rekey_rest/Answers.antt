@@ -1,6 +1,6 @@
 -- The next line, where it was written, and why not.
 use Rattle.std.specs.Prelude.{⊤}
-use Rattle.std.proofs.Common.{[], ◌∷◌, ◌++◌, ℕ, Bool, List, true, false, Ok, Err, sym, subst, subst₂, ◌∙◌}
+use Rattle.std.proofs.Common.{[], ◌∷◌, ◌++◌, ℕ, Bool, List, true, false, Ok, Err, refl, ap, arith, sym, subst, subst₂, ◌∙◌}
 use Rattle.std.proofs.Math.Bool.{or-false}
 use Rattle.std.proofs.lemmas.Result.{err_from_is_err_and}
 use Rattle.uca_images.specs.Moving.{MoverState}
@@ -80,3 +80,11 @@ returns-clause-rekeys g c = λ start begun before new h.
     (subst (λ (m : MoverState). HasRekeyed (moved_by m) start begun i.0 i.1 old.lines c.loop-self.input old.written c.loop-self.out) (sym same) i.2)) in
     subst (λ (w : WrittenState). RekeysRest {A = ⊤} (moved_by c.args.self.now.mover) start begun c.next.new.input w.buffer c.loop-self.out (Ok tt)) (sym next.written)
     (all_rekeyed (moved_by c.args.self.now.mover) start begun i.0 i.1 old.lines c.loop-self.input old.written c.loop-self.out i.2 c.next.new.input found)
+
+pub loop-self-init : goal.loop-self-init
+loop-self-init g c = record { mover = refl; rekeyed = λ start begun before new h. (before, new, h); input_failed = refl; out_failed = refl }
+
+pub loop-self-smaller : goal.loop-self-smaller
+loop-self-smaller g c =
+    let next = rw c.if-branch.true at c.in_ok-next.ensures in
+    omega (arith, c.in_ok-write.ensures.writes.1, ap (λ (w : WrittenState). w.number) next.written, next.few)
