@@ -6,6 +6,7 @@ use lib.Seq.{take-append_seam}
 use Rattle.std.specs.List.{before_first, position_or_len, slice_range}
 use Rattle.std.proofs.lemmas.Bool.{eqb-true, lt-ltb}
 use borrow.Rule.Slice.PartMut.{put_mid, post_of}
+use Rattle.std.proofs.KnownBytes.{Keeps-trans}
 use Rattle.std.proofs.lemmas.List.{drop-drop, drop-take, drop_at, get_or-drop, take-take, take_all, take-append-le, length-drop, length-take-le}
 use Rattle.std.proofs.lemmas.Slice.{drop-put_mid, take-put_mid_below}
 use Rattle.memchr.specs.Find.{IsFirstByte, is_byte}
@@ -96,18 +97,6 @@ module _ (bytes rest : List ℕ) (seen : ℕ) (is : rest ≡ drop seen bytes) (l
 
 -- ---- More bytes
 
--- nothing is taken
-pub keeps_all : (known : Option (List ℕ)) → Keeps known known
-keeps_all None = tt
-keeps_all (Some xs) = refl
-
--- nothing is taken, twice
-pub keeps_on : (old now new : Option (List ℕ)) → Keeps old now → Keeps now new → Keeps old new
-keeps_on None now new first then = tt
-keeps_on (Some xs) None new first then = absurd first
-keeps_on (Some xs) (Some ys) None first then = absurd then
-keeps_on (Some xs) (Some ys) (Some zs) first then = then ∙ first
-
 -- bytes that were read wait after the others
 pub filled : (old new : Option (List ℕ)) (pending later part : List ℕ) → Consumes old new part → later ≡ pending ++ part
     → Keeps (prepend_known pending old) (prepend_known later new)
@@ -167,7 +156,7 @@ module _ (old : Option (List ℕ)) (pending : List ℕ) (rest : Option (List ℕ
   module _ (unread : Option (List ℕ)) (later : List ℕ) (same : Keeps (prepend_known pending rest) (prepend_known later unread)) (is : later ≡ pending)
       (lacks : Lacks is_lf pending) where
     all_kept : Keeps old (prepend_known later unread)
-    all_kept = keeps_on old (prepend_known pending rest) (prepend_known later unread) kept same
+    all_kept = Keeps-trans old (prepend_known pending rest) (prepend_known later unread) kept same
 
     -- no more was read after some bytes without LF
     pub not_filled : (line : List ℕ) (kind : StoredKeyKind) → IsFillFault pending kind → FindsLine old (prepend_known later unread) unread line (Err kind)

@@ -1,10 +1,11 @@
 -- The bytes that were read wait after the others.
 use Rattle.std.proofs.Common.{◌≡◌, ◌+◌, ◌-◌, ◌++◌, length, take, ap, sym, ◌∙◌, arith, rules}
 use Rattle.std.specs.List.{slice_range}
+use Rattle.std.proofs.KnownBytes.{Keeps-refl}
 use Rattle.std.proofs.lemmas.List.{places, take_all, with_items_is}
 use borrow.Rule.Slice.PartMut.{put_mid}
 use Rattle.uca_rekey.specs.LinesInPlace.{LinesState}
-use Rattle.uca_rekey.proofs.Places.{begins_so, filled, front_range, keeps_all, nothing_filled, range_filled, range_kept, some_more}
+use Rattle.uca_rekey.proofs.Places.{begins_so, filled, front_range, nothing_filled, range_filled, range_kept, some_more}
 use Rattle.uca_rekey.proofs.lines.KeyLines.fill.Goals as goal
 
 pub returns-in-Ok : goal.returns-in-Ok
@@ -89,4 +90,4 @@ returns-then-not-has_room-clause-front g c =
 pub returns-then-not-has_room-clause-bytes : goal.returns-then-not-has_room-clause-bytes
 returns-then-not-has_room-clause-bytes g c =
     let left = c.args.source.now.remaining in
-    nothing_filled left left c.args.self.now.pending _ (keeps_all left) (returns-then-not-has_room-clause-err g c)
+    nothing_filled left left c.args.self.now.pending _ (Keeps-refl left) (returns-then-not-has_room-clause-err g c)

@@ -1,10 +1,11 @@
 -- A line that was found, or is too long, before its LF was found or after; and what stays while more is read.
 use Rattle.std.proofs.Common.{◌∷◌, [], refl, ◌+◌, ◌∙◌, take, drop, length, ap, sym, append_assoc, append-nil, arith, subst}
 use Rattle.std.proofs.Math.Bool.{or-false}
+use Rattle.std.proofs.KnownBytes.{Keeps-refl, Keeps-trans}
 use Rattle.std.proofs.lemmas.List.{length-take-le}
 use Rattle.uca_lines.specs.Lines.{is_lf, Lacks}
 use Rattle.uca_rekey.specs.LinesInPlace.{BeginsLine, left_of}
-use Rattle.uca_rekey.proofs.Places.{keeps_all, keeps_on, line_taken, long_line, not_filled, rest_taken}
+use Rattle.uca_rekey.proofs.Places.{line_taken, long_line, not_filled, rest_taken}
 use Rattle.uca_rekey.proofs.lines.KeyLines.find.Goals as goal
 
 pub returns-then-len-gt-LONGEST_LINE-clause-finds : goal.returns-then-len-gt-LONGEST_LINE-clause-finds
@@ -31,7 +32,7 @@ returns-in-Some-clause-finds g c =
 
 pub loop-len-init : goal.loop-len-init
 loop-len-init g c = record {
-  kept = keeps_all (left_of c.args.self.now c.args.source.now);
+  kept = Keeps-refl (left_of c.args.self.now c.args.source.now);
   within = omega arith;
   lacks = tt;
   at_end = c.requires;
@@ -43,7 +44,7 @@ loop-len-preserved g c =
     let pending = c.fill.new.self.pending in
     let read = rw c.in-Ok-true.field-0-test at c.in-Ok-true.ensures in
     record {
-      kept = keeps_on (left_of c.args.self.now c.args.source.now) (left_of c.loop-len.self c.loop-len.source) (left_of c.fill.new.self c.fill.new.source)
+      kept = Keeps-trans (left_of c.args.self.now c.args.source.now) (left_of c.loop-len.self c.loop-len.source) (left_of c.fill.new.self c.fill.new.source)
           c.loop-len.invariant.kept read.bytes;
       within = omega (arith, read.more, ap length c.waiting-seen.ensures);
       lacks = subst (Lacks is_lf) (sym (ap (λ xs. take (length xs) pending) c.waiting-seen.ensures ∙ read.front))
