@@ -23,8 +23,8 @@ class Help(ProgramTest):
                 self.expect(arguments, out=help_of(command))
 
     def test_version(self):
-        """It names the program's version, the edition of Unicode by which it normalizes, and the kit."""
-        text = "uca 0.1.0 (normalization of Unicode 18.0.0, proved with rattle-kit-13f)\n"
+        """It names the program's version, the edition of Unicode by which it normalizes, and the logic of its proofs."""
+        text = "uca 0.1.0 (normalization of Unicode 18.0.0, proved in Rattle's logic dac8208d650f15bf)\n"
         for arguments in "--version", "-V", "--version keys t d":
             self.expect(arguments, out=text)
 

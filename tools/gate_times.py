@@ -51,7 +51,7 @@ def main():
     in_lanes = rt.in_lanes
     rt.in_lanes = lambda tasks: in_lanes({key: (*task[:3], TIMES.task(key, IDLE, task[3])) for key, task in tasks.items()})
     begun = time.time()
-    status = rt.ci(True)
+    status = rt.ci(True) if kit.keeps_proofs(rt) else rt.ci()
     table()
     print(f"on the clock {(time.time() - begun) / 60:.0f} minutes, {os.cpu_count()} processors")
     return status

@@ -23,6 +23,15 @@ def load_rt():
     return module
 
 
+# The flag by which `rt ci` takes nothing of what was proved on this machine before.
+ANEW = "--anew"
+
+
+def keeps_proofs(rt):
+    """Whether `rt ci` of this kit takes what was proved on this machine before, unless it is told to prove all anew."""
+    return rt.ci.__code__.co_argcount > 0
+
+
 # The memory that a check may take, in bytes.
 CHECK_MEMORY = 4_000_000_000
 

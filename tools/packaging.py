@@ -5,7 +5,7 @@
 
 The manual page and each completion name the commands and options that the program's help names, and no others. The page is what
 tools/man_page.py prints, and renders without a warning. Each completion is run by its shell. tools/install.sh puts all files
-into a temporary folder, and the program there runs. `uca --version` names the kit of this machine, and docs/FORMATS.md shows its line.
+into a temporary folder, and the program there runs. `uca --version` names the logic of this machine's kit, and docs/FORMATS.md shows its line.
 
 Debian packages: man-db, mandoc, zsh and fish (bash and coreutils are always there). A check that needs a missing one is not run, and
 the script says so. The last line is `N passed, M failed`.
@@ -216,11 +216,11 @@ def check_install(counts, program):
 
 
 def check_version(counts, program):
-    """The version is one line. It names the kit that `rt version` names, so the kit that built the program."""
+    """The version is one line. It names the logic that `rt version` names, in which the program was proved."""
     said = printed(program, "--version")
-    kit = subprocess.run(["rt", "version"], stdout=subprocess.PIPE, text=True, check=True).stdout.split()[0]
+    logic = subprocess.run(["rt", "version"], stdout=subprocess.PIPE, text=True, check=True).stdout.splitlines()[0].split()[-1]
     counts.check("`uca --version`: one line", said.count("\n") == 1 and said.endswith("\n"), said)
-    counts.check(f"`uca --version`: the kit {kit}", said.endswith(f"proved with {kit})\n"), said)
+    counts.check(f"`uca --version`: the logic {logic}", said.endswith(f"proved in Rattle's logic {logic})\n"), said)
     counts.check("`uca -V` is `uca --version`", printed(program, "-V") == said)
     with open(f"{TOP}/docs/FORMATS.md", encoding="utf-8") as file:
         counts.check("docs/FORMATS.md shows the version", f"$ uca --version\n{said}" in file.read(), said)

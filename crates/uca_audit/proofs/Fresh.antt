@@ -49,6 +49,20 @@ shared_same placements p level seen old there once twice was_not l w = ⊎_elim
     (λ has. let two = (twice l w).0 has in omega arith, λ two. (twice l w).1 (omega arith)))
     (puts_cases p level l w there)
 
+-- the same for those that are new at least once
+pub seen_more : (placements : List Placement) (p : Placement) (level : Level) (old new : Flags) → p.level ≡ Some level →
+    HoldsNew 1 placements old → AddsWeight old new level p.new → HoldsNew 1 (placements ++ p ∷ []) new
+seen_more placements p level old new there once adds l w = ⊎_elim
+    (λ put.
+    let count = times_push l w placements p ∙ ap (λ b. times_new l w placements + cond b 1 0) put.0 in
+    (λ has. omega arith, λ one. (adds l w).1 (inl (put.1, put.2))))
+    (λ other.
+    let count = times_push l w placements p ∙ ap (λ b. times_new l w placements + cond b 1 0) other.0 in (
+      (λ has. ⊎_elim (λ same. absurd (other.1 same)) (λ before. let one = (once l w).0 before in omega arith) ((adds l w).0 has)),
+      λ one. (adds l w).1 (inr ((once l w).1 (omega arith))),
+    ))
+    (puts_cases p level l w there)
+
 -- ---- A placement among all
 
 -- a sum above 0 has a part above 0

@@ -1,11 +1,10 @@
 -- What the row of a target says of its anchor and its new weight.
-use Rattle.std.proofs.Common.{◌≡◌, ℕ, ◌+◌, List, ◌∷◌, Bool, take, drop, get_or, refl, sym, ap, subst, ◌∙◌}
+use Rattle.std.proofs.Common.{◌≡◌, ℕ, ◌+◌, List, ◌∷◌, Bool, take, drop, get_or, sym, ap, subst, ◌∙◌}
 use Rattle.std.proofs.lemmas.List.{append_cancel_left}
 use Rattle.uca_weights.specs.declared.Element.{Element}
 use Rattle.uca_weights.specs.declared.Level.{Level}
-use Rattle.uca_weights.specs.declared.Level.TheVariants.{One, Two, Three}
 use Rattle.uca_weights.specs.Levels.{weight}
-use Rattle.uca_tailorings.specs.Placing.{reweighted, placed, IsOnSide}
+use Rattle.uca_tailorings.specs.Placing.{reweighted, placed, IsAnchor, IsOnSide}
 use Rattle.uca_tailorings.proofs.Relating.{one_anchor}
 use Rattle.uca_audit.specs.Anchors.{IsAnchorAt}
 use Rattle.uca_audit.specs.PlacedRows.{IsRowAt}
@@ -40,3 +39,16 @@ module _ (level : Level) (is_before : Bool) (anchor expansion row : List Element
       let by_place = row_by_place old new is in
       let same : new ≡ v = one_weight level (take at anchor) (get_or anchor at d) expansion new v (sym by_place.1 ∙ row_is) in
       off (subst (λ w. IsOnSide is_before w v) (sym by_place.0) (subst (λ w. IsOnSide is_before old w) same is.side))
+
+  -- a row that is on the right side of the old weight is a row of the target
+  pub row_there : (old v : ℕ) → old ≡ weight level (get_or anchor at d) → row ≡ placed level (take at anchor) (get_or anchor at d) expansion v →
+      IsOnSide is_before old v → IsRowAt level is_before anchor expansion row old v
+  row_there old v was row_is side = record {
+    before = take at anchor;
+    last = get_or anchor at d;
+    trailing = drop (at + 1) anchor;
+    is_anchor = subst (λ e. IsAnchor level anchor (take at anchor) e (drop (at + 1) anchor)) (member_at anchor at found.last d found.within found.anchor.whole) found.anchor;
+    old_weight = sym was;
+    side = side;
+    is_row = row_is;
+  }

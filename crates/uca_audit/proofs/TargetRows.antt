@@ -1,11 +1,11 @@
 -- What a look at the row of a target says of its relation.
-use Rattle.std.proofs.Common.{◌≡◌, ℕ, List, ◌++◌, Option, Some, None, MatchOption, refl, sym, ap, subst, ◌∙◌}
+use Rattle.std.proofs.Common.{◌≡◌, ◌↔◌, ℕ, List, ◌++◌, Option, Some, None, is_some, MatchOption, refl, sym, ap, subst, ◌∙◌}
 use Rattle.uca_weights.specs.declared.Element.{Element}
 use Rattle.uca_weights.specs.declared.Level.{Level}
 use Rattle.uca_weights.specs.Levels.{level_of}
 use Rattle.uca_text.specs.Texts.{NfdText}
 use Rattle.uca_rules.specs.declared.relations.Relation.{Relation}
-use Rattle.uca_elements.specs.Rows.{rows_of}
+use Rattle.uca_elements.specs.Rows.{Rows, rows_of, is_key, IsKey}
 use Rattle.uca_elements.specs.Collations.{Collation}
 use Rattle.uca_tailorings.specs.Placing.{placed}
 use Rattle.uca_tailorings.specs.Tailorings.{Tailoring, tailored_reading, anchor_elements, elements_of_expansion, expansion_elements, IsTargetRow, IsPlacedAt, IsPlacedBy, IsPlaced}
@@ -19,6 +19,14 @@ pub expansion_alike : (given reading : Collation) → ReadsAs given reading → 
     elements_of_expansion given text ≡ elements_of_expansion reading text
 expansion_alike given reading reads text i =
     elements_of_expansion (record { rows = λ key. reads.rows key i; ranges = reads.ranges i; properties = reads.properties i }) text
+
+-- a list is a key of the rows where a lookup of them finds it
+pub key_alike : (found rows : Rows) → ((key : List ℕ) → found key ≡ rows key) → (given key : List ℕ) → given ≡ key → IsKey found given ↔ IsKey rows key
+key_alike found rows finds given key same =
+    let alike : is_key found given ≡ is_key rows key = ap is_some (finds given ∙ ap rows same) in (
+      (λ there. sym alike ∙ there),
+      λ there. alike ∙ there,
+    )
 
 -- what is found at the key of the target is its row
 pub target_row : (given : Collation) (t : Tailoring) (r : Relation) (key : List ℕ) (row : Option (List Element)) → ReadsAs given (tailored_reading t) →

@@ -186,9 +186,9 @@ fn audit_new_weights<A: Allocator + Copy, T: Allocator>(
     requires met { MeetsBelow (tailoring_in inputs.now) 10 }
     ensures { Passes (tailoring_in inputs.now) 12 result }
 {
-    let known = known_weights(alloc, inputs, images)?;
+    let mut known = known_weights(alloc, inputs, images)?;
     new_weights_are_fresh(alloc, inputs, placements, &known)?;
-    targets_are_nearest(inputs, placements, known)
+    targets_are_nearest(inputs, placements, &mut known)
 }
 
 // What follows if all conditions are met.

@@ -187,10 +187,10 @@ pub(crate) fn new_weights_are_fresh<A: Allocator + Copy, T: Allocator>(
 pub(crate) fn targets_are_nearest<A: Allocator + Copy, T: Allocator>(
     inputs: &Inputs<T>,
     placements: &[Placement],
-    known: WeightSet<A>,
+    known: &mut WeightSet<A>,
 ) -> Result<(), AuditFault>
     requires placed { AllZip (IsPlacement (tailoring_in inputs.now)) (tailoring_in inputs.now).relations placements.now }
-    requires known { HoldsKnown (tailoring_in inputs.now) known }
+    requires known { HoldsKnown (tailoring_in inputs.now) known.old }
     ensures { Settles (tailoring_in inputs.now) Condition.NotNearest result }
 {
     match first_not_nearest(inputs, placements, known) {

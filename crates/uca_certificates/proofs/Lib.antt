@@ -6,3 +6,4 @@ pub mod Sizes
 pub mod MapLaws
 pub mod WholeLaws
 pub mod WriteLaws
+pub mod PassedLevels

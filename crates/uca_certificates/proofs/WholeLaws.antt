@@ -142,3 +142,9 @@ pub found_content : (known : Option (List ℕ)) (count : ℕ) (content : Certifi
 found_content None count content r h is maps = tt
 found_content (Some bytes) count content (Err fault) h is maps = tt
 found_content (Some bytes) count content (Ok read) h is maps = subst (Means bytes) (sym is) (reads_means bytes count content h maps)
+
+-- a line that is rejected, where the bytes are known
+pub rejected_line : (known left : Option (List ℕ)) (fault : CertificateFault)
+    → IfSome known (λ bytes. RefusesLine CERTIFICATE_FORM Says Cause bytes left fault.line fault.kind) → IfSome known (λ bytes. Refuses bytes left fault)
+rejected_line None left fault h = tt
+rejected_line (Some bytes) left fault h = inl h

@@ -74,7 +74,12 @@ fn greatest_weights<A: Allocator>(rows: &[Row<A>]) -> GreatestWeights
 fn are_allowed<A: Allocator>(row: &Row<A>, greatest: GreatestWeights) -> bool
     ensures { IsTrue result ↔ AllByRecursion (IsAllowed greatest) row.now.elements }
 {
-    row.elements.iter().all(|element| greatest.allows(*element))
+    for element in &row.elements {
+        if !greatest.allows(*element) {
+            return false;
+        }
+    }
+    true
 }
 
 /// The index of the first row that fails WF2.

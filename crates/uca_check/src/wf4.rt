@@ -71,9 +71,12 @@ fn stands_apart(range: Option<VariableRange>, element: Element) -> bool
 fn all_stand_apart<A: Allocator>(row: &Row<A>, range: Option<VariableRange>) -> bool
     ensures { IsTrue result ↔ AllByRecursion (StandsApart range) row.now.elements }
 {
-    row.elements
-        .iter()
-        .all(|element| stands_apart(range, *element))
+    for element in &row.elements {
+        if !stands_apart(range, *element) {
+            return false;
+        }
+    }
+    true
 }
 
 /// The range of the variable elements of a table, if it has any.

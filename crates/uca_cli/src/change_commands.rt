@@ -56,7 +56,9 @@ fn change_files<O: Opens, W: Write>(
         &mut files.new,
         &mut files.new_data,
     );
-    keep_run(opener, run, certificate, out)
+    let kept = keep_run(opener, run, certificate, out);
+    drop(files);
+    kept
 }
 
 // Keeps what a run of changes returned. An error of the run is returned, and then nothing is made.
@@ -109,7 +111,7 @@ pub(crate) fn audit_changes<O: Opens, W: Write>(
         Ok(files) => files,
         Err(role) => return Err(RunFault::Open(role)),
     };
-    checked(run_audit_changes(
+    let run = run_audit_changes(
         alloc,
         &mut files.editions.old,
         &mut files.editions.old_data,
@@ -118,7 +120,9 @@ pub(crate) fn audit_changes<O: Opens, W: Write>(
         &mut files.changes,
         &mut files.certificate,
         out,
-    ))
+    );
+    drop(files);
+    checked(run)
 }
 
 /// `rekey`.

@@ -264,7 +264,7 @@ fn audit<O: Opens, W: Write>(
         Ok(files) => files,
         Err(role) => return Err(RunFault::Open(role)),
     };
-    checked(run_audit(
+    let run = run_audit(
         alloc,
         &mut files.base,
         &mut files.properties,
@@ -272,7 +272,9 @@ fn audit<O: Opens, W: Write>(
         &mut files.tailored,
         &mut files.certificate,
         out,
-    ))
+    );
+    drop(files);
+    checked(run)
 }
 
 // `affected`.

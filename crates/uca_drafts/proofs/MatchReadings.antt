@@ -1,7 +1,8 @@
 -- What the matches of a text give over drafts.
 use Rattle.std.proofs.Common.{◌≡◌, ℕ, zero, suc, ◌+◌, List, [], ◌∷◌, ◌++◌, get_or, map, Bool, true, false, cond, ◌||◌, Option, Some, None}
-use Rattle.std.proofs.Common.{is_some, unwrap_or, refl, sym, ap, ap₂, ◌∙◌, arith, append-nil}
+use Rattle.std.proofs.Common.{is_some, unwrap_or, refl, sym, ap, ap₂, ◌∙◌, arith, append-nil, append_assoc}
 use Rattle.std.specs.List.{AllByRecursion, flat_map}
+use Rattle.std.specs.Iterator.{Yields, YieldsFirst}
 use Rattle.std.proofs.lemmas.Bool.{false≢true}
 use Rattle.std.proofs.lemmas.List.Concat.{flat_map-append}
 use Rattle.uca_weights.specs.declared.Element.{Element}
@@ -17,6 +18,7 @@ use Rattle.uca_elements.specs.Reading.{parts}
 use Rattle.uca_match.specs.TextMatches.{match_of, matches_of}
 use Rattle.uca_elements.specs.declared.matches.Match.{Match}
 use Rattle.uca_elements.proofs.Parts.{each_part}
+use Rattle.uca_plans.specs.declared.drafts.DraftElement.{DraftElement}
 use Rattle.uca_plans.specs.Drafts.{DraftRow, as_draft, draft_at, part_drafts}
 use Rattle.uca_plans.specs.Keys.{keys_in, is_among, read_over}
 use Rattle.uca_drafts.specs.MatchDrafts.{elements_at, match_drafts}
@@ -88,6 +90,22 @@ module _ (places : Positions) (rows : List DraftRow) (more : List (List ℕ)) (a
       ≡ read_over ranges properties (is_placed places) rows text
   text_stands text =
       matches_stand (letters_of text) (parts (is_placed places) (letters_of text)) (each_part (is_placed places) (letters_of text))
+
+-- ---- One match after the other
+
+-- the elements of one match more come last
+pub one_match_more : (gives : Match ℕ → List DraftElement) (before old new : List DraftElement) (yielded : List (Match ℕ)) (m : Match ℕ) →
+    old ≡ before ++ flat_map gives yielded → new ≡ old ++ gives m → new ≡ before ++ flat_map gives (yielded ++ m ∷ [])
+one_match_more gives before old new yielded m so_far more =
+    more ∙ ap (λ es. es ++ gives m) so_far ∙ append_assoc before (flat_map gives yielded) (gives m)
+    ∙ ap (λ es. before ++ (flat_map gives yielded ++ es)) (sym (append-nil (gives m)))
+    ∙ ap (λ es. before ++ es) (sym (flat_map-append gives yielded (m ∷ [])))
+
+-- of an iterator that shows its items a whole run gives them all
+pub all_shown : {X : Type 0} (s : List X) (xs : List X) (t u : List X)
+    → Yields (YieldsFirst (λ (rest : List X). rest)) s xs t → YieldsFirst (λ (rest : List X). rest) t None u → xs ≡ s
+all_shown s [] t u ran ends = sym (ran ∙ ends.0)
+all_shown s (x ∷ xs) t u (j, step, ran) ends = ap (λ l. x ∷ l) (all_shown j xs t u ran ends) ∙ sym step
 
 -- ---- One match
 

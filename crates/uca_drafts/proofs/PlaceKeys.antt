@@ -1,5 +1,5 @@
 -- The keys that have positions.
-use Rattle.std.proofs.Common.{◌≡◌, ℕ, ◌+◌, ◌<◌, ◌≤◌, List, [], ◌∷◌, ◌++◌, length, take, drop, get_or, true, false, is_some, Option}
+use Rattle.std.proofs.Common.{◌≡◌, ℕ, ◌+◌, ◌<◌, ◌≤◌, List, [], ◌∷◌, ◌++◌, length, take, drop, get_or, true, false, is_some, Option, Result, Ok, Err, IfOk}
 use Rattle.std.proofs.Common.{Bor, refl, sym, ap, ap₂, subst, ◌∙◌, ⊎_elim, arith, length-append, append_assoc, append-nil, take-append-drop}
 use Rattle.std.proofs.lemmas.List.{take_more, take_all, length-map, map-append}
 use Rattle.std.proofs.lemmas.Bool.{false≢true, false_from_ne_true, cond-true, cond-false}
@@ -63,7 +63,13 @@ pub distinct_listed : (rows : List Entry) (relations : List Relation) (keys : Li
 distinct_listed rows relations keys base all =
     distinct_of_apart keys (subst AreApart (sym all.are) (apart_targets all.listed (keys_of rows) (apart_of_distinct rows base.distinct)))
 
--- so are those of a base
+-- so are the keys of a result, if it has any
+pub distinct_result : {X E : Type 0} (rows : List Entry) (relations : List Relation) (keys : X → List (List ℕ)) (r : Result X E) → AreRows rows →
+    IfOk r (λ x. AreListed (keys_of rows) relations (keys x)) → IfOk r (λ x. AreDistinctKeys (keys x))
+distinct_result rows relations keys (Ok x) base all = distinct_listed rows relations (keys x) base all
+distinct_result rows relations keys (Err e) base all = tt
+
+-- and those of a base
 pub distinct_base : (rows : List Entry) (keys : List (List ℕ)) → AreRows rows → keys ≡ keys_of rows → AreDistinctKeys keys
 distinct_base rows keys base are = subst AreDistinctKeys (sym are) (distinct_keys rows base.distinct)
 
@@ -93,10 +99,9 @@ pub record AreKeysUpTo (keys points : List (List ℕ)) : Type 0 where
   pub are : points ≡ keys
   pub few : length points ≤ 200000
 
--- the keys of the base have positions
-pub base_listed : (rows : List Entry) (points : List (List ℕ)) → AreRows rows → points ≡ keys_of rows → AreKeysUpTo (with_targets [] (keys_of rows)) points
-base_listed rows points base are =
-    record { are = are; few = omega (arith, base.few, ap length are, length-map rows (λ (r : Entry). r.key)) }
+-- the keys of a base are no more than a table has rows
+pub few_keys : (rows : List Entry) (points : List (List ℕ)) → AreRows rows → points ≡ keys_of rows → length points ≤ 200000
+few_keys rows points base are = omega (arith, base.few, ap length are, length-map rows (λ (r : Entry). r.key))
 
 -- a target has a position exactly where it is among the keys
 pub target_found : (points keys : List (List ℕ)) (key target : List ℕ) (place : Option ℕ) → points ≡ keys → key ≡ target →
@@ -105,38 +110,38 @@ target_found points keys key target place are same is =
     sym (ap is_some is ∙ placed_among 0 points key ∙ ap₂ (λ ks k. is_among ks k) are same)
 
 -- what holds at one relation after others
-module _ (rows : List Entry) (relations : List Relation) (points : List (List ℕ)) (i : ℕ) (r : Relation) (within : i < length relations)
-    (is : r ≡ get_or relations i r) (up_to : AreKeysUpTo (with_targets (take i relations) (keys_of rows)) points) where
+module _ (base : List (List ℕ)) (relations : List Relation) (points : List (List ℕ)) (i : ℕ) (r : Relation) (within : i < length relations)
+    (is : r ≡ get_or relations i r) (up_to : AreKeysUpTo (with_targets (take i relations) base) points) where
   -- a target that is a base key changes nothing
-  pub target_there : is_among (keys_of rows) r.target.points ≡ true → AreKeysUpTo (with_targets (take (i + 1) relations) (keys_of rows)) points
+  pub target_there : is_among base r.target.points ≡ true → AreKeysUpTo (with_targets (take (i + 1) relations) base) points
   target_there there =
       subst (λ keys. AreKeysUpTo keys points)
-      (sym (ap (λ rs. with_targets rs (keys_of rows)) (relations_more relations i r within is)
-      ∙ targets_same (take i relations) r (keys_of rows) there))
+      (sym (ap (λ rs. with_targets rs base) (relations_more relations i r within is)
+      ∙ targets_same (take i relations) r base there))
       up_to
 
   -- a target that is no base key is new here
-  not_among : AreDistinct relations → is_among (keys_of rows) r.target.points ≡ false →
-      is_among (with_targets (take i relations) (keys_of rows)) r.target.points ≡ false
+  not_among : AreDistinct relations → is_among base r.target.points ≡ false →
+      is_among (with_targets (take i relations) base) r.target.points ≡ false
   not_among distinct other =
-      new_target (keys_of rows) (take i relations) (drop (i + 1) relations) r (subst AreDistinct (relations_around relations i r within is) distinct) other
+      new_target base (take i relations) (drop (i + 1) relations) r (subst AreDistinct (relations_around relations i r within is) distinct) other
 
   -- any other comes after the keys so far
-  pub target_more : (news : List (List ℕ)) → AreDistinct relations → is_among (keys_of rows) r.target.points ≡ false → length points < 200000 →
-      news ≡ points ++ r.target.points ∷ [] → AreKeysUpTo (with_targets (take (i + 1) relations) (keys_of rows)) news
+  pub target_more : (news : List (List ℕ)) → AreDistinct relations → is_among base r.target.points ≡ false → length points < 200000 →
+      news ≡ points ++ r.target.points ∷ [] → AreKeysUpTo (with_targets (take (i + 1) relations) base) news
   target_more news distinct other room pushed =
-      let keys : List (List ℕ) = with_targets (take i relations) (keys_of rows) in
+      let keys : List (List ℕ) = with_targets (take i relations) base in
       subst (λ ks. AreKeysUpTo ks news)
-      (sym (ap (λ rs. with_targets rs (keys_of rows)) (relations_more relations i r within is)
-      ∙ targets_behind (take i relations) r (keys_of rows) (not_among distinct other)))
+      (sym (ap (λ rs. with_targets rs base) (relations_more relations i r within is)
+      ∙ targets_behind (take i relations) r base (not_among distinct other)))
       (record {
         are = pushed ∙ ap (λ ks. ks ++ r.target.points ∷ []) up_to.are;
         few = omega (arith, room, ap length pushed, length-append points (r.target.points ∷ []));
       })
 
   -- and if there is no room for it, no more are listed
-  pub listed_some : AreDistinct relations → is_among (keys_of rows) r.target.points ≡ false → 200000 ≤ length points →
-      AreListed (keys_of rows) relations points
+  pub listed_some : AreDistinct relations → is_among base r.target.points ≡ false → 200000 ≤ length points →
+      AreListed base relations points
   listed_some distinct other full =
       let missing : is_among points r.target.points ≡ false = ap (λ ks. is_among ks r.target.points) up_to.are ∙ not_among distinct other in
       record {
@@ -149,9 +154,9 @@ module _ (rows : List Entry) (relations : List Relation) (points : List (List �
       }
 
 -- all are listed
-pub listed_all : (rows : List Entry) (relations : List Relation) (points : List (List ℕ)) (i : ℕ) → length relations ≤ i →
-    AreKeysUpTo (with_targets (take i relations) (keys_of rows)) points → AreListed (keys_of rows) relations points
-listed_all rows relations points i over up_to =
+pub listed_all : (base : List (List ℕ)) (relations : List Relation) (points : List (List ℕ)) (i : ℕ) → length relations ≤ i →
+    AreKeysUpTo (with_targets (take i relations) base) points → AreListed base relations points
+listed_all base relations points i over up_to =
     record {
       listed = take i relations;
       rest = [];

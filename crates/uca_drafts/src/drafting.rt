@@ -3,7 +3,7 @@
 ghost use Rattle.std.specs.Prelude.{◌≡◌, ◌⊎◌, ◌+◌, ◌<◌, ◌≤◌, ◌++◌, ◌∷◌, [], length, map, slice_set, IfOk, IfErr, OnOk, Ok, Err, List, ℕ};
 ghost use Rattle.std.specs.List.{AllByRecursion};
 ghost use Rattle.std.specs.Option.{option_to_list};
-ghost use Rattle.uca_values.specs.Content.{properties_of};
+ghost use Rattle.uca_values.specs.Content.{keys_of, properties_of};
 ghost use Rattle.uca_match.specs.Tries.{positions};
 ghost use Rattle.uca_plans.specs.Drafts as drafts;
 ghost use Rattle.uca_plans.specs.Lists.{InsertsBelow};
@@ -11,6 +11,7 @@ ghost use Rattle.uca_plans.specs.Plans as plans;
 ghost use Rattle.uca_plans.specs.Plans.{begun, with_relation, with_relations};
 ghost use Rattle.uca_plans.specs.Tailors.{basis_of, out_of_memory};
 ghost use Rattle.uca_check.specs.WellFormed.{elements_of};
+ghost use Rattle.uca_drafts.specs.Places.{ArePlaces};
 ghost use Rattle.uca_drafts.specs.Ready.{basis_in, ArePlacesWith, IsReady, IsRejected};
 ghost use Rattle.uca_drafts.specs.Variables.{AreBounds};
 
@@ -21,6 +22,7 @@ use crate::targets::draft_target;
 use crate::variables::{holds_implicit_variable, variable_span};
 use std::alloc::{AllocError, Allocator};
 use std::marker::Model;
+use uca_match::KeyMap;
 use uca_plans::{Insertion, TailorFault, TailorKind};
 use uca_rules::{Relation, Rules};
 use uca_text::Normal;
@@ -168,10 +170,28 @@ pub fn draft<'a, A: Allocator + Copy, T: Allocator>(
     ensures names { IfOk result (λ drafting. AllByRecursion (InsertsBelow (length rules.now)) drafting.insertions) }
 {
     let places = places_of(alloc, base, rules)?;
+    draft_over(alloc, base, properties, rules, &places)
+}
+
+/// The same, by the positions of the keys.
+fn draft_over<'a, A: Allocator + Copy, T: Allocator>(
+    alloc: A,
+    base: &'a Table<T>,
+    properties: &Data<T>,
+    rules: &'a Rules<T>,
+    places: &KeyMap<A>,
+) -> Result<Drafting<'a, A>, TailorFault>
+    requires { ArePlaces (keys_of base.now.rows) rules.now (positions places.now) }
+    ensures drafted { let basis = basis_of base.now (properties_of properties.now) in
+        IfOk result (λ drafting. with_relations basis 0 rules.now (begun basis) ≡ Ok drafting) }
+    ensures rejected { let basis = basis_of base.now (properties_of properties.now) in
+        IfErr result (λ fault. (with_relations basis 0 rules.now (begun basis) ≡ Err fault) ⊎ (fault ≡ out_of_memory)) }
+    ensures names { IfOk result (λ drafting. AllByRecursion (InsertsBelow (length rules.now)) drafting.insertions) }
+{
     let reader = Reader {
         base,
         properties,
-        places: &places,
+        places,
         variables: variable_span(&base.rows),
     };
     let mut drafting = Drafting::begun(alloc, base)?;

@@ -1,6 +1,6 @@
 //! The positions of the rows of a tailored table.
 
-ghost use Rattle.std.specs.Prelude.{◌≡◌, ℕ, List, false, MatchOption, IfOk};
+ghost use Rattle.std.specs.Prelude.{◌≡◌, ◌≤◌, ℕ, List, length, false, MatchOption, IfOk};
 ghost use Rattle.uca_values.specs.Content.{keys_of};
 ghost use Rattle.uca_rules.specs.Relations.{AreRules};
 ghost use Rattle.uca_elements.specs.Positions.{place_at, AreDistinctKeys};
@@ -51,8 +51,22 @@ fn listed_keys<'a, A: Allocator + Copy, T: Allocator>(
     ensures listed { IfOk result (λ keys. AreListed (keys_of base.now.rows) relations.now (points_of keys.items)) }
     ensures distinct { IfOk result (λ keys. AreDistinctKeys (points_of keys.items)) }
 {
-    let mut keys = key_list(alloc, &base.rows)?;
+    let keys = key_list(alloc, &base.rows)?;
     let base_keys = KeyMap::new(alloc, &keys)?;
+    add_targets(keys, &base_keys, relations)
+}
+
+/// The keys of a base, and after them the targets that are not among them, as far as a table has room for them.
+fn add_targets<'a, A: Allocator>(
+    mut keys: Vec<&'a [char], A>,
+    base_keys: &KeyMap<A>,
+    relations: &'a [Relation],
+) -> Result<Vec<&'a [char], A>, AllocError>
+    requires few { length (points_of keys.items) ≤ 200000 }
+    requires rules { AreRules relations.now }
+    requires places { (key : List ℕ) → positions base_keys.now key ≡ place_at 0 (points_of keys.items) key }
+    ensures { IfOk result (λ all. AreListed (points_of keys.entry.items) relations.now (points_of all.items)) }
+{
     for relation in relations {
         let target = relation.target.chars();
         if base_keys.position(target).is_some() {

@@ -1,12 +1,8 @@
 //! Texts of relations, read over the rows so far.
 
 ghost use Rattle.std.specs.Prelude.{◌≡◌, ◌++◌, ℕ, List, OnOk, map, true};
-ghost use Rattle.std.specs.List.{flat_map};
 ghost use Rattle.uca_values.specs.Content.{properties_of};
 ghost use Rattle.uca_values.specs.Implicit.{implicit};
-ghost use Rattle.uca_text.specs.Texts.{letters_of};
-ghost use Rattle.uca_elements.specs.Reading.{parts};
-ghost use Rattle.uca_match.specs.TextMatches.{matches_of};
 ghost use Rattle.uca_elements.specs.Positions.{is_placed};
 ghost use Rattle.uca_match.specs.Tries.{positions};
 ghost use Rattle.uca_plans.specs.Drafts as drafts;
@@ -54,20 +50,6 @@ impl<'r, A: Allocator, T: Allocator> Reader<'r, A, T> {
         ensures { OnOk result (elements.new.items ≡ elements.old.items
             ++ read_over self.now.base.now.header.ranges (properties_of self.now.properties.now)
             (is_placed (positions self.now.places.now)) rows.now text.now) }
-    {
-        self.append_matches(rows, text, elements)
-    }
-
-    /// Puts the elements of all parts of a text after those of a list.
-    fn append_matches(
-        &self,
-        rows: &[RowDraft<A>],
-        text: &Normal,
-        elements: &mut Vec<DraftElement, A>,
-    ) -> Result<(), AllocError>
-        ensures { OnOk result (elements.new.items ≡ elements.old.items
-            ++ flat_map (match_drafts self.now.base.now.header.ranges (properties_of self.now.properties.now) rows.now)
-            (matches_of (positions self.now.places.now) (parts (is_placed (positions self.now.places.now)) (letters_of text.now)))) }
     {
         for part in Matches::new(self.places, text) {
             self.append_match(rows, part, elements)?;

@@ -6,9 +6,8 @@ use Rattle.uca_elements.specs.Rows.{Rows, rows_of}
 use Rattle.uca_changes.specs.Changes.{Change, Meets, number_of}
 use Rattle.uca_changes.specs.declared.conditions.ChangeCondition.{ChangeCondition}
 use Rattle.uca_changes.specs.declared.faults.ChangeFault.{ChangeFault}
-use Rattle.uca_changes.specs.declared.faults.ChangeFault.TheVariants.{NotMet, Memory}
-use Rattle.uca_changes.specs.declared.faults.ChangePlace.{ChangePlace}
-use Rattle.uca_editions.specs.ChangeRefusals.{FailsFirstAt, IsFirstRefusal}
+use Rattle.uca_changes.specs.declared.faults.ChangeFault.TheVariants.{Memory}
+use Rattle.uca_editions.specs.ChangeRefusals.{IsFirstRefusal}
 
 -- each row of the table is found at its key, and nothing else is
 abbrev pub FindsRowsOf : TableContent → Rows → Type 0
@@ -17,14 +16,6 @@ FindsRowsOf table found = (key : List ℕ) → found key ≡ rows_of table.rows 
 -- all conditions of lower numbers are met
 abbrev pub MeetsBelow : Change → ℕ → Type 0
 MeetsBelow change n = (other : ChangeCondition) → number_of other < n → Meets change other
-
--- the error is that of the condition, at the first position where it is not met
-abbrev pub Fails : Change → ChangeCondition → ChangeFault → Type 0
-Fails change condition fault = (place : ChangePlace) × (fault ≡ NotMet condition place) × FailsFirstAt change condition place
-
--- the condition is met, or the error is that of the condition, or an allocation failed
-abbrev pub Settles : {A : Type 0} → Change → ChangeCondition → Result A ChangeFault → Type 0
-Settles change condition result = MatchResult result (λ _. Meets change condition) (λ fault. Fails change condition fault ⊎ (fault ≡ Memory))
 
 -- all conditions of lower numbers are met, or the error is that of the first one that is not; or an allocation failed
 abbrev pub Passes : {A : Type 0} → Change → ℕ → Result A ChangeFault → Type 0

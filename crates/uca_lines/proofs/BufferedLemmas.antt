@@ -34,7 +34,7 @@ written_then {front} {piece} {b} {c} {d} {s} {t} {u} h k = record {
 }
 
 -- of a longer text as much went out
-WentOut-more : (start now : Option (List ℕ)) (text more : List ℕ) (n : ℕ) → WentOut start now text n → WentOut start now (text ++ more) n
+pub WentOut-more : (start now : Option (List ℕ)) (text more : List ℕ) (n : ℕ) → WentOut start now text n → WentOut start now (text ++ more) n
 WentOut-more start now text more n (went, few) =
     (subst (λ (l : List ℕ). Appends start now l) (sym (take-append-le n text more few)) went, omega (arith, length-append text more))
 

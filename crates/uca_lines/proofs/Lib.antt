@@ -1,5 +1,6 @@
 pub mod LineLemmas
 pub mod BufferedLemmas
+pub mod OutputLemmas
 pub mod FieldLemmas
 pub mod DigitLemmas
 pub mod DigitValues

@@ -1,10 +1,11 @@
 -- Where lines are cut.
 use Rattle.std.proofs.Common.{◌≡◌, ◌↔◌, ℕ, suc, Bool, not, ◌+◌, ◌-◌, ◌<◌, ◌≤◌, true, false, List, [], ◌∷◌, ◌++◌, Option, None, Some, Result, Err, append-nil, refl, length, take, drop, get_or, cond, sym, ap, subst, ◌∙◌, arith, le_refl, length-take, length-drop, length-append, append_assoc, MatchOption}
+use Rattle.std.specs.Int.{from_bool}
 use Rattle.std.specs.List.{before_first, after_first, position_or_len, slice_range}
 use Rattle.std.proofs.lemmas.Bool.{false_from_ne_true, eqb-true, not-true, cond_both, iff_false}
 use Rattle.std.proofs.lemmas.List.{drop-take, drop-drop, length-take-le, take_all, drop_all}
 use Rattle.std.proofs.lemmas.List.Sums.{position_or_len_is, prefix_len-le-length, split_at_first, passes_at_first}
-use Rattle.std.specs.Io.KnownBytes.{Consumes, prepend_known}
+use Rattle.std.specs.Io.KnownBytes.{Consumes, IsAtEnd, prepend_known}
 use Rattle.memchr.specs.Find.{IsFirstByte, is_byte}
 use Rattle.uca_lines.specs.Lines.{is_lf, Lacks, ended}
 use Rattle.uca_lines.specs.NextLine.{BeginsLonger, HasBytes, SaysOfBytes, is_read}
@@ -55,6 +56,25 @@ slice_range-after_piece chunk start end next piece false is_piece found within o
     let count : length all ≡ end - start = omega (arith, length-take (end - start) (drop start chunk), length-drop start chunk) in
     ap (λ k. take k (drop next chunk)) (let past : end - next ≡ 0 = omega arith in past)
     ∙ sym (drop_all (position_or_len is_lf all + 1) all (omega arith))
+
+-- the first line of a range, with its LF where one is there, ends within the range
+pub piece_within : (chunk : List ℕ) (start end more : ℕ) (piece : List ℕ) (is_ended : Bool) → piece ≡ before_first is_lf (slice_range chunk start end)
+    → (is_ended ≡ true) ↔ (position_or_len is_lf (slice_range chunk start end) < length (slice_range chunk start end)) → start ≤ end
+    → more ≡ from_bool is_ended → start + (length piece + more) ≤ end
+piece_within chunk start end more piece true is_piece found ordered one =
+    let len : length piece ≡ position_or_len is_lf (slice_range chunk start end) = ap length is_piece ∙ length-before_lf (slice_range chunk start end) in
+    omega (arith, found.0 refl, length-take (end - start) (drop start chunk))
+piece_within chunk start end more piece false is_piece found ordered none =
+    let len : length piece ≡ position_or_len is_lf (slice_range chunk start end) = ap length is_piece ∙ length-before_lf (slice_range chunk start end) in
+    omega (arith, prefix_len-le-length (λ b. not (is_lf b)) (slice_range chunk start end), length-take (end - start) (drop start chunk))
+
+-- a range that has a place has a byte
+pub range_some : (chunk : List ℕ) (start end : ℕ) → start < end → end ≤ length chunk → 0 < length (slice_range chunk start end)
+range_some chunk start end some within = omega (arith, length-take (end - start) (drop start chunk), length-drop start chunk)
+
+-- one that has none is empty
+pub range_none : (chunk : List ℕ) (start end : ℕ) → end ≤ start → slice_range chunk start end ≡ []
+range_none chunk start end none = ap (λ k. take k (drop start chunk)) (let past : end - start ≡ 0 = omega arith in past)
 
 -- a text with an LF is its first line, ended, and what comes after
 pub cut_at_lf : (text : List ℕ) → position_or_len is_lf text < length text → text ≡ ended (before_first is_lf text) ++ after_first is_lf text
@@ -148,8 +168,28 @@ Consumes-part known rest line waiting new later h none is_new is_later =
     let whole : line ++ waiting ≡ new = ap (λ l. line ++ l) (sym (before_lf-all waiting none)) ∙ sym is_new in
     subst (Consumes known (prepend_known later rest)) whole (Consumes-front known rest line waiting waiting later h cut)
 
+-- what waits was in no line
+pub none_left : (rest : Option (List ℕ)) (waiting : List ℕ) → waiting ≡ [] → IsAtEnd rest → IsAtEnd (prepend_known waiting rest)
+none_left None waiting empty end = tt
+none_left (Some xs) waiting empty end = rw (empty, end) refl
+
+-- all that waited was taken
+length-taken : (line waiting new : List ℕ) → length waiting ≤ position_or_len is_lf waiting → new ≡ line ++ before_first is_lf waiting
+    → length new ≡ length line + length waiting
+length-taken line waiting new none is_new = ap length (is_new ∙ ap (λ l. line ++ l) (before_lf-all waiting none)) ∙ length-append line waiting
+
+-- so the line has a byte
+pub taken_some : (line waiting new : List ℕ) → length waiting ≤ position_or_len is_lf waiting → new ≡ line ++ before_first is_lf waiting
+    → 0 < length waiting → 0 < length new
+taken_some line waiting new none is_new some = omega (arith, length-taken line waiting new none is_new)
+
+-- and room for fewer than before
+pub taken_nearer : (line waiting new : List ℕ) (n m : ℕ) → length waiting ≤ position_or_len is_lf waiting → new ≡ line ++ before_first is_lf waiting
+    → 0 < length waiting → length new ≤ n → m ≡ n → m - length new < n - length line
+taken_nearer line waiting new n m none is_new some fits is = omega (arith, length-taken line waiting new none is_new)
+
 -- bytes that wait are left
-HasBytes-waiting : (known rest : Option (List ℕ)) (line waiting : List ℕ) → Consumes known (prepend_known waiting rest) line → 0 < length waiting
+pub HasBytes-waiting : (known rest : Option (List ℕ)) (line waiting : List ℕ) → Consumes known (prepend_known waiting rest) line → 0 < length waiting
     → HasBytes known
 HasBytes-waiting None rest line waiting h some = tt
 HasBytes-waiting (Some xs) None line waiting h some = absurd h
@@ -189,3 +229,25 @@ take_fault-not_read TooLong capacity n len h = refl
 take_fault-not_read Limit capacity n len h = absurd h
 take_fault-not_read Read capacity n len h = absurd h
 take_fault-not_read Memory capacity n len h = refl
+
+-- an error of a reader that failed
+pub is_failed_read : (fault : LineFault) → ◌≡◌ {A = Result Bool LineFault} (Err fault) (Err Read) → fault ≡ Read
+is_failed_read fault e = cc
+
+-- it is not that memory ran out
+pub failed_read-not_memory : (fault : LineFault) → fault ≡ Read → ◌≡◌ {A = Result NextLine LineFault} (Err fault) (Err Memory) → ⊥
+failed_read-not_memory fault is e = cc
+
+-- nor the limit
+pub failed_read-not_limit : (fault : LineFault) → fault ≡ Read → ◌≡◌ {A = Result NextLine LineFault} (Err fault) (Err Limit) → ⊥
+failed_read-not_limit fault is e = cc
+
+-- ---- an empty line
+
+-- it fits
+pub empty_fits : (line : List ℕ) (n : ℕ) → line ≡ [] → length line ≤ n
+empty_fits line n empty = omega (arith, ap length empty)
+
+-- it has no LF
+pub empty_lacks : (line : List ℕ) → line ≡ [] → Lacks is_lf line
+empty_lacks line empty = rw empty tt

@@ -1,5 +1,5 @@
 -- Numbers of code points in pages: at first all are 0.
-use Rattle.std.proofs.Common.{◌≡◌, ℕ, zero, suc, ◌+◌, ◌*◌, ◌%◌, List, length, replicate, get_or, nat_lt}
+use Rattle.std.proofs.Common.{◌≡◌, ℕ, zero, suc, ◌+◌, ◌*◌, ◌%◌, ◌<◌, List, length, replicate, get_or, nat_lt}
 use Rattle.std.proofs.Common.{sym, ap, refl, ◌∙◌, arith}
 use Rattle.std.specs.List.{count_by}
 use Rattle.std.proofs.lemmas.List.{length-replicate}
@@ -39,3 +39,10 @@ module _ (pages numbers : List ℕ) (n m : ℕ) (many : n ≡ 0x1100) (page : m 
 
   pub numbers_none : (c : ℕ) → number_in pages numbers c ≡ 0
   numbers_none c = no_number (page_of pages c * 256 + c % 256)
+
+-- ---- The places of a page
+
+-- the places of a page are within the numbers
+pub place_within : (pages numbers : List ℕ) (at place page : ℕ) → ArePages pages numbers → page ≡ get_or pages at 0 → place < 256 →
+    page * 256 + place < length numbers
+place_within pages numbers at place page are is below = omega (arith, are.used, are.within at, is, below)

@@ -79,9 +79,13 @@ pub fn open_three<O: Opens>(
         (DoesNotOpen (file_system O.open_gives O.same_gives O.create_gives O.keep_gives O.remove_gives O.File.remaining O.Made.contents)
         opener.old opener.new (file_for first first_name.now ∷ file_for second second_name.now ∷ file_for third third_name.now ∷ [])) }
 {
-    let (one, other) = open_two(opener, first, first_name, second, second_name)?;
-    let last = open_one(opener, third, third_name)?;
-    Ok((one, other, last))
+    match open_two(opener, first, first_name, second, second_name) {
+        Ok((one, other)) => match open_one(opener, third, third_name) {
+            Ok(last) => Ok((one, other, last)),
+            Err(role) => Err(role),
+        },
+        Err(role) => Err(role),
+    }
 }
 
 /// The sources of the files of `audit`.
@@ -110,7 +114,7 @@ pub fn open_audit_files<O: Opens>(
         (DoesNotOpen (file_system O.open_gives O.same_gives O.create_gives O.keep_gives O.remove_gives O.File.remaining O.Made.contents)
         opener.old opener.new (audit_files base.now data_file.now rules.now tailored.now certificate.now)) }
 {
-    let (base, properties, rules) = open_three(
+    match open_three(
         opener,
         Role::Base,
         base,
@@ -118,21 +122,25 @@ pub fn open_audit_files<O: Opens>(
         data_file,
         Role::Rules,
         rules,
-    )?;
-    let (tailored, certificate) = open_two(
-        opener,
-        Role::Tailored,
-        tailored,
-        Role::Certificate,
-        certificate,
-    )?;
-    Ok(OpenedAudit {
-        base,
-        properties,
-        rules,
-        tailored,
-        certificate,
-    })
+    ) {
+        Ok((base, properties, rules)) => match open_two(
+            opener,
+            Role::Tailored,
+            tailored,
+            Role::Certificate,
+            certificate,
+        ) {
+            Ok((tailored, certificate)) => Ok(OpenedAudit {
+                base,
+                properties,
+                rules,
+                tailored,
+                certificate,
+            }),
+            Err(role) => Err(role),
+        },
+        Err(role) => Err(role),
+    }
 }
 
 /// The names of two tables and their data files.
@@ -165,14 +173,24 @@ pub fn open_editions<O: Opens>(
         (DoesNotOpen (file_system O.open_gives O.same_gives O.create_gives O.keep_gives O.remove_gives O.File.remaining O.Made.contents)
         opener.old opener.new (edition_files_of names.now)) }
 {
-    let (old, old_data) = open_two(opener, Role::Old, names.old, Role::OldData, names.old_data)?;
-    let (new, new_data) = open_two(opener, Role::New, names.new, Role::NewData, names.new_data)?;
-    Ok(OpenedEditions {
-        old,
-        old_data,
-        new,
-        new_data,
-    })
+    match open_two(opener, Role::Old, names.old, Role::OldData, names.old_data) {
+        Ok((old, old_data)) => match open_two(
+            opener,
+            Role::New,
+            names.new,
+            Role::NewData,
+            names.new_data,
+        ) {
+            Ok((new, new_data)) => Ok(OpenedEditions {
+                old,
+                old_data,
+                new,
+                new_data,
+            }),
+            Err(role) => Err(role),
+        },
+        Err(role) => Err(role),
+    }
 }
 
 /// The sources of the files of `audit-changes`.
@@ -198,17 +216,24 @@ pub fn open_change_files<O: Opens>(
         (DoesNotOpen (file_system O.open_gives O.same_gives O.create_gives O.keep_gives O.remove_gives O.File.remaining O.Made.contents)
         opener.old opener.new (change_files_of names.now changes.now certificate.now)) }
 {
-    let editions = open_editions(opener, names)?;
-    let (changes, certificate) = open_two(
-        opener,
-        Role::Changes,
-        changes,
-        Role::Certificate,
-        certificate,
-    )?;
-    Ok(OpenedChange {
-        editions,
-        changes,
-        certificate,
-    })
+    match open_editions(opener, names) {
+        Ok(editions) => match open_two(
+            opener,
+            Role::Changes,
+            changes,
+            Role::Certificate,
+            certificate,
+        ) {
+            Ok((changes, certificate)) => Ok(OpenedChange {
+                editions,
+                changes,
+                certificate,
+            }),
+            Err(role) => {
+                drop(editions);
+                Err(role)
+            }
+        },
+        Err(role) => Err(role),
+    }
 }

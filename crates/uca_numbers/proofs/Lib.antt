@@ -2,3 +2,4 @@ pub mod MarkLaws
 pub mod PlaceLaws
 pub mod LevelLaws
 pub mod RunLaws
+pub mod TableLaws

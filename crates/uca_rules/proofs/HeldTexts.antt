@@ -6,7 +6,9 @@ use Rattle.std.proofs.lemmas.List.Elements.{Contains-push, Contains-push_cases, 
 use Rattle.uca_text.specs.Texts.{NfdText}
 use Rattle.uca_text.specs.Occurring.{OccursInOrder}
 use Rattle.uca_rules.specs.declared.relations.Relation.{Relation}
+use Rattle.uca_rules.specs.declared.growing.RulesBuilder.{RulesBuilder}
 use Rattle.uca_rules.specs.Relations.{IsTarget, IsUsedBy, IsUntouched, HasRuleTexts, AreRules, IsHeld}
+use Rattle.uca_rules.specs.Growing.{held_texts, AreGrowing}
 
 -- ---- The last of relations, or an earlier one
 
@@ -171,3 +173,25 @@ anchor_held target old new r none first t = (forth, back)
         (λ it. absurd (subst (λ (o : Option NfdText). IsSomeAnd o (λ e. t ≡ e.points)) none it))
         own.0)
         h
+
+-- ---- No relations
+
+-- they are rules
+rules_none : (rs : List Relation) → rs ≡ [] → AreRules rs
+rules_none [] none = record {
+  few = omega arith;
+  texts = tt;
+  distinct = λ before after r parts. absurd (omega (arith, ap length parts, length-append before (r ∷ after)));
+  none_late = λ before after r text parts. absurd (omega (arith, ap length parts, length-append before (r ∷ after)));
+}
+rules_none (r ∷ rs) none = cc
+
+-- and no text is kept
+pub growing_none : {A : Type 0} (g : RulesBuilder A) → g.relations.items ≡ [] → held_texts g ≡ [] → AreGrowing g
+growing_none g none held = record {
+  rules = rules_none g.relations.items none;
+  are_held = λ text. (
+    (λ has. absurd (omega (arith, has.1, ap length held))),
+    (λ h. absurd (omega (arith, ap length h.parts, ap length none, length-append h.before (h.r ∷ h.after)))),
+  );
+}

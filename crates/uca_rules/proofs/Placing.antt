@@ -50,3 +50,11 @@ other_bytes xs ys i x y here there other = cases (bytes_eq xs ys) refl
 
 pub same_bytes : (xs ys : List ℕ) → xs ≡ ys → true ≡ bytes_eq xs ys
 same_bytes xs ys same = sym ((bytes_eq-Decides xs ys).1 same)
+
+-- two texts, and the first is shorter
+pub other_length : (xs ys : List ℕ) → length xs < length ys → false ≡ bytes_eq xs ys
+other_length xs ys fewer = cases (bytes_eq xs ys) refl
+  where
+    cases : (b : Bool) → bytes_eq xs ys ≡ b → false ≡ b
+    cases true e = absurd (omega (arith, fewer, ap length ((bytes_eq-Decides xs ys).0 e)))
+    cases false e = refl

@@ -1,7 +1,7 @@
 -- The inside of quotes, one character further and at its end.
-use Rattle.std.proofs.Common.{◌≡◌, ◌≢◌, ℕ, ◌+◌, ◌<◌, ◌≤◌, List, [], ◌∷◌, ◌++◌, length, get_or, take, drop, Option, Some, None, refl, ap, sym, ◌∙◌, eq-eqb, arith}
+use Rattle.std.proofs.Common.{◌≡◌, ◌≢◌, ℕ, ◌+◌, ◌<◌, ◌≤◌, List, [], ◌∷◌, ◌++◌, length, get_or, take, drop, Option, Some, None, refl, ap, sym, subst, ◌∙◌, eq-eqb, arith}
 use Rattle.std.proofs.lemmas.Bool.{ne_eqb}
-use Rattle.std.proofs.lemmas.List.{append_assoc, append-nil, drop_all, drop_more, take_at}
+use Rattle.std.proofs.lemmas.List.{append_assoc, append-nil, drop_all, drop_more, take_at, get_or-drop, length-drop}
 use Rattle.uca_rules.specs.declared.characters.Character.{Character}
 use Rattle.uca_rules.specs.Characters.{apostrophe}
 use Rattle.uca_rules.specs.Pieces.{Symbol, Literal, Piece, with_literal, inside_quotes}
@@ -64,3 +64,25 @@ inside_all old new cs at i past = (
   i.whole ∙ ap (λ rest. behind i.front (inside_quotes rest)) (drop_all at cs past),
   ap (take (length old)) i.written ∙ take_at old i.front (length old) refl,
 )
+
+-- one apostrophe is the end
+last_one : (c : Character) (rest : List Character) (d : Character) → c.code ≡ apostrophe → (0 < length rest → (get_or rest 0 d).code ≢ apostrophe) →
+    inside_quotes (c ∷ rest) ≡ Some (record { symbols = []; rest = rest })
+last_one c [] d first other = rw (eq-eqb c.code apostrophe first) refl
+last_one c (e ∷ rest) d first other = rw (eq-eqb c.code apostrophe first, ne_eqb e.code apostrophe (other (omega arith))) refl
+
+-- where one apostrophe comes, the piece ends
+pub inside_end : (old new : List Symbol) (cs : List Character) (at : ℕ) (d : Character) → IsInside old new cs at → at < length cs →
+    (get_or cs at d).code ≡ apostrophe → (at + 1 < length cs → (get_or cs (at + 1) d).code ≢ apostrophe) →
+    (symbols : List Symbol) × (inside_quotes cs ≡ Some (record { symbols = symbols; rest = drop (at + 1) cs })) × (new ≡ old ++ symbols)
+inside_end old new cs at d i within is other =
+    let rest = drop (at + 1) cs in
+    let here = get_or cs at d in
+    let same : get_or rest 0 d ≡ get_or cs (at + 1) d = grind (arith, get_or-drop) in
+    let next : 0 < length rest → (get_or rest 0 d).code ≢ apostrophe = λ some.
+    subst (λ (c : Character). c.code ≢ apostrophe) (sym same) (other (omega (arith, some, length-drop (at + 1) cs))) in (
+      i.front,
+      i.whole ∙ (ap (λ left. behind i.front (inside_quotes left)) (drop_more cs at d within) ∙ (ap (behind i.front) (last_one here rest d is next)
+          ∙ ap (λ symbols. Some (record { symbols = symbols; rest = rest })) (append-nil i.front))),
+      i.written,
+    )

@@ -1,14 +1,16 @@
 -- What signs and brackets begin with.
-use Rattle.std.proofs.Common.{◌≡◌, ◌≢◌, ◌⊎◌, ℕ, suc, ◌≤◌, List, [], ◌∷◌, take, codes, true, Option, None, Some, option_map, inl, inr, refl, ap, ◌∙◌, subst, arith}
+use Rattle.std.proofs.Common.{◌≡◌, ◌≢◌, ◌⊎◌, ℕ, suc, ◌≤◌, List, [], ◌∷◌, length, take, codes, true, Option, None, Some, option_map, inl, inr, refl, ap, ◌∙◌, subst, arith}
 use Rattle.std.specs.Prelude.{if◌then◌else◌, ◌==◌, IfSome}
 use Rattle.std.specs.Str.{bytes_eq}
 use Rattle.std.proofs.lemmas.Bool.{cond_both, eqb-true, ne_eqb}
+use Rattle.std.proofs.lemmas.List.{length-take}
 use Rattle.std.proofs.lemmas.Slice.Eq.{bytes_eq-Decides}
 use Rattle.uca_weights.specs.declared.Strength.{Strength}
 use Rattle.uca_weights.specs.declared.Strength.TheVariants.{Primary, Secondary, Tertiary, Identical}
 use Rattle.uca_rules.specs.declared.characters.Character.{Character}
 use Rattle.uca_rules.specs.Characters.{codes_of, ampersand, less_than, equals_sign, bracket}
 use Rattle.uca_rules.specs.Statements.{SignAt, perhaps_starred, count_less, behind_less, strength_of, sign_at, bracket_of, bracket_at, IsNotAt}
+use Rattle.uca_rules.proofs.Placing.{length-codes}
 
 -- ---- Signs
 
@@ -96,3 +98,24 @@ bracket_begins cs strength is other = first cs (subst (λ strength. IfSome stren
     first : (cs : List Character) → BeginsSquare (codes_of (take 10 cs)) → ¬ (IsNotAt bracket cs)
     first [] begins other = absurd (let none : [] ≡ bracket ∷ begins.0 = begins.1 in cc)
     first (c ∷ cs) begins other = other (let some : ◌≡◌ {A = List ℕ} (c.code ∷ codes_of (take 9 cs)) (bracket ∷ begins.0) = begins.1 in cc)
+
+-- a bracket is ten characters long
+ten_long : (text : List ℕ) → IfSome (bracket_of text) (λ strength. length text ≡ 10)
+ten_long text =
+    cond_both (bytes_eq text (codes "[before 1]")) (Some Primary)
+    (if bytes_eq text (codes "[before 2]") then Some Secondary else if bytes_eq text (codes "[before 3]") then Some Tertiary else None)
+    (λ found. IfSome found (λ strength. length text ≡ 10))
+    (λ same. ap length ((bytes_eq-Decides text (codes "[before 1]")).0 same))
+    (λ other. cond_both (bytes_eq text (codes "[before 2]")) (Some Secondary) (if bytes_eq text (codes "[before 3]") then Some Tertiary else None)
+    (λ found. IfSome found (λ strength. length text ≡ 10))
+    (λ same. ap length ((bytes_eq-Decides text (codes "[before 2]")).0 same))
+    (λ other. cond_both (bytes_eq text (codes "[before 3]")) (Some Tertiary) None
+    (λ found. IfSome found (λ strength. length text ≡ 10))
+    (λ same. ap length ((bytes_eq-Decides text (codes "[before 3]")).0 same))
+    (λ other. tt)))
+
+-- so there are ten characters where one is
+pub bracket_long : (cs : List Character) (strength : Strength) → bracket_at cs ≡ Some strength → 10 ≤ length cs
+bracket_long cs strength is =
+    let ten = subst (λ found. IfSome found (λ strength. length (codes_of (take 10 cs)) ≡ 10)) is (ten_long (codes_of (take 10 cs))) in
+    omega (arith, ten, length-codes (take 10 cs), length-take 10 cs)

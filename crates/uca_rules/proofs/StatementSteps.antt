@@ -25,6 +25,14 @@ use Rattle.uca_rules.specs.Reading.{State, IsTextOf, BeginsNext, HasRelationCaus
 use Rattle.uca_rules.proofs.Suffixes.{anchor_due_behind, target_due_behind, expansion_due_behind, written_behind, expands_end, behind_ends, ends_trans}
 use Rattle.uca_rules.proofs.Progress.{memory_behind, keeps_both}
 
+-- an expansion that has been read is a text of rules
+pub rule_expansion : (properties : Properties) (written : Option Written) (expansion : Option NfdText) → AreTextsOf properties written expansion
+    → IfSome expansion IsRuleText
+rule_expansion properties None None are = tt
+rule_expansion properties None (Some text) are = absurd are
+rule_expansion properties (Some written) None are = tt
+rule_expansion properties (Some written) (Some text) are = are.rule
+
 -- ---- Resets
 
 pub reset_fault : (properties : Properties) (end : ℕ) (state : State) (cs text : List Character) (before : Option Strength) (fault : RuleFault)

@@ -203,13 +203,6 @@ pub record PassesOn {A T : Type 0} (target : NfdText) (old new : Reader A T) : T
   pub before : new.before ≡ false
   pub last : new.last ≡ old.last
 
--- relations may have been added, and nothing else has changed
-pub record KeepsReading {A T : Type 0} (old new : Reader A T) : Type 0 where
-  pub texts : new.texts ≡ old.texts
-  pub anchor : new.anchor ≡ old.anchor
-  pub before : new.before ≡ old.before
-  pub last : new.last ≡ old.last
-
 -- it has been added, and its target is the next anchor
 pub record AddsOne {A T : Type 0} (relation : Relation) (old new : Reader A T) : Type 0 where
   pub kept : Keeps old.texts new.texts

@@ -7,14 +7,14 @@ ghost use Rattle.uca_rules.specs.declared.relations.Relation.{Relation};
 ghost use Rattle.uca_rules.specs.declared.signs.Preceding.{Preceding};
 ghost use Rattle.uca_rules.specs.declared.faults.RuleFaultKind.{RuleFaultKind};
 ghost use Rattle.uca_rules.specs.Characters;
-ghost use Rattle.uca_rules.specs.Relations.{AreRules, HasRuleTexts, IsRuleText};
+ghost use Rattle.uca_rules.specs.Relations.{AreRules, IsRuleText};
 ghost use Rattle.uca_rules.specs.Meaning.{Means};
 ghost use Rattle.uca_rules.specs.Growing.{AreGrowing};
 ghost use Rattle.uca_rules.specs.Faults.{IsCause, IsWrongBracket, RelationCause, StatementCause};
 ghost use Rattle.uca_rules.specs.Statements;
 ghost use Rattle.uca_rules.specs.Statements.{IsAnchorDue, MayFollow, Resets, Signs};
 ghost use Rattle.uca_rules.specs.Views.{IsMemoryAt, sign_view};
-ghost use Rattle.uca_rules.specs.Reading.{AddsOne, AddsPlain, GoesOn, IsNextFault, IsPlainFault, IsReadingFault, IsReady, KeepsReading, PassesOn, ReadsAll, first_code, properties_in, relation_of, start, state_of};
+ghost use Rattle.uca_rules.specs.Reading.{AddsOne, AddsPlain, GoesOn, IsNextFault, IsPlainFault, IsReadingFault, IsReady, PassesOn, ReadsAll, first_code, properties_in, relation_of, start, state_of};
 
 use crate::characters::{Character, behind_gaps, characters};
 use crate::faults::{RuleFault, RuleFaultKind};
@@ -278,7 +278,14 @@ impl<'a, A: Allocator + Copy, T: Allocator> Reader<'a, A, T> {
             ⊎ ((fault.byte ≡ byte) × RelationCause self.old.rules.relations.items (relation_of self.old strength target expansion) fault.kind)) }
     {
         match self.take_relation(strength, target, expansion) {
-            Ok(relation) => self.add_relation(relation, byte, here),
+            Ok(relation) => match self.rules.add(relation) {
+                Ok(()) => Ok(()),
+                Err(RuleFaultKind::Memory) => Err(RuleFault {
+                    byte: here,
+                    kind: RuleFaultKind::Memory,
+                }),
+                Err(kind) => Err(RuleFault { byte, kind }),
+            },
             Err(_) => Err(RuleFault {
                 byte: here,
                 kind: RuleFaultKind::Memory,
@@ -303,31 +310,6 @@ impl<'a, A: Allocator + Copy, T: Allocator> Reader<'a, A, T> {
             target,
             expansion,
         })
-    }
-
-    /// Adds a relation. An error of the relation is at `byte`, a failed allocation at `here`.
-    fn add_relation(
-        &mut self,
-        relation: Relation,
-        byte: usize,
-        here: usize,
-    ) -> Result<(), RuleFault>
-        requires growing { AreGrowing self.old.rules }
-        requires few { length self.old.rules.relations.items < 5000 }
-        requires texts { HasRuleTexts relation }
-        ensures added { OnOk result (self.new.rules.relations.items ≡ self.old.rules.relations.items ++ relation ∷ []) }
-        ensures growing { OnOk result (AreGrowing self.new.rules) }
-        ensures kept { KeepsReading self.old self.new }
-        ensures fault { IfErr result (λ fault. IsMemoryAt here fault ⊎ ((fault.byte ≡ byte) × RelationCause self.old.rules.relations.items relation fault.kind)) }
-    {
-        match self.rules.add(relation) {
-            Ok(()) => Ok(()),
-            Err(RuleFaultKind::Memory) => Err(RuleFault {
-                byte: here,
-                kind: RuleFaultKind::Memory,
-            }),
-            Err(kind) => Err(RuleFault { byte, kind }),
-        }
     }
 }
 

@@ -14,3 +14,4 @@ pub mod WholeRuns
 pub mod AffectedLines
 pub mod PointTexts
 pub mod PrintLemmas
+pub mod RoleTexts

@@ -14,7 +14,7 @@ use Rattle.uca_run_parts.specs.Input.{clean_from, clean_lines}
 use Rattle.uca_run_parts.specs.EachLineSoFar.{HasWritten, IsStopped, WritesText}
 use Rattle.uca_run_parts.specs.LinesSoFar.{IsAfter, OnKnown}
 use Rattle.uca_run_parts.specs.Runs.{PartWentOut, ended_by_output}
-use Rattle.uca_run_parts.specs.Texts.{LinesState, HasRead, HasCleanLine}
+use Rattle.uca_run_parts.specs.Texts.{LinesState, HasRead, HasCleanLine, ReadsCleanLine}
 
 -- ---- Counts
 
@@ -45,6 +45,13 @@ module _ (properties : Properties) (bytes_of : List ℕ → List ℕ) where
   goes_on (Some bytes) (Some left) before is_cut after =
       let more = clean_from properties (length before) (lines_of left) in
       (flat_map bytes_of more, ap (flat_map bytes_of) after.clean ∙ flat_map-append _ before more)
+
+  -- the next line has an error
+  pub no_line : (start begun : Option (List ℕ)) (before : List (List ℕ)) (lines : LinesState) (input : SourceState) (buffer : BufferState) (out : SinkState) (fault : RunFault)
+      → ReadsCleanLine properties start before lines input (Err fault) → IsBuffered begun out.contents (flat_map bytes_of before) buffer
+      → IsStopped properties bytes_of start begun before input buffer out fault
+  no_line start begun before lines input buffer out (Input number kind) reads written = (reads, written)
+  no_line start begun before lines input buffer out _ reads written = absurd reads
 
   module _ (start begun : Option (List ℕ)) (before : List (List ℕ)) (lines : LinesState) (input : SourceState) (t : HasCleanLine properties start before lines input)
       (piece : List ℕ) (is : piece ≡ bytes_of lines.line) where

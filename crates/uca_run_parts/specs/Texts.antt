@@ -1,6 +1,6 @@
 -- The lines of an input. Contracts of the parts of runs cite this, and no contract of a whole run: no promise of a run
 -- rests on it.
-use Rattle.std.specs.Prelude.{◌≡◌, ℕ, suc, ◌+◌, Bool, false, MatchBool, List, [], ◌∷◌, ◌++◌, Option, Some, Result, Ok, Err, IfSome, length, ⊤}
+use Rattle.std.specs.Prelude.{◌≡◌, ℕ, ◌+◌, Bool, false, MatchBool, List, [], ◌∷◌, ◌++◌, Option, Some, Result, Ok, Err, IfSome, length, ⊤}
 use Rattle.uca_weights.specs.Streams.{SourceState}
 use Rattle.uca_values.specs.Content.{Properties}
 use Rattle.uca_text.specs.Texts.{NfdText}
@@ -71,12 +71,7 @@ pub record HasLine (properties : Properties) (start : Option (List ℕ)) (before
   pub next : OnKnown start (left_of lines.reader input) (λ bytes left. IsNext properties bytes left lines.is_cut before lines.line)
   pub count : lines.reader.number ≡ length before + 1
 
--- what is returned where a line may come: the next line, that none is left, or why it is not read
-abbrev pub ReadsLine : Properties → Option (List ℕ) → List (List ℕ) → LinesState → SourceState → Result Bool InputKind → Type 0
-ReadsLine properties start before lines input (Ok more) = MatchBool more (HasLine properties start before lines input) (HasReadAll properties start before)
-ReadsLine properties start before lines input (Err kind) = HasNoText properties start before input (suc (length before)) kind
-
--- the same with the number of the line in the error
+-- what is returned where a line may come: the next line, that none is left, or why it is not read, with the number of the line
 abbrev pub ReadsNextLine : Properties → Option (List ℕ) → List (List ℕ) → LinesState → SourceState → Result Bool RunFault → Type 0
 ReadsNextLine properties start before lines input (Ok more) = MatchBool more (HasLine properties start before lines input) (HasReadAll properties start before)
 ReadsNextLine properties start before lines input (Err (Input number kind)) = HasNoText properties start before input number kind

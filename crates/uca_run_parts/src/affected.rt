@@ -170,8 +170,12 @@ pub fn run_affected_in<A: Allocator + Copy, D: Read, U: Read, I: Read, W: Write>
     ensures { PrintsAffected (properties.old ∷ rules.old ∷ []) (properties.new ∷ rules.new ∷ [])
         input.old input.new out.old out.new result }
 {
-    let files = read_data_and_rules(alloc, global, properties, rules)?;
-    let end = print_affected(alloc, global, &files.properties, &files.rules, input, out);
-    drop(files);
-    end
+    match read_data_and_rules(alloc, global, properties, rules) {
+        Ok(files) => {
+            let end = print_affected(alloc, global, &files.properties, &files.rules, input, out);
+            drop(files);
+            end
+        }
+        Err(fault) => Err(fault),
+    }
 }

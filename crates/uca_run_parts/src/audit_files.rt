@@ -2,14 +2,13 @@
 
 ghost use Rattle.std.specs.Prelude.{◌≡◌, ◌∷◌, []};
 ghost use Rattle.uca_tailorings.specs.Inputs.{tailoring_of};
-ghost use Rattle.uca_run_parts.specs.Files.{audit_files, audit_roles, data_and_rules_roles, rules_over, tailor_content};
+ghost use Rattle.uca_run_parts.specs.Files.{audit_files, audit_roles};
 ghost use Rattle.uca_run_parts.specs.ReadFiles.{ReadsFiles, outcome_files, outcome_of, outcome_roles};
 ghost use Rattle.uca_values.specs.Content.{properties_of};
 
 use crate::faults::{Role, RunFault};
 use crate::files::{read_certificate_file, read_table_file};
-use crate::rule_file::read_data_and_rules;
-use crate::tailor_files::TailorFiles;
+use crate::tailor_files::{TailorFiles, read_files_over};
 use std::alloc::{Allocator, Global};
 use std::io::Read;
 use uca_certificates::Certificate;
@@ -50,13 +49,15 @@ pub fn read_audit_files<A: Allocator + Copy, B: Read, D: Read, U: Read, T: Read,
         (base.new ∷ properties.new ∷ rules.new ∷ tailored.new ∷ certificate.new ∷ [])
         (λ files. tailoring_of files.base (properties_of files.properties) files.rules files.tailored files.certificate) result }
 {
-    let given = read_given(alloc, global, base, properties, rules)?;
-    match read_outcome(alloc, tailored, certificate) {
-        Ok(outcome) => Ok(files_of(given, outcome)),
-        Err(fault) => {
-            drop(given);
-            Err(fault)
-        }
+    match read_files_over(alloc, global, Role::Base, base, properties, rules) {
+        Ok(given) => match read_outcome(alloc, tailored, certificate) {
+            Ok(outcome) => Ok(files_of(given, outcome)),
+            Err(fault) => {
+                drop(given);
+                Err(fault)
+            }
+        },
+        Err(fault) => Err(fault),
     }
 }
 
@@ -79,32 +80,6 @@ fn files_of<A: Allocator>(given: TailorFiles<A>, outcome: Outcome<A>) -> AuditFi
     }
 }
 
-// Reads what the tailoring was made by.
-fn read_given<A: Allocator + Copy, B: Read, D: Read, U: Read>(
-    alloc: A,
-    global: Global,
-    base: &mut Source<B>,
-    properties: &mut Source<D>,
-    rules: &mut Source<U>,
-) -> Result<TailorFiles<A>, RunFault>
-    ensures { ReadsFiles (rules_over Role.Base) (Role.Base ∷ data_and_rules_roles) (base.old ∷ properties.old ∷ rules.old ∷ [])
-        (base.new ∷ properties.new ∷ rules.new ∷ [])
-        (λ files. tailor_content files.base (properties_of files.properties) files.rules) result }
-{
-    let base = read_table_file(alloc, Role::Base, base)?;
-    match read_data_and_rules(alloc, global, properties, rules) {
-        Ok(given) => Ok(TailorFiles {
-            base,
-            properties: given.properties,
-            rules: given.rules,
-        }),
-        Err(fault) => {
-            drop(base);
-            Err(fault)
-        }
-    }
-}
-
 // What a tailoring gave.
 #[derive(Drop)]
 struct Outcome<A: Allocator> {
@@ -121,15 +96,17 @@ fn read_outcome<A: Allocator + Copy, T: Read, C: Read>(
     ensures { ReadsFiles outcome_files outcome_roles (tailored.old ∷ certificate.old ∷ [])
         (tailored.new ∷ certificate.new ∷ []) (λ files. outcome_of files.tailored files.certificate) result }
 {
-    let tailored = read_table_file(alloc, Role::Tailored, tailored)?;
-    match read_certificate_file(alloc, certificate) {
-        Ok(certificate) => Ok(Outcome {
-            tailored,
-            certificate,
-        }),
-        Err(fault) => {
-            drop(tailored);
-            Err(fault)
-        }
+    match read_table_file(alloc, Role::Tailored, tailored) {
+        Ok(tailored) => match read_certificate_file(alloc, certificate) {
+            Ok(certificate) => Ok(Outcome {
+                tailored,
+                certificate,
+            }),
+            Err(fault) => {
+                drop(tailored);
+                Err(fault)
+            }
+        },
+        Err(fault) => Err(fault),
     }
 }

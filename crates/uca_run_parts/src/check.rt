@@ -32,10 +32,14 @@ pub fn run_check<A: Allocator + Copy, T: Read, D: Read, W: Write>(
 ) -> Result<bool, RunFault>
     ensures { Checks (table.old ∷ properties.old ∷ []) (table.new ∷ properties.new ∷ []) out.old out.new result }
 {
-    let files = read_files(alloc, table, properties)?;
-    let verdict = write_verdict(&files, out);
-    drop(files);
-    verdict
+    match read_files(alloc, table, properties) {
+        Ok(files) => {
+            let verdict = write_verdict(&files, out);
+            drop(files);
+            verdict
+        }
+        Err(fault) => Err(fault),
+    }
 }
 
 // Checks whether the table is well-formed, and writes the verdict.
@@ -49,14 +53,14 @@ fn write_verdict<A: Allocator, W: Write>(
     ensures failed { out.new.failed ≡ (out.old.failed || ended_by_output result) }
 {
     match check(&files.table, &files.properties) {
-        Ok(()) => {
-            write_text(b"well-formed\n", out)?;
-            Ok(true)
-        }
-        Err(fault) => {
-            write_ill_formed(fault, out)?;
-            Ok(false)
-        }
+        Ok(()) => match write_text(b"well-formed\n", out) {
+            Ok(()) => Ok(true),
+            Err(fault) => Err(fault),
+        },
+        Err(ill_formed) => match write_ill_formed(ill_formed, out) {
+            Ok(()) => Ok(false),
+            Err(fault) => Err(fault),
+        },
     }
 }
 

@@ -1,6 +1,6 @@
 //! Why a run ends without its whole output.
 
-ghost use Rattle.std.specs.Prelude.{◌≡◌, ◌≤◌, length, Some};
+ghost use Rattle.std.specs.Prelude.{◌≡◌, ◌≤◌, ◌++◌, codes, decimal, length, Some};
 ghost use Rattle.uca_run_parts.specs.RoleText.{role_text};
 ghost use Rattle.uca_run_parts.specs.FaultText.{input_kind_text, stored_key_text, file_fault_text, side_text, tailor_text, fault_text};
 ghost use Rattle.uca_run_parts.specs.PlanFaults.{refused_plan};
@@ -184,15 +184,23 @@ impl FileFault {
         ensures text { result ≡ file_fault_text (role_text role) self.now }
         ensures short { length result ≤ 100 }
     {
-        let name = Message::of(role.name());
         match self {
-            FileFault::Lines(fault) => name.text(" ").text(fault.message().as_str()),
-            FileFault::Rules(fault) => name.text(" ").text(fault.message().as_str()),
-            FileFault::RulesRead => name.text(": Read"),
-            FileFault::RulesMemory => name.text(": Memory"),
-            FileFault::Certificate(fault) => name.text(" ").text(fault.message().as_str()),
+            FileFault::Lines(fault) => role_message(role, " ").text(fault.message().as_str()),
+            FileFault::Rules(fault) => role_message(role, " ").text(fault.message().as_str()),
+            FileFault::RulesRead => role_message(role, ": Read"),
+            FileFault::RulesMemory => role_message(role, ": Memory"),
+            FileFault::Certificate(fault) => role_message(role, " ").text(fault.message().as_str()),
         }
     }
+}
+
+// The name of a role, and a text after it.
+fn role_message(role: Role, text: &str) -> Message
+    requires { length text.now ≤ 20 }
+    ensures text { result ≡ role_text role ++ text.now }
+    ensures short { length result ≤ 40 }
+{
+    Message::of(role.name()).text(text)
 }
 
 /// Why a run ends without its whole output. Its text is the error line on standard error.
@@ -258,14 +266,10 @@ impl RunFault {
     {
         match self {
             RunFault::File { role, fault } => fault.message(*role),
-            RunFault::Input { line, kind } => Message::of("input line ")
-                .number((*line).into())
-                .text(": ")
-                .text(kind.message().as_str()),
-            RunFault::StoredKey { line, kind } => Message::of("input line ")
-                .number(*line)
-                .text(": ")
-                .text(kind.name()),
+            RunFault::Input { line, kind } => {
+                line_message((*line).into()).text(kind.message().as_str())
+            }
+            RunFault::StoredKey { line, kind } => line_message(*line).text(kind.name()),
             RunFault::Write { .. } => Message::of("output: Write"),
             RunFault::Memory => Message::of("memory"),
             RunFault::Text { right, fault } => Message::of(side_name(*right))
@@ -276,13 +280,21 @@ impl RunFault {
                 Message::of("changes: ").text(change_message(*fault).as_str())
             }
             RunFault::CertificateWrite { .. } => Message::of("certificate: Write"),
-            RunFault::Open(role) => Message::of(role.name()).text(": Open"),
+            RunFault::Open(role) => role_message(*role, ": Open"),
             RunFault::SameAs(role) => Message::of("certificate: SameAs ").text(role.name()),
             RunFault::Words(WordFault::Weighting) => Message::of("weighting: unknown"),
             RunFault::Words(WordFault::Memory) => Message::of("memory"),
             RunFault::Words(WordFault::Refused(_)) => Message::of(""),
         }
     }
+}
+
+// Which line of the input it is.
+fn line_message(line: u64) -> Message
+    ensures text { result ≡ codes "input line " ++ decimal line ++ codes ": " }
+    ensures short { length result ≤ 40 }
+{
+    Message::of("input line ").number(line).text(": ")
 }
 
 // Which of the two arguments it is.

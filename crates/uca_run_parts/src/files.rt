@@ -35,13 +35,15 @@ pub fn read_files<A: Allocator + Copy, T: Read, D: Read>(
     ensures { ReadsFiles table_and_data table_and_data_roles (table.old ∷ properties.old ∷ []) (table.new ∷ properties.new ∷ [])
         (λ files. table_with files.table (properties_of files.properties)) result }
 {
-    let table = read_table_file(alloc, Role::Table, table)?;
-    match read_data_file(alloc, Role::Data, properties) {
-        Ok(properties) => Ok(Files { table, properties }),
-        Err(fault) => {
-            drop(table);
-            Err(fault)
-        }
+    match read_table_file(alloc, Role::Table, table) {
+        Ok(table) => match read_data_file(alloc, Role::Data, properties) {
+            Ok(properties) => Ok(Files { table, properties }),
+            Err(fault) => {
+                drop(table);
+                Err(fault)
+            }
+        },
+        Err(fault) => Err(fault),
     }
 }
 

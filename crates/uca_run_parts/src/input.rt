@@ -8,7 +8,7 @@ ghost use Rattle.uca_values.specs.Content.{Properties, properties_of};
 ghost use Rattle.uca_text.specs.Texts.{nfd_text};
 ghost use Rattle.uca_run_parts.specs.Input.{cause_of, is_input_read_kind};
 ghost use Rattle.uca_run_parts.specs.Runs.{is_input_read, ended_by_output};
-ghost use Rattle.uca_run_parts.specs.Texts.{line_kind, text_kind, HasRead, HasTextCause, ReadsLine, ReadsNextLine, ReadsCleanLine, is_read};
+ghost use Rattle.uca_run_parts.specs.Texts.{line_kind, text_kind, HasRead, HasTextCause, ReadsNextLine, ReadsCleanLine, is_read};
 
 use crate::faults::{InputKind, RunFault};
 use std::alloc::{Allocator, Global};
@@ -106,25 +106,10 @@ impl<A: Allocator> InputLines<A> {
         ensures not_write { ended_by_output result ≡ false }
         ensures failed { input.new.failed ≡ (input.old.failed || is_input_read result) }
     {
-        let line = self.number() + 1;
-        match self.next_line(input) {
-            Ok(more) => Ok(more),
-            Err(kind) => Err(RunFault::Input { line, kind }),
-        }
-    }
-
-    // Reads the next line, and returns whether there was one.
-    fn next_line<I: Read>(&mut self, input: &mut Source<I>) -> Result<bool, InputKind>
-        ensures reads { (properties : Properties) (start : Option (List ℕ)) (before : List (List ℕ)) →
-            HasRead properties start before self.old input.old →
-            ReadsLine properties start before self.new input.new result }
-        ensures count { IfOk result (λ more. OnTrue more ((self.new.reader.number ≡ self.old.reader.number + 1)
-            × (self.old.reader.number < LINE_LIMIT))) }
-        ensures failed { input.new.failed ≡ (input.old.failed || is_read result) }
-    {
         if self.is_cut {
             return Ok(false);
         }
+        let line = self.reader.number() + 1;
         match self.reader.next_line(input, &mut self.line) {
             Ok(NextLine::Terminated) => Ok(true),
             Ok(NextLine::Unterminated) => {
@@ -132,7 +117,10 @@ impl<A: Allocator> InputLines<A> {
                 Ok(true)
             }
             Ok(NextLine::EndOfInput) => Ok(false),
-            Err(fault) => Err(kind_of_line(fault)),
+            Err(fault) => Err(RunFault::Input {
+                line,
+                kind: kind_of_line(fault),
+            }),
         }
     }
 }

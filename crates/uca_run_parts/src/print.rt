@@ -4,7 +4,7 @@ ghost use Rattle.std.specs.Prelude.{◌≡◌, ◌≤◌, length};
 ghost use Rattle.std.specs.List.{flat_map};
 ghost use Rattle.uca_lines.specs.Buffered.{HasRoom, WritesThrough};
 ghost use Rattle.uca_run_parts.specs.Print;
-ghost use Rattle.uca_run_parts.specs.Print.{byte_digits, printed_groups, spaced_groups, identical_level, printed_behind, print_line_at, keyed_line_of};
+ghost use Rattle.uca_run_parts.specs.Print.{byte_digits, printed_groups, spaced_groups, printed_behind, print_line_at, keyed_line_of};
 
 use crate::output::write_line;
 use std::io::Write;
@@ -101,7 +101,7 @@ fn digits_in<'a>(digits: &'a mut [[u8; 2]; PART], part: &[u8]) -> &'a [u8]
     &digits.as_flattened()[..2 * part.len()]
 }
 
-// Writes what comes after the weights: nothing, or the identical level.
+// Writes what comes after the weights: nothing, or the identical level, which is `0000` and the code points.
 fn write_level<W: Write>(
     buffer: &mut OutputBuffer,
     out: &mut Sink<W>,
@@ -113,21 +113,11 @@ fn write_level<W: Write>(
 {
     match depth {
         Depth::Weights => Ok(()),
-        Depth::Identical => write_identical_level(buffer, out, points),
+        Depth::Identical => {
+            buffer.write(out, b" 0000")?;
+            write_points(buffer, out, points)
+        }
     }
-}
-
-// Writes the identical level: `0000`, and the code points.
-fn write_identical_level<W: Write>(
-    buffer: &mut OutputBuffer,
-    out: &mut Sink<W>,
-    points: &[char],
-) -> Result<(), WriteFault>
-    requires { HasRoom buffer.old (length (identical_level points.now)) }
-    ensures { WritesThrough (identical_level points.now) buffer.old buffer.new out.old out.new result }
-{
-    buffer.write(out, b" 0000")?;
-    write_points(buffer, out, points)
 }
 
 // Writes code points, each after a space.

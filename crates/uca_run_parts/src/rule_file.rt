@@ -44,13 +44,15 @@ pub fn read_data_and_rules<A: Allocator + Copy, D: Read, U: Read>(
     ensures { ReadsFiles data_and_rules data_and_rules_roles (properties.old ∷ rules.old ∷ []) (properties.new ∷ rules.new ∷ [])
         (λ files. data_with (properties_of files.properties) files.rules) result }
 {
-    let properties = read_data_file(alloc, Role::Data, properties)?;
-    match read_rule_file(alloc, global, rules, &properties) {
-        Ok(rules) => Ok(DataAndRules { properties, rules }),
-        Err(fault) => {
-            drop(properties);
-            Err(fault)
-        }
+    match read_data_file(alloc, Role::Data, properties) {
+        Ok(properties) => match read_rule_file(alloc, global, rules, &properties) {
+            Ok(rules) => Ok(DataAndRules { properties, rules }),
+            Err(fault) => {
+                drop(properties);
+                Err(fault)
+            }
+        },
+        Err(fault) => Err(fault),
     }
 }
 

@@ -43,10 +43,19 @@ pub fn compare_words<L: Lookup, A: Allocator, W: Write>(
     ensures out_failed { out.new.failed ≡ (out.old.failed || ended_by_output result) }
 {
     let left = text_of(global, left, false, collator.data)?;
-    let right = text_of(global, right, true, collator.data)?;
-    let collator = *collator;
-    let compared = compare(&collator, weighting, depth, &left, &right);
-    write_text(&line_of(compared), out)
+    match text_of(global, right, true, collator.data) {
+        Ok(right) => {
+            let collator = *collator;
+            let compared = compare(&collator, weighting, depth, &left, &right);
+            drop(right);
+            drop(left);
+            write_text(&line_of(compared), out)
+        }
+        Err(fault) => {
+            drop(left);
+            Err(fault)
+        }
+    }
 }
 
 /// Compares two texts under the table and the data file that are read first. The weighting is the one
@@ -99,11 +108,15 @@ pub fn run_compare_in<A: Allocator + Copy, T: Read, D: Read, W: Write>(
     ensures { Compares (comparing weighting depth left.now right.now) (table.old ∷ properties.old ∷ [])
         (table.new ∷ properties.new ∷ []) out.old out.new result }
 {
-    let read = read_collation(alloc, table, properties, weighting)?;
-    let collator = read.collator();
-    let end = compare_words(global, &collator, read.weighting, depth, left, right, out);
-    drop(read);
-    end
+    match read_collation(alloc, table, properties, weighting) {
+        Ok(read) => {
+            let collator = read.collator();
+            let end = compare_words(global, &collator, read.weighting, depth, left, right, out);
+            drop(read);
+            end
+        }
+        Err(fault) => Err(fault),
+    }
 }
 
 // The text of an argument, which is the right one of the two or the left one.

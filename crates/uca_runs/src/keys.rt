@@ -74,19 +74,6 @@ fn depth_of(form: KeyForm, depth: Depth) -> Depth
     }
 }
 
-// Whether the code points of a line's text are printed.
-fn shows_points(form: KeyForm, depth: Depth) -> bool
-    ensures { result ≡ KeyForms.shows_points form depth }
-{
-    match form {
-        KeyForm::Alone => match depth {
-            Depth::Weights => false,
-            Depth::Identical => true,
-        },
-        KeyForm::BeforeLine => false,
-    }
-}
-
 // Makes the text that of the line that was read, where its code points are printed.
 fn take_shown_text<A: Allocator, D: Allocator>(
     text: &mut Normal,
@@ -101,10 +88,13 @@ fn take_shown_text<A: Allocator, D: Allocator>(
         IfErr result (HasTextCause (properties_of properties.now) before lines.now.line) }
     ensures not_read { is_read result ≡ false }
 {
-    if shows_points(form, depth) {
-        return take_text(text, lines, properties);
+    match form {
+        KeyForm::Alone => match depth {
+            Depth::Weights => Ok(()),
+            Depth::Identical => take_text(text, lines, properties),
+        },
+        KeyForm::BeforeLine => Ok(()),
     }
-    Ok(())
 }
 
 // Makes the key of the line that was read, and its text where its code points are printed.

@@ -1,7 +1,7 @@
 -- What is read as an element is spelled as that element, and what is spelled so is read.
-use Rattle.std.proofs.Common.{◌≡◌, ℕ, ◌<◌, ◌≤◌, Bool, true, false, ◌==◌, List, [], ◌∷◌, ◌++◌, length, take, drop, Option, Some, None, refl, ap, sym, subst, ◌∙◌, inr, arith, append_assoc, length-append}
+use Rattle.std.proofs.Common.{◌≡◌, ℕ, zero, suc, ◌<◌, ◌≤◌, Bool, true, false, ◌==◌, List, [], ◌∷◌, ◌++◌, length, take, drop, Option, Some, None, refl, ap, sym, subst, ◌∙◌, inl, inr, arith, append_assoc, length-append}
 use Rattle.std.proofs.lemmas.Option.{some_pair_parts}
-use Rattle.std.proofs.lemmas.List.{take-append-drop, take_at, drop_at}
+use Rattle.std.proofs.lemmas.List.{nil_from_length, take-append-drop, take_at, drop_at}
 use borrow.Author.Tests.{eqb-true}
 use Rattle.uca_weights.specs.declared.Element.{Element}
 use Rattle.uca_weights.proofs.Tests.{then_some, map_some}
@@ -11,7 +11,7 @@ use Rattle.uca_values.specs.declared.faults.FaultKind.TheVariants as kinds
 use Rattle.uca_lines.specs.Fields.{skip_blanks}
 use Rattle.uca_lines.specs.Leads.{Leads}
 use Rattle.uca_lines.proofs.LeadLemmas.{IsExact, leads_push}
-use Rattle.uca_table.specs.Elements.{BeginsElement, opens, ElementsCause}
+use Rattle.uca_table.specs.Elements.{BeginsElement, AreElements, opens, ElementsCause}
 use Rattle.uca_table.specs.CanonicalElements.{mark_byte, element_text}
 use Rattle.uca_table.specs.ElementSteps.{after_byte, mark_at, weight_at, dotted_weight_at, element_at}
 
@@ -155,3 +155,25 @@ pub limit_cause : (text : List ℕ) (front : List Element) (rest : List ℕ) (e 
     → 32 ≤ length front → BeginsElement rest e more → ElementsCause text kinds.Limit
 limit_cause text front rest e more h l b =
     (front ++ e ∷ [], skip_blanks more, leads_push BeginsElement text front rest e more h b, omega (arith, length-append front (e ∷ [])))
+
+-- there is none
+pub none_cause : (text : List ℕ) (front : List Element) (rest : List ℕ) → Leads BeginsElement text front rest → (length rest == 0) ≡ true
+    → length front ≡ 0 → ElementsCause text kinds.Line
+none_cause text [] rest h none e = inl (h ∙ nil_from_length rest (eqb-true (length rest) 0 none))
+none_cause text (x ∷ xs) rest h none e = absurd (omega (arith, e))
+
+-- ---- All elements
+
+-- a number that is not 0
+pub some_of_test : (n : ℕ) → (n == 0) ≡ false → 1 ≤ n
+some_of_test zero h = cc
+some_of_test (suc n) h = omega arith
+
+-- nothing is left of the text
+pub all_elements : (text : List ℕ) (elements : List Element) (rest : List ℕ) → Leads BeginsElement text elements rest → length elements ≤ 32
+    → (length rest == 0) ≡ true → 1 ≤ length elements → AreElements text elements
+all_elements text elements rest h few none some = record {
+  texts = subst (λ (r : List ℕ). Leads BeginsElement text elements r) (nil_from_length rest (eqb-true (length rest) 0 none)) h;
+  some = some;
+  few = few;
+}

@@ -1,13 +1,14 @@
 -- The key of a row.
-use Rattle.std.proofs.Common.{◌≡◌, ℕ, ◌<◌, ◌≤◌, Bool, true, false, ◌&&◌, List, [], ◌∷◌, ◌++◌, length, Some, refl, ap, sym, ◌∙◌, arith, length-append}
-use borrow.Author.Tests.{leb-true}
+use Rattle.std.proofs.Common.{◌≡◌, ℕ, ◌<◌, ◌≤◌, Bool, true, false, ◌&&◌, ◌==◌, List, [], ◌∷◌, ◌++◌, length, Some, refl, ap, sym, subst, ◌∙◌, arith, length-append}
+use Rattle.std.proofs.lemmas.List.{nil_from_length}
+use borrow.Author.Tests.{eqb-true, leb-true}
 use Rattle.uca_values.specs.declared.faults.FaultKind.TheVariants as kinds
 use Rattle.uca_lines.specs.Fields.{skip_blanks, word_of, after_word}
 use Rattle.uca_lines.specs.Numbers.{is_code_point, code_point_of}
 use Rattle.uca_lines.specs.Leads.{Leads, BeginsCodePoint}
 use Rattle.uca_lines.proofs.FieldLemmas.{length-after_word}
 use Rattle.uca_lines.proofs.LeadLemmas.{leads_push}
-use Rattle.uca_table.specs.Rows.{KeyCause}
+use Rattle.uca_table.specs.Rows.{IsKey, KeyCause}
 
 pub code_point_begins : (text word : List ℕ) (c : ℕ) (more : List ℕ) → Some c ≡ code_point_of word → word ≡ word_of text → more ≡ after_word text
     → BeginsCodePoint text c more
@@ -32,3 +33,18 @@ pub key_limit_cause : (text front rest : List ℕ) (c : ℕ) (more : List ℕ) �
     → BeginsCodePoint rest c more → KeyCause text kinds.Limit
 key_limit_cause text front rest c more h l b =
     (front ++ c ∷ [], skip_blanks more, leads_push BeginsCodePoint text front rest c more h b, omega (arith, length-append front (c ∷ [])))
+
+-- there is none
+pub no_key_cause : (text front rest : List ℕ) → Leads BeginsCodePoint text front rest → (length rest == 0) ≡ true
+    → length front ≡ 0 → KeyCause text kinds.Line
+no_key_cause text [] rest h none e = h ∙ nil_from_length rest (eqb-true (length rest) 0 none)
+no_key_cause text (x ∷ xs) rest h none e = absurd (omega (arith, e))
+
+-- nothing is left of the text
+pub whole_key : (text key rest : List ℕ) → Leads BeginsCodePoint text key rest → length key ≤ 16
+    → (length rest == 0) ≡ true → 1 ≤ length key → IsKey text key
+whole_key text key rest h few none some = record {
+  points = subst (λ (r : List ℕ). Leads BeginsCodePoint text key r) (nil_from_length rest (eqb-true (length rest) 0 none)) h;
+  some = some;
+  few = few;
+}

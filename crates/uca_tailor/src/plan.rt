@@ -109,13 +109,29 @@ fn number_levels<A: Allocator + Copy, T: Allocator>(
     ensures none { IfErr result (λ fault.
         (plan_drafted (elements_of base.now.rows) (Ok drafting.now) ≡ Err fault) ⊎ (fault ≡ out_of_memory)) }
 {
-    let rows = &base.rows;
+    let rows: &[Row<T>] = &base.rows;
     let insertions = drafting.insertions();
-    Ok(Numbers {
-        primary: number_level(alloc, Level::One, rows, insertions, relations)?,
-        secondary: number_level(alloc, Level::Two, rows, insertions, relations)?,
-        tertiary: number_level(alloc, Level::Three, rows, insertions, relations)?,
-    })
+    let primary = number_level(alloc, Level::One, rows, insertions, relations)?;
+    match number_level(alloc, Level::Two, rows, insertions, relations) {
+        Ok(secondary) => {
+            match number_level(alloc, Level::Three, rows, insertions, relations) {
+                Ok(tertiary) => Ok(Numbers {
+                    primary,
+                    secondary,
+                    tertiary,
+                }),
+                Err(fault) => {
+                    drop(secondary);
+                    drop(primary);
+                    Err(fault)
+                }
+            }
+        }
+        Err(fault) => {
+            drop(primary);
+            Err(fault)
+        }
+    }
 }
 
 /// The numbers of the weights of a level that has room.
@@ -209,14 +225,20 @@ fn number_elements<A: Allocator>(
     ensures { IfOk result (λ numbered. numbered.items ≡ map (plans.numbered numbers.now) (row_elements elements.now)) }
 {
     match elements {
-        RowElements::Base(own) => own
-            .iter()
-            .map(|element| number_element(numbers, as_draft(false, *element)))
-            .collect(alloc),
-        RowElements::Target(own) => own
-            .iter()
-            .map(|element| number_element(numbers, *element))
-            .collect(alloc),
+        RowElements::Base(own) => {
+            let mut numbered = Vec::with_capacity(alloc, own.len())?;
+            for element in *own {
+                numbered.push(number_element(numbers, as_draft(false, *element)))?;
+            }
+            Ok(numbered)
+        }
+        RowElements::Target(own) => {
+            let mut numbered = Vec::with_capacity(alloc, own.len())?;
+            for drafted in own {
+                numbered.push(number_element(numbers, *drafted))?;
+            }
+            Ok(numbered)
+        }
     }
 }
 

@@ -1,5 +1,5 @@
 -- The run of an audit, from what its files mean and what is returned for that.
-use Rattle.std.specs.Prelude.{⊤, MatchResult, is_err}
+use Rattle.std.specs.Prelude.{MatchResult, is_err}
 use Rattle.std.proofs.Common.{◌≡◌, ◌∙◌, Bool, true, Ok, Err, Result, List, ap, subst, sym}
 use Rattle.uca_weights.specs.Streams.{SourceState, SinkState}
 use Rattle.uca_tailorings.specs.Tailorings.{Tailoring, IsAccepted}

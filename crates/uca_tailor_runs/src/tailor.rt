@@ -47,7 +47,12 @@ pub fn run_tailor_in<A: Allocator + Copy, B: Read, D: Read, U: Read>(
     ensures { TailorsFiles (base.old ∷ properties.old ∷ rules.old ∷ []) (base.new ∷ properties.new ∷ rules.new ∷ []) result }
 {
     let files = read_tailor_files(alloc, global, base, properties, rules)?;
-    Ok(tailor(alloc, &files.base, &files.properties, &files.rules)?)
+    let tailored = tailor(alloc, &files.base, &files.properties, &files.rules);
+    drop(files);
+    match tailored {
+        Ok(made) => Ok(made),
+        Err(fault) => Err(fault.into()),
+    }
 }
 
 /// Writes a tailored table and its certificate: first the certificate to `file`, then the table in canonical text to

@@ -143,11 +143,15 @@ fn normalize_into<A: Allocator>(
     ensures normal { OnOk result (IsNormal (record { points = points.new.items; classes = classes.new.items })) }
     ensures fault { IfErr result (IsCause (nfd_text (properties_of properties.now) (chars text.now))) }
 {
-    decompose(points, spare, text)?;
-    if points.len() > LONGEST_TEXT {
-        return Err(TextFault::TooLong);
+    match decompose(points, spare, text) {
+        Ok(()) => {
+            if points.len() > LONGEST_TEXT {
+                return Err(TextFault::TooLong);
+            }
+            classify(classes, points, properties)
+        }
+        Err(_) => Err(TextFault::Memory),
     }
-    classify(classes, points, properties)
 }
 
 /// Writes the class of each code point, unless more than 64 non-starters come in a row.

@@ -1,7 +1,7 @@
 -- Rows whose keys and elements are kept in one list each: what comes later changes no row, and is one row more.
-use Rattle.std.proofs.Common.{◌≡◌, ℕ, suc, zero, ◌+◌, ◌-◌, ◌≤◌, List, [], ◌∷◌, ◌++◌, length, map, take, drop, slice_range, refl, ap, ap₂, sym, subst, ◌∙◌}
-use Rattle.std.proofs.Common.{arith, append-nil, length-append, length-drop}
-use Rattle.std.proofs.lemmas.List.{take-append-le, drop-append-le, drop_at, take_all}
+use Rattle.std.proofs.Common.{◌≡◌, ℕ, suc, zero, ◌+◌, ◌-◌, ◌<◌, List, [], ◌∷◌, ◌++◌, length, get_or, take, drop, slice_range, refl, ap, ap₂, sym, subst, ◌∙◌}
+use Rattle.std.proofs.Common.{arith, length-append, length-drop}
+use Rattle.std.proofs.lemmas.List.{take-append-le, drop-append-le, drop_at, take_all, get_or-map, length-map}
 use Rattle.uca_weights.specs.declared.Element.{Element}
 use Rattle.uca_values.specs.declared.packed.Span.{Span}
 use Rattle.uca_values.specs.declared.packed.RowSpans.{RowSpans}
@@ -99,3 +99,31 @@ pub spans_take : (points : List ℕ) (elements : List Element) (n : ℕ) (spans 
 spans_take points elements zero spans are = tt
 spans_take points elements (suc n) [] are = tt
 spans_take points elements (suc n) (s ∷ spans) are = (are.0, spans_take points elements n spans are.1)
+
+-- ---- The row at a position
+
+-- it has spans
+pub spans_reach : (points : List ℕ) (elements : List Element) (spans : List RowSpans) (rows : List Entry) (at : ℕ) →
+    rows_in points elements spans ≡ rows → at < length rows → at < length spans
+spans_reach points elements spans rows at is within = omega (arith, ap length is, length-map spans (row_in points elements))
+
+-- the spans at a position are within the lists
+spans_at : (points : List ℕ) (elements : List Element) (spans : List RowSpans) (at : ℕ) (d : RowSpans) → AreSpans points elements spans →
+    at < length spans → IsSpan points (get_or spans at d).key × IsSpan elements (get_or spans at d).elements
+spans_at points elements [] at d are within = absurd (omega arith)
+spans_at points elements (s ∷ spans) zero d are within = are.0
+spans_at points elements (s ∷ spans) (suc at) d are within = spans_at points elements spans at d are.1 (omega arith)
+
+-- and so is the row of spans that was read there
+pub row_spans : (points : List ℕ) (elements : List Element) (spans : List RowSpans) (at : ℕ) (s : RowSpans) → AreSpans points elements spans →
+    at < length spans → s ≡ get_or spans at s → IsSpan points s.key × IsSpan elements s.elements
+row_spans points elements spans at s are within there =
+    subst (λ (r : RowSpans). IsSpan points r.key × IsSpan elements r.elements) (sym there) (spans_at points elements spans at s are within)
+
+-- it is the row that its spans name
+pub row_of_spans : (points : List ℕ) (elements : List Element) (spans : List RowSpans) (rows : List Entry) (at : ℕ) (s : RowSpans) (d : Entry) →
+    rows_in points elements spans ≡ rows → at < length rows → s ≡ get_or spans at s → row_in points elements s ≡ get_or rows at d
+row_of_spans points elements spans rows at s d is within there =
+    ap (row_in points elements) there
+    ∙ sym (get_or-map (row_in points elements) spans at s d (spans_reach points elements spans rows at is within))
+    ∙ ap (λ (rs : List Entry). get_or rs at d) is

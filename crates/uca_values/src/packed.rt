@@ -107,7 +107,7 @@ impl<A: Allocator> PackedRows<A> {
         ensures added { OnOk result (self.new ≡ self.old ++ record { key = key.now; elements = elements.now } ∷ []) }
         ensures unchanged { OnErr result (self.new ≡ self.old) }
     {
-        let key = add_points(&mut self.points, key)?;
+        let key = add_elements(&mut self.points, key)?;
         let elements = add_elements(&mut self.elements, elements)?;
         self.spans.push(RowSpans { key, elements })?;
         Ok(())
@@ -121,31 +121,20 @@ impl<A: Allocator> PackedRows<A> {
     }
 }
 
-// Adds code points after the others, and returns where they are.
-fn add_points<A: Allocator>(all: &mut Vec<char, A>, more: &[char]) -> Result<Span, AllocError>
+// Adds elements after the others of a list, and returns where they are.
+fn add_elements<T: Copy, A: Allocator>(all: &mut Vec<T, A>, more: &[T]) -> Result<Span, AllocError>
     ensures added { OnOk result (all.new.items ≡ all.old.items ++ more.now) }
     ensures span { IfOk result (λ span. span ≡ last_span all.old.items more.now) }
     ensures unchanged { OnErr result (all.new.items ≡ all.old.items) }
 {
     let start = all.len();
-    all.extend_from_slice(more)?;
-    let end = all.len();
-    Ok(Span { start, end })
-}
-
-// Adds elements after the others, and returns where they are.
-fn add_elements<A: Allocator>(
-    all: &mut Vec<Element, A>,
-    more: &[Element],
-) -> Result<Span, AllocError>
-    ensures added { OnOk result (all.new.items ≡ all.old.items ++ more.now) }
-    ensures span { IfOk result (λ span. span ≡ last_span all.old.items more.now) }
-    ensures unchanged { OnErr result (all.new.items ≡ all.old.items) }
-{
-    let start = all.len();
-    all.extend_from_slice(more)?;
-    let end = all.len();
-    Ok(Span { start, end })
+    match all.extend_from_slice(more) {
+        Ok(()) => Ok(Span {
+            start,
+            end: all.len(),
+        }),
+        Err(error) => Err(error),
+    }
 }
 
 /// A table with its rows in a few lists. It is what a [`Table`] is, and takes less memory.
@@ -192,10 +181,8 @@ fn unpacked<A: Allocator + Copy>(
     ensures { IfOk result (λ rows. rows.items ≡ packed.now) }
 {
     let mut rows = Vec::with_capacity(alloc, packed.len())?;
-    let mut at = 0;
-    while at < packed.len() {
+    for at in 0..packed.len() {
         rows.push(row_at(alloc, packed, at)?)?;
-        at += 1;
     }
     Ok(rows)
 }

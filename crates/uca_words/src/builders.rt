@@ -1,17 +1,18 @@
 //! The command `uca` as it is described to `clap`.
 
 ghost use Rattle.std.specs.Prelude.{◌≡◌, false, IfOk};
-ghost use Rattle.clap.specs.Words.{App, new_app, rule_of, with_subcommand};
+ghost use Rattle.clap.specs.Words.{App, new_app, rule_of};
 ghost use Rattle.uca_words.specs.Command.{StandsFor, bare_app, line_app, rules_app, uca_app};
-ghost use Rattle.uca_words.specs.Subcommands.{argument_rule, subcommand_app, with_arguments, with_subcommands};
+ghost use Rattle.uca_words.specs.Subcommands.{argument_rule, subcommand_app, with_one, with_subcommands};
 
 use crate::subcommands::{Argument, CHANGES_COMMANDS, LINE_COMMANDS, RULES_COMMANDS, Subcommand};
 use clap::{Arg, ArgAction, Command};
 use std::alloc::{AllocError, Global};
 
-// What `--version` prints after the name: the version, the Unicode edition of the normalization, and the kit that proves it.
-// `tools/packaging.py` compares the kit with that of the machine.
-const VERSION: &str = "0.1.0 (normalization of Unicode 18.0.0, proved with rattle-kit-13f)";
+// What `--version` prints after the name: the version, the Unicode edition of the normalization, and the logic of the kit that proves it.
+// `tools/packaging.py` compares the logic with that of the machine's kit.
+const VERSION: &str =
+    "0.1.0 (normalization of Unicode 18.0.0, proved in Rattle's logic dac8208d650f15bf)";
 
 // The argument as it is described to `clap`.
 fn described<'a>(alloc: Global, argument: Argument<'a>) -> Arg<'a>
@@ -44,26 +45,15 @@ fn named<'a>(alloc: Global, subcommand: &Subcommand<'a>) -> Command<'a>
         .after_help(subcommand.example)
 }
 
-// More arguments.
-fn take_arguments<'a>(
-    alloc: Global,
-    command: Command<'a>,
-    arguments: &[Argument<'a>],
-) -> Result<Command<'a>, AllocError>
-    ensures { (app : App) → StandsFor app command.entry → IfOk result (StandsFor (with_arguments app arguments.now)) }
-{
-    let mut command = command;
-    for argument in arguments {
-        command = command.arg(described(alloc, *argument))?;
-    }
-    Ok(command)
-}
-
 // A subcommand with its arguments.
 fn subcommand<'a>(alloc: Global, subcommand: &Subcommand<'a>) -> Result<Command<'a>, AllocError>
     ensures { IfOk result (StandsFor (subcommand_app subcommand.now)) }
 {
-    take_arguments(alloc, named(alloc, subcommand), subcommand.arguments)
+    let mut command = named(alloc, subcommand);
+    for argument in subcommand.arguments {
+        command = command.arg(described(alloc, *argument))?;
+    }
+    Ok(command)
 }
 
 // The command before its subcommands.
@@ -81,53 +71,56 @@ fn bare_command<'a>(alloc: Global) -> Command<'a>
 
 // One more subcommand.
 fn take_subcommand<'a>(
-    command: Command<'a>,
-    below: Result<Command<'a>, AllocError>,
+    alloc: Global,
+    command: Result<Command<'a>, AllocError>,
+    each: &Subcommand<'a>,
 ) -> Result<Command<'a>, AllocError>
-    ensures { (app sub : App) → StandsFor app command.entry → IfOk below.entry (StandsFor sub) →
-        IfOk result (StandsFor (with_subcommand app sub.top)) }
+    ensures { (app : App) → IfOk command.entry (StandsFor app) → IfOk result (StandsFor (with_one app each.now)) }
 {
-    match below {
-        Ok(below) => command.subcommand(below),
-        Err(error) => {
-            drop(command);
-            Err(error)
-        }
+    match command {
+        Ok(command) => match subcommand(alloc, each) {
+            Ok(below) => command.subcommand(below),
+            Err(error) => {
+                drop(command);
+                Err(error)
+            }
+        },
+        Err(error) => Err(error),
     }
 }
 
 // More subcommands.
 fn take_subcommands<'a>(
     alloc: Global,
-    command: Command<'a>,
+    command: Result<Command<'a>, AllocError>,
     subcommands: &[Subcommand<'a>],
 ) -> Result<Command<'a>, AllocError>
-    ensures { (app : App) → StandsFor app command.entry → IfOk result (StandsFor (with_subcommands app subcommands.now)) }
+    ensures { (app : App) → IfOk command.entry (StandsFor app) → IfOk result (StandsFor (with_subcommands app subcommands.now)) }
 {
     let mut command = command;
     for each in subcommands {
-        command = take_subcommand(command, subcommand(alloc, each))?;
+        command = take_subcommand(alloc, command, each);
     }
-    Ok(command)
+    command
 }
 
 // The command with its first four subcommands.
 fn line_commands<'a>(alloc: Global) -> Result<Command<'a>, AllocError>
     ensures { IfOk result (StandsFor line_app) }
 {
-    take_subcommands(alloc, bare_command(alloc), LINE_COMMANDS)
+    take_subcommands(alloc, Ok(bare_command(alloc)), LINE_COMMANDS)
 }
 
 // And with those of tailorings after them.
 fn rules_commands<'a>(alloc: Global) -> Result<Command<'a>, AllocError>
     ensures { IfOk result (StandsFor rules_app) }
 {
-    take_subcommands(alloc, line_commands(alloc)?, RULES_COMMANDS)
+    take_subcommands(alloc, line_commands(alloc), RULES_COMMANDS)
 }
 
 /// The command with all its subcommands.
 pub(crate) fn uca_command<'a>(alloc: Global) -> Result<Command<'a>, AllocError>
     ensures { IfOk result (StandsFor uca_app) }
 {
-    take_subcommands(alloc, rules_commands(alloc)?, CHANGES_COMMANDS)
+    take_subcommands(alloc, rules_commands(alloc), CHANGES_COMMANDS)
 }

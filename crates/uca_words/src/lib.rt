@@ -259,49 +259,46 @@ fn check_words<'a>(found: &ArgMatches<'a>) -> Words<'a>
     Words::Check { table, properties }
 }
 
-fn keys_words<'a>(found: &ArgMatches<'a>) -> Result<Words<'a>, WordFault>
+fn keys_words<'a>(found: &ArgMatches<'a>, weighting: Option<Weighting>) -> Words<'a>
     requires { has_words keys_app (rows_of (found_of found.now)) ≡ true }
-    ensures ok { IfOk result (Says (codes "keys") (rows_of (found_of found.now))) }
-    ensures err { IfErr result (IsWeightingFault (rows_of (found_of found.now))) }
+    ensures { HasWeighting (rows_of (found_of found.now)) weighting → Says (codes "keys") (rows_of (found_of found.now)) result }
 {
     let (table, properties) = files_of(found);
-    Ok(Words::Keys {
-        weighting: given_weighting(found)?,
+    Words::Keys {
+        weighting,
         depth: given_depth(found),
         lines: is_in_words(found, "lines"),
         table,
         properties,
-    })
+    }
 }
 
-fn sort_words<'a>(found: &ArgMatches<'a>) -> Result<Words<'a>, WordFault>
+fn sort_words<'a>(found: &ArgMatches<'a>, weighting: Option<Weighting>) -> Words<'a>
     requires { has_words sort_app (rows_of (found_of found.now)) ≡ true }
-    ensures ok { IfOk result (Says (codes "sort") (rows_of (found_of found.now))) }
-    ensures err { IfErr result (IsWeightingFault (rows_of (found_of found.now))) }
+    ensures { HasWeighting (rows_of (found_of found.now)) weighting → Says (codes "sort") (rows_of (found_of found.now)) result }
 {
     let (table, properties) = files_of(found);
-    Ok(Words::Sort {
-        weighting: given_weighting(found)?,
+    Words::Sort {
+        weighting,
         depth: given_depth(found),
         table,
         properties,
-    })
+    }
 }
 
-fn compare_words<'a>(found: &ArgMatches<'a>) -> Result<Words<'a>, WordFault>
+fn compare_words<'a>(found: &ArgMatches<'a>, weighting: Option<Weighting>) -> Words<'a>
     requires { has_words compare_app (rows_of (found_of found.now)) ≡ true }
-    ensures ok { IfOk result (Says (codes "compare") (rows_of (found_of found.now))) }
-    ensures err { IfErr result (IsWeightingFault (rows_of (found_of found.now))) }
+    ensures { HasWeighting (rows_of (found_of found.now)) weighting → Says (codes "compare") (rows_of (found_of found.now)) result }
 {
     let (table, properties) = files_of(found);
-    Ok(Words::Compare {
-        weighting: given_weighting(found)?,
+    Words::Compare {
+        weighting,
         depth: given_depth(found),
         table,
         properties,
         left: word_of(found, "left"),
         right: word_of(found, "right"),
-    })
+    }
 }
 
 fn tailor_words<'a>(found: &ArgMatches<'a>) -> Words<'a>
@@ -368,36 +365,50 @@ fn audit_changes_words<'a>(found: &ArgMatches<'a>) -> Words<'a>
     }
 }
 
-fn rekey_words<'a>(found: &ArgMatches<'a>) -> Result<Words<'a>, WordFault>
+fn rekey_words<'a>(found: &ArgMatches<'a>, weighting: Option<Weighting>) -> Words<'a>
     requires { has_words rekey_app (rows_of (found_of found.now)) ≡ true }
-    ensures ok { IfOk result (Says (codes "rekey") (rows_of (found_of found.now))) }
-    ensures err { IfErr result (IsWeightingFault (rows_of (found_of found.now))) }
+    ensures { HasWeighting (rows_of (found_of found.now)) weighting → Says (codes "rekey") (rows_of (found_of found.now)) result }
 {
-    Ok(Words::Rekey {
-        weighting: given_weighting(found)?,
+    Words::Rekey {
+        weighting,
         depth: given_depth(found),
         certificate: word_of(found, "certificate"),
-    })
+    }
 }
 
-// The arguments of the subcommand of this name.
-fn subcommand_words<'a>(name: &str, found: &ArgMatches<'a>) -> Result<Words<'a>, WordFault>
+// The arguments of the subcommand of this name, with the weighting that is given.
+fn subcommand_words<'a>(
+    name: &str,
+    found: &ArgMatches<'a>,
+    weighting: Option<Weighting>,
+) -> Words<'a>
+    requires { is_met name.now (rows_of (found_of found.now)) ≡ true }
+    ensures { HasWeighting (rows_of (found_of found.now)) weighting → Says name.now (rows_of (found_of found.now)) result }
+{
+    match name {
+        "check" => check_words(found),
+        "keys" => keys_words(found, weighting),
+        "sort" => sort_words(found, weighting),
+        "compare" => compare_words(found, weighting),
+        "tailor" => tailor_words(found),
+        "audit" => audit_words(found),
+        "affected" => affected_words(found),
+        "changes" => changes_words(found),
+        "audit-changes" => audit_changes_words(found),
+        "rekey" => rekey_words(found, weighting),
+        _ => unreachable!(),
+    }
+}
+
+// The same, or the error of the weighting. A subcommand without `--weighting` is given none.
+fn words_of<'a>(name: &str, found: &ArgMatches<'a>) -> Result<Words<'a>, WordFault>
     requires { is_met name.now (rows_of (found_of found.now)) ≡ true }
     ensures ok { IfOk result (Says name.now (rows_of (found_of found.now))) }
     ensures err { IfErr result (IsWeightingFault (rows_of (found_of found.now))) }
 {
-    match name {
-        "check" => Ok(check_words(found)),
-        "keys" => keys_words(found),
-        "sort" => sort_words(found),
-        "compare" => compare_words(found),
-        "tailor" => Ok(tailor_words(found)),
-        "audit" => Ok(audit_words(found)),
-        "affected" => Ok(affected_words(found)),
-        "changes" => Ok(changes_words(found)),
-        "audit-changes" => Ok(audit_changes_words(found)),
-        "rekey" => rekey_words(found),
-        _ => unreachable!(),
+    match given_weighting(found) {
+        Ok(weighting) => Ok(subcommand_words(name, found, weighting)),
+        Err(fault) => Err(fault),
     }
 }
 
@@ -413,10 +424,15 @@ pub fn read_words<'a>(alloc: Global, words: &'a [&'a str]) -> Result<Words<'a>, 
     ensures ok { IfOk result (AreRead (texts words.entry.now)) }
     ensures err { IfErr result (IsFaultOf (texts words.entry.now)) }
 {
-    let matches = uca_command(alloc)?.try_get_matches_from(words)?;
-    let (name, found) = matches.subcommand().unwrap();
-    // The matches are dropped in one step: that keeps the proof short.
-    let said = subcommand_words(name, found);
-    drop(matches);
-    said
+    let command = uca_command(alloc)?;
+    match command.try_get_matches_from(words) {
+        Ok(matches) => {
+            let (name, found) = matches.subcommand().unwrap();
+            // The matches are dropped in one step: that keeps the proof short.
+            let said = words_of(name, found);
+            drop(matches);
+            said
+        }
+        Err(error) => Err(WordFault::from(error)),
+    }
 }

@@ -86,7 +86,8 @@ fn placement_of<A: Allocator + Copy, T: Allocator>(
     let Some(row) = row_of(collator.lookup, relation.target.chars()) else {
         return Ok(None);
     };
-    let (anchor, expansion) = (&readings.anchor, &readings.expansion);
+    let anchor: &[Element] = &readings.anchor;
+    let expansion: &[Element] = &readings.expansion;
     match level_of(relation.strength) {
         Some(level) => Ok(weighted(level, relation.before, anchor, expansion, row)),
         None => Ok(identical(anchor, expansion, row)),

@@ -15,7 +15,6 @@ use std::alloc::{AllocError, Allocator};
 use uca_elements::{Lookup, row_of};
 use uca_images::{Images, are_images};
 use uca_match::Trie;
-use uca_rules::Relation;
 use uca_values::{Header, ImplicitRange, Row};
 use uca_weights::{Element, Weighting};
 
@@ -51,18 +50,24 @@ pub(crate) fn first_uncovered<A: Allocator + Copy, T: Allocator>(
     ensures { FindsFirstWithout (IsCoveredRow (tailoring_in inputs.now)) (tailoring_in inputs.now).base.rows result }
 {
     let base = inputs.base;
-    base.rows
-        .iter()
-        .position(|row| !is_covered_row(images, row))
+    for (at, row) in base.rows.iter().enumerate() {
+        if !is_covered_row(images, row) {
+            return Some(at);
+        }
+    }
+    None
 }
 
 /// Whether each weight of the row has an image.
 fn is_covered_row<A: Allocator + Copy, T: Allocator>(images: &Images<A, T>, row: &Row<T>) -> bool
     ensures { IsTrue result ↔ AllByRecursion (IsCovered (maps_of images.now)) row.now.elements }
 {
-    row.elements
-        .iter()
-        .all(|element| is_covered(images, *element))
+    for element in &row.elements {
+        if !is_covered(images, *element) {
+            return false;
+        }
+    }
+    true
 }
 
 /// Whether each weight of the element has an image at its level.
@@ -127,7 +132,7 @@ pub(crate) fn first_missing_row<A: Allocator + Copy, T: Allocator>(
 {
     let base = inputs.base;
     for (at, row) in base.rows.iter().enumerate() {
-        if !is_present(inputs, tailored, row) {
+        if !is_key(tailored, &row.key) {
             return Some(at);
         }
     }
@@ -144,35 +149,11 @@ pub(crate) fn first_missing_target<A: Allocator + Copy, T: Allocator>(
         (λ before r after. IsPresentTarget (tailoring_in inputs.now) r) (tailoring_in inputs.now).relations result }
 {
     for (at, relation) in inputs.rules.relations().iter().enumerate() {
-        if !is_present_target(inputs, tailored, relation) {
+        if !is_key(tailored, relation.target.chars()) {
             return Some(at);
         }
     }
     None
-}
-
-/// Whether the row's key has a tailored row.
-fn is_present<A: Allocator + Copy, T: Allocator>(
-    inputs: &Inputs<T>,
-    tailored: &Trie<A>,
-    row: &Row<T>,
-) -> bool
-    requires rows { FindsRowsOf (tailoring_in inputs.now).tailored (⟦<Trie<A> as Lookup>⟧.content tailored.now) }
-    ensures { IsTrue result ↔ IsPresentRow (tailoring_in inputs.now) row.now }
-{
-    is_key(tailored, &row.key)
-}
-
-/// Whether the relation's target has a tailored row.
-fn is_present_target<A: Allocator + Copy, T: Allocator>(
-    inputs: &Inputs<T>,
-    tailored: &Trie<A>,
-    relation: &Relation,
-) -> bool
-    requires rows { FindsRowsOf (tailoring_in inputs.now).tailored (⟦<Trie<A> as Lookup>⟧.content tailored.now) }
-    ensures { IsTrue result ↔ IsPresentTarget (tailoring_in inputs.now) relation.now }
-{
-    is_key(tailored, relation.target.chars())
 }
 
 /// The first tailored row whose key is neither a base key nor a target, by its index. An error means that it ran out of memory.

@@ -44,18 +44,18 @@ pub(crate) fn first_not_fresh<A: Allocator + Copy, T: Allocator>(
 pub(crate) fn first_not_nearest<A: Allocator + Copy, T: Allocator>(
     inputs: &Inputs<T>,
     placements: &[Placement],
-    mut known: WeightSet<A>,
+    known: &mut WeightSet<A>,
 ) -> Option<usize>
     requires placed { AllZip (IsPlacement (tailoring_in inputs.now)) (tailoring_in inputs.now).relations placements.now }
-    requires known { HoldsKnown (tailoring_in inputs.now) known }
+    requires known { HoldsKnown (tailoring_in inputs.now) known.old }
     ensures { let tailoring = tailoring_in inputs.now in
         FindsFirstRelation (Meets tailoring Condition.NotNearest) (IsNearest tailoring) tailoring.relations result }
 {
     for (at, placement) in placements.iter().enumerate() {
-        if !is_nearest(*placement, &known) {
+        if !is_nearest(*placement, known) {
             return Some(at);
         }
-        add_new(&mut known, *placement);
+        add_new(known, *placement);
     }
     None
 }

@@ -3,6 +3,8 @@ use Rattle.std.proofs.Common.{◌≡◌, ◌||◌, Bool, List, true, false, refl
 use Rattle.clap.specs.Words.{Row, Text, found_of, rows_of}
 use Rattle.uca_words.specs.Command.{check_app, keys_app, sort_app, compare_app, tailor_app, audit_app, affected_app, changes_app, audit_changes_app, rekey_app}
 use Rattle.uca_words.specs.Met.{is_met}
+use Rattle.uca_words.specs.Words.{Says}
+use Rattle.uca_words.specs.declared.Words.{Words}
 use Rattle.uca_words.proofs.SubcommandWords.{is_of_rest}
 use Rattle.uca_words.proofs.subcommand_words.Goals as goal
 
@@ -13,6 +15,10 @@ IsMet rows name = is_met name rows ≡ true
 by_name : (words : Bool) → (words || false) ≡ true → words ≡ true
 by_name true met = refl
 by_name false met = met
+
+-- the arguments that a subcommand says are those of its name
+of_name : (name known : Text) (rows : List Row) (words : Words) → name ≡ known → Says known rows words → Says name rows words
+of_name name known rows words is says = subst (λ (n : Text). Says n rows words) (sym is) says
 
 pub unreachable-requires : goal.unreachable-requires
 unreachable-requires c =
@@ -58,3 +64,33 @@ audit_changes_words-requires c = by_name _ (subst (IsMet (rows_of (found_of c.ar
 
 pub rekey_words-requires : goal.rekey_words-requires
 rekey_words-requires c = by_name _ (subst (IsMet (rows_of (found_of c.args.found.now))) c.in-rekey.is c.requires)
+
+pub returns-in-check : goal.returns-in-check
+returns-in-check c weighs = of_name _ _ (rows_of (found_of c.args.found.now)) _ c.in-check.is c.check_words.ensures
+
+pub returns-in-keys : goal.returns-in-keys
+returns-in-keys c weighs = of_name _ _ (rows_of (found_of c.args.found.now)) _ c.in-keys.is (c.keys_words.ensures weighs)
+
+pub returns-in-sort : goal.returns-in-sort
+returns-in-sort c weighs = of_name _ _ (rows_of (found_of c.args.found.now)) _ c.in-sort.is (c.sort_words.ensures weighs)
+
+pub returns-in-compare : goal.returns-in-compare
+returns-in-compare c weighs = of_name _ _ (rows_of (found_of c.args.found.now)) _ c.in-compare.is (c.compare_words.ensures weighs)
+
+pub returns-in-tailor : goal.returns-in-tailor
+returns-in-tailor c weighs = of_name _ _ (rows_of (found_of c.args.found.now)) _ c.in-tailor.is c.tailor_words.ensures
+
+pub returns-in-audit : goal.returns-in-audit
+returns-in-audit c weighs = of_name _ _ (rows_of (found_of c.args.found.now)) _ c.in-audit.is c.audit_words.ensures
+
+pub returns-in-affected : goal.returns-in-affected
+returns-in-affected c weighs = of_name _ _ (rows_of (found_of c.args.found.now)) _ c.in-affected.is c.affected_words.ensures
+
+pub returns-in-changes : goal.returns-in-changes
+returns-in-changes c weighs = of_name _ _ (rows_of (found_of c.args.found.now)) _ c.in-changes.is c.changes_words.ensures
+
+pub returns-in-text : goal.returns-in-text
+returns-in-text c weighs = of_name _ _ (rows_of (found_of c.args.found.now)) _ c.in-text.is c.audit_changes_words.ensures
+
+pub returns-in-rekey : goal.returns-in-rekey
+returns-in-rekey c weighs = of_name _ _ (rows_of (found_of c.args.found.now)) _ c.in-rekey.is (c.rekey_words.ensures weighs)

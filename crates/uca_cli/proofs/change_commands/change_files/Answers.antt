@@ -14,6 +14,6 @@ returns g c =
         before = files.old ∷ files.old_data ∷ files.new ∷ files.new_data ∷ [];
         after = new.old ∷ new.old_data ∷ new.new ∷ new.new_data ∷ [];
         opened = c.in-Ok.ensures;
-        runs = record { run = c.run_changes-run.result; runs = c.run_changes-run.ensures; keeps = c.keep_run.ensures };
+        runs = record { run = c.run_changes-run.result; runs = c.run_changes-run.ensures; keeps = c.keep_run-kept.ensures };
       }),
     )

@@ -5,10 +5,10 @@ use Rattle.uca_cli.proofs.command.audit.Goals as goal
 pub returns : goal.returns
 returns g c =
     let files = c.in-Ok.files in
-    let new = c.run_audit.new in
+    let new = c.run_audit-run.new in
     inr (record {
       before = files.base ∷ files.properties ∷ files.rules ∷ files.tailored ∷ files.certificate ∷ [];
       after = new.base ∷ new.properties ∷ new.rules ∷ new.tailored ∷ new.certificate ∷ [];
       opened = c.in-Ok.ensures;
-      runs = record { run = c.run_audit.result; runs = c.run_audit.ensures; status = c.checked.ensures };
+      runs = record { run = c.run_audit-run.result; runs = c.run_audit-run.ensures; status = c.checked.ensures };
     })

@@ -29,3 +29,6 @@ returns-in-Err-write-clause-fault g c = λ before h.
 
 pub returns-in-Err-clause-fault : goal.returns-in-Err-clause-fault
 returns-in-Err-clause-fault g c = λ before h. c.in-Err.ensures.fault (collation_by g.L.Lookup.content c.args.writer.now).properties before h
+
+pub returns-in-Ok-write-clause-short : goal.returns-in-Ok-write-clause-short
+returns-in-Ok-write-clause-short g c = c.in-Ok-write.ensures.short

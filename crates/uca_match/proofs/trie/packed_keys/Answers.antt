@@ -17,3 +17,6 @@ loop-at-preserved g c =
           ∙ sym (map_more (λ (row : Entry). row.key) rows c.loop-at.at no_row within);
       within = omega (arith, within);
     }
+
+pub returns : goal.returns
+returns g c = c.loop-at.invariant.lent ∙ ap keys_of (take_all c.loop-at.at c.args.rows.now (omega arith))

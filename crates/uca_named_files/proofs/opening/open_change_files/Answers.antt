@@ -1,20 +1,39 @@
 -- The first four files open or do not, and then the other two.
-use Rattle.std.proofs.Common.{inl, inr}
-use Rattle.std.proofs.lemmas.Result.{err_from_is_err_and}
+use Rattle.std.proofs.Common.{◌∷◌, []}
+use Rattle.uca_run_parts.specs.declared.faults.Role.TheVariants as roles
+use Rattle.uca_named_files.specs.EditionNames.{edition_files_of}
+use Rattle.uca_named_files.specs.NamedFiles.{file_for, file_system}
+use Rattle.uca_named_files.proofs.Opened.{fails_after, fails_before, opened_after}
 use Rattle.uca_named_files.proofs.opening.open_change_files.Goals as goal
 
-pub returns-in_err-editions : goal.returns-in_err-editions
-returns-in_err-editions g c =
-    let p = err_from_is_err_and c.from_residual.result c.from_residual.ensures.1 in
-    rw (p.1, p.2) (elim c.in_err-editions.ensures [ inl a ↦ inl a | inr a ↦ inr (a.0, a.1, a.2, elim a.3 [ inl b ↦ inl b | inr b ↦ inr (b.0, b.1, b.2, elim b.3 [ inl d ↦ inl d | inr d ↦ inr (d.0, d.1, d.2, elim d.3 [ inl e ↦ inl e | inr e ↦ inr (e.0, e.1, e.2, absurd e.3) ]) ]) ]) ])
+pub returns-in-Ok-open_two : goal.returns-in-Ok-open_two
+returns-in-Ok-open_two g c =
+    let files =
+    file_system g.O.Opens.open_gives g.O.Opens.same_gives g.O.Opens.create_gives g.O.Opens.keep_gives g.O.Opens.remove_gives g.O.File.Read.remaining
+    g.O.Made.Write.contents in
+    opened_after files
+    (edition_files_of c.args.names.now)
+    (file_for roles.Changes c.args.changes.now ∷ file_for roles.Certificate c.args.certificate.now ∷ [])
+    (c.in-Ok.editions.old ∷ c.in-Ok.editions.old_data ∷ c.in-Ok.editions.new ∷ c.in-Ok.editions.new_data ∷ [])
+    (c.in-Ok-open_two.changes ∷ c.in-Ok-open_two.certificate ∷ []) _ _ _ c.in-Ok.ensures c.in-Ok-open_two.ensures
 
-pub returns-in_err-changes : goal.returns-in_err-changes
-returns-in_err-changes g c =
-    let p = err_from_is_err_and c.from_residual-in_err-changes.result c.from_residual-in_err-changes.ensures.1 in
-    let opened = c.in_ok-editions.ensures in
-    rw (p.1, p.2) (inr (opened.0, _, opened.1, inr (opened.2.0, _, opened.2.1, inr (opened.2.2.0, _, opened.2.2.1, inr (opened.2.2.2.0, _, opened.2.2.2.1, rw opened.2.2.2.2 at c.in_err-changes.ensures)))))
+pub returns-in-Err-open_two : goal.returns-in-Err-open_two
+returns-in-Err-open_two g c =
+    let files =
+    file_system g.O.Opens.open_gives g.O.Opens.same_gives g.O.Opens.create_gives g.O.Opens.keep_gives g.O.Opens.remove_gives g.O.File.Read.remaining
+    g.O.Made.Write.contents in
+    fails_after files
+    (edition_files_of c.args.names.now)
+    (file_for roles.Changes c.args.changes.now ∷ file_for roles.Certificate c.args.certificate.now ∷ [])
+    (c.in-Ok.editions.old ∷ c.in-Ok.editions.old_data ∷ c.in-Ok.editions.new ∷ c.in-Ok.editions.new_data ∷ [])
+    c.in-Err-open_two.role _ _ _ c.in-Ok.ensures c.in-Err-open_two.ensures
 
-pub returns : goal.returns
-returns g c =
-    let opened = c.in_ok-editions.ensures in
-    (opened.0, opened.1, (opened.2.0, opened.2.1, (opened.2.2.0, opened.2.2.1, (opened.2.2.2.0, opened.2.2.2.1, rw opened.2.2.2.2 at c.in_ok-changes.ensures))))
+pub returns-in-Err : goal.returns-in-Err
+returns-in-Err g c =
+    let files =
+    file_system g.O.Opens.open_gives g.O.Opens.same_gives g.O.Opens.create_gives g.O.Opens.keep_gives g.O.Opens.remove_gives g.O.File.Read.remaining
+    g.O.Made.Write.contents in
+    fails_before files
+    (edition_files_of c.args.names.now)
+    (file_for roles.Changes c.args.changes.now ∷ file_for roles.Certificate c.args.certificate.now ∷ [])
+    c.in-Err.role _ _ c.in-Err.ensures

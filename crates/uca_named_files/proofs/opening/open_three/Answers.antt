@@ -1,20 +1,37 @@
 -- The first two files open or do not, and then the third.
-use Rattle.std.proofs.Common.{inl, inr}
-use Rattle.std.proofs.lemmas.Result.{err_from_is_err_and}
+use Rattle.std.proofs.Common.{◌∷◌, []}
+use Rattle.uca_named_files.specs.NamedFiles.{file_for, file_system}
+use Rattle.uca_named_files.proofs.Opened.{fails_after, fails_before, opened_after}
 use Rattle.uca_named_files.proofs.opening.open_three.Goals as goal
 
-pub returns-in_err-one : goal.returns-in_err-one
-returns-in_err-one g c =
-    let p = err_from_is_err_and c.from_residual.result c.from_residual.ensures.1 in
-    rw (p.1, p.2) (elim c.in_err-one.ensures [ inl a ↦ inl a | inr a ↦ inr (a.0, a.1, a.2, elim a.3 [ inl b ↦ inl b | inr b ↦ inr (b.0, b.1, b.2, absurd b.3) ]) ])
+pub returns-in-Ok-open_one : goal.returns-in-Ok-open_one
+returns-in-Ok-open_one g c =
+    let files =
+    file_system g.O.Opens.open_gives g.O.Opens.same_gives g.O.Opens.create_gives g.O.Opens.keep_gives g.O.Opens.remove_gives g.O.File.Read.remaining
+    g.O.Made.Write.contents in
+    opened_after files
+    (file_for c.args.first c.args.first_name.now ∷ file_for c.args.second c.args.second_name.now ∷ [])
+    (file_for c.args.third c.args.third_name.now ∷ [])
+    (c.in-Ok.one ∷ c.in-Ok.other ∷ [])
+    (c.in-Ok-open_one.last ∷ []) _ _ _ c.in-Ok.ensures c.in-Ok-open_one.ensures
 
-pub returns-in_err-last : goal.returns-in_err-last
-returns-in_err-last g c =
-    let p = err_from_is_err_and c.from_residual-in_err-last.result c.from_residual-in_err-last.ensures.1 in
-    let opened = c.in_ok-one.ensures in
-    rw (p.1, p.2) (inr (opened.0, _, opened.1, inr (opened.2.0, _, opened.2.1, rw opened.2.2 at c.in_err-last.ensures)))
+pub returns-in-Err-open_one : goal.returns-in-Err-open_one
+returns-in-Err-open_one g c =
+    let files =
+    file_system g.O.Opens.open_gives g.O.Opens.same_gives g.O.Opens.create_gives g.O.Opens.keep_gives g.O.Opens.remove_gives g.O.File.Read.remaining
+    g.O.Made.Write.contents in
+    fails_after files
+    (file_for c.args.first c.args.first_name.now ∷ file_for c.args.second c.args.second_name.now ∷ [])
+    (file_for c.args.third c.args.third_name.now ∷ [])
+    (c.in-Ok.one ∷ c.in-Ok.other ∷ [])
+    c.in-Err-open_one.role _ _ _ c.in-Ok.ensures c.in-Err-open_one.ensures
 
-pub returns : goal.returns
-returns g c =
-    let opened = c.in_ok-one.ensures in
-    (opened.0, opened.1, (opened.2.0, opened.2.1, rw opened.2.2 at c.in_ok-last.ensures))
+pub returns-in-Err : goal.returns-in-Err
+returns-in-Err g c =
+    let files =
+    file_system g.O.Opens.open_gives g.O.Opens.same_gives g.O.Opens.create_gives g.O.Opens.keep_gives g.O.Opens.remove_gives g.O.File.Read.remaining
+    g.O.Made.Write.contents in
+    fails_before files
+    (file_for c.args.first c.args.first_name.now ∷ file_for c.args.second c.args.second_name.now ∷ [])
+    (file_for c.args.third c.args.third_name.now ∷ [])
+    c.in-Err.role _ _ c.in-Err.ensures

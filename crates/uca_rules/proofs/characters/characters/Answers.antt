@@ -1,5 +1,5 @@
 -- One character more, and all of them.
-use Rattle.std.proofs.Common.{length, sym, ap, ◌∙◌, arith}
+use Rattle.std.proofs.Common.{length, sym, ap, refl, ◌∙◌, arith}
 use Rattle.std.specs.Str.Iter.{char_indices_offset}
 use Rattle.std.proofs.lemmas.Str.{IsUtf8-past_char}
 use Rattle.std.proofs.lemmas.List.{length-append}
@@ -20,3 +20,6 @@ loop-place-preserved g c =
 
 pub returns-clause-found : goal.returns-clause-found
 returns-clause-found g c = sym (placed_all _ _ _ c.in-None.ensures.steps.0) ∙ c.loop-place.invariant.items
+
+pub returns-then-is_err-clause-fault : goal.returns-then-is_err-clause-fault
+returns-then-is_err-clause-fault g c = (refl, omega (arith, c.in-Some.ensures.steps.0, c.loop-place.invariant.place))

@@ -1,6 +1,8 @@
+-- A bracket, a wrong one, or none.
 use Rattle.std.proofs.Common.{sym, ap, ◌∙◌, refl}
 use Rattle.std.proofs.lemmas.List.{take_rest}
 use Rattle.uca_rules.specs.Characters.{bracket, behind_gaps}
+use Rattle.uca_rules.proofs.SignLaws.{bracket_long}
 use Rattle.uca_rules.proofs.StatementSteps.{bracketed, not_bracketed, nothing_at, other_at, wrong_bracket}
 use Rattle.uca_rules.proofs.reader.behind_ampersand.Goals as goal
 use Rattle.uca_rules.proofs.reader.behind_ampersand.Goals.{in_default-via-in-Some+else-c-eq91, in_default-via-in_default}
@@ -23,3 +25,7 @@ returns-in_default-clause-found c =
       | in_default-via-in-Some+else-c-eq91 w ↦ other_at bracket behind w.in-Some.c.now w.in-Some.ensures.value w.if-c-eq91.false
       | in_default-via-in_default w ↦ nothing_at bracket behind w.in_default.ensures.value
     ])
+
+pub slice_bounds-behind_gaps-start-in-Some-bracket_at : goal.slice_bounds-behind_gaps-start-in-Some-bracket_at
+slice_bounds-behind_gaps-start-in-Some-bracket_at c =
+    bracket_long c.behind_gaps-behind.result.now c.in-Some-bracket_at.strength (sym c.bracket_at.ensures ∙ c.in-Some-bracket_at.is)

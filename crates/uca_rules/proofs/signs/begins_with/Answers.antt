@@ -1,7 +1,7 @@
 -- Where a byte differs the texts do, and where none does they are the same.
-use Rattle.std.proofs.Common.{◌≡◌, get_or, take, ◌∙◌, arith}
+use Rattle.std.proofs.Common.{◌≡◌, get_or, take, length, ap, ◌∙◌, arith}
 use Rattle.uca_rules.specs.Characters.{codes_of}
-use Rattle.uca_rules.proofs.Placing.{no_character, code_at, codes_more, other_bytes, same_bytes}
+use Rattle.uca_rules.proofs.Placing.{no_character, code_at, codes_more, length-codes, other_length, other_bytes, same_bytes}
 use Rattle.std.proofs.lemmas.List.{take_more, take_all}
 use Rattle.uca_rules.proofs.signs.begins_with.Goals as goal
 
@@ -25,3 +25,10 @@ returns c =
     let e : c.loop-at.at ≡ 10 = omega arith in
     let i = rw e at c.loop-at.invariant in
     same_bytes (codes_of (take 10 c.args.characters.now)) c.args.text.now (i ∙ take_all 10 c.args.text.now (omega arith))
+
+pub returns-then-characters-lt-BRACKET_LENGTH : goal.returns-then-characters-lt-BRACKET_LENGTH
+returns-then-characters-lt-BRACKET_LENGTH c =
+    let cs = c.args.characters.now in
+    let short = c.if-characters-lt-BRACKET_LENGTH.true in
+    other_length (codes_of (take 10 cs)) c.args.text.now
+    (omega (arith, length-codes (take 10 cs), ap length (take_all 10 cs (omega arith)), short, c.requires.length))

@@ -24,3 +24,6 @@ returns-in-Ok-take_shown_text-clause-clean g c = λ before h.
 pub returns-in-Err-clause-fault : goal.returns-in-Err-clause-fault
 returns-in-Err-clause-fault g c = λ before h.
     subst (λ properties. HasTextCause properties before c.args.lines.now.line c.in-Err.kind) (sym c.requires.same) (c.in-Err.ensures.fault before h)
+
+pub returns-in-Ok-take_shown_text-clause-short : goal.returns-in-Ok-take_shown_text-clause-short
+returns-in-Ok-take_shown_text-clause-short g c = c.in-Ok.ensures.short c.requires.short_rows

@@ -1,9 +1,11 @@
 -- Each element is one more after those before it, and where none is read the rest begins with none.
-use Rattle.std.proofs.Common.{[], ◌∷◌, length, length-append, arith, sym, ◌∙◌, ap, inr}
+use Rattle.std.proofs.Common.{[], ◌∷◌, length, length-append, arith, sym, ◌∙◌, ap, inl, inr}
+use Rattle.std.proofs.lemmas.Result.{err_from_is_err_and}
+use borrow.Author.Tests.{eqb-true}
 use Rattle.uca_lines.proofs.FieldLemmas.{length-skip_blanks}
 use Rattle.uca_lines.proofs.LeadLemmas.{leads_more}
 use Rattle.uca_table.specs.Elements.{BeginsElement}
-use Rattle.uca_table.proofs.ElementLaws.{element_takes, after_element, line_cause, weight_cause, limit_cause}
+use Rattle.uca_table.proofs.ElementLaws.{element_takes, after_element, line_cause, weight_cause, limit_cause, none_cause, all_elements, some_of_test}
 use Rattle.uca_table.proofs.elements.read_elements.Goals as goal
 
 pub returns-in_default-clause-fault : goal.returns-in_default-clause-fault
@@ -35,3 +37,17 @@ pub returns-then-not-opens-clause-fault : goal.returns-then-not-opens-clause-fau
 returns-then-not-opens-clause-fault g c =
     inr (line_cause c.args.text.now c.loop-rest.elements.items c.loop-rest.rest.now c.loop-rest.invariant.leads c.loop-rest-test.ensures
     (sym c.opens.ensures ∙ c.if-not-opens.true))
+
+pub returns-in_err-push-clause-fault : goal.returns-in_err-push-clause-fault
+returns-in_err-push-clause-fault g c = let p = err_from_is_err_and c.from_residual.result c.from_residual.ensures.1 in rw p.1 (inl p.2)
+
+pub returns-then-is_empty-clause-fault : goal.returns-then-is_empty-clause-fault
+returns-then-is_empty-clause-fault g c =
+    inr (none_cause c.args.text.now c.loop-rest.elements.items c.loop-rest.rest.now c.loop-rest.invariant.leads (sym c.loop-rest-test.ensures)
+    (omega (arith, eqb-true _ 0 (sym c.if-is_empty.ensures), c.loop-rest.elements.ok.0)))
+
+pub returns-clause-found : goal.returns-clause-found
+returns-clause-found g c =
+    all_elements c.args.text.now c.loop-rest.elements.items c.loop-rest.rest.now c.loop-rest.invariant.leads c.loop-rest.invariant.few
+    (sym c.loop-rest-test.ensures)
+    (omega (arith, some_of_test _ (sym c.if-is_empty.ensures), c.loop-rest.elements.ok.0))

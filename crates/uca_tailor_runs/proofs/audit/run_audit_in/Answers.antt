@@ -1,5 +1,4 @@
 -- The whole run, from what its five files mean and what is written of them.
-use Rattle.std.specs.Prelude.{⊤}
 use Rattle.std.proofs.Common.{[], ◌∷◌}
 use Rattle.uca_tailor_runs.proofs.AuditFilesRead.{audits}
 use Rattle.uca_tailor_runs.proofs.audit.run_audit_in.Goals as goal

@@ -24,43 +24,42 @@ returns-in_err-files g c =
       failed = failed_by_files (TableContent × CertificateContent) ⊤ tailor_roles olds news fault c.in_err-files.ensures.failed;
     })
 
-pub returns-in_err-tailor : goal.returns-in_err-tailor
-returns-in_err-tailor g c =
-    let p = err_from_is_err_and c.from_residual-in_err-tailor.result c.from_residual-in_err-tailor.ensures.1 in
+pub returns-in-Err : goal.returns-in-Err
+returns-in-Err g c =
     let files = c.in_ok-files.files in
     let read = tailor_content files.base (properties_of files.properties) files.rules in
-    let fault = c.in_err-tailor.field-0.0 in
+    let fault = c.in-Err.fault in
     let no_file = no_file_of_plan (TableContent × CertificateContent) fault in
     let olds = c.args.base.now ∷ c.args.properties.now ∷ c.args.rules.now ∷ [] in
     let news = c.read_tailor_files.new.base ∷ c.read_tailor_files.new.properties ∷ c.read_tailor_files.new.rules ∷ [] in
-    rw (p.1, p.2) (record {
+    rw c.into.ensures (record {
       runs = runs_over_all {A = TableContent × CertificateContent} {B = ⊤} tailor_files olds news (λ content. read ≡ content) (RunsTailor (Err (refused_plan fault))) tt
           (Err (refused_plan fault)) no_file
           (λ content same. subst (RunsTailor (Err (refused_plan fault))) same
-          (refusal_answered files.base (properties_of files.properties) files.rules fault c.in_err-tailor.ensures.refused))
+          (refusal_answered files.base (properties_of files.properties) files.rules fault c.in-Err.ensures.refused))
           c.in_ok-files.ensures.read;
       only = λ content mean table certificate is.
           let same = sym (c.in_ok-files.ensures.only content mean) in
           plan_stops files.base (properties_of files.properties) files.rules table certificate fault
-          (subst (λ d. IsPlanOf d.base d.properties d.relations table certificate) same is) c.in_err-tailor.ensures.refused;
+          (subst (λ d. IsPlanOf d.base d.properties d.relations table certificate) same is) c.in-Err.ensures.refused;
       failed = failed_by_no_file {A = TableContent × CertificateContent} {B = ⊤} tailor_roles olds news tt (Err (refused_plan fault)) c.in_ok-files.ensures.failed no_file;
     })
 
-pub returns : goal.returns
-returns g c =
+pub returns-in-Ok : goal.returns-in-Ok
+returns-in-Ok g c =
     let files = c.in_ok-files.files in
     let read = tailor_content files.base (properties_of files.properties) files.rules in
-    let answer = c.in_ok-tailor.field-0 in
+    let answer = c.in-Ok.made in
     let olds = c.args.base.now ∷ c.args.properties.now ∷ c.args.rules.now ∷ [] in
     let news = c.read_tailor_files.new.base ∷ c.read_tailor_files.new.properties ∷ c.read_tailor_files.new.rules ∷ [] in
     record {
       runs = runs_over_all {A = TableContent × CertificateContent} {B = ⊤} tailor_files olds news (λ content. read ≡ content) (RunsTailor (Ok answer)) tt (Ok answer) refl
           (λ content same. subst (RunsTailor (Ok answer)) same
-          (record { plan = c.in_ok-tailor.ensures.planned; accepted = c.in_ok-tailor.ensures.accepted; faithful = c.in_ok-tailor.ensures.faithful }))
+          (record { plan = c.in-Ok.ensures.planned; accepted = c.in-Ok.ensures.accepted; faithful = c.in-Ok.ensures.faithful }))
           c.in_ok-files.ensures.read;
       only = λ content mean table certificate is.
           let same = sym (c.in_ok-files.ensures.only content mean) in
-          one_plan files.base (properties_of files.properties) files.rules answer.0 table answer.1 certificate c.in_ok-tailor.ensures.planned
+          one_plan files.base (properties_of files.properties) files.rules answer.0 table answer.1 certificate c.in-Ok.ensures.planned
           (subst (λ d. IsPlanOf d.base d.properties d.relations table certificate) same is);
       failed = failed_by_no_file {A = TableContent × CertificateContent} {B = ⊤} tailor_roles olds news tt (Ok answer) c.in_ok-files.ensures.failed refl;
     }

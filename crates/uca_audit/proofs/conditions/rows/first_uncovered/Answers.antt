@@ -1,18 +1,31 @@
-use Rattle.std.proofs.Common.{rules, ap, subst, ◌∙◌}
+-- The first base row with a weight that has no image.
+use Rattle.std.proofs.Common.{ap, sym, subst, ◌∙◌}
 use Rattle.std.specs.List.{AllByRecursion}
-use Rattle.std.proofs.lemmas.Iterator.{IsFirst-from_position, YieldsList-from_slice}
-use Rattle.uca_values.specs.Content.{TableContent, Entry}
-use Rattle.uca_check.proofs.Firsts.{first_found, fails_tested, holds_tested}
-use Rattle.uca_check.specs.Searches.{FindsFirstWithout}
-use Rattle.uca_tailorings.specs.Tailorings.{IsCovered}
+use Rattle.std.proofs.lemmas.Bool.{false≢true}
+use Rattle.uca_values.specs.Content.{TableContent}
 use Rattle.uca_tailorings.specs.Inputs.{maps_of}
+use Rattle.uca_tailorings.specs.Tailorings.{IsCovered, IsCoveredRow}
+use Rattle.uca_audit.specs.Views.{tailoring_in}
+use Rattle.uca_images.proofs.FirstRows.{row_further, row_here, rows_whole}
 use Rattle.uca_audit.proofs.conditions.rows.first_uncovered.Goals as goal
+
+pub loop-at-preserved : goal.loop-at-preserved
+loop-at-preserved g c =
+    let t = tailoring_in c.args.inputs.now in
+    row_further (IsCoveredRow t) c.deref-row-items.result.now t.base.rows (c.deref-row-items.ensures.value ∙ ap (λ (b : TableContent). b.rows) c.base.view_is)
+    c.loop-at.at c.row-item.result c.loop-at-test.true c.row-item.is c.loop-at.invariant
+    (subst (λ content. AllByRecursion (IsCovered (maps_of content)) c.row-item.result.elements) c.requires (c.is_covered_row.ensures.0 c.if-not-is_covered_row.false))
+
+pub returns-then-not-is_covered_row : goal.returns-then-not-is_covered_row
+returns-then-not-is_covered_row g c =
+    let t = tailoring_in c.args.inputs.now in
+    row_here (IsCoveredRow t) c.deref-row-items.result.now t.base.rows (c.deref-row-items.ensures.value ∙ ap (λ (b : TableContent). b.rows) c.base.view_is)
+    c.loop-at.at c.row-item.result c.loop-at-test.true c.row-item.is c.loop-at.invariant
+    (λ has. false≢true (sym c.if-not-is_covered_row.true ∙ c.is_covered_row.ensures.1
+    (subst (λ content. AllByRecursion (IsCovered (maps_of content)) c.row-item.result.elements) (sym c.requires) has)))
 
 pub returns : goal.returns
 returns g c =
-    let rows = c.args.inputs.now.base.now.rows in
-    let P : Entry → Type 0 = λ row. AllByRecursion (IsCovered (maps_of c.args.images.now)) row.elements in
-    let all = YieldsList-from_slice rows (c.iter.ensures.rest ∙ (c.deref.ensures.value ∙ ap (λ (t : TableContent). t.rows) c.base.view_is)) in
-    subst (λ content. FindsFirstWithout (λ (row : Entry). AllByRecursion (IsCovered (maps_of content)) row.elements) rows c.position.result) c.requires
-    (first_found P rows _
-    (IsFirst-from_position _ _ _ (λ row. P row → ⊥) P c.position.ensures.ran all (λ x q k. fails_tested (P x.now) (search rules)) (λ x q k. (search rules, holds_tested (P x.now) (search rules)))))
+    let t = tailoring_in c.args.inputs.now in
+    rows_whole (IsCoveredRow t) c.deref-row-items.result.now t.base.rows (c.deref-row-items.ensures.value ∙ ap (λ (b : TableContent). b.rows) c.base.view_is)
+    c.loop-at.at c.loop-at-test.false c.loop-at.invariant

@@ -3,7 +3,7 @@ use Rattle.std.proofs.Common.{sym, subst}
 use Rattle.std.proofs.lemmas.Bool.{false≢true}
 use Rattle.std.proofs.Common.{◌++◌, ◌∷◌, [], ◌∙◌}
 use Rattle.uca_audit.specs.NewWeights.{HoldsNew}
-use Rattle.uca_audit.proofs.Fresh.{shared_more, shared_same}
+use Rattle.uca_audit.proofs.Fresh.{shared_more, shared_same, seen_more}
 use Rattle.uca_audit.proofs.conditions.weights.add_again.Goals as goal
 use Rattle.uca_audit.proofs.conditions.weights.add_again.Goals.{then-contains, else-contains}
 
@@ -20,3 +20,7 @@ returns-clause-shared g c placements once twice =
           (shared_same placements p c.in-Some.level c.args.seen.now c.args.shared.now c.in-Some.is once twice
           (λ has. false≢true (sym w.if-contains.false ∙ c.contains.ensures.1 has)))
     ]
+
+pub returns-clause-seen : goal.returns-clause-seen
+returns-clause-seen g c placements once =
+    seen_more placements c.args.placement c.in-Some.level c.args.seen.now c.insert-2.new.self c.in-Some.is once c.insert-2.ensures

@@ -1,3 +1,4 @@
+-- One symbol more, and all of them.
 use Rattle.std.proofs.Common.{◌≡◌, ℕ, List, slice_index_or, sym, subst}
 use Rattle.std.proofs.lemmas.List.{take_all}
 use Rattle.std.proofs.lemmas.Result.{err_from_is_err_and}
@@ -5,8 +6,9 @@ use Rattle.uca_rules.specs.declared.characters.Character.{Character}
 use Rattle.uca_rules.specs.declared.reader.Reader.{Reader}
 use Rattle.uca_rules.specs.Pieces.{Symbol, Literal, Hyphen}
 use Rattle.uca_rules.specs.Statements.{Starred, between, targets_of}
-use Rattle.uca_rules.specs.Reading.{Adds}
-use Rattle.uca_rules.proofs.StarredLemmas.{Before, adds_character, fault_in_range, fault_of_character, further_hyphen, further_range, no_literal, none_before, range_at, range_before}
+use Rattle.uca_rules.specs.Relations.{IsRuleText}
+use Rattle.uca_rules.specs.Reading.{Adds, IsReady}
+use Rattle.uca_rules.proofs.StarredLemmas.{Before, adds_character, adds_none, fault_in_range, fault_of_character, further_hyphen, further_range, no_literal, none_before, range_at, range_before}
 use Rattle.uca_rules.proofs.reader.Reader.add_targets.Goals as goal
 use Rattle.uca_rules.proofs.reader.Reader.add_targets.Goals.{in-Some+in_ok-add_between, in_default-open_range}
 
@@ -74,3 +76,30 @@ pub returns-clause-added : goal.returns-clause-added
 returns-clause-added g c =
     subst (λ (l : List Symbol). Adds (Starred c.args.strength (targets_of l)) c.args.self.now c.loop-at.self)
     (take_all c.loop-at.at c.args.symbols.now c.loop-at-test.false) c.loop-at.invariant
+
+pub loop-at-init : goal.loop-at-init
+loop-at-init g c = adds_none c.args.strength c.args.self.now c.requires.ready c.requires.anchored
+
+pub add_between-requires-clause-ready : goal.add_between-requires-clause-ready
+add_between-requires-clause-ready g c = record { growing = c.loop-at.invariant.growing; anchored = λ _. c.loop-at.invariant.anchored }
+
+pub add_character-requires-clause-ready : goal.add_character-requires-clause-ready
+add_character-requires-clause-ready g c =
+    elim c.match-open_range.branch [
+      | in-Some+in_ok-add_between w ↦
+          let added = w.in_ok-add_between.ensures.added in
+          subst (λ (r : Reader g.row.A.Denot g.row.T.Denot). IsReady r) (sym w.self-is)
+          (record { growing = added.growing; anchored = λ _. added.anchored })
+      | in_default-open_range w ↦
+          let added = c.loop-at.invariant in
+          subst (λ (r : Reader g.row.A.Denot g.row.T.Denot). IsReady r) (sym w.self-is)
+          (record { growing = added.growing; anchored = λ _. added.anchored })
+    ]
+
+pub add_character-requires-clause-anchored : goal.add_character-requires-clause-anchored
+add_character-requires-clause-anchored g c =
+    elim c.match-open_range.branch [
+      | in-Some+in_ok-add_between w ↦
+          subst (λ (r : Reader g.row.A.Denot g.row.T.Denot). IsRuleText r.anchor) (sym w.self-is) w.in_ok-add_between.ensures.added.anchored
+      | in_default-open_range w ↦ subst (λ (r : Reader g.row.A.Denot g.row.T.Denot). IsRuleText r.anchor) (sym w.self-is) c.loop-at.invariant.anchored
+    ]

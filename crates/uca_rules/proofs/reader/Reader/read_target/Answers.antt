@@ -1,3 +1,4 @@
+-- A target, perhaps an expansion, and their relation.
 use Rattle.std.proofs.Common.{◌≡◌, ◌⊎◌, ℕ, List, false, refl, ap, subst, ◌∙◌}
 use Rattle.std.proofs.lemmas.Result.{err_from_is_err_and}
 use Rattle.uca_values.specs.Content.{Properties}
@@ -7,7 +8,7 @@ use Rattle.uca_rules.specs.Faults.{RelationCause}
 use Rattle.uca_rules.specs.Views.{IsMemoryAt, IsTextFault}
 use Rattle.uca_rules.specs.Reading.{AreTextsOf, properties_in, relation_of, state_of}
 use Rattle.uca_rules.proofs.Progress.{kept_properties, keeps_both}
-use Rattle.uca_rules.proofs.StatementSteps.{expansion_fault, plain_adds, relation_fault, target_fault, written_place}
+use Rattle.uca_rules.proofs.StatementSteps.{expansion_fault, plain_adds, relation_fault, rule_expansion, target_fault, written_place}
 use Rattle.uca_rules.proofs.reader.Reader.read_target.Goals as goal
 
 pub returns-in_err-target-clause-fault : goal.returns-in_err-target-clause-fault
@@ -57,3 +58,12 @@ returns-in-Ok-clause-found g c =
     c.in_ok-target.target c.in_ok-expansion.expansion target.1 expansion.1 target.2 are
     (keeps_both old.texts c.read_plain.new.self c.read_expansion.new.self c.in_ok-target.ensures.kept c.in_ok-expansion.ensures.kept)
     refl refl refl c.in-Ok.ensures.added
+
+pub add-requires-clause-ready : goal.add-requires-clause-ready
+add-requires-clause-ready g c = record { growing = c.requires.ready.growing; anchored = c.requires.ready.anchored }
+
+pub add-requires-clause-target : goal.add-requires-clause-target
+add-requires-clause-target g c = c.in_ok-target.ensures.found.2.rule
+
+pub add-requires-clause-expansion : goal.add-requires-clause-expansion
+add-requires-clause-expansion g c = rule_expansion _ c.in_ok-expansion.ensures.found.0 c.in_ok-expansion.expansion c.in_ok-expansion.ensures.found.2

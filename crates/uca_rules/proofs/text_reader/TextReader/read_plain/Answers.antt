@@ -1,4 +1,6 @@
+-- The text of the symbols that were read, or what is wrong with them.
 use Rattle.std.proofs.Common.{◌≡◌, ◌≢◌, ◌<◌, ◌≤◌, List, [], length, Option, Some, MatchOption, ap, ◌∙◌, sym, subst, refl}
+use Rattle.std.proofs.lemmas.Result.{err_from_is_err_and}
 use Rattle.unicode_normalization.specs.Forms.{nfd}
 use Rattle.uca_text.specs.Texts.{NfdText, nfd_text}
 use Rattle.uca_rules.specs.Characters.{place_of}
@@ -24,3 +26,8 @@ returns-in-Ok-Some-clause-found g c =
       record { symbols = symbols; begins = c.in_ok-rest.ensures.found; is = refl },
       record { is = is; short = subst (λ (t : NfdText). length t.points ≤ 16) is said.1.short; rule = said.1 },
     )
+
+pub returns-in_err-rest-clause-fault : goal.returns-in_err-rest-clause-fault
+returns-in_err-rest-clause-fault g c =
+    let p = err_from_is_err_and c.from_residual.result c.from_residual.ensures.1 in
+    rw (p.1, p.2) c.in_err-rest.ensures.fault

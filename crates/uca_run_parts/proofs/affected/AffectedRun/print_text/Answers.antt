@@ -1,5 +1,5 @@
--- Which lines are written.
-use Rattle.std.proofs.Common.{List, ℕ, ◌++◌, ◌-◌, ◌<◌, true, false, length, arith, ap, append-nil, subst, sym, ◌∙◌}
+-- Which lines are written. The counts of what is written fit.
+use Rattle.std.proofs.Common.{◌≡◌, List, ℕ, ◌++◌, ◌+◌, ◌-◌, ◌<◌, true, false, length, arith, ap, append-nil, subst, sym, ◌∙◌}
 use Rattle.std.proofs.lemmas.Result.{err_from_is_err_and}
 use Rattle.uca_text.specs.Texts.{NfdText}
 use Rattle.uca_lines.specs.Buffered.{count_of}
@@ -7,7 +7,7 @@ use Rattle.uca_lines.specs.Lines.{ended}
 use Rattle.uca_lines.specs.OutputBuffer.{IsBuffered}
 use Rattle.uca_run_parts.proofs.AffectedLines.{affected_is_short, line_affected, nothing_affected, test_gives}
 use Rattle.uca_run_parts.proofs.Finishing.{piece_fails}
-use Rattle.uca_run_parts.proofs.Printing.{small_enough}
+use Rattle.uca_run_parts.proofs.Printing.{small_enough, still_small}
 use Rattle.uca_run_parts.specs.Runs.{PartWentOut}
 use Rattle.uca_run_parts.proofs.affected.AffectedRun.print_text.Goals as goal
 
@@ -47,3 +47,11 @@ returns-clause-prints g c = λ begun before h.
     let piece = line_affected is_so texts.text.points texts.lines.line affected ∙ ap ended (sym c.line.ensures.value) in
     subst (λ (text : List ℕ). IsBuffered begun c.write_line.new.out.contents (before ++ text) c.write_line.new.output) (sym piece)
     (c.in_ok-write_line.ensures.writes.writes begun before h)
+
+pub returns-clause-small : goal.returns-clause-small
+returns-clause-small g c =
+    let output = c.args.self.now.output in
+    let number = c.args.self.now.texts.lines.reader.number in
+    let next : number ≡ number - 1 + 1 = omega (arith, c.requires.few) in
+    still_small (number - 1) number (count_of output) (count_of c.write_line.new.output) (length (ended c.line.result.now)) c.requires.small next
+    (affected_is_short c.line.result.now c.line.ensures.within) c.in_ok-write_line.ensures.writes.count

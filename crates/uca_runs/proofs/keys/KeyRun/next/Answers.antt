@@ -20,3 +20,14 @@ returns-in-Err-make_key-clause-reads g c = λ start before h.
     let few : length before < 1000000 = subst (λ n. n < 1000000) h.count at.count.1 in
     no_text properties start before c.next.new.self c.next.new.input line _ c.in-Err-make_key.kind
     (c.number.ensures.value ∙ line.count) (c.in-Err-make_key.ensures.fault (length before) few)
+
+pub returns-in-Ok-clause-made : goal.returns-in-Ok-clause-made
+returns-in-Ok-clause-made g c = c.in-Ok.ensures.made
+
+pub returns-in-Ok-clause-count : goal.returns-in-Ok-clause-count
+returns-in-Ok-clause-count g c =
+    let at = rw c.in-Ok-true.field-0-test at c.in-Ok-true.ensures in
+    at.count
+
+pub returns-in-Ok-clause-failed : goal.returns-in-Ok-clause-failed
+returns-in-Ok-clause-failed g c = c.in-Ok-true.ensures.failed

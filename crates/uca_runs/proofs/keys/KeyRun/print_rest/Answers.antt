@@ -1,6 +1,6 @@
 -- After each line, and where no line was read, or what the output has of it was not written.
 use Rattle.std.specs.Prelude.{⊤}
-use Rattle.std.proofs.Common.{Bool, [], ◌∷◌, ◌++◌, ◌+◌, ◌*◌, ◌^◌, ◌≤◌, length, ap, ap₂, subst, sym, ◌∙◌}
+use Rattle.std.proofs.Common.{Bool, [], ◌∷◌, ◌++◌, ◌+◌, ◌*◌, ◌^◌, ◌≤◌, length, refl, ap, ap₂, subst, sym, ◌∙◌}
 use Rattle.std.proofs.Math.Bool.{or-false}
 use Rattle.std.specs.List.{flat_map}
 use Rattle.std.proofs.lemmas.Result.{err_from_is_err_and}
@@ -14,6 +14,17 @@ use Rattle.uca_run_parts.proofs.Printing.{line_written, not_written, no_write}
 use Rattle.uca_run_parts.proofs.Running.{as_before}
 use Rattle.uca_key_lines.proofs.KeySettings.{key_settings_by}
 use Rattle.uca_runs.proofs.keys.KeyRun.print_rest.Goals as goal
+
+pub loop-self-init : goal.loop-self-init
+loop-self-init g c = record {
+  collation = refl;
+  weighting = refl;
+  key_depth = refl;
+  small = c.requires.small;
+  written = λ start begun before p. (before, p);
+  input_failed = refl;
+  out_failed = refl;
+}
 
 pub loop-self-preserved : goal.loop-self-preserved
 loop-self-preserved g c =
@@ -67,3 +78,10 @@ returns-in_err-print_line-clause-prints g c = λ start begun before p.
           c.loop-self.out c.print_line.new.out c.in_err-print_line.field-0.0 held
           (c.in_err-print_line.ensures.prints begun (flat_map bytes_of i.0) held),
     )
+
+pub returns-clause-prints : goal.returns-clause-prints
+returns-clause-prints g c = λ start begun before p.
+    let i = c.loop-self.invariant.written start begun before p in
+    let next = rw c.if-branch.false at c.in_ok-next.ensures in
+    let held = subst (λ b. IsBuffered begun c.loop-self.out.contents (flat_map (line_as c.args.form (settings_at g.L.Lookup.content c.args.self.now.key c.args.depth)) i.0) b) (sym next.output) i.1.written in
+    record { all = i.0; are_all = next.reads start i.0 i.1.read; written = held }

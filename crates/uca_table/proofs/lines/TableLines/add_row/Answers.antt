@@ -1,7 +1,8 @@
 -- The set has the keys of the rows, and the row's is new.
-use Rattle.std.proofs.Common.{◌≡◌, ℕ, List, ◌++◌, ◌∷◌, [], ◌<◌, ◌≤◌, length, take, sym, ap, ap₂, subst, ◌∙◌, inr, arith, refl}
+use Rattle.std.proofs.Common.{◌≡◌, ℕ, List, ◌++◌, ◌∷◌, [], ◌<◌, ◌≤◌, length, take, sym, ap, ap₂, subst, ◌∙◌, inl, inr, arith, refl}
 use Rattle.std.specs.Prelude.{IsSome}
 use Rattle.std.proofs.lemmas.List.{take_at}
+use Rattle.std.proofs.lemmas.Result.{err_from_is_err_and}
 use Rattle.uca_weights.specs.declared.Element.{Element}
 use Rattle.uca_values.specs.Content.{Entry}
 use Rattle.uca_table.specs.TableSoFar.{TableSoFar}
@@ -59,3 +60,24 @@ returns-in-Ok-clause-ok g c =
     let added : TableSoFar → TableSoFar = λ b. record b { rows = b.rows ++ c.args.row.now ∷ [] } in
     ap (with_rows _ _ _) (pushed c.self.inside.rows c.in_ok-push.ensures.added c.deref.ensures.value c.deref-2.ensures.value c.row.view_is)
     ∙ ap added c.self.view_is
+
+pub invariant_of-self : goal.invariant_of-self
+invariant_of-self g c = keeps_same _ _ _ _ _ c.self.invariant (ap (with_rows _ _ _) c.in_err-push.ensures.unchanged) (λ q. refl)
+
+pub returns-in_err-push-clause-fault : goal.returns-in_err-push-clause-fault
+returns-in_err-push-clause-fault g c = let p = err_from_is_err_and c.from_residual.result c.from_residual.ensures.1 in rw p.1 (inl p.2)
+
+pub returns-in_err-push-clause-unchanged : goal.returns-in_err-push-clause-unchanged
+returns-in_err-push-clause-unchanged g c =
+    let p = err_from_is_err_and c.from_residual.result c.from_residual.ensures.1 in
+    rw p.1 (ap (with_rows _ _ _) c.in_err-push.ensures.unchanged ∙ c.self.view_is)
+
+pub returns-in-Err-clause-fault : goal.returns-in-Err-clause-fault
+returns-in-Err-clause-fault g c = inl c.into.ensures
+
+pub returns-in-Err-clause-unchanged : goal.returns-in-Err-clause-unchanged
+returns-in-Err-clause-unchanged g c =
+    let rows : List Entry = c.self.inside.rows in
+    let back : c.truncate.new.self ≡ rows = c.truncate.ensures ∙ ap (take c.len-before.result) c.in_ok-push.ensures.added
+    ∙ take_at rows _ c.len-before.result (sym c.len-before.ensures) in
+    ap (with_rows _ _ _) back ∙ c.self.view_is

@@ -1,7 +1,6 @@
 -- What is added last changes no row before it.
 use Rattle.std.proofs.Common.{[], refl, sym, ap, ◌∙◌, ◌++◌, ◌∷◌, append-nil}
 use Rattle.std.proofs.lemmas.Result.{err_from_is_err_and}
-use Rattle.uca_values.specs.Content.{Entry}
 use Rattle.uca_values.proofs.RowParts.{rows_push, rows_stay, spans_push, spans_stay}
 use Rattle.uca_values.proofs.packed.PackedRows.push.Goals as goal
 

@@ -1,9 +1,0 @@
-use Rattle.std.proofs.Common.{◌≡◌, ◌++◌}
-use Rattle.std.specs.List.{flat_map}
-use Rattle.uca_values.specs.Content.{properties_of}
-use Rattle.uca_drafts.specs.MatchDrafts.{match_drafts}
-use Rattle.uca_drafts.proofs.readings.Reader.append_matches.Given as goal
-
-abbrev pub invariant-loop-part : goal.invariant-loop-part
-invariant-loop-part g l = l.elements.items ≡ l.initial.elements.items
-    ++ flat_map (match_drafts l.self.base.now.header.ranges (properties_of l.self.properties.now) l.rows) l.yielded
