@@ -145,7 +145,7 @@ printed @version 1\n0061 ; [.1C47.0020.0002]\n0301 ; [.0000.0024.0002]\n
 printed 0078 ; [.1C48.0020.0002]\n
 end done
 asks 48
-memory Memory; done; Memory; done; Memory; done; Memory";
+memory Memory";
 
 /// The calls after the commands.
 pub const COMMANDS: &str = r"run check
@@ -275,8 +275,7 @@ printed @version 1\n0061 ; [.1C47.0020.0002]\n0301 ; [.0000.0024.0002]\n
 printed 0078 ; [.1C48.0020.0002]\n
 end done
 asks 75
-memory table line @ 1 2 3 4; data line @ 1 2; rules: Memory; rules byte @ 0 4 1 6; memory; done
-memory memory; done; memory; done; memory
+memory table line @ 1 2 3 4; data line @ 1 2; rules: Memory; rules byte @ 0 4 1 6; memory
 
 run tailor
 reads table data rules
@@ -287,8 +286,7 @@ printed 0062 ; [.1C48.0020.0002]\n0063 ; [.1C49.0020.0002]\n0064 ; [.1C4A.0020.0
 printed 0065 ; [.1C4B.0020.0002]\n0066 ; [.1C4C.0020.0002]\n0067 ; [.1C4D.0020.0002]\n
 end done
 asks 101
-memory table line @ 1 2 3 4; data line @ 1 2; rules: Memory; rules byte @ 0 4 8 1 6 9; memory; done
-memory memory; done; memory; done; memory; done; memory; done; memory; done; memory; done; memory; done; memory
+memory table line @ 1 2 3 4; data line @ 1 2; rules: Memory; rules byte @ 0 4 8 1 6 9; memory
 
 run tailor
 reads table data rules

@@ -7,9 +7,7 @@
 //! - `end`: what is said of the end.
 //! - `asks`: how many allocations it asks for if none fails.
 //! - `memory`: what is said of the end where an allocation is rejected, in the order of the allocations. `; ` parts
-//!   these; numbers after ` @ ` are the lines or the bytes of one role. `done` means that the result is whole
-//!   all the same. A list that is collected asks for its whole length first, and then, if that is rejected, for less at
-//!   a time.
+//!   these; numbers after ` @ ` are the lines or the bytes of one role.
 
 use std::alloc::{AllocError, Global};
 use std::test::Fail;
@@ -167,7 +165,6 @@ fn push_ends(
     status: &str,
 ) -> Result<(), AllocError> {
     let Some((head, numbers)) = group.split_once(" @ ") else {
-        let status = if group == "done" { "" } else { status };
         return push_end(ample, ends, group, status);
     };
     for number in numbers.split(' ') {

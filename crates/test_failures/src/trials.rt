@@ -142,12 +142,8 @@ fn refused(trial: Trial, number: u32) -> Result<Option<Answer>, Fail> {
     Ok(Some(found))
 }
 
-// A result when an allocation was rejected: a whole one, or what goes out before this end.
+// A result when an allocation was rejected: what goes out before its end.
 fn check_end(trial: Trial, found: &Answer) -> Result<(), Fail> {
-    let whole = trial.wanted();
-    if found.end.as_str() == whole.end {
-        return found.check(whole, trial.case.name);
-    }
     let wanted = trial.failing(&found.end, NONE, trial.begun(&found.end), b"");
     found.check(wanted, trial.case.name)
 }
