@@ -1,11 +1,14 @@
 //! Files by their names: opening those of a subcommand in their order, and keeping the file of a certificate only as a whole.
-//! Runs are proved over any files that open so (`Opens`), and the program runs over those of the system.
+//! Runs are proved over any files that open so (`Opens`), and the program runs over those of the system. What else the
+//! program takes from the system is here too: its arguments, and its standard streams where they are closed.
 #![tactic(auto)]
 
+pub mod arguments;
 pub mod keeping;
 pub mod made;
 pub mod opening;
 pub mod opens;
+pub mod standard_streams;
 pub mod system;
 
 pub use opens::{MakeFault, OpenFault, Opens};

@@ -57,6 +57,7 @@ impl Made {
                 names: None,
             });
         }
+        drop(old);
         if is_output(rt, &about) {
             return Err(io::Error::from(ErrorKind::ResourceBusy));
         }
@@ -132,9 +133,7 @@ impl Write for Made {
 // The temporary name of this number, in the folder of this one.
 fn temporary_name(rt: &HostRuntime, kept: &PathBuf, number: u8) -> io::Result<PathBuf> {
     let name = format!(in rt.alloc(); "uca-certificate-{number}.tmp")?;
-    let mut path = kept.clone()?;
-    path.set_file_name(name.as_str())?;
-    Ok(path)
+    Ok(kept.with_file_name(rt.alloc(), name.as_str())?)
 }
 
 // Makes a file of a name that no file has.

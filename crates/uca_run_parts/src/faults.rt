@@ -159,13 +159,13 @@ impl fmt::Display for StoredKeyKind {
 }
 
 /// Where a file is rejected, and why. Its text follows the name of the role of the file.
-#[derive(Clone, Copy, Debug, PartialEq, Eq, Error)]
+#[derive(Clone, Copy, PartialEq, Eq, Error)]
 pub enum FileFault {
     /// In a line of a table, of a data file or of a file of changes: `line 7: Range`.
-    #[error("{0}")]
+    #[error(transparent)]
     Lines(TableFault),
     /// At a byte of rules: `byte 7: Syntax`.
-    #[error("{0}")]
+    #[error(transparent)]
     Rules(RuleFault),
     /// The reader of rules failed.
     #[error("Read")]
@@ -174,7 +174,7 @@ pub enum FileFault {
     #[error("Memory")]
     RulesMemory,
     /// In a line of a certificate: `line 7: Order`.
-    #[error("{0}")]
+    #[error(transparent)]
     Certificate(CertificateFault),
 }
 
@@ -194,6 +194,12 @@ impl FileFault {
     }
 }
 
+impl fmt::Debug for FileFault {
+    fn fmt<W: fmt::Write>(&self, f: &mut fmt::Formatter<W>) -> fmt::Result {
+        write!(f, "{self}")
+    }
+}
+
 // The name of a role, and a text after it.
 fn role_message(role: Role, text: &str) -> Message
     requires { length text.now ≤ 20 }
@@ -204,7 +210,7 @@ fn role_message(role: Role, text: &str) -> Message
 }
 
 /// Why a run ends without its whole output. Its text is the error line on standard error.
-#[derive(Debug, Drop, Error)]
+#[derive(Drop, Error)]
 pub enum RunFault {
     /// A file is rejected, or cannot be read.
     File {
@@ -326,6 +332,12 @@ impl fmt::Display for RunFault {
             RunFault::Words(fault) => write!(f, "{fault}"),
             _ => f.write_str(self.message().as_str()),
         }
+    }
+}
+
+impl fmt::Debug for RunFault {
+    fn fmt<W: fmt::Write>(&self, f: &mut fmt::Formatter<W>) -> fmt::Result {
+        write!(f, "{self}")
     }
 }
 
