@@ -1,5 +1,5 @@
 -- The text of symbols, and how long it is.
-use Rattle.std.proofs.Common.{◌≡◌, ◌≢◌, ℕ, ◌+◌, ◌<◌, ◌≤◌, List, [], ◌∷◌, ◌++◌, length, take, get_or, flat_map, chars, refl, ap, sym, ◌∙◌, length-append, arith}
+use Rattle.std.proofs.Common.{◌≡◌, ◌≢◌, inl, inr, false, ℕ, ◌+◌, ◌<◌, ◌≤◌, List, [], ◌∷◌, ◌++◌, length, take, get_or, flat_map, chars, refl, ap, sym, ◌∙◌, length-append, arith}
 use Rattle.std.specs.Str.{IsUtf8}
 use lib.Utf8.{encode, encodes}
 use Rattle.std.proofs.lemmas.Str.{encodes-append, chars_from_encodes}
@@ -17,7 +17,12 @@ use Rattle.uca_text.specs.declared.normalize.TextFault.TheVariants.{TooLong, Lon
 use Rattle.uca_text.specs.Faults.{IsCause}
 use Rattle.uca_rules.specs.Relations.{IsRuleText}
 use Rattle.uca_rules.specs.declared.characters.Character.{Character}
-use Rattle.uca_rules.specs.Pieces.{Symbol, Literal, Hyphen, points_of}
+use Rattle.uca_rules.specs.declared.faults.RuleFaultKind.{RuleFaultKind}
+use Rattle.uca_rules.specs.declared.faults.RuleFaultKind.TheVariants as kinds
+use Rattle.uca_rules.specs.Characters.{place_of}
+use Rattle.uca_rules.specs.Pieces.{Symbol, Literal, Hyphen, points_of, BeginsText}
+use Rattle.uca_rules.specs.Reading.{IsNoRuleText}
+use Rattle.uca_rules.specs.Views.{IsTextFault}
 
 points-append : (xs ys : List Symbol) → points_of (xs ++ ys) ≡ points_of xs ++ points_of ys
 points-append [] ys = refl
@@ -64,3 +69,13 @@ too_long properties points cause = omega arith
 
 pub long_run : (properties : Properties) (points : List ℕ) (place : ℕ) → IsCause (nfd_text properties points) (LongRun place) → 16 < length (nfd points)
 long_run properties points place cause = let within = cause.1.run.within in omega (arith, length-map (nfd points) properties.class)
+
+-- where there is no text of rules, the text has an error
+pub text_fault : (end : ℕ) (text rest : List Character) (symbols : List Symbol) (place : ℕ) (kind : RuleFaultKind) → place ≡ place_of end text → BeginsText false text symbols rest → IsNoRuleText (points_of symbols) kind →
+    IsTextFault end false text (record { byte = place; kind = kind })
+text_fault end text rest symbols place kind at begins (inl memory) = inl (memory, at)
+text_fault end text rest symbols place kind at begins (inr long) = inr (rw long.0 (record { symbols = symbols; rest = rest; begins = begins; long = long.1 }, at))
+
+pub only_long : (points : List ℕ) → IsNoRuleText points kinds.Limit → 16 < length (nfd points)
+only_long points (inl memory) = let no : ⊥ = cc in absurd no
+only_long points (inr long) = long.1

@@ -9,6 +9,7 @@ use Rattle.uca_text.specs.Texts.{NfdText, nfd_text}
 use Rattle.uca_rules.specs.declared.characters.Character.{Character}
 use Rattle.uca_rules.specs.declared.relations.Relation.{Relation}
 use Rattle.uca_rules.specs.declared.faults.RuleFault.{RuleFault}
+use Rattle.uca_rules.specs.declared.faults.RuleFaultKind.{RuleFaultKind}
 use Rattle.uca_rules.specs.declared.faults.RuleFaultKind.TheVariants as kinds
 use Rattle.uca_rules.specs.declared.signs.Preceding.{Preceding}
 use Rattle.uca_rules.specs.declared.signs.Preceding.TheVariants as lasts
@@ -30,6 +31,10 @@ pub record IsTextOf (properties : Properties) (points : List ℕ) (text : NfdTex
   pub is : text ≡ nfd_text properties points
   pub short : IsShort points
   pub rule : IsRuleText text
+
+-- there is no text of rules with these code points: it is too long, or an allocation failed
+abbrev pub IsNoRuleText : List ℕ → RuleFaultKind → Type 0
+IsNoRuleText points kind = (kind ≡ kinds.Memory) ⊎ ((kind ≡ kinds.Limit) × (16 < length (nfd points)))
 
 -- a text that may be there
 abbrev pub AreTextsOf : Properties → Option Written → Option NfdText → Type 0

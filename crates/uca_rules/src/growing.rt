@@ -76,7 +76,10 @@ impl<A: Allocator + Copy> RulesBuilder<A> {
                 self.relations.push(relation)?;
                 Ok(())
             }
-            Err(kind) => Err(kind),
+            Err(kind) => {
+                drop(relation);
+                Err(kind)
+            }
         }
     }
 

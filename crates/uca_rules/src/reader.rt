@@ -119,8 +119,11 @@ fn read_characters<A: Allocator + Copy, T: Allocator>(
 {
     let mut reader = Reader::new(alloc, global, properties, end);
     match reader.read_statements(characters) {
-        Ok(()) => Ok(reader.rules.finish()),
-        Err(fault) => Err(fault),
+        Ok(()) => Ok(reader.into_rules()),
+        Err(fault) => {
+            drop(reader);
+            Err(fault)
+        }
     }
 }
 
@@ -150,6 +153,23 @@ impl<'a, A: Allocator + Copy, T: Allocator> Reader<'a, A, T> {
             before: false,
             last: Preceding::Nothing,
         }
+    }
+
+    /// The rules that the relations make up.
+    fn into_rules(self) -> Rules<A>
+        requires { AreGrowing self.rules }
+        ensures { result ≡ self.entry.rules.relations.items }
+    {
+        let Reader {
+            texts,
+            rules,
+            anchor,
+            before: _,
+            last: _,
+        } = self;
+        drop(texts);
+        drop(anchor);
+        rules.finish()
     }
 
     /// Reads statements to the end of the rules.
@@ -249,12 +269,19 @@ impl<'a, A: Allocator + Copy, T: Allocator> Reader<'a, A, T> {
         ensures fault { IfErr result (IsPlainFault (properties_in self.old.texts) self.old.texts.end (state_of self.old) strength text.now) }
     {
         let (target, behind) = self.texts.read_plain(text)?;
-        let (expansion, rest) = self.texts.read_expansion(behind)?;
-        let here = place_of(self.texts.end, rest);
-        let place = place_of(self.texts.end, text);
-        match self.add(strength, target, expansion, place, here) {
-            Ok(()) => Ok(rest),
-            Err(fault) => Err(fault),
+        match self.texts.read_expansion(behind) {
+            Ok((expansion, rest)) => {
+                let here = place_of(self.texts.end, rest);
+                let place = place_of(self.texts.end, text);
+                match self.add(strength, target, expansion, place, here) {
+                    Ok(()) => Ok(rest),
+                    Err(fault) => Err(fault),
+                }
+            }
+            Err(fault) => {
+                drop(target);
+                Err(fault)
+            }
         }
     }
 
@@ -302,14 +329,20 @@ impl<'a, A: Allocator + Copy, T: Allocator> Reader<'a, A, T> {
     ) -> Result<Relation, AllocError>
         ensures { IfOk result (λ relation. (relation ≡ relation_of self.old strength target expansion) × PassesOn target self.old self.new) }
     {
-        let next = target.clone()?;
-        Ok(Relation {
-            anchor: mem::replace(&mut self.anchor, next),
-            before: mem::replace(&mut self.before, false),
-            strength,
-            target,
-            expansion,
-        })
+        match target.clone() {
+            Ok(next) => Ok(Relation {
+                anchor: mem::replace(&mut self.anchor, next),
+                before: mem::replace(&mut self.before, false),
+                strength,
+                target,
+                expansion,
+            }),
+            Err(error) => {
+                drop(target);
+                drop(expansion);
+                Err(error)
+            }
+        }
     }
 }
 

@@ -118,8 +118,8 @@ impl<'a, A: Allocator + Copy, T: Allocator> Reader<'a, A, T> {
             });
         }
         match self.texts.character_text(target) {
-            Ok(Some(text)) => self.add(strength, text, None, byte, here),
-            Ok(None) => Err(RuleFault {
+            Ok(text) => self.add(strength, text, None, byte, here),
+            Err(RuleFaultKind::Limit) => Err(RuleFault {
                 byte,
                 kind: RuleFaultKind::Limit,
             }),

@@ -1,19 +1,18 @@
 //! Reading the texts of relations that are not starred.
 
-ghost use Rattle.std.specs.Prelude.{◌≡◌, ◌<◌, ◌∷◌, [], ℕ, IfErr, IfOk, List, MatchOption, Option, false, length};
+ghost use Rattle.std.specs.Prelude.{◌≡◌, ◌∷◌, [], IfErr, IfOk, List, MatchOption, Option, false};
 ghost use Rattle.uca_values.specs.Content.{properties_of};
-ghost use Rattle.unicode_normalization.specs.Forms.{nfd};
 ghost use Rattle.uca_rules.specs.declared.characters.Character.{Character};
 ghost use Rattle.uca_rules.specs.Characters;
 ghost use Rattle.uca_rules.specs.Pieces.{BeginsWritten, Written};
 ghost use Rattle.uca_rules.specs.Statements.{BeginsExpansion, IsExpansionDue, IsNotAt};
 ghost use Rattle.uca_rules.specs.Views.{IsTextFault};
-ghost use Rattle.uca_rules.specs.Reading.{AreTextsOf, IsTextOf, Keeps, properties_in};
+ghost use Rattle.uca_rules.specs.Reading.{AreTextsOf, IsNoRuleText, IsTextOf, Keeps, properties_in};
 
 use crate::characters::{Character, Symbol, behind_gaps};
 use crate::faults::{RuleFault, RuleFaultKind};
 use crate::texts::{place_of, read_text, rule_text};
-use std::alloc::{AllocError, Allocator, Global};
+use std::alloc::{Allocator, Global};
 use uca_text::Normal;
 use uca_values::Data;
 
@@ -73,15 +72,8 @@ impl<'a, A: Allocator + Copy, T: Allocator> TextReader<'a, A, T> {
             &self.symbols,
             self.properties,
         ) {
-            Ok(Some(normal)) => Ok((normal, rest)),
-            Ok(None) => Err(RuleFault {
-                byte,
-                kind: RuleFaultKind::Limit,
-            }),
-            Err(_) => Err(RuleFault {
-                byte,
-                kind: RuleFaultKind::Memory,
-            }),
+            Ok(normal) => Ok((normal, rest)),
+            Err(kind) => Err(RuleFault { byte, kind }),
         }
     }
 
@@ -103,10 +95,15 @@ impl<'a, A: Allocator + Copy, T: Allocator> TextReader<'a, A, T> {
         }
     }
 
-    /// The text of one character, unless it has more than 16 code points in Normalization Form D.
-    pub(crate) fn character_text(&mut self, c: Character) -> Result<Option<Normal>, AllocError>
+    /// The text of one character.
+    ///
+    /// # Errors
+    ///
+    /// `Limit` or `Memory`.
+    pub(crate) fn character_text(&mut self, c: Character) -> Result<Normal, RuleFaultKind>
         ensures kept { Keeps self.old self.new }
-        ensures found { IfOk result (λ found. MatchOption found (16 < length (nfd (c.code ∷ []))) (IsTextOf (properties_in self.old) (c.code ∷ []))) }
+        ensures found { IfOk result (IsTextOf (properties_in self.old) (c.code ∷ [])) }
+        ensures fault { IfErr result (IsNoRuleText (c.code ∷ [])) }
     {
         rule_text(
             self.global,

@@ -1,7 +1,6 @@
 //! Reading texts, starred or not.
 
 ghost use Rattle.std.specs.Prelude.{◌≡◌, ℕ, ◌<◌, ◌≤◌, ◌≢◌, ◌⊎◌, ◌∷◌, ◌++◌, [], ◌↔◌, take, IsTrue, IsFalse, Some, None, length, List, IfOk, IfErr, OnOk, MatchOption, true, false};
-ghost use Rattle.unicode_normalization.specs.Forms.{nfd};
 ghost use Rattle.uca_values.specs.Content.{properties_of};
 ghost use Rattle.uca_text.specs.Texts.{nfd_text};
 ghost use Rattle.uca_rules.specs.Characters;
@@ -10,12 +9,13 @@ ghost use Rattle.uca_rules.specs.Statements.{HasRanges, HasRangesSoFar, IsRange}
 ghost use Rattle.uca_rules.specs.Relations.{IsRuleText};
 ghost use Rattle.uca_rules.specs.Faults;
 ghost use Rattle.uca_rules.specs.Faults.{TextCause};
+ghost use Rattle.uca_rules.specs.Reading.{IsNoRuleText};
 ghost use Rattle.uca_rules.specs.Views.{BeginsRange, BreaksOff, EndsInHyphen, IsTextFault, ShowsWrongHyphen};
 
 use crate::characters::{Character, Symbol};
 use crate::faults::{RuleFault, RuleFaultKind};
 use crate::pieces::{begins_piece, take_piece};
-use std::alloc::{AllocError, Allocator, Global};
+use std::alloc::{Allocator, Global};
 use uca_text::{Normal, TextFault, normal};
 use uca_values::Data;
 use uca_values::limits::MOST_CODE_POINTS;
@@ -208,15 +208,20 @@ fn ends_text(rest: &[Character], starred: bool) -> bool
     }
 }
 
-/// The text of the symbols in Normalization Form D, unless it has more than 16 code points.
+/// The text of the symbols in Normalization Form D.
+///
+/// # Errors
+///
+/// `Limit` if it has more than 16 code points, or `Memory`.
 pub(crate) fn rule_text<A: Allocator, T: Allocator>(
     global: Global,
     letters: &mut String<A>,
     symbols: &[Symbol],
     properties: &Data<T>,
-) -> Result<Option<Normal>, AllocError>
+) -> Result<Normal, RuleFaultKind>
     requires { points_of symbols.now ≢ [] }
-    ensures { IfOk result (λ found. MatchOption found (16 < length (nfd (points_of symbols.now))) (λ text. (text ≡ nfd_text (properties_of properties.now) (points_of symbols.now)) × IsRuleText text)) }
+    ensures found { IfOk result (λ text. (text ≡ nfd_text (properties_of properties.now) (points_of symbols.now)) × IsRuleText text) }
+    ensures fault { IfErr result (IsNoRuleText (points_of symbols.now)) }
 {
     letters.clear();
     for symbol in symbols {
@@ -225,13 +230,16 @@ pub(crate) fn rule_text<A: Allocator, T: Allocator>(
         }
     }
     match normal(global, letters, properties) {
-        Ok(text) => Ok(if text.chars().len() <= MOST_CODE_POINTS {
-            Some(text)
-        } else {
-            None
-        }),
-        Err(TextFault::Memory) => Err(AllocError),
-        Err(TextFault::TooLong) => Ok(None),
-        Err(TextFault::LongRun(_)) => Ok(None),
+        Ok(text) => {
+            if text.chars().len() <= MOST_CODE_POINTS {
+                Ok(text)
+            } else {
+                drop(text);
+                Err(RuleFaultKind::Limit)
+            }
+        }
+        Err(TextFault::Memory) => Err(RuleFaultKind::Memory),
+        Err(TextFault::TooLong) => Err(RuleFaultKind::Limit),
+        Err(TextFault::LongRun(_)) => Err(RuleFaultKind::Limit),
     }
 }

@@ -2,7 +2,7 @@
 use Rattle.std.proofs.Common.{ℕ, List, Option, Some, None, IfSome, inl, inr}
 use Rattle.std.specs.Option.{IsSomeAnd}
 use Rattle.uca_lines.specs.declared.files.FileForm.{FileForm}
-use Rattle.uca_lines.specs.Files.{ReadsLines, Reaches, BeginsFault, FailsIn, RefusesLine, Refuses}
+use Rattle.uca_lines.specs.Files.{Reaches, BeginsFault, FailsIn, RefusesLine, Refuses}
 
 reaches_view : {K T S : Type 0} (form : FileForm K) (view : T → S) (Says : List (List ℕ) → S → Type 0) (bytes : List ℕ) (number : ℕ) (t : T)
     (rest : List ℕ) → Reaches form (λ lines u. Says lines (view u)) bytes number t rest → Reaches form Says bytes number (view t) rest

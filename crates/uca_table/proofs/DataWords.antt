@@ -2,7 +2,7 @@
 use Rattle.std.proofs.Common.{◌≡◌, ◌≢◌, ℕ, zero, suc, ◌≤◌, Bool, true, false, not, eqb, List, [], ◌∷◌, length, refl, sym, ap, ◌∙◌, subst, arith, length-append}
 use Rattle.std.proofs.lemmas.Bool.Decides.{nat_tests}
 use Rattle.std.proofs.lemmas.List.{nil_from_length}
-use Rattle.uca_lines.specs.Fields.{is_blank, up_to, from_first, skip_blanks, word_of, after_word}
+use Rattle.uca_lines.specs.Fields.{is_blank, skip_blanks, word_of, after_word}
 use Rattle.uca_lines.specs.Leads.{BeginsWord}
 use Rattle.uca_lines.proofs.FieldLemmas.{parts_of_cut, word_some}
 use Rattle.uca_lines.proofs.LeadLemmas.{exact_words, leads_same}

@@ -88,16 +88,22 @@ impl<A: Allocator + Copy> TableLines<A> {
             setting,
             ranges,
             rows,
-            keys: _,
-            spare: _,
+            keys,
+            spare,
         } = self;
-        let version = version?;
-        let header = Header {
-            version,
-            setting,
-            ranges,
-        };
-        Some(PackedTable { header, rows })
+        drop(keys);
+        drop(spare);
+        match version {
+            Some(version) => Some(PackedTable {
+                header: Header {
+                    version,
+                    setting,
+                    ranges,
+                },
+                rows,
+            }),
+            None => None,
+        }
     }
 }
 
@@ -142,8 +148,13 @@ impl<A: Allocator + Copy> TableLines<A> {
             return Err(FaultKind::Line);
         }
         let name = str::from_utf8(name).unwrap();
-        self.version = Some(String::from_str(self.alloc, name)?);
-        Ok(())
+        match String::from_str(self.alloc, name) {
+            Ok(version) => {
+                self.version = Some(version);
+                Ok(())
+            }
+            Err(error) => Err(error.into()),
+        }
     }
 
     fn is_setting_due(&self) -> bool

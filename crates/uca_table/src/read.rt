@@ -118,12 +118,17 @@ fn read_to_end<A: Allocator + Copy, R: Read>(
     ensures failed { source.new.failed ≡ (source.old.failed || is_read result) }
 {
     let mut lines = TableLines::new(alloc);
-    let count = read_lines(alloc, source, &mut lines)?;
-    let Some(table) = lines.into_table() else {
-        return Err(TableFault {
-            line: count + 1,
-            kind: FaultKind::Order,
-        });
-    };
-    Ok((table, count))
+    match read_lines(alloc, source, &mut lines) {
+        Ok(count) => match lines.into_table() {
+            Some(table) => Ok((table, count)),
+            None => Err(TableFault {
+                line: count + 1,
+                kind: FaultKind::Order,
+            }),
+        },
+        Err(fault) => {
+            drop(lines);
+            Err(fault.into())
+        }
+    }
 }

@@ -99,8 +99,13 @@ pub fn normal<A: Allocator>(
     ensures fault { IfErr result (IsCause (nfd_text (properties_of properties.now) (chars text.now))) }
 {
     let mut normal = Normal::new(alloc);
-    normal.renew(text, properties)?;
-    Ok(normal)
+    match normal.renew(text, properties) {
+        Ok(()) => Ok(normal),
+        Err(fault) => {
+            drop(normal);
+            Err(fault)
+        }
+    }
 }
 
 impl Normal {

@@ -66,13 +66,18 @@ fn read_to_end<A: Allocator + Copy, R: Read>(
         started: false,
         data: Data::new(alloc),
     };
-    let count = read_lines(alloc, source, &mut so_far)?;
-    let DataSoFar { started, data } = so_far;
-    if !started {
-        return Err(TableFault {
-            line: count + 1,
-            kind: FaultKind::Order,
-        });
+    match read_lines(alloc, source, &mut so_far) {
+        Ok(_) if so_far.started => Ok(so_far.data),
+        Ok(count) => {
+            drop(so_far);
+            Err(TableFault {
+                line: count + 1,
+                kind: FaultKind::Order,
+            })
+        }
+        Err(fault) => {
+            drop(so_far);
+            Err(fault.into())
+        }
     }
-    Ok(data)
 }

@@ -1,6 +1,6 @@
 -- A version is text, and nothing is before it.
-use Rattle.std.proofs.Common.{sym, ap, ◌∙◌, Some, inl}
-use Rattle.std.proofs.lemmas.Result.{MatchResult-at_ok, err_from_is_err_and}
+use Rattle.std.proofs.Common.{sym, ap, ◌∙◌, Some}
+use Rattle.std.proofs.lemmas.Result.{MatchResult-at_ok}
 use Rattle.uca_table.proofs.TakeLaws.{takes_version, keeps_version, name_is_text, is_ok_by, absent}
 use Rattle.uca_table.proofs.lines.TableLines.take_version.Goals as goal
 
@@ -11,18 +11,15 @@ unwrap-name-requires g c = is_ok_by _ _ _ _ c.from_utf8.ensures.cases
 pub invariant_of-self : goal.invariant_of-self
 invariant_of-self g c =
     let named = sym c.is_version_name.ensures ∙ c.if-not-is_version_name.false in
-    let name = ap Some (c.in_ok-from_str.ensures.ok ∙ (MatchResult-at_ok _ _ _ c.unwrap-name.ensures c.from_utf8.ensures.cases).0) in
+    let name = ap Some (c.in-Ok.ensures.ok ∙ (MatchResult-at_ok _ _ _ c.unwrap-name.ensures c.from_utf8.ensures.cases).0) in
     keeps_version _ _ _ c.args.self.now c.args.text.now c.argument-name.result.now _ c.self.invariant
     (takes_version c.args.self.now _ c.args.text.now c.argument-name.result.now _ c.self.view_is c.self.invariant.begun
     (absent _ c.self.inside.version _ c.is_some.ensures c.if-is_some.false) c.requires c.argument-name.ensures named name)
     name named
 
-pub returns-clause-ok : goal.returns-clause-ok
-returns-clause-ok g c =
+pub returns-in-Ok-clause-ok : goal.returns-in-Ok-clause-ok
+returns-in-Ok-clause-ok g c =
     let named = sym c.is_version_name.ensures ∙ c.if-not-is_version_name.false in
-    let name = ap Some (c.in_ok-from_str.ensures.ok ∙ (MatchResult-at_ok _ _ _ c.unwrap-name.ensures c.from_utf8.ensures.cases).0) in
+    let name = ap Some (c.in-Ok.ensures.ok ∙ (MatchResult-at_ok _ _ _ c.unwrap-name.ensures c.from_utf8.ensures.cases).0) in
     takes_version c.args.self.now _ c.args.text.now c.argument-name.result.now _ c.self.view_is c.self.invariant.begun
     (absent _ c.self.inside.version _ c.is_some.ensures c.if-is_some.false) c.requires c.argument-name.ensures named name
-
-pub returns-in_err-from_str-clause-fault : goal.returns-in_err-from_str-clause-fault
-returns-in_err-from_str-clause-fault g c = let p = err_from_is_err_and c.from_residual.result c.from_residual.ensures.1 in rw p.1 (inl p.2)
