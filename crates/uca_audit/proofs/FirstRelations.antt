@@ -1,5 +1,5 @@
--- Where a condition on relations fails: the first relation without its property.
-use Rattle.std.proofs.Common.{◌≡◌, ℕ, suc, ◌<◌, List, length, ap, arith}
+-- Where a condition fails: the first row or relation without its property.
+use Rattle.std.proofs.Common.{◌≡◌, ℕ, suc, ◌+◌, ◌<◌, List, length, ap, arith}
 use Rattle.std.proofs.lemmas.List.{length-append}
 use Rattle.uca_rules.specs.declared.relations.Relation.{Relation}
 use Rattle.uca_tailorings.specs.declared.conditions.Condition.{Condition}
@@ -23,3 +23,10 @@ pub fails_at_relation : (tailoring : Tailoring) (condition : Condition) (P : Lis
     → Fails tailoring condition fault
 fails_at_relation tailoring condition P at fault is first fails =
     record { number = ap (λ (f : AuditFault). f.number) is; place = fails fault.place (suc at, ap (λ (f : AuditFault). f.place) is, first) }
+
+-- a condition on rows fails there
+pub fails_at_row : (tailoring : Tailoring) (condition : Condition) (Numbered : ℕ → Place) (P : ℕ → Type 0) (at : ℕ) (fault : AuditFault)
+    → fault ≡ record { number = number_of condition; place = Numbered (at + 1) } → P (at + 1)
+    → ((place : Place) → At Numbered place P → FailsFirstAt tailoring condition place) → Fails tailoring condition fault
+fails_at_row tailoring condition Numbered P at fault is first fails =
+    record { number = ap (λ (f : AuditFault). f.number) is; place = fails fault.place (at + 1, ap (λ (f : AuditFault). f.place) is, first) }

@@ -12,11 +12,13 @@ ghost use Rattle.uca_audit.specs.Refusals.{IsFirstRefusal, IsMemory};
 ghost use Rattle.uca_audit.specs.Chaining.{AreTargetsOf, FindsRowsOf, MeetsBelow, Passes};
 
 use crate::base_images::known_weights;
+use crate::conditions::anchors::anchors_are_there;
 use crate::conditions::placements::Placement;
+use crate::conditions::rows::{rows_are_expected, rows_are_unchanged, weights_are_covered};
+use crate::conditions::weights::{new_weights_are_fresh, targets_are_nearest};
 use crate::conditions::{
-    anchors_are_there, base_is_well_formed, headers_are_same, new_weights_are_fresh,
-    rows_are_expected, rows_are_present, rows_are_unchanged, tailored_is_well_formed,
-    targets_are_nearest, targets_are_placed, weights_are_covered,
+    base_is_well_formed, headers_are_same, rows_are_present, tailored_is_well_formed,
+    targets_are_placed,
 };
 use crate::inputs::Inputs;
 use crate::targets::Targets;

@@ -8,32 +8,23 @@ ghost use Rattle.uca_tailorings.specs.Laws.{ReadsAs};
 ghost use Rattle.uca_tailorings.specs.Tailorings.{tailored_reading};
 ghost use Rattle.uca_audit.specs.Refusals.{number_of};
 ghost use Rattle.uca_audit.specs.Views.{tailoring_in, IsPlacement};
-ghost use Rattle.uca_audit.specs.Chaining.{AreTargetsOf, FindsRowsOf, Settles};
-ghost use Rattle.uca_audit.specs.NewWeights.{HoldsKnown};
+ghost use Rattle.uca_audit.specs.Chaining.{FindsRowsOf, Settles};
 
-mod anchors;
+pub(crate) mod anchors;
 pub(crate) mod placements;
-mod rows;
-mod weights;
+pub(crate) mod rows;
+pub(crate) mod weights;
 
 use crate::inputs::Inputs;
-use crate::targets::Targets;
-use crate::weight_sets::WeightSet;
 use crate::{AuditFault, Condition, Place};
-use anchors::first_without_anchor;
 use placements::{Placement, first_not_placed};
-use rows::{
-    are_same_headers, first_changed, first_extra, first_missing_row, first_missing_target,
-    first_uncovered,
-};
+use rows::{are_same_headers, first_missing_row, first_missing_target};
 use std::alloc::Allocator;
 use uca_check::check;
 use uca_elements::{Collator, Lookup};
-use uca_images::Images;
 use uca_match::Trie;
 use uca_rules::Rules;
 use uca_values::Table;
-use weights::{first_not_fresh, first_not_nearest};
 
 /// Condition 1.
 pub(crate) fn base_is_well_formed<T: Allocator>(inputs: &Inputs<T>) -> Result<(), AuditFault>
@@ -66,38 +57,6 @@ pub(crate) fn headers_are_same<T: Allocator>(inputs: &Inputs<T>) -> Result<(), A
     Err(fault_of(Condition::Header, Place::Nowhere))
 }
 
-/// Condition 4.
-pub(crate) fn weights_are_covered<A: Allocator + Copy, T: Allocator>(
-    inputs: &Inputs<T>,
-    images: &Images<A, T>,
-) -> Result<(), AuditFault>
-    requires { images.now ≡ inputs.now.certificate.now }
-    ensures { Settles (tailoring_in inputs.now) Condition.Uncovered result }
-{
-    match first_uncovered(inputs, images) {
-        None => Ok(()),
-        Some(at) => Err(at_base_row(inputs, Condition::Uncovered, at)),
-    }
-}
-
-/// Condition 5.
-pub(crate) fn rows_are_unchanged<A: Allocator + Copy, T: Allocator>(
-    inputs: &Inputs<T>,
-    tailored: &Trie<A>,
-    targets: &Targets<A>,
-    images: &Images<A, T>,
-) -> Result<(), AuditFault>
-    requires rows { FindsRowsOf (tailoring_in inputs.now).tailored (⟦<Trie<A> as Lookup>⟧.content tailored.now) }
-    requires targets { AreTargetsOf (tailoring_in inputs.now).relations targets.now }
-    requires images { images.now ≡ inputs.now.certificate.now }
-    ensures { Settles (tailoring_in inputs.now) Condition.RowChanged result }
-{
-    match first_changed(inputs, tailored, targets, images) {
-        None => Ok(()),
-        Some(at) => Err(at_base_row(inputs, Condition::RowChanged, at)),
-    }
-}
-
 /// Condition 6.
 pub(crate) fn rows_are_present<A: Allocator + Copy, T: Allocator>(
     inputs: &Inputs<T>,
@@ -112,39 +71,6 @@ pub(crate) fn rows_are_present<A: Allocator + Copy, T: Allocator>(
     match first_missing_target(inputs, tailored) {
         None => Ok(()),
         Some(at) => Err(at_relation(inputs, Condition::RowMissing, at)),
-    }
-}
-
-/// Condition 7.
-pub(crate) fn rows_are_expected<A: Allocator + Copy, T: Allocator>(
-    alloc: A,
-    inputs: &Inputs<T>,
-    targets: &Targets<A>,
-) -> Result<(), AuditFault>
-    requires { AreTargetsOf (tailoring_in inputs.now).relations targets.now }
-    ensures { Settles (tailoring_in inputs.now) Condition.RowExtra result }
-{
-    match first_extra(alloc, inputs, targets)? {
-        None => Ok(()),
-        Some(at) => Err(fault_of(
-            Condition::RowExtra,
-            Place::TailoredRow(row_number(inputs.tailored, at)),
-        )),
-    }
-}
-
-/// Condition 8.
-pub(crate) fn anchors_are_there<A: Allocator + Copy, T: Allocator>(
-    alloc: A,
-    inputs: &Inputs<T>,
-    collator: &Collator<Trie<A>, T>,
-) -> Result<(), AuditFault>
-    requires { ReadsAs (collation_of ⟦<Trie<A> as Lookup>⟧.content collator.now) (tailored_reading (tailoring_in inputs.now)) }
-    ensures { Settles (tailoring_in inputs.now) Condition.Anchor result }
-{
-    match first_without_anchor(alloc, inputs, collator)? {
-        None => Ok(()),
-        Some(at) => Err(at_relation(inputs, Condition::Anchor, at)),
     }
 }
 
@@ -166,45 +92,23 @@ pub(crate) fn targets_are_placed<A: Allocator + Copy, T: Allocator>(
     }
 }
 
-/// Condition 10.
-pub(crate) fn new_weights_are_fresh<A: Allocator + Copy, T: Allocator>(
-    alloc: A,
-    inputs: &Inputs<T>,
-    placements: &[Placement],
-    known: &WeightSet<A>,
-) -> Result<(), AuditFault>
-    requires placed { AllZip (IsPlacement (tailoring_in inputs.now)) (tailoring_in inputs.now).relations placements.now }
-    requires known { HoldsKnown (tailoring_in inputs.now) known.now }
-    ensures { Settles (tailoring_in inputs.now) Condition.NotFresh result }
-{
-    match first_not_fresh(alloc, inputs, placements, known)? {
-        None => Ok(()),
-        Some(at) => Err(at_relation(inputs, Condition::NotFresh, at)),
-    }
-}
-
-/// Condition 11.
-pub(crate) fn targets_are_nearest<A: Allocator + Copy, T: Allocator>(
-    inputs: &Inputs<T>,
-    placements: &[Placement],
-    known: &mut WeightSet<A>,
-) -> Result<(), AuditFault>
-    requires placed { AllZip (IsPlacement (tailoring_in inputs.now)) (tailoring_in inputs.now).relations placements.now }
-    requires known { HoldsKnown (tailoring_in inputs.now) known.old }
-    ensures { Settles (tailoring_in inputs.now) Condition.NotNearest result }
-{
-    match first_not_nearest(inputs, placements, known) {
-        None => Ok(()),
-        Some(at) => Err(at_relation(inputs, Condition::NotNearest, at)),
-    }
-}
-
 /// The error of a condition at the row of the base with this index.
 fn at_base_row<T: Allocator>(inputs: &Inputs<T>, condition: Condition, at: usize) -> AuditFault
     requires { at < length (tailoring_in inputs.now).base.rows }
     ensures { result ≡ record { number = number_of condition; place = Place.BaseRow (at + 1) } }
 {
     fault_of(condition, Place::BaseRow(row_number(inputs.base, at)))
+}
+
+/// The error of a condition at the tailored row with this index.
+fn at_tailored_row<T: Allocator>(inputs: &Inputs<T>, condition: Condition, at: usize) -> AuditFault
+    requires { at < length (tailoring_in inputs.now).tailored.rows }
+    ensures { result ≡ record { number = number_of condition; place = Place.TailoredRow (at + 1) } }
+{
+    fault_of(
+        condition,
+        Place::TailoredRow(row_number(inputs.tailored, at)),
+    )
 }
 
 /// The error of a condition at the relation with this index.

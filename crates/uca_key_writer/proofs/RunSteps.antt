@@ -11,7 +11,7 @@ use Rattle.uca_text.specs.Texts.{nfd_text}
 use Rattle.uca_elements.specs.Collations.{Collation, elements_of}
 use Rattle.uca_plain.specs.declared.plain.Known.{Known}
 use Rattle.uca_key_writer.specs.declared.pieces.Piece.{Piece}
-use Rattle.uca_key_writer.specs.declared.key_buffer.Reading.{Reading}
+use Rattle.uca_key_writer.specs.declared.pieces.Reading.{Reading}
 use Rattle.uca_key_writer.specs.LevelBuffers.{LevelState, HoldsLevels}
 use Rattle.uca_plain.specs.PlainPoints.{IsTrueEntry}
 use Rattle.uca_key_writer.specs.Pieces.{points_by, piece_points, IsTrueAlone, ReadsTo, HasRead}

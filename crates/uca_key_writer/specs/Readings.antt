@@ -4,8 +4,8 @@ use Rattle.std.specs.Bool.{OnTrue}
 use Rattle.uca_weights.specs.declared.Weighting.{Weighting}
 use Rattle.uca_elements.specs.Collations.{Collation}
 use Rattle.uca_key_writer.specs.declared.pieces.Piece.{Piece}
-use Rattle.uca_key_writer.specs.declared.key_buffer.Reading.{Reading}
-use Rattle.uca_key_writer.specs.declared.key_buffer.Reading.TheVariants.{GoesOn, Ended}
+use Rattle.uca_key_writer.specs.declared.pieces.Reading.{Reading}
+use Rattle.uca_key_writer.specs.declared.pieces.Reading.TheVariants.{GoesOn, Ended}
 use Rattle.uca_key_writer.specs.LevelBuffers.{LevelState}
 use Rattle.uca_key_writer.specs.Pieces.{HasRead}
 use Rattle.uca_key_writer.specs.Runs.{ReadsMore}

@@ -45,8 +45,10 @@ pub(crate) fn push_beginning<L: Lookup, T: Allocator, A: Allocator>(
 {
     piece.clear();
     for point in text.chars() {
-        if !piece.go_on(levels, weighting, collator, points, point)? {
-            return Ok(false);
+        match piece.go_on(levels, weighting, collator, points, point) {
+            Ok(true) => {}
+            Ok(false) => return Ok(false),
+            Err(error) => return Err(error),
         }
         if levels.has_beginning() {
             return Ok(true);
@@ -67,10 +69,10 @@ pub(crate) fn has_short_runs<L: Lookup, T: Allocator, A: Allocator>(
     ensures runs { let c = collation_of L.content collator.now in
         IfOk result (λ short. OnTrue short (HasNoLongRun (map c.properties.class (nfd (chars text.now))))) }
 {
-    if count_runs(collator, points, text, PASSED)? {
-        return Ok(true);
+    match count_runs(collator, points, text, PASSED) {
+        Ok(false) => count_runs(collator, points, text, 0),
+        counted => counted,
     }
-    count_runs(collator, points, text, 0)
 }
 
 // The same, where at most so many bytes after each starter are passed over. They count as the most code points that they may be.

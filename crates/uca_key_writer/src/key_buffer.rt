@@ -15,7 +15,7 @@ ghost use Rattle.uca_key_writer.specs.Readings.{ReadsOn};
 
 use crate::beginnings::{has_short_runs, push_beginning};
 use crate::level_buffers::LevelBuffers;
-use crate::pieces::Piece;
+use crate::pieces::{Piece, Reading};
 use std::alloc::{AllocError, Allocator, Global};
 use std::marker::Model;
 use uca_elements::{Collator, Lookup};
@@ -23,15 +23,6 @@ use uca_plain::plain::{Known, PlainPoints, SHORT_TEXT};
 use uca_plain::points::split_first;
 use uca_text::{Normal, TextFault};
 use uca_weights::{Depth, Weighting};
-
-// How the reading of a text goes on.
-#[derive(Drop)]
-enum Reading<'t> {
-    // with what is left of the text
-    GoesOn(&'t str),
-    // Not at all. Either all weights are added, or a piece was rejected: `false`.
-    Ended(bool),
-}
 
 /// Memory for sort keys (UTS #10, section 7.3) under one weighting and at one depth. Each key that is written replaces
 /// the one before, and the memory is used again.
@@ -163,13 +154,15 @@ impl<A: Allocator> KeyBuffer<A> {
         ensures weighting { self.new.weighting ≡ self.old.weighting }
         ensures depth { self.new.depth ≡ self.old.depth }
     {
-        let accepted = self.write_pieces(collator, points, piece, text)?;
-        if accepted {
-            return Ok(());
+        match self.write_pieces(collator, points, piece, text) {
+            Ok(true) => Ok(()),
+            Ok(false) => {
+                normal.renew(text, collator.data)?;
+                self.write_text(collator, normal)?;
+                Ok(())
+            }
+            Err(_) => Err(TextFault::Memory),
         }
-        normal.renew(text, collator.data)?;
-        self.write_text(collator, normal)?;
-        Ok(())
     }
 
     /// Writes at least the first sixteen bytes of the key of a text, over the key that was there, and returns `true`. A shorter
@@ -199,15 +192,17 @@ impl<A: Allocator> KeyBuffer<A> {
             return Ok(false);
         }
         self.levels.clear();
-        if !push_beginning(
+        match push_beginning(
             &mut self.levels,
             self.weighting,
             collator,
             points,
             piece,
             text,
-        )? {
-            return Ok(false);
+        ) {
+            Ok(true) => {}
+            Ok(false) => return Ok(false),
+            Err(error) => return Err(error),
         }
         if self.levels.has_beginning() {
             self.levels.join_beginning()?;
@@ -263,9 +258,10 @@ fn push_pieces<L: Lookup, T: Allocator, A: Allocator>(
             rest = piece.go_on_bound(points, point, known.is_leaf(), more)?;
             continue;
         }
-        match push_plain(levels, weighting, collator, points, piece, known, more)? {
-            Reading::GoesOn(after) => rest = after,
-            Reading::Ended(accepted) => return Ok(accepted),
+        match push_plain(levels, weighting, collator, points, piece, known, more) {
+            Ok(Reading::GoesOn(after)) => rest = after,
+            Ok(Reading::Ended(accepted)) => return Ok(accepted),
+            Err(error) => return Err(error),
         }
     }
     piece.end(levels, weighting, collator, points)
@@ -289,11 +285,9 @@ fn push_plain<'t, L: Lookup, T: Allocator, A: Allocator>(
     ensures read { let c = collation_of L.content collator.now in (xs : List ℕ) → ReadsTo c weighting xs levels.old piece.old →
         IfOk result (ReadsOn c weighting (xs ++ known.point ∷ []) text.now levels.new piece.new) }
 {
-    if !piece.end(levels, weighting, collator, points)? {
-        return Ok(Reading::Ended(false));
-    }
-    match piece.run_on(levels, weighting, points, known, text)? {
-        Some(rest) => Ok(Reading::GoesOn(rest)),
-        None => Ok(Reading::Ended(true)),
+    match piece.end(levels, weighting, collator, points) {
+        Ok(true) => piece.run_on(levels, weighting, points, known, text),
+        Ok(false) => Ok(Reading::Ended(false)),
+        Err(error) => Err(error),
     }
 }

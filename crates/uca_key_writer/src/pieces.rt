@@ -1,6 +1,6 @@
 //! `Piece`: a piece of a text, which is cut before each plain code point.
 
-ghost use Rattle.std.specs.Prelude.{◌≡◌, ℕ, [], ◌∷◌, ◌++◌, List, Some, None, chars, map, IfOk, OnOk, MatchOption};
+ghost use Rattle.std.specs.Prelude.{◌≡◌, ℕ, [], ◌∷◌, ◌++◌, List, Some, None, chars, map, IfOk, OnOk};
 ghost use Rattle.std.specs.Bool.{OnTrue};
 ghost use Rattle.unicode_normalization.specs.Forms.{nfd};
 ghost use Rattle.uca_weights.specs.declared.Element.{Element};
@@ -12,6 +12,7 @@ ghost use Rattle.uca_key_writer.specs.LevelBuffers.{LevelState, HoldsLevels};
 ghost use Rattle.uca_key_writer.specs.Pieces.{piece_points, ReadsTo, HasRead};
 ghost use Rattle.uca_plain.specs.Plain.{elements_alone};
 ghost use Rattle.uca_plain.specs.PlainPoints.{IsTrueEntry, AreTrueEntries};
+ghost use Rattle.uca_key_writer.specs.Readings.{ReadsOn};
 ghost use Rattle.uca_key_writer.specs.Runs.{ReadsMore, ReadsUpTo};
 
 use crate::level_buffers::LevelBuffers;
@@ -21,6 +22,15 @@ use uca_elements::{Collator, Lookup};
 use uca_plain::plain::{Known, PlainPoints};
 use uca_text::{Normal, TextFault};
 use uca_weights::Weighting;
+
+/// How the reading of a text goes on.
+#[derive(Drop)]
+pub(crate) enum Reading<'t> {
+    /// With what is left of the text.
+    GoesOn(&'t str),
+    /// Not at all. Either all weights are added, or a piece was rejected: `false`.
+    Ended(bool),
+}
 
 /// The code points of a text from its last plain one on.
 #[derive(Drop)]
@@ -126,17 +136,23 @@ impl Piece {
     {
         let known = points.get(collator, point)?;
         if known.is_bound() {
-            self.push(point, known.is_leaf())?;
-            return Ok(true);
+            return match self.push(point, known.is_leaf()) {
+                Ok(()) => Ok(true),
+                Err(error) => Err(error),
+            };
         }
-        let accepted = self.end(levels, weighting, collator, points)?;
-        self.begin(known);
-        Ok(accepted)
+        match self.end(levels, weighting, collator, points) {
+            Ok(accepted) => {
+                self.begin(known);
+                Ok(accepted)
+            }
+            Err(error) => Err(error),
+        }
     }
 
     /// Goes on by a plain code point and by those that come next in the text and were met. Their weights are added to the
-    /// levels, but not those of the last, which is the piece then. Returns what comes after them, or none if they end the
-    /// text: all weights are added then, and the piece is unspecified.
+    /// levels, but not those of the last, which is the piece then, unless they end the text: all weights are added then, and the
+    /// piece is unspecified.
     #[inline(always)]
     pub(crate) fn run_on<'t, A: Allocator>(
         &mut self,
@@ -145,17 +161,17 @@ impl Piece {
         points: &PlainPoints<A>,
         first: Known,
         text: &'t str,
-    ) -> Result<Option<&'t str>, AllocError>
+    ) -> Result<Reading<'t>, AllocError>
         ensures { (c : Collation) (xs : List ℕ) → AreTrueEntries c points.now.entries.items → ReadsUpTo c weighting xs levels.old first →
-            IfOk result (λ rest. MatchOption rest (HasRead c weighting (xs ++ chars text.now) levels.new)
-            (λ rest. ReadsMore c weighting xs text.now rest.now levels.new self.new)) }
+            IfOk result (ReadsOn c weighting xs text.now levels.new self.new) }
     {
-        match levels.push_run(weighting, points, first, text)? {
-            Run::Ended => Ok(None),
-            Run::Stopped(last, rest) => {
-                self.alone = Some(last);
-                Ok(Some(rest))
+        match levels.push_run(weighting, points, first, text) {
+            Ok(Run::Ended) => Ok(Reading::Ended(true)),
+            Ok(Run::Stopped(last, rest)) => {
+                self.begin(last);
+                Ok(Reading::GoesOn(rest))
             }
+            Err(error) => Err(error),
         }
     }
 
@@ -249,8 +265,10 @@ fn push_normal<L: Lookup, T: Allocator, A: Allocator>(
     if chars.len() <= LEAVES && are_leaves(collator, points, leaves, chars)? {
         return levels.push_leaves(weighting, points, chars);
     }
-    push_elements(levels, weighting, collator, text)?;
-    Ok(true)
+    match push_elements(levels, weighting, collator, text) {
+        Ok(()) => Ok(true),
+        Err(error) => Err(error),
+    }
 }
 
 // Whether all code points are leaves. If that is not known yet, those that were not met are found out about.
@@ -267,8 +285,10 @@ fn are_leaves<L: Lookup, T: Allocator, A: Allocator>(
         return Ok(true);
     }
     for point in text {
-        if !points.is_leaf(collator, *point)? {
-            return Ok(false);
+        match points.is_leaf(collator, *point) {
+            Ok(true) => {}
+            Ok(false) => return Ok(false),
+            Err(error) => return Err(error),
         }
     }
     Ok(true)

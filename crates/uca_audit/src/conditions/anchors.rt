@@ -1,20 +1,22 @@
 //! Condition 8: each anchor has an element that a new weight can be put on.
 
-ghost use Rattle.std.specs.Prelude.{◌≡◌, ◌↔◌, IsTrue, IfOk, MatchOption};
+ghost use Rattle.std.specs.Prelude.{◌≡◌, ◌↔◌, IsTrue, MatchOption};
 ghost use Rattle.std.specs.List.{AllByRecursion};
 ghost use Rattle.uca_weights.specs.Kinds.{IsContinuation};
 ghost use Rattle.uca_weights.specs.Levels as weights;
 ghost use Rattle.uca_elements.specs.Collations.{collation_of};
 ghost use Rattle.uca_tailorings.specs.Laws.{ReadsAs};
 ghost use Rattle.uca_tailorings.specs.Placing.{IsIgnorableTo, IsLow};
-ghost use Rattle.uca_tailorings.specs.Tailorings.{HasAnchor, Meets, tailored_reading};
+ghost use Rattle.uca_tailorings.specs.Tailorings.{tailored_reading};
 ghost use Rattle.uca_audit.specs.Anchors.{EndsAt, IsAnchorAt, HasNoAnchor};
-ghost use Rattle.uca_audit.specs.Views.{FindsFirstRelation, tailoring_in};
+ghost use Rattle.uca_audit.specs.Chaining.{Settles};
+ghost use Rattle.uca_audit.specs.Views.{tailoring_in};
 
-use crate::Condition;
+use crate::conditions::at_relation;
 use crate::inputs::Inputs;
 use crate::readings::read_elements;
-use std::alloc::{AllocError, Allocator};
+use crate::{AuditFault, Condition};
+use std::alloc::Allocator;
 use uca_elements::{Collator, Lookup};
 use uca_match::Trie;
 use uca_weights::{Element, Level, Strength};
@@ -22,16 +24,15 @@ use uca_weights::{Element, Level, Strength};
 /// The first primary of implicit weights (UTS #10, section 10.1.3); new primaries are below it.
 const FIRST_IMPLICIT: u16 = 0x8000;
 
-/// The first relation whose anchor has no element that a new weight can be put on, by its index. Relations of identical
+/// Condition 8. The error is at the first relation whose anchor has no element that a new weight can be put on. Relations of identical
 /// strength put none.
-pub(crate) fn first_without_anchor<A: Allocator + Copy, T: Allocator>(
+pub(crate) fn anchors_are_there<A: Allocator + Copy, T: Allocator>(
     alloc: A,
     inputs: &Inputs<T>,
     collator: &Collator<Trie<A>, T>,
-) -> Result<Option<usize>, AllocError>
+) -> Result<(), AuditFault>
     requires { ReadsAs (collation_of ⟦<Trie<A> as Lookup>⟧.content collator.now) (tailored_reading (tailoring_in inputs.now)) }
-    ensures { IfOk result (FindsFirstRelation (Meets (tailoring_in inputs.now) Condition.Anchor)
-        (λ before r after. HasAnchor (tailoring_in inputs.now) r) (tailoring_in inputs.now).relations) }
+    ensures { Settles (tailoring_in inputs.now) Condition.Anchor result }
 {
     let mut elements = Vec::new(alloc);
     for (at, relation) in inputs.rules.relations().iter().enumerate() {
@@ -40,10 +41,10 @@ pub(crate) fn first_without_anchor<A: Allocator + Copy, T: Allocator>(
         };
         read_elements(&mut elements, collator, &relation.anchor)?;
         if anchor_place(level, &elements).is_none() {
-            return Ok(Some(at));
+            return Err(at_relation(inputs, Condition::Anchor, at));
         }
     }
-    Ok(None)
+    Ok(())
 }
 
 /// The level at which texts of a strength differ, if there is one.

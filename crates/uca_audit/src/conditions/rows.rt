@@ -1,17 +1,19 @@
 //! Conditions 3 to 7: the headers and the rows of the two tables.
 
-ghost use Rattle.std.specs.Prelude.{◌≡◌, ◌↔◌, IfOk, IsTrue};
+ghost use Rattle.std.specs.Prelude.{◌≡◌, ◌↔◌, IsTrue};
 ghost use Rattle.std.specs.List.{AllByRecursion};
 ghost use Rattle.uca_check.specs.Searches.{FindsFirstWithout};
 ghost use Rattle.uca_elements.specs.Rows.{IsKey};
 ghost use Rattle.uca_tailorings.specs.Tailorings.{IsCovered, IsCoveredRow, IsUnchangedRow, IsPresentRow, IsPresentTarget, IsExpectedRow};
 ghost use Rattle.uca_tailorings.specs.Inputs.{maps_of};
 ghost use Rattle.uca_audit.specs.Views.{FindsFirstRelation, tailoring_in};
-ghost use Rattle.uca_audit.specs.Chaining.{AreTargetsOf, FindsRowsOf};
+ghost use Rattle.uca_audit.specs.Chaining.{AreTargetsOf, FindsRowsOf, Settles};
 
+use crate::conditions::{at_base_row, at_tailored_row};
 use crate::inputs::Inputs;
 use crate::targets::Targets;
-use std::alloc::{AllocError, Allocator};
+use crate::{AuditFault, Condition};
+use std::alloc::Allocator;
 use uca_elements::{Lookup, row_of};
 use uca_images::{Images, are_images};
 use uca_match::Trie;
@@ -41,21 +43,21 @@ fn are_same_ranges(one: &[ImplicitRange], other: &[ImplicitRange]) -> bool
     one == other
 }
 
-/// The first base row with a weight that has no image, by its index.
-pub(crate) fn first_uncovered<A: Allocator + Copy, T: Allocator>(
+/// Condition 4. The error is at the first base row with a weight that has no image.
+pub(crate) fn weights_are_covered<A: Allocator + Copy, T: Allocator>(
     inputs: &Inputs<T>,
     images: &Images<A, T>,
-) -> Option<usize>
+) -> Result<(), AuditFault>
     requires { images.now ≡ inputs.now.certificate.now }
-    ensures { FindsFirstWithout (IsCoveredRow (tailoring_in inputs.now)) (tailoring_in inputs.now).base.rows result }
+    ensures { Settles (tailoring_in inputs.now) Condition.Uncovered result }
 {
     let base = inputs.base;
     for (at, row) in base.rows.iter().enumerate() {
         if !is_covered_row(images, row) {
-            return Some(at);
+            return Err(at_base_row(inputs, Condition::Uncovered, at));
         }
     }
-    None
+    Ok(())
 }
 
 /// Whether each weight of the row has an image.
@@ -79,25 +81,25 @@ fn is_covered<A: Allocator + Copy, T: Allocator>(images: &Images<A, T>, element:
         && images.tertiary.get(element.tertiary).is_some()
 }
 
-/// The first base row whose key is not a target and whose tailored row is there, but is not its image, by its index.
-pub(crate) fn first_changed<A: Allocator + Copy, T: Allocator>(
+/// Condition 5. The error is at the first base row whose key is not a target and whose tailored row is there, but is not its image.
+pub(crate) fn rows_are_unchanged<A: Allocator + Copy, T: Allocator>(
     inputs: &Inputs<T>,
     tailored: &Trie<A>,
     targets: &Targets<A>,
     images: &Images<A, T>,
-) -> Option<usize>
+) -> Result<(), AuditFault>
     requires rows { FindsRowsOf (tailoring_in inputs.now).tailored (⟦<Trie<A> as Lookup>⟧.content tailored.now) }
     requires targets { AreTargetsOf (tailoring_in inputs.now).relations targets.now }
     requires images { images.now ≡ inputs.now.certificate.now }
-    ensures { FindsFirstWithout (IsUnchangedRow (tailoring_in inputs.now)) (tailoring_in inputs.now).base.rows result }
+    ensures { Settles (tailoring_in inputs.now) Condition.RowChanged result }
 {
     let base = inputs.base;
     for (at, row) in base.rows.iter().enumerate() {
         if !is_unchanged(inputs, tailored, targets, images, row) {
-            return Some(at);
+            return Err(at_base_row(inputs, Condition::RowChanged, at));
         }
     }
-    None
+    Ok(())
 }
 
 /// Whether the row's key is a target, or has no tailored row, or its tailored row is the image of the row.
@@ -156,36 +158,36 @@ pub(crate) fn first_missing_target<A: Allocator + Copy, T: Allocator>(
     None
 }
 
-/// The first tailored row whose key is neither a base key nor a target, by its index. An error means that it ran out of memory.
-pub(crate) fn first_extra<A: Allocator + Copy, T: Allocator>(
+/// Condition 7. The error is at the first tailored row whose key is neither a base key nor a target.
+pub(crate) fn rows_are_expected<A: Allocator + Copy, T: Allocator>(
     alloc: A,
     inputs: &Inputs<T>,
     targets: &Targets<A>,
-) -> Result<Option<usize>, AllocError>
+) -> Result<(), AuditFault>
     requires { AreTargetsOf (tailoring_in inputs.now).relations targets.now }
-    ensures { IfOk result (FindsFirstWithout (IsExpectedRow (tailoring_in inputs.now)) (tailoring_in inputs.now).tailored.rows) }
+    ensures { Settles (tailoring_in inputs.now) Condition.RowExtra result }
 {
     let base = Trie::new(alloc, inputs.base)?;
-    Ok(first_unexpected(inputs, &base, targets))
+    rows_are_known(inputs, &base, targets)
 }
 
 /// The same, by a lookup of the base.
-fn first_unexpected<A: Allocator + Copy, T: Allocator>(
+fn rows_are_known<A: Allocator + Copy, T: Allocator>(
     inputs: &Inputs<T>,
     base: &Trie<A>,
     targets: &Targets<A>,
-) -> Option<usize>
+) -> Result<(), AuditFault>
     requires rows { FindsRowsOf (tailoring_in inputs.now).base (⟦<Trie<A> as Lookup>⟧.content base.now) }
     requires targets { AreTargetsOf (tailoring_in inputs.now).relations targets.now }
-    ensures { FindsFirstWithout (IsExpectedRow (tailoring_in inputs.now)) (tailoring_in inputs.now).tailored.rows result }
+    ensures { Settles (tailoring_in inputs.now) Condition.RowExtra result }
 {
     let tailored = inputs.tailored;
     for (at, row) in tailored.rows.iter().enumerate() {
         if !is_expected(inputs, base, targets, row) {
-            return Some(at);
+            return Err(at_tailored_row(inputs, Condition::RowExtra, at));
         }
     }
-    None
+    Ok(())
 }
 
 /// Whether the row's key is a base key or a target.

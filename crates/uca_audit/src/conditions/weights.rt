@@ -4,12 +4,15 @@ ghost use Rattle.std.specs.Prelude.{◌↔◌, ◌⊎◌, ℕ, List, [], ◌∷�
 ghost use Rattle.std.specs.List.{AllZip};
 ghost use Rattle.uca_weights.specs.declared.Level.{Level};
 ghost use Rattle.uca_tailorings.specs.Placing.{IsLow};
-ghost use Rattle.uca_tailorings.specs.Tailorings.{Meets, IsFresh, IsNearest};
+ghost use Rattle.uca_tailorings.specs.Tailorings.{IsFresh, IsNearest};
 ghost use Rattle.uca_audit.specs.declared.conditions.placements.Placement.{Placement};
 ghost use Rattle.uca_audit.specs.WeightSets.{HasWeight};
-ghost use Rattle.uca_audit.specs.Views.{tailoring_in, FindsFirstRelation, IsPlacement};
+ghost use Rattle.uca_audit.specs.Views.{tailoring_in, IsPlacement};
+ghost use Rattle.uca_audit.specs.Chaining.{Settles};
 ghost use Rattle.uca_audit.specs.NewWeights.{HoldsKnown, HoldsNew, IsFreshPlacement, IsNearestPlacement, puts};
 
+use crate::AuditFault;
+use crate::conditions::at_relation;
 use crate::conditions::placements::Placement;
 use crate::inputs::Inputs;
 use crate::weight_sets::WeightSet;
@@ -17,47 +20,45 @@ use std::alloc::{AllocError, Allocator};
 use uca_tailorings::Condition;
 use uca_weights::Level;
 
-/// The index of the first relation whose new weight is known, or is also that of another relation, or is 8000 or more
-/// at level 1.
-pub(crate) fn first_not_fresh<A: Allocator + Copy, T: Allocator>(
+/// Condition 10. The error is at the first relation whose new weight is known, or is also that of another relation, or is 8000 or
+/// more at level 1.
+pub(crate) fn new_weights_are_fresh<A: Allocator + Copy, T: Allocator>(
     alloc: A,
     inputs: &Inputs<T>,
     placements: &[Placement],
     known: &WeightSet<A>,
-) -> Result<Option<usize>, AllocError>
+) -> Result<(), AuditFault>
     requires placed { AllZip (IsPlacement (tailoring_in inputs.now)) (tailoring_in inputs.now).relations placements.now }
     requires known { HoldsKnown (tailoring_in inputs.now) known.now }
-    ensures { IfOk result (λ found. let tailoring = tailoring_in inputs.now in
-        FindsFirstRelation (Meets tailoring Condition.NotFresh) (IsFresh tailoring) tailoring.relations found) }
+    ensures { Settles (tailoring_in inputs.now) Condition.NotFresh result }
 {
     let shared = shared_weights(alloc, placements)?;
     for (at, placement) in placements.iter().enumerate() {
         if !is_fresh(*placement, known, &shared) {
-            return Ok(Some(at));
+            return Err(at_relation(inputs, Condition::NotFresh, at));
         }
     }
-    Ok(None)
+    Ok(())
 }
 
-/// The index of the first relation with a known weight, or the new weight of an earlier relation, between its old and
-/// its new weight. It takes no memory: the new weights are put in with the known ones as the relations go by.
-pub(crate) fn first_not_nearest<A: Allocator + Copy, T: Allocator>(
+/// Condition 11. The error is at the first relation with a known weight, or the new weight of an earlier relation, between its old
+/// and its new weight. It takes no memory: the new weights are put in with the known ones as the relations go by.
+pub(crate) fn targets_are_nearest<A: Allocator + Copy, T: Allocator>(
     inputs: &Inputs<T>,
     placements: &[Placement],
     known: &mut WeightSet<A>,
-) -> Option<usize>
+) -> Result<(), AuditFault>
     requires placed { AllZip (IsPlacement (tailoring_in inputs.now)) (tailoring_in inputs.now).relations placements.now }
     requires known { HoldsKnown (tailoring_in inputs.now) known.old }
-    ensures { let tailoring = tailoring_in inputs.now in
-        FindsFirstRelation (Meets tailoring Condition.NotNearest) (IsNearest tailoring) tailoring.relations result }
+    ensures { Settles (tailoring_in inputs.now) Condition.NotNearest result }
 {
     for (at, placement) in placements.iter().enumerate() {
         if !is_nearest(*placement, known) {
-            return Some(at);
+            return Err(at_relation(inputs, Condition::NotNearest, at));
         }
         add_new(known, *placement);
     }
-    None
+    Ok(())
 }
 
 /// The new weights that two relations or more have.

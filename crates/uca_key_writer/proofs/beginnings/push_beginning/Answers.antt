@@ -7,7 +7,6 @@ use Rattle.std.proofs.lemmas.Iterator.Consumers.{YieldsList-end, YieldsList-so_f
 use Rattle.std.proofs.lemmas.List.{map-id}
 use Rattle.uca_elements.specs.Collations.{collation_of}
 use Rattle.uca_key_writer.specs.Pieces.{ReadsTo, HasRead}
-use Rattle.uca_plain.proofs.Results.{no_result}
 use Rattle.uca_key_writer.proofs.PieceSteps.{begin_text}
 use Rattle.uca_key_writer.proofs.BeginningSteps.{begun_all, begun_early, text_parts}
 use Rattle.uca_key_writer.proofs.beginnings.push_beginning.Goals as goal
@@ -24,7 +23,7 @@ loop-point-preserved g c =
     let collation = collation_of g.L.Lookup.content c.args.collator.now in record {
       entries = c.go_on.ensures.entries;
       reads = subst (λ accepted. OnTrue accepted (ReadsTo collation c.args.weighting (c.loop-point.yielded ++ c.in-Some.point ∷ []) c.go_on.new.levels c.go_on.new.self))
-          c.if-not-branch.false (c.in_ok-go_on.ensures.read c.loop-point.yielded c.loop-point.invariant.reads);
+          c.in-Ok-true.field-0-test (c.in-Ok-true.ensures.read c.loop-point.yielded c.loop-point.invariant.reads);
     }
 
 pub returns-then-has_beginning : goal.returns-then-has_beginning
@@ -33,11 +32,11 @@ returns-then-has_beginning g c =
     let so_far = c.loop-point.invariant in
     let xs = c.loop-point.yielded in
     let all = chars c.args.text.now in
-    let road = YieldsList-from_chars c.args.text.now c.utf8.text cc in
+    let road = YieldsList-from_chars c.args.text.now c.utf8.text (rw c.into_iter-point-iterator.ensures.into_iter_gives c.chars-point-items.ensures.rest) in
     let before = YieldsList-so_far road xs _ c.loop-point.yielded_by in
     let next = YieldsList-turn road xs _ c.loop-point.yielded_by _ _ c.in-Some.point c.in-Some.is c.next.ensures.steps in
     let reads = subst (λ accepted. OnTrue accepted (ReadsTo collation c.args.weighting (xs ++ c.in-Some.point ∷ []) c.go_on.new.levels c.go_on.new.self))
-    c.if-not-branch.false (c.in_ok-go_on.ensures.read xs so_far.reads) in
+    c.in-Ok-true.field-0-test (c.in-Ok-true.ensures.read xs so_far.reads) in
     record {
       entries = c.go_on.ensures.entries;
       begun = begun_early collation c.args.weighting all (xs ++ c.in-Some.point ∷ []) _ c.go_on.new.levels c.go_on.new.self
@@ -48,7 +47,7 @@ pub returns : goal.returns
 returns g c =
     let collation = collation_of g.L.Lookup.content c.args.collator.now in
     let so_far = c.loop-point.invariant in
-    let end = YieldsList-end (YieldsList-from_chars c.args.text.now c.utf8.text cc) c.loop-point.yielded _ c.loop-point.yielded_by _ _ c.in-None.is
+    let end = YieldsList-end (YieldsList-from_chars c.args.text.now c.utf8.text (rw c.into_iter-point-iterator.ensures.into_iter_gives c.chars-point-items.ensures.rest)) c.loop-point.yielded _ c.loop-point.yielded_by _ _ c.in-None.is
     c.next.ensures.steps in
     let all : c.loop-point.yielded ≡ chars c.args.text.now = sym (map-id c.loop-point.yielded) ∙ end.0 in
     record {
@@ -58,8 +57,8 @@ returns g c =
           (c.end.ensures.read c.loop-point.yielded so_far.reads));
     }
 
-pub returns-then-not-branch : goal.returns-then-not-branch
-returns-then-not-branch g c = record { entries = c.go_on.ensures.entries; begun = tt }
+pub returns-in-Ok-false : goal.returns-in-Ok-false
+returns-in-Ok-false g c = record { entries = c.go_on.ensures.entries; begun = tt }
 
-pub returns-in_err-go_on : goal.returns-in_err-go_on
-returns-in_err-go_on g c = record { entries = c.go_on.ensures.entries; begun = no_result c.from_residual.result _ c.from_residual.ensures.0 }
+pub returns-in-Err : goal.returns-in-Err
+returns-in-Err g c = record { entries = c.go_on.ensures.entries; begun = tt }

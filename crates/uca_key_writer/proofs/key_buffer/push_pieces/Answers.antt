@@ -41,28 +41,28 @@ loop-point-preserved g c =
       entries = c.push_plain.ensures.entries;
       reads = piece_goes_on collation c.args.weighting c.args.text.now c.loop-point.rest.now c.in-Some.more.now _ c.in-Some.point _ _ c.loop-point.piece _
           so_far c.in-Some.ensures
-          (read_on collation c.args.weighting so_far.more _ _ c.in-Some.point c.in-Some.more.now _ _ _ c.in_ok-known.ensures.known.0 c.in-GoesOn.is
-          (c.in_ok-after.ensures.read so_far.more so_far.reads));
+          (read_on collation c.args.weighting so_far.more _ _ c.in-Some.point c.in-Some.more.now _ _ _ c.in_ok-known.ensures.known.0 c.in-Ok-GoesOn.field-0-is
+          (c.in-Ok-GoesOn.ensures.read so_far.more so_far.reads));
     }
 
 pub loop-point-smaller : goal.loop-point-smaller
 loop-point-smaller g c =
     let collation = collation_of g.L.Lookup.content c.args.collator.now in
     let so_far = c.loop-point.invariant.reads in
-    let ran = read_on collation c.args.weighting so_far.more _ _ c.in-Some.point c.in-Some.more.now _ _ _ c.in_ok-known.ensures.known.0 c.in-GoesOn.is
-    (c.in_ok-after.ensures.read so_far.more so_far.reads) in
+    let ran = read_on collation c.args.weighting so_far.more _ _ c.in-Some.point c.in-Some.more.now _ _ _ c.in_ok-known.ensures.known.0 c.in-Ok-GoesOn.field-0-is
+    (c.in-Ok-GoesOn.ensures.read so_far.more so_far.reads) in
     less_to_read _ _ _ c.in-Some.point ran.more c.in-Some.ensures ran.split
 
-pub returns-in-Ended : goal.returns-in-Ended
-returns-in-Ended g c =
+pub returns-in-Ok-Ended : goal.returns-in-Ok-Ended
+returns-in-Ok-Ended g c =
     let collation = collation_of g.L.Lookup.content c.args.collator.now in
     let so_far = c.loop-point.invariant.reads in
     record {
       entries = c.push_plain.ensures.entries;
       read = text_ends collation c.args.weighting c.args.text.now c.loop-point.rest.now c.in-Some.more.now c.in-Some.point _ _ c.loop-point.piece
-          c.in-Ended.accepted so_far c.in-Some.ensures
-          (read_on collation c.args.weighting so_far.more _ _ c.in-Some.point c.in-Some.more.now _ _ _ c.in_ok-known.ensures.known.0 c.in-Ended.is
-          (c.in_ok-after.ensures.read so_far.more so_far.reads));
+          c.in-Ok-Ended.accepted so_far c.in-Some.ensures
+          (read_on collation c.args.weighting so_far.more _ _ c.in-Some.point c.in-Some.more.now _ _ _ c.in_ok-known.ensures.known.0 c.in-Ok-Ended.field-0-is
+          (c.in-Ok-Ended.ensures.read so_far.more so_far.reads));
     }
 
 pub returns-in_err-known : goal.returns-in_err-known
@@ -71,8 +71,5 @@ returns-in_err-known g c = record { entries = c.get.ensures.entries; read = no_r
 pub returns-in_err-rest : goal.returns-in_err-rest
 returns-in_err-rest g c = record { entries = c.get.ensures.entries; read = no_result c.from_residual-in_err-rest.result _ c.from_residual-in_err-rest.ensures.0 }
 
-pub returns-in_err-after : goal.returns-in_err-after
-returns-in_err-after g c = record {
-  entries = c.push_plain.ensures.entries;
-  read = no_result c.from_residual-in_err-after.result _ c.from_residual-in_err-after.ensures.0;
-}
+pub returns-in-Err : goal.returns-in-Err
+returns-in-Err g c = record { entries = c.push_plain.ensures.entries; read = tt }

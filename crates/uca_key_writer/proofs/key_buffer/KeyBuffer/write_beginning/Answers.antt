@@ -16,8 +16,8 @@ push_beginning-requires-clause-empty g c = c.clear.ensures c.self.inside.weighti
 pub returns-then-text-gt-SHORT_TEXT : goal.returns-then-text-gt-SHORT_TEXT
 returns-then-text-gt-SHORT_TEXT g c = record { entries = c.requires; beginning = tt; accepted = tt; weighting = refl; depth = refl }
 
-pub returns-then-not-branch : goal.returns-then-not-branch
-returns-then-not-branch g c = record {
+pub returns-in-Ok-false : goal.returns-in-Ok-false
+returns-in-Ok-false g c = record {
   entries = c.push_beginning.ensures.entries;
   beginning = tt;
   accepted = tt;
@@ -34,11 +34,11 @@ returns-in-Identical g c = record {
   depth = ap (λ (s : KeyState). s.depth) c.self.view_is;
 }
 
-pub returns-in_err-push_beginning : goal.returns-in_err-push_beginning
-returns-in_err-push_beginning g c = record {
+pub returns-in-Err : goal.returns-in-Err
+returns-in-Err g c = record {
   entries = c.push_beginning.ensures.entries;
-  beginning = no_result c.from_residual.result _ c.from_residual.ensures.0;
-  accepted = no_result c.from_residual.result _ c.from_residual.ensures.0;
+  beginning = tt;
+  accepted = tt;
   weighting = ap (λ (s : KeyState). s.weighting) c.self.view_is;
   depth = ap (λ (s : KeyState). s.depth) c.self.view_is;
 }
@@ -46,8 +46,8 @@ returns-in_err-push_beginning g c = record {
 pub returns-in_err-join_beginning : goal.returns-in_err-join_beginning
 returns-in_err-join_beginning g c = record {
   entries = c.push_beginning.ensures.entries;
-  beginning = no_result c.from_residual-in_err-join_beginning.result _ c.from_residual-in_err-join_beginning.ensures.0;
-  accepted = no_result c.from_residual-in_err-join_beginning.result _ c.from_residual-in_err-join_beginning.ensures.0;
+  beginning = no_result c.from_residual.result _ c.from_residual.ensures.0;
+  accepted = no_result c.from_residual.result _ c.from_residual.ensures.0;
   weighting = ap (λ (s : KeyState). s.weighting) c.self.view_is;
   depth = ap (λ (s : KeyState). s.depth) c.self.view_is;
 }
@@ -66,7 +66,7 @@ returns-then-has_beginning g c =
     let collation = collation_of g.L.Lookup.content c.args.collator.now in
     let xs = chars c.args.text.now in
     let levels = c.push_beginning.new.levels in
-    let begun = subst (λ accepted. OnTrue accepted (HasBegun collation c.self.inside.weighting xs levels)) c.if-not-branch.false c.in_ok-push_beginning.ensures.begun in
+    let begun = subst (λ accepted. OnTrue accepted (HasBegun collation c.self.inside.weighting xs levels)) c.in-Ok-true.field-0-test c.in-Ok-true.ensures.begun in
     record {
       entries = c.has_short_runs.ensures.entries;
       beginning = beginning_if_begun collation _ c.args.self.now xs _ levels c.has_short_runs.result c.self.view_is begun c.if-has_beginning.ensures
@@ -81,7 +81,7 @@ returns-in_ok-join-in-Weights g c =
     let collation = collation_of g.L.Lookup.content c.args.collator.now in
     let xs = chars c.args.text.now in
     let levels = c.push_beginning.new.levels in
-    let begun = subst (λ accepted. OnTrue accepted (HasBegun collation c.self.inside.weighting xs levels)) c.if-not-branch.false c.in_ok-push_beginning.ensures.begun in
+    let begun = subst (λ accepted. OnTrue accepted (HasBegun collation c.self.inside.weighting xs levels)) c.in-Ok-true.field-0-test c.in-Ok-true.ensures.begun in
     record {
       entries = c.push_beginning.ensures.entries;
       beginning = whole_if_begun collation _ c.args.self.now xs _ levels c.self.view_is c.in-Weights.is begun c.if-has_beginning.ensures c.in_ok-join-in-Weights.ensures;

@@ -1,10 +1,14 @@
-use Rattle.std.proofs.Common.{ap, sym, ◌∙◌}
+use Rattle.std.proofs.Common.{ap, sym, ◌∙◌, inl, subst, ◌<◌, List, length}
 use Rattle.std.proofs.lemmas.Bool.{false≢true}
-use Rattle.uca_values.specs.Content.{TableContent}
+use Rattle.uca_values.specs.Content.{Entry, TableContent}
 use Rattle.uca_tailorings.specs.Tailorings.{IsExpectedRow}
+use Rattle.uca_tailorings.specs.declared.conditions.Condition.TheVariants.{RowExtra}
+use Rattle.uca_check.specs.WellFormed.{IsFirstWithout}
+use Rattle.uca_audit.specs.declared.faults.Place.TheVariants.{TailoredRow}
 use Rattle.uca_audit.specs.Views.{tailoring_in}
+use Rattle.uca_audit.proofs.FirstRelations.{fails_at_row}
 use Rattle.uca_images.proofs.FirstRows.{row_further, row_here, rows_whole}
-use Rattle.uca_audit.proofs.conditions.rows.first_unexpected.Goals as goal
+use Rattle.uca_audit.proofs.conditions.rows.rows_are_known.Goals as goal
 
 pub loop-at-preserved : goal.loop-at-preserved
 loop-at-preserved g c =
@@ -12,12 +16,16 @@ loop-at-preserved g c =
     row_further (IsExpectedRow t) c.deref-row-items.result.now t.tailored.rows (c.deref-row-items.ensures.value ∙ ap (λ (b : TableContent). b.rows) c.tailored.view_is)
     c.loop-at.at c.row-item.result c.loop-at-test.true c.row-item.is c.loop-at.invariant (c.is_expected.ensures.0 c.if-not-is_expected.false)
 
+pub at_tailored_row-requires : goal.at_tailored_row-requires
+at_tailored_row-requires g c = subst (λ (l : List Entry). c.loop-at.at < length l) (c.deref-row-items.ensures.value ∙ ap (λ (b : TableContent). b.rows) c.tailored.view_is) c.loop-at-test.true
+
 pub returns-then-not-is_expected : goal.returns-then-not-is_expected
 returns-then-not-is_expected g c =
     let t = tailoring_in c.args.inputs.now in
-    row_here (IsExpectedRow t) c.deref-row-items.result.now t.tailored.rows (c.deref-row-items.ensures.value ∙ ap (λ (b : TableContent). b.rows) c.tailored.view_is)
+    let first = row_here (IsExpectedRow t) c.deref-row-items.result.now t.tailored.rows (c.deref-row-items.ensures.value ∙ ap (λ (b : TableContent). b.rows) c.tailored.view_is)
     c.loop-at.at c.row-item.result c.loop-at-test.true c.row-item.is c.loop-at.invariant
-    (λ has. false≢true (sym c.if-not-is_expected.true ∙ c.is_expected.ensures.1 has))
+    (λ has. false≢true (sym c.if-not-is_expected.true ∙ c.is_expected.ensures.1 has)) in
+    inl (fails_at_row t RowExtra TailoredRow (IsFirstWithout (IsExpectedRow t) t.tailored.rows) c.loop-at.at _ c.at_tailored_row.ensures first.1 (λ place at. at))
 
 pub returns : goal.returns
 returns g c =

@@ -2,7 +2,7 @@ use Rattle.std.proofs.Common.{take}
 use Rattle.std.specs.List.{AllByRecursion}
 use Rattle.uca_tailorings.specs.Tailorings.{HasAnchor}
 use Rattle.uca_audit.specs.Views.{tailoring_in}
-use Rattle.uca_audit.proofs.conditions.anchors.first_without_anchor.Given as goal
+use Rattle.uca_audit.proofs.conditions.anchors.anchors_are_there.Given as goal
 
 abbrev pub invariant-loop-at : goal.invariant-loop-at
 invariant-loop-at g l = AllByRecursion (HasAnchor (tailoring_in l.inputs)) (take l.at l.relation-items)

@@ -4,7 +4,7 @@ use Rattle.uca_tailorings.specs.Tailorings.{IsNearest}
 use Rattle.uca_audit.specs.Views.{tailoring_in}
 use Rattle.uca_audit.specs.NewWeights.{HoldsKnownAndNew}
 use Rattle.uca_audit.proofs.Passes.{AllBelow}
-use Rattle.uca_audit.proofs.conditions.weights.first_not_nearest.Given as goal
+use Rattle.uca_audit.proofs.conditions.weights.targets_are_nearest.Given as goal
 
 abbrev pub invariant-loop-at : goal.invariant-loop-at
 invariant-loop-at g l =
