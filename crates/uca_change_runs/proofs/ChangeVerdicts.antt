@@ -1,8 +1,12 @@
 -- What a run of audit-changes returns for a change, and what went out of its line.
-use Rattle.std.specs.Prelude.{◌≡◌, ℕ, Bool, List, true, false, Result, Ok, Err}
-use Rattle.std.proofs.Common.{refl, subst, sym, true≢false}
+use Rattle.std.specs.Prelude.{◌≡◌, ◌⊎◌, ℕ, Bool, List, true, false, Result, Ok, Err}
+use Rattle.std.proofs.Common.{inl, inr, refl, subst, sym, true≢false}
 use Rattle.uca_weights.specs.Streams.{SinkState}
 use Rattle.uca_changes.specs.Changes.{Change, IsAcceptedChange}
+use Rattle.uca_changes.specs.declared.conditions.ChangeCondition.{ChangeCondition}
+use Rattle.uca_changes.specs.declared.faults.ChangeFault.TheVariants as change_faults
+use Rattle.uca_changes.specs.declared.faults.ChangePlace.{ChangePlace}
+use Rattle.uca_editions.specs.ChangeRefusals.{IsFirstRefusal}
 use Rattle.uca_editions.proofs.NotAccepted.{refused_not_accepted}
 use Rattle.uca_run_parts.specs.declared.faults.RunFault.{RunFault}
 use Rattle.uca_run_parts.specs.declared.faults.RunFault.TheVariants.{File, Memory, Write}
@@ -14,6 +18,13 @@ use Rattle.uca_change_runs.specs.AuditRun.{AcceptsOrStops, IsVerdict, RunsAudit}
 verdict_of_accepted : (change : Change) (verdict : Bool) (line : List ℕ) → IsVerdict change verdict line → IsAcceptedChange change → verdict ≡ true
 verdict_of_accepted change true line is accepted = refl
 verdict_of_accepted change false line is accepted = absurd (refused_not_accepted change is.0 is.1 accepted)
+
+-- a condition that is not met is no lack of memory
+pub refusal_of_not_met : (change : Change) (condition : ChangeCondition) (place : ChangePlace)
+    → IsFirstRefusal change (change_faults.NotMet condition place) ⊎ (change_faults.NotMet condition place ≡ change_faults.Memory)
+    → IsFirstRefusal change (change_faults.NotMet condition place)
+refusal_of_not_met change condition place (inl refusal) = refusal
+refusal_of_not_met change condition place (inr memory) = let never : ⊥ = cc in absurd never
 
 module _ (change : Change) (out out_new : SinkState) where
   -- the line of a verdict did not go out whole

@@ -32,7 +32,14 @@ fn range_place(ranges: &[CodePointRange], point: char) -> usize
 pub(crate) fn is_among(points: &[char], point: char) -> bool
     ensures { IsTrue result ↔ Contains points.now point }
 {
-    points.iter().rev().any(|other| *other == point)
+    let mut at = points.len();
+    while at > 0 {
+        at -= 1;
+        if points[at] == point {
+            return true;
+        }
+    }
+    false
 }
 
 /// Whether a text that begins with the code point occurs in order in the code points. The texts rise.

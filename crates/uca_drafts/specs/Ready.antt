@@ -1,12 +1,16 @@
 -- When one more relation can be read and its row put in its position. Only clauses inside this crate cite this file.
-use Rattle.std.specs.Prelude.{◌≡◌, ◌⊎◌, ℕ, ◌+◌, ◌≤◌, List, ◌++◌, length, false, Err}
+use Rattle.std.specs.Prelude.{◌≡◌, ◌⊎◌, ℕ, ◌+◌, ◌<◌, ◌≤◌, List, [], ◌∷◌, ◌++◌, length, slice_set, false, Some, Result, Ok, Err, MatchResult}
 use Rattle.uca_values.specs.Content.{properties_of}
 use Rattle.uca_text.specs.Texts.{NfdText}
 use Rattle.uca_rules.specs.declared.relations.Relation.{Relation}
 use Rattle.uca_elements.specs.Positions.{Positions, is_placed, place_at}
 use Rattle.uca_plans.specs.Drafts.{DraftRow, draft_elements}
 use Rattle.uca_plans.specs.Keys.{keys_in, is_among, read_over, IsTextOf}
-use Rattle.uca_plans.specs.Plans.{Basis, Drafting, with_relation}
+use Rattle.uca_plans.specs.declared.drafts.DraftElement.{DraftElement}
+use Rattle.uca_plans.specs.declared.drafts.DraftWeight.TheVariants.{New}
+use Rattle.uca_plans.specs.declared.drafts.Insertion.{Insertion}
+use Rattle.uca_plans.specs.declared.faults.TailorKind.{TailorKind}
+use Rattle.uca_plans.specs.Plans.{Basis, Drafting, drafted, with_relation}
 use Rattle.uca_plans.specs.declared.faults.TailorFault.{TailorFault}
 use Rattle.uca_plans.specs.Tailors.{basis_of, out_of_memory}
 use Rattle.uca_drafts.specs.declared.readings.Reader.{Reader}
@@ -37,3 +41,15 @@ pub record IsReady (basis : Basis) (places : Positions) (rows : List DraftRow) (
 abbrev pub IsRejected : Basis → Drafting → ℕ → Relation → TailorFault → Type 0
 IsRejected basis so_far n r fault =
     ((with_relation basis so_far n r ≡ Err fault.kind) × (fault.relation ≡ n + 1)) ⊎ (fault ≡ out_of_memory)
+
+-- The row of a relation's target with these elements takes this position, or it is rejected: so it is with one more relation after n
+-- others, if it gives its target these elements.
+abbrev pub TakesPlace : Basis → List DraftRow → Relation → List DraftElement → Result ℕ TailorKind → Type 0
+TakesPlace basis rows r elements result =
+    (so_far : List Insertion) (n : ℕ) (new : List Insertion)
+    → drafted basis (record { rows = rows; insertions = so_far }) (New n) r ≡ Some (record { elements = elements; insertions = new })
+    → MatchResult result
+    (λ place. (next : Drafting) → (place < length rows → next.rows ≡ slice_set rows place (record { key = r.target.points; elements = elements }))
+    → (length rows ≤ place → next.rows ≡ rows ++ record { key = r.target.points; elements = elements } ∷ []) → next.insertions ≡ so_far ++ new
+    → with_relation basis (record { rows = rows; insertions = so_far }) n r ≡ Ok next)
+    (λ kind. with_relation basis (record { rows = rows; insertions = so_far }) n r ≡ Err kind)

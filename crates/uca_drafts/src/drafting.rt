@@ -12,7 +12,7 @@ ghost use Rattle.uca_plans.specs.Plans.{begun, with_relation, with_relations};
 ghost use Rattle.uca_plans.specs.Tailors.{basis_of, out_of_memory};
 ghost use Rattle.uca_check.specs.WellFormed.{elements_of};
 ghost use Rattle.uca_drafts.specs.Places.{ArePlaces};
-ghost use Rattle.uca_drafts.specs.Ready.{basis_in, ArePlacesWith, IsReady, IsRejected};
+ghost use Rattle.uca_drafts.specs.Ready.{basis_in, ArePlacesWith, IsReady, IsRejected, TakesPlace};
 ghost use Rattle.uca_drafts.specs.Variables.{AreBounds};
 
 use crate::places::{place_of, places_of};
@@ -23,11 +23,11 @@ use crate::variables::{holds_implicit_variable, variable_span};
 use std::alloc::{AllocError, Allocator};
 use std::marker::Model;
 use uca_match::KeyMap;
-use uca_plans::{Insertion, TailorFault, TailorKind};
+use uca_plans::{DraftElement, Insertion, TailorFault, TailorKind};
 use uca_rules::{Relation, Rules};
 use uca_text::Normal;
-use uca_values::limits::{MOST_ELEMENTS, MOST_ROWS};
-use uca_values::{Data, Table};
+use uca_values::limits::MOST_ELEMENTS;
+use uca_values::{Data, Row, Table};
 
 /// The rows of a tailored table before weights are numbered, and where the new weights go. The base rows come first, in
 /// their order, and then those of the targets that are not base keys. It borrows from the base and the rules what they
@@ -48,19 +48,18 @@ impl<'a, A: Allocator> Model for Drafting<'a, A> {
 
 impl<'a, A: Allocator + Copy> Drafting<'a, A> {
     /// The rows of the base alone.
-    fn begun<T: Allocator>(alloc: A, base: &'a Table<T>) -> Result<Drafting<'a, A>, AllocError>
-        ensures rows { IfOk result (λ drafting. drafting.rows ≡ map drafts.row_as_draft base.now.rows) }
+    fn begun<T: Allocator>(alloc: A, base: &'a [Row<T>]) -> Result<Drafting<'a, A>, AllocError>
+        ensures rows { IfOk result (λ drafting. drafting.rows ≡ map drafts.row_as_draft base.now) }
         ensures insertions { IfOk result (λ drafting. drafting.insertions ≡ []) }
-        ensures few { IfOk result (λ drafting. length drafting.rows ≤ MOST_ROWS) }
     {
-        let mut rows = Vec::with_capacity(alloc, base.rows.len())?;
-        for row in &base.rows {
-            rows.push(RowDraft::of_base(row))?;
+        let mut rows = Vec::with_capacity(alloc, base.len())?;
+        match push_base(&mut rows, base) {
+            Ok(()) => Ok(Drafting {
+                rows,
+                insertions: Vec::new(alloc),
+            }),
+            Err(error) => Err(error),
         }
-        Ok(Drafting {
-            rows,
-            insertions: Vec::new(alloc),
-        })
     }
 }
 
@@ -97,24 +96,21 @@ impl<'a, A: Allocator> Drafting<'a, A> {
         ensures added { OnOk result (with_relation (basis_in reader.now) self.old index relation.now ≡ Ok self.new) }
         ensures rejected { IfErr result (IsRejected (basis_in reader.now) self.old index relation.now) }
     {
-        let Some(new) = draft_target(alloc, reader, &self.rows, relation, index)? else {
-            return Err(rejected(TailorKind::Anchor, index));
-        };
-        if needs_prefix(reader, &self.rows, &relation.target) {
-            return Err(rejected(TailorKind::NeedsPrefix, index));
+        let mut elements = Vec::new(alloc);
+        match draft_target(reader, &self.rows, relation, index, &mut elements) {
+            Ok(Some(insertion)) => match place_for(reader, &self.rows, relation, &elements) {
+                Ok(place) => {
+                    let row = RowDraft::of_target(&relation.target, elements);
+                    match self.put(place, row, insertion) {
+                        Ok(()) => Ok(()),
+                        Err(error) => Err(TailorFault::from(error)),
+                    }
+                }
+                Err(kind) => Err(rejected(kind, index)),
+            },
+            Ok(None) => Err(rejected(TailorKind::Anchor, index)),
+            Err(error) => Err(TailorFault::from(error)),
         }
-        let Some(place) = place_of(reader.places, relation.target.chars()) else {
-            return Err(rejected(TailorKind::Limit, index));
-        };
-        if new.elements.len() > MOST_ELEMENTS {
-            return Err(rejected(TailorKind::Limit, index));
-        }
-        if holds_implicit_variable(reader.variables, &new.elements) {
-            return Err(rejected(TailorKind::ImplicitVariable, index));
-        }
-        let row = RowDraft::of_target(&relation.target, new.elements);
-        self.put(place, row, new.insertion)?;
-        Ok(())
     }
 
     /// Puts a row at a position, or after the others, and an insertion, if there is one.
@@ -128,15 +124,58 @@ impl<'a, A: Allocator> Drafting<'a, A> {
         ensures behind { length self.old.rows ≤ place → OnOk result (self.new.rows ≡ self.old.rows ++ row.entry ∷ []) }
         ensures insertions { OnOk result (self.new.insertions ≡ self.old.insertions ++ option_to_list insertion) }
     {
-        if let Some(insertion) = insertion {
-            self.insertions.push(insertion)?;
-        }
         if place < self.rows.len() {
             self.rows[place] = row;
         } else {
             self.rows.push(row)?;
         }
+        if let Some(insertion) = insertion {
+            self.insertions.push(insertion)?;
+        }
         Ok(())
+    }
+}
+
+/// Puts rows of the base, as they are, after those of a list.
+fn push_base<'a, A: Allocator, T: Allocator>(
+    rows: &mut Vec<RowDraft<'a, A>, A>,
+    base: &'a [Row<T>],
+) -> Result<(), AllocError>
+    ensures { OnOk result (rows.new.items ≡ rows.old.items ++ map drafts.row_as_draft base.now) }
+{
+    for row in base {
+        rows.push(RowDraft::of_base(row))?;
+    }
+    Ok(())
+}
+
+/// The position of the row of a relation's target with these elements: that of the row with its key, or one after all rows.
+///
+/// # Errors
+///
+/// Why the row is rejected.
+fn place_for<A: Allocator, T: Allocator>(
+    reader: &Reader<A, T>,
+    rows: &[RowDraft<A>],
+    relation: &Relation,
+    elements: &[DraftElement],
+) -> Result<usize, TailorKind>
+    requires bounds { AreBounds reader.now.variables (elements_of reader.now.base.now.rows) }
+    requires ready { IsReady (basis_in reader.now) (positions reader.now.places.now) rows.now relation.now }
+    ensures { TakesPlace (basis_in reader.now) rows.now relation.now elements.now result }
+{
+    if needs_prefix(reader, rows, &relation.target) {
+        return Err(TailorKind::NeedsPrefix);
+    }
+    let Some(place) = place_of(reader.places, relation.target.chars()) else {
+        return Err(TailorKind::Limit);
+    };
+    if elements.len() > MOST_ELEMENTS {
+        Err(TailorKind::Limit)
+    } else if holds_implicit_variable(reader.variables, elements) {
+        Err(TailorKind::ImplicitVariable)
+    } else {
+        Ok(place)
     }
 }
 
@@ -169,8 +208,14 @@ pub fn draft<'a, A: Allocator + Copy, T: Allocator>(
     // Each new weight has the index of its relation.
     ensures names { IfOk result (λ drafting. AllByRecursion (InsertsBelow (length rules.now)) drafting.insertions) }
 {
-    let places = places_of(alloc, base, rules)?;
-    draft_over(alloc, base, properties, rules, &places)
+    match places_of(alloc, base, rules) {
+        Ok(places) => {
+            let drafting = draft_over(alloc, base, properties, rules, &places);
+            drop(places);
+            drafting
+        }
+        Err(error) => Err(TailorFault::from(error)),
+    }
 }
 
 /// The same, by the positions of the keys.
@@ -194,9 +239,15 @@ fn draft_over<'a, A: Allocator + Copy, T: Allocator>(
         places,
         variables: variable_span(&base.rows),
     };
-    let mut drafting = Drafting::begun(alloc, base)?;
+    let mut drafting = Drafting::begun(alloc, &base.rows)?;
     for (at, relation) in rules.relations().iter().enumerate() {
-        drafting.add(alloc, &reader, relation, at as u32)?;
+        match drafting.add(alloc, &reader, relation, at as u32) {
+            Ok(()) => {}
+            Err(fault) => {
+                drop(drafting);
+                return Err(fault);
+            }
+        }
     }
     Ok(drafting)
 }

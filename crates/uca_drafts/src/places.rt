@@ -29,8 +29,10 @@ pub(crate) fn places_of<A: Allocator + Copy, T: Allocator>(
 ) -> Result<KeyMap<A>, AllocError>
     ensures { IfOk result (λ places. ArePlaces (keys_of base.now.rows) rules.now (positions places)) }
 {
-    let keys = listed_keys(alloc, base, rules.relations())?;
-    KeyMap::new(alloc, &keys)
+    match listed_keys(alloc, base, rules.relations()) {
+        Ok(keys) => KeyMap::new(alloc, &keys),
+        Err(error) => Err(error),
+    }
 }
 
 /// The position of a key, if it has one.
@@ -52,8 +54,14 @@ fn listed_keys<'a, A: Allocator + Copy, T: Allocator>(
     ensures distinct { IfOk result (λ keys. AreDistinctKeys (points_of keys.items)) }
 {
     let keys = key_list(alloc, &base.rows)?;
-    let base_keys = KeyMap::new(alloc, &keys)?;
-    add_targets(keys, &base_keys, relations)
+    match KeyMap::new(alloc, &keys) {
+        Ok(base_keys) => {
+            let all = add_targets(keys, &base_keys, relations);
+            drop(base_keys);
+            all
+        }
+        Err(error) => Err(error),
+    }
 }
 
 /// The keys of a base, and after them the targets that are not among them, as far as a table has room for them.

@@ -87,8 +87,6 @@ impl<'r, A: Allocator, T: Allocator> Reader<'r, A, T> {
     {
         let base = self.base;
         let [first, second] = base.header.implicit(self.properties, point);
-        elements.push(as_draft(true, first))?;
-        elements.push(as_draft(true, second))?;
-        Ok(())
+        elements.extend_from_slice(&[as_draft(true, first), as_draft(true, second)])
     }
 }

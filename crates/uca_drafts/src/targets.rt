@@ -1,6 +1,7 @@
 //! What relations give their targets.
 
 ghost use Rattle.std.specs.Prelude.{◌≡◌, ◌++◌, ◌∷◌, [], ℕ, List, IfOk, OnOk, option_map};
+ghost use Rattle.std.specs.Option.{option_to_list};
 ghost use Rattle.uca_match.specs.Tries.{positions};
 ghost use Rattle.uca_plans.specs.declared.drafts.DraftElement.{DraftElement};
 ghost use Rattle.uca_plans.specs.Drafts.{anchor_part, accepted_part};
@@ -12,65 +13,42 @@ use crate::elements::{draft_weight, level_of, reweighted, take_last, takes_no_we
 use crate::readings::Reader;
 use crate::row_drafts::RowDraft;
 use std::alloc::{AllocError, Allocator};
-use std::marker::Model;
 use uca_plans::{DraftElement, DraftWeight, Insertion};
 use uca_rules::Relation;
 use uca_weights::Level;
 
-/// What a relation gives its target.
-#[derive(Drop)]
-pub(crate) struct TargetDraft<A: Allocator> {
-    /// The elements.
-    pub(crate) elements: Vec<DraftElement, A>,
-    /// Where the new weight goes, if there is one.
-    pub(crate) insertion: Option<Insertion>,
-}
-
-impl<A: Allocator> Model for TargetDraft<A> {
-    ghost use Rattle.std.specs.Option.{option_to_list};
-    ghost use Rattle.uca_plans.specs.Plans as plans;
-
-    ghost Value = { plans.Drafted };
-
-    ghost view = { λ d. record { elements = d.elements.items; insertions = option_to_list d.insertion } };
-}
-
-/// What a relation gives its target, which is read over the rows so far; `None` if the anchor is rejected. New weights
-/// are named by the index of their relation.
+/// Puts the elements that a relation gives its target into an empty list. They are read over the rows so far. Returns where the
+/// new weight goes, if there is one; `None` if the anchor is rejected. New weights are named by the index of their relation.
 ///
 /// # Errors
 ///
 /// An allocation that fails.
 pub(crate) fn draft_target<A: Allocator, T: Allocator>(
-    alloc: A,
     reader: &Reader<A, T>,
     rows: &[RowDraft<A>],
     relation: &Relation,
     index: u32,
-) -> Result<Option<TargetDraft<A>>, AllocError>
+    elements: &mut Vec<DraftElement, A>,
+) -> Result<Option<Option<Insertion>>, AllocError>
+    requires empty { elements.old.items ≡ [] }
     requires places { (more : List (List ℕ)) × ArePlacesWith (positions reader.now.places.now) rows.now more }
     requires alike { ReadsAlike (basis_in reader.now) (positions reader.now.places.now) rows.now relation.now }
-    ensures { IfOk result (λ found. found
+    ensures { IfOk result (λ found. option_map (λ i. record { elements = elements.new.items; insertions = option_to_list i }) found
         ≡ plans.drafted (basis_in reader.now) (record { rows = rows.now; insertions = [] }) (DraftWeight.New index) relation.now) }
 {
-    let mut elements = Vec::new(alloc);
-    reader.read(rows, &relation.anchor, &mut elements)?;
+    reader.read(rows, &relation.anchor, elements)?;
     let Some(level) = level_of(relation.strength) else {
-        read_expansion(reader, rows, relation, &mut elements)?;
-        return Ok(Some(TargetDraft {
-            elements,
-            insertion: None,
-        }));
+        read_expansion(reader, rows, relation, elements)?;
+        return Ok(Some(None));
     };
     let new = DraftWeight::New(index);
-    let Some(insertion) = put_weight(level, relation.before, new, &mut elements)? else {
+    let Some(insertion) = put_weight(level, relation.before, new, elements)? else {
         return Ok(None);
     };
-    read_expansion(reader, rows, relation, &mut elements)?;
-    Ok(Some(TargetDraft {
-        elements,
-        insertion: Some(insertion),
-    }))
+    match read_expansion(reader, rows, relation, elements) {
+        Ok(()) => Ok(Some(Some(insertion))),
+        Err(error) => Err(error),
+    }
 }
 
 /// Puts a new weight on an anchor's last element that has a weight at one of the levels from 1 to this one. Cuts off

@@ -55,7 +55,12 @@ fn widened(span: Option<VariableSpan>, element: Element) -> Option<VariableSpan>
 pub(crate) fn holds_implicit_variable(span: Option<VariableSpan>, elements: &[DraftElement]) -> bool
     ensures { result ≡ list_any (λ e. e.implicit && is_within span e.primary) elements.now }
 {
-    elements.iter().any(|element| element.implicit && is_within(span, element.primary))
+    for element in elements {
+        if element.implicit && is_within(span, element.primary) {
+            return true;
+        }
+    }
+    false
 }
 
 /// Whether a weight of the base is from the least to the greatest primary.

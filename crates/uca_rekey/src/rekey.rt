@@ -85,8 +85,10 @@ fn begin<A: Allocator + Copy, C: Read>(
     ensures before_input { IfErr result (λ _. ended_before_input result ≡ true) }
     ensures failed { HaveFailed (Role.Certificate ∷ []) (certificate.old ∷ []) (certificate.new ∷ []) result }
 {
-    let certificate = read_certificate_file(alloc, certificate)?;
-    begin_by(alloc, certificate, weighting, depth)
+    match read_certificate_file(alloc, certificate) {
+        Ok(certificate) => begin_by(alloc, certificate, weighting, depth),
+        Err(fault) => Err(fault),
+    }
 }
 
 // Begins a run by a certificate.
@@ -99,18 +101,21 @@ fn begin_by<A: Allocator + Copy>(
     ensures { MatchResult result (λ run. IsBegun (mover_of certificate depth weighting) run.mover run.lines run.written)
         (λ fault. fault ≡ RunFault.Memory) }
 {
-    let Ok(mover) = KeyMover::new(alloc, certificate, depth, weighting) else {
-        return Err(RunFault::Memory);
-    };
-    let Ok(lines) = KeyLines::new(alloc) else {
-        return Err(RunFault::Memory);
-    };
-    Ok(RekeyRun {
-        mover,
-        lines,
-        key: Vec::new(alloc),
-        written: WrittenLines::new(),
-    })
+    match KeyMover::new(alloc, certificate, depth, weighting) {
+        Ok(mover) => match KeyLines::new(alloc) {
+            Ok(lines) => Ok(RekeyRun {
+                mover,
+                lines,
+                key: Vec::new(alloc),
+                written: WrittenLines::new(),
+            }),
+            Err(_) => {
+                drop(mover);
+                Err(RunFault::Memory)
+            }
+        },
+        Err(_) => Err(RunFault::Memory),
+    }
 }
 
 /// Puts the stored keys of the lines of `input` through the maps of a certificate, for keys that were made at this depth and under this

@@ -1,9 +1,10 @@
 -- The relations so far are drafted, or the next one is the first that is rejected.
-use Rattle.std.proofs.lemmas.Result.{err_from_is_err_and}
-use Rattle.std.proofs.Common.{◌≡◌, List, Ok, length, sym, ap, subst, ◌∙◌, arith}
+use Rattle.std.proofs.Common.{◌≡◌, List, Ok, length, map, sym, ap, subst, ◌∙◌, arith}
 use Rattle.std.specs.List.{AllByRecursion}
-use Rattle.uca_values.specs.Content.{TableContent, keys_of, properties_of}
+use Rattle.std.proofs.lemmas.List.{length-map}
+use Rattle.uca_values.specs.Content.{TableContent, AreRows, keys_of, properties_of}
 use Rattle.uca_check.specs.WellFormed.{elements_of}
+use Rattle.uca_plans.specs.Drafts.{row_as_draft}
 use Rattle.uca_plans.specs.Plans.{Basis, begun, with_relations}
 use Rattle.uca_plans.specs.Tailors.{basis_of}
 use Rattle.uca_match.specs.Tries.{positions}
@@ -18,7 +19,11 @@ use Rattle.uca_drafts.proofs.Names.{drafts_named, named_below}
 use Rattle.uca_drafts.proofs.drafting.draft_over.Goals as goal
 
 pub loop-at-init : goal.loop-at-init
-loop-at-init g c = none_drafted _ _ c.in_ok-drafting.drafting c.in_ok-drafting.ensures.rows c.in_ok-drafting.ensures.insertions c.in_ok-drafting.ensures.few
+loop-at-init g c =
+    let rows = c.in_ok-drafting.ensures.rows ∙ ap (map row_as_draft) (c.deref-2.ensures.value ∙ ap (λ (t : TableContent). t.rows) c.base.view_is) in
+    let base = subst (λ (t : TableContent). AreRows t.rows) c.base.view_is c.base.invariant in
+    none_drafted _ _ c.in_ok-drafting.drafting rows c.in_ok-drafting.ensures.insertions
+    (omega (arith, base.few, ap length rows, length-map c.args.base.now.rows row_as_draft))
 
 pub overflow_cast-at : goal.overflow_cast-at
 overflow_cast-at g c = omega (arith, c.relations-relation-items.ensures.rules.few, ap length c.relations-relation-items.ensures.value)
@@ -42,7 +47,7 @@ add-requires-clause-ready g c =
 pub loop-at-preserved : goal.loop-at-preserved
 loop-at-preserved g c =
     one_more _ c.relations-relation-items.result.now c.loop-at.at c.relation-item.result c.loop-at.drafting c.add.new.self
-    c.loop-at-test.true c.relation-item.is c.loop-at.invariant c.in_ok-add.ensures.added
+    c.loop-at-test.true c.relation-item.is c.loop-at.invariant c.in-Ok.ensures.added
 
 pub returns-clause-drafted : goal.returns-clause-drafted
 returns-clause-drafted g c =
@@ -58,9 +63,8 @@ returns-clause-names g c =
     (drafts_named basis c.relations-relation-items.result.now c.loop-at.drafting
     (all_drafted basis c.relations-relation-items.result.now c.loop-at.at c.loop-at.drafting c.loop-at-test.false c.loop-at.invariant)))
 
-pub returns-in_err-add-clause-rejected : goal.returns-in_err-add-clause-rejected
-returns-in_err-add-clause-rejected g c =
+pub returns-in-Err-clause-rejected : goal.returns-in-Err-clause-rejected
+returns-in-Err-clause-rejected g c =
     let basis : Basis = basis_of c.args.base.now (properties_of c.args.properties.now) in
-    let p = err_from_is_err_and c.from_residual-in_err-add.result c.from_residual-in_err-add.ensures.1 in
-    rw (p.1, p.2) (rejected_first basis c.relations-relation-items.result.now c.args.rules.now c.relations-relation-items.ensures.value
-    c.loop-at.at c.relation-item.result c.loop-at.drafting _ c.loop-at-test.true c.relation-item.is c.loop-at.invariant c.in_err-add.ensures.rejected)
+    rejected_first basis c.relations-relation-items.result.now c.args.rules.now c.relations-relation-items.ensures.value
+    c.loop-at.at c.relation-item.result c.loop-at.drafting c.in-Err.fault c.loop-at-test.true c.relation-item.is c.loop-at.invariant c.in-Err.ensures.rejected

@@ -15,23 +15,23 @@ new-requires g c =
     distinct_base c.args.base.now.rows (points_of c.deref-2.result.now) base
     (ap points_of c.deref-2.ensures.value ∙ c.in_ok-keys.ensures ∙ ap keys_of rows)
 
-pub add_targets-requires : goal.add_targets-requires
-add_targets-requires g c =
+pub add_targets-all-requires : goal.add_targets-all-requires
+add_targets-all-requires g c =
     let rows = c.deref.ensures.value ∙ ap (λ (t : TableContent). t.rows) c.base.view_is in
     let base = subst (λ (t : TableContent). AreRows t.rows) c.base.view_is c.base.invariant in
     record {
       few = few_keys c.args.base.now.rows (points_of c.in_ok-keys.keys.items) base (c.in_ok-keys.ensures ∙ ap keys_of rows);
       rules = c.requires;
-      places = λ key. c.in_ok-base_keys.ensures key ∙ ap (λ keys. place_at 0 (points_of keys) key) c.deref-2.ensures.value;
+      places = λ key. c.in-Ok.ensures key ∙ ap (λ keys. place_at 0 (points_of keys) key) c.deref-2.ensures.value;
     }
 
-pub returns-clause-listed : goal.returns-clause-listed
-returns-clause-listed g c =
+pub returns-in-Ok-clause-listed : goal.returns-in-Ok-clause-listed
+returns-in-Ok-clause-listed g c =
     let rows = c.deref.ensures.value ∙ ap (λ (t : TableContent). t.rows) c.base.view_is in
     let are : points_of c.in_ok-keys.keys.items ≡ keys_of c.args.base.now.rows = c.in_ok-keys.ensures ∙ ap keys_of rows in
-    subst (λ base. IfOk c.add_targets.result (λ keys. AreListed base c.args.relations.now (points_of keys.items))) are c.add_targets.ensures
+    subst (λ base. IfOk c.add_targets-all.result (λ keys. AreListed base c.args.relations.now (points_of keys.items))) are c.add_targets-all.ensures
 
-pub returns-clause-distinct : goal.returns-clause-distinct
-returns-clause-distinct g c =
+pub returns-in-Ok-clause-distinct : goal.returns-in-Ok-clause-distinct
+returns-in-Ok-clause-distinct g c =
     let base = subst (λ (t : TableContent). AreRows t.rows) c.base.view_is c.base.invariant in
-    distinct_result c.args.base.now.rows c.args.relations.now (λ keys. points_of keys.items) c.add_targets.result base (returns-clause-listed g c)
+    distinct_result c.args.base.now.rows c.args.relations.now (λ keys. points_of keys.items) c.add_targets-all.result base (returns-in-Ok-clause-listed g c)

@@ -9,11 +9,11 @@ use Rattle.uca_drafts.proofs.KeyLookups.{listed_places}
 use Rattle.uca_drafts.proofs.places.places_of.Goals as goal
 
 pub new-requires : goal.new-requires
-new-requires g c = subst (λ keys. AreDistinctKeys (points_of keys)) (sym c.deref.ensures.value) c.in_ok-keys.ensures.distinct
+new-requires g c = subst (λ keys. AreDistinctKeys (points_of keys)) (sym c.deref.ensures.value) c.in-Ok.ensures.distinct
 
-pub returns : goal.returns
-returns g c =
+pub returns-in-Ok : goal.returns-in-Ok
+returns-in-Ok g c =
     listed_places positions c.new.result (keys_of c.args.base.now.rows) c.args.rules.now (points_of c.deref.result.now) c.new.ensures
     (subst (λ (relations : List Relation). AreListed (keys_of c.args.base.now.rows) relations (points_of c.deref.result.now)) c.relations.ensures.value
     (subst (λ keys. AreListed (keys_of c.args.base.now.rows) c.relations.result.now (points_of keys)) (sym c.deref.ensures.value)
-    c.in_ok-keys.ensures.listed))
+    c.in-Ok.ensures.listed))

@@ -33,16 +33,16 @@ module _ (basis : Basis) (rows : List DraftRow) (r : Relation) where
       ap (λ (es : List DraftElement). drafted_at level r.before new es (draft_expansion basis (with_rows rows) r.expansion)) anchor
       ∙ ap (λ (l : Option Level). drafted_at l r.before new (draft_elements basis.ranges basis.properties rows r.anchor) (draft_expansion basis (with_rows rows) r.expansion)) is
 
-pub returns : goal.returns
-returns g c =
+pub returns-in-Ok : goal.returns-in-Ok
+returns-in-Ok g c =
     let basis : Basis = basis_in c.args.reader.now in
     let rows : List DraftRow = c.args.rows.now in
     let expansion : List DraftElement = draft_expansion basis (with_rows rows) c.args.relation.now.expansion in
     let pair : Insertion → Drafted = λ insertion. record { elements = c.put_weight.new.elements.items ++ expansion; insertions = insertion ∷ [] } in
-    ap (λ (es : List DraftElement). Some (record { elements = es; insertions = c.in-Some-2.insertion ∷ [] })) c.in_ok-read_expansion-2.ensures
+    ap (λ (es : List DraftElement). Some (record { elements = es; insertions = c.in-Some-2.insertion ∷ [] })) c.in-Ok.ensures
     ∙ sym (ap (option_map pair) c.in-Some-2.is) ∙ c.in_ok-insertion.ensures expansion
     ∙ made_of basis rows c.args.relation.now (New c.args.index) (Some c.in-Some.level) c.read.new.elements.items
-    (anchor_read basis rows c.args.relation.now (positions c.args.reader.now.places.now) c.new-elements.result.items c.read.new.elements.items c.requires.alike c.new-elements.ensures.items c.in_ok-read.ensures)
+    (anchor_read basis rows c.args.relation.now (positions c.args.reader.now.places.now) c.args.elements.now.items c.read.new.elements.items c.requires.alike c.requires.empty c.in_ok-read.ensures)
     (sym c.in-Some.is ∙ c.level_of.ensures)
 
 pub returns-in_default-2 : goal.returns-in_default-2
@@ -53,7 +53,7 @@ returns-in_default-2 g c =
     let pair : Insertion → Drafted = λ insertion. record { elements = c.put_weight.new.elements.items ++ expansion; insertions = insertion ∷ [] } in
     sym (ap (option_map pair) c.in_default-2.is) ∙ c.in_ok-insertion.ensures expansion
     ∙ made_of basis rows c.args.relation.now (New c.args.index) (Some c.in-Some.level) c.read.new.elements.items
-    (anchor_read basis rows c.args.relation.now (positions c.args.reader.now.places.now) c.new-elements.result.items c.read.new.elements.items c.requires.alike c.new-elements.ensures.items c.in_ok-read.ensures)
+    (anchor_read basis rows c.args.relation.now (positions c.args.reader.now.places.now) c.args.elements.now.items c.read.new.elements.items c.requires.alike c.requires.empty c.in_ok-read.ensures)
     (sym c.in-Some.is ∙ c.level_of.ensures)
 
 pub returns-in_default : goal.returns-in_default
@@ -62,5 +62,5 @@ returns-in_default g c =
     let rows : List DraftRow = c.args.rows.now in
     ap (λ (es : List DraftElement). Some (record { elements = es; insertions = [] })) c.in_ok-read_expansion.ensures
     ∙ made_of basis rows c.args.relation.now (New c.args.index) None c.read.new.elements.items
-    (anchor_read basis rows c.args.relation.now (positions c.args.reader.now.places.now) c.new-elements.result.items c.read.new.elements.items c.requires.alike c.new-elements.ensures.items c.in_ok-read.ensures)
+    (anchor_read basis rows c.args.relation.now (positions c.args.reader.now.places.now) c.args.elements.now.items c.read.new.elements.items c.requires.alike c.requires.empty c.in_ok-read.ensures)
     (sym c.in_default.is ∙ c.level_of.ensures)

@@ -1,4 +1,4 @@
-use Rattle.std.proofs.Common.{◌≡◌, ◌++◌, ◌+◌, ◌<◌, ◌≤◌, ℕ, [], List, false, length, take, get_or, ap, sym, subst, ◌∙◌}
+use Rattle.std.proofs.Common.{◌≡◌, ◌++◌, ◌+◌, ◌<◌, ◌≤◌, ℕ, [], List, false, length, take, get_or, ap, sym, subst, ◌∙◌, append-nil}
 use Rattle.std.proofs.lemmas.List.{flat_map_more, take_all, take_more}
 use Rattle.uca_weights.specs.declared.Element.{Element}
 use Rattle.uca_values.specs.Content.{Entry}
@@ -6,6 +6,10 @@ use Rattle.uca_check.specs.WellFormed.{elements_of}
 use Rattle.uca_check.proofs.Elements.{behind_more}
 use Rattle.uca_drafts.specs.Variables.{AreBounds}
 use Rattle.uca_drafts.proofs.variables.variable_span.Goals as goal
+
+pub loop-element-init : goal.loop-element-init
+loop-element-init g c =
+    subst (AreBounds c.loop-row.span) (sym (append-nil (elements_of (take c.loop-row.row-index c.args.rows.now)))) c.loop-row.invariant
 
 pub loop-element-preserved : goal.loop-element-preserved
 loop-element-preserved g c =

@@ -2,8 +2,8 @@
 use Rattle.std.proofs.Common.{◌≡◌, ◌+◌, ◌-◌, ◌++◌, length, take, ap, sym, ◌∙◌, arith, rules}
 use Rattle.std.specs.List.{slice_range}
 use Rattle.std.proofs.KnownBytes.{Keeps-refl}
-use Rattle.std.proofs.lemmas.List.{places, take_all, with_items_is}
-use borrow.Rule.Slice.PartMut.{put_mid}
+use Rattle.std.proofs.lemmas.List.{take_all, with_items_is}
+use borrow.Rule.Slice.PartMut.{put_mid, same_len_mid}
 use Rattle.uca_rekey.specs.LinesInPlace.{LinesState}
 use Rattle.uca_rekey.proofs.Places.{begins_so, filled, front_range, nothing_filled, range_filled, range_kept, some_more}
 use Rattle.uca_rekey.proofs.lines.KeyLines.fill.Goals as goal
@@ -17,7 +17,8 @@ returns-in-Ok g c =
     let ys = c.read.new.buf in
     let pending = c.args.self.now.pending in
     let rest = c.read.new.self.remaining in
-    let long : length (put_mid e (length xs - e) xs ys) ≡ c.make_room-has_room.new.buffer.len = search (rules, places) in
+    let long : length (put_mid e (length xs - e) xs ys) ≡ c.make_room-has_room.new.buffer.len =
+    same_len_mid e (length xs - e) xs ys c.read.auto.buf ∙ c.deref_mut.ensures.len in
     let joined =
     ap (λ b. slice_range b 0 (e + n)) (with_items_is c.make_room-has_room.new.buffer (put_mid e (length xs - e) xs ys) long)
     ∙ range_filled xs ys e n (omega arith) (omega (arith, c.in-Ok.ensures.bound.0))
@@ -29,7 +30,7 @@ returns-in-Ok g c =
           (λ none. c.in-Ok.ensures.bytes.1 none (omega (arith, c.read.auto.buf, c.deref_mut.ensures.len, c.if-not-has_room.ensures.room)));
       err = tt;
       fault = tt;
-      at_end = search rules;
+      at_end = ap (λ (s : LinesState). s.at_end) c.self.view_is;
       failed = search rules;
     }
 
@@ -39,7 +40,8 @@ returns-in-Err-clause-err g c =
     let e = i.end - i.next in
     let xs = c.deref_mut.result.now in
     let ys = c.read.new.buf in
-    let long : length (put_mid e (length xs - e) xs ys) ≡ c.make_room-has_room.new.buffer.len = search (rules, places) in
+    let long : length (put_mid e (length xs - e) xs ys) ≡ c.make_room-has_room.new.buffer.len =
+    same_len_mid e (length xs - e) xs ys c.read.auto.buf ∙ c.deref_mut.ensures.len in
     ap (λ b. slice_range b 0 e) (with_items_is c.make_room-has_room.new.buffer (put_mid e (length xs - e) xs ys) long)
     ∙ range_kept xs ys e (omega arith)
     ∙ ap (take e) c.deref_mut.ensures.value ∙ c.make_room-has_room.ensures.front ∙ ap (λ (s : LinesState). s.pending) c.self.view_is

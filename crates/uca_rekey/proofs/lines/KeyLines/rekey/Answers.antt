@@ -1,8 +1,8 @@
 -- Only the line changes.
-use Rattle.std.proofs.Common.{◌≡◌, ◌-◌, List, ℕ, IfErr, OnOk, Some, length, ap, sym, subst, subst₂, ◌∙◌, arith, rules}
+use Rattle.std.proofs.Common.{◌≡◌, ◌-◌, List, ℕ, IfErr, OnOk, Some, length, ap, sym, subst, subst₂, ◌∙◌, arith}
 use Rattle.std.specs.List.{slice_range}
-use Rattle.std.proofs.lemmas.List.{places, with_items_is}
-use borrow.Rule.Slice.PartMut.{put_mid}
+use Rattle.std.proofs.lemmas.List.{with_items_is}
+use borrow.Rule.Slice.PartMut.{put_mid, same_len_mid}
 use Rattle.uca_rekey.specs.LinesInPlace.{LinesState}
 use Rattle.uca_rekey.specs.RekeyedLines.{rekeyed_by}
 use Rattle.uca_rekey.specs.RekeyRun.{IsLineCause}
@@ -21,7 +21,8 @@ returns-clause-pending g c =
     let i = c.self.inside in
     let xs = c.deref_mut.result.now in
     let ys = c.rekey_line.new.line in
-    let long : length (put_mid i.start (i.stop - i.start) xs ys) ≡ i.buffer.len = search (rules, places) in
+    let long : length (put_mid i.start (i.stop - i.start) xs ys) ≡ i.buffer.len =
+    same_len_mid i.start (i.stop - i.start) xs ys c.rekey_line.auto.line ∙ c.deref_mut.ensures.len in
     ap (λ b. slice_range b i.next i.end) (with_items_is i.buffer (put_mid i.start (i.stop - i.start) xs ys) long)
     ∙ range_after i.start (i.stop - i.start) xs ys i.next i.end (omega arith) (omega arith) (omega arith)
     ∙ ap (λ b. slice_range b i.next i.end) c.deref_mut.ensures.value ∙ ap (λ (s : LinesState). s.pending) c.self.view_is
@@ -31,7 +32,8 @@ returns-clause-rekeyed g c =
     let i = c.self.inside in
     let xs = c.deref_mut.result.now in
     let ys = c.rekey_line.new.line in
-    let long : length (put_mid i.start (i.stop - i.start) xs ys) ≡ i.buffer.len = search (rules, places) in
+    let long : length (put_mid i.start (i.stop - i.start) xs ys) ≡ i.buffer.len =
+    same_len_mid i.start (i.stop - i.start) xs ys c.rekey_line.auto.line ∙ c.deref_mut.ensures.len in
     let written =
     ap (λ b. slice_range b i.start i.stop) (with_items_is i.buffer (put_mid i.start (i.stop - i.start) xs ys) long)
     ∙ range_written i.start (i.stop - i.start) xs ys (omega arith) (omega arith) in
