@@ -1,13 +1,15 @@
 -- Whole runs that write bytes by the keys of their lines.
-use Rattle.std.proofs.Common.{◌≡◌, ℕ, List, false, Option, Result, Ok, Err}
+use Rattle.std.proofs.Common.{◌≡◌, ◌∙◌, ℕ, List, false, Option, Result, Ok, Err, ap, ap₂}
 use Rattle.uca_weights.specs.declared.Depth.{Depth}
 use Rattle.uca_weights.specs.declared.Weighting.{Weighting}
 use Rattle.uca_weights.specs.Streams.{SourceState, SinkState}
+use Rattle.uca_elements.specs.Collations.{Collation}
 use Rattle.uca_run_parts.specs.declared.faults.RunFault.{RunFault}
 use Rattle.uca_run_parts.specs.declared.faults.RunFault.TheVariants.{Memory}
 use Rattle.uca_run_parts.specs.EachLine.{RunsEach, ended_before_input}
 use Rattle.uca_run_parts.specs.Files.{TableAndData}
 use Rattle.uca_key_lines.specs.Keys.{KeySettings, key_settings}
+use Rattle.uca_key_lines.proofs.KeySettings.{key_settings_by}
 use Rattle.uca_runs.specs.KeysRun.{RunsUnder}
 
 -- a run that ended by its lines lacked no memory for rows
@@ -18,3 +20,10 @@ pub runs_under : {A : Type 0} (bytes_of : KeySettings → List ℕ → List ℕ)
 runs_under bytes_of asked depth input input_new out out_new (Ok x) files lines runs = runs
 runs_under bytes_of asked depth input input_new out out_new (Err Memory) files lines runs = let never : ⊥ = cc in absurd never
 runs_under bytes_of asked depth input input_new out out_new (Err _) files lines runs = runs
+
+-- a writer whose parts are as before makes keys by the settings of before
+pub settings_kept : {now before : Collation} {weighting weighting_before : Weighting} {depth depth_before : Depth}
+    → now ≡ before → weighting ≡ weighting_before → depth ≡ depth_before
+    → key_settings_by now weighting depth ≡ key_settings_by before weighting_before depth_before
+settings_kept {before = before} {weighting_before = weighting} {depth = depth} collation same depths =
+    ap₂ (λ c w. key_settings_by c w depth) collation same ∙ ap (λ d. key_settings_by before weighting d) depths

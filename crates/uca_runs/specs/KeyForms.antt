@@ -1,18 +1,23 @@
 -- The forms of a line of output that has a key. Only contracts of private functions cite this: no promise of the crate
 -- rests on it.
-use Rattle.std.specs.Prelude.{ℕ, List, Bool, true, false, Option, Result, chars}
+use Rattle.std.specs.Prelude.{◌≡◌, ℕ, List, Bool, true, false, Option, Result, chars}
 use Rattle.uca_weights.specs.Streams.{SourceState, SinkState}
 use Rattle.uca_weights.specs.declared.Weighting.{Weighting}
 use Rattle.uca_weights.specs.declared.Depth.{Depth}
 use Rattle.uca_weights.specs.declared.Depth.TheVariants.{Weights, Identical}
+use Rattle.uca_values.specs.Content.{Properties}
 use Rattle.uca_text.specs.Texts.{NfdText, nfd_text}
+use Rattle.uca_elements.specs.Rows.{Rows}
+use Rattle.uca_elements.specs.Collations.{Collation}
 use Rattle.uca_order.specs.Depths.{read_text, key_at}
+use Rattle.uca_order.specs.Lengths.{HasShortRows}
+use Rattle.uca_key_writer.specs.Writers.{WriterState}
 use Rattle.uca_run_parts.specs.declared.faults.RunFault.{RunFault}
 use Rattle.uca_runs.specs.declared.keys.KeyForm.{KeyForm}
 use Rattle.uca_runs.specs.declared.keys.KeyForm.TheVariants.{Alone, BeforeLine}
 use Rattle.uca_run_parts.specs.EachLine.{PrintsEach}
 use Rattle.uca_run_parts.specs.Files.{table_and_data, table_and_data_roles}
-use Rattle.uca_key_lines.specs.Keys.{KeySettings}
+use Rattle.uca_key_lines.specs.Keys.{KeySettings, settings_at}
 use Rattle.uca_runs.specs.KeysRun.{RunsUnder}
 use Rattle.uca_run_parts.specs.Print.{print_line_at, keyed_line_of}
 
@@ -45,3 +50,19 @@ abbrev pub PrintsAs : {A : Type 0} → KeyForm → Option Weighting → Depth �
     → SinkState → SinkState → Result A RunFault → Type 0
 PrintsAs form asked depth olds news input input_new out out_new result =
     PrintsEach table_and_data table_and_data_roles (RunsUnder (line_as form) asked depth input input_new out out_new result) olds news input input_new out out_new result
+
+-- ---- A writer of the keys of a form
+
+-- texts are read by rows that are short
+pub record ReadsByShortRows (c : Collation) : Type 0 where
+  pub rows : HasShortRows c.rows
+
+-- what the keys of a writer go by
+abbrev pub settings_of : {L : Type 0} → (L → Rows) → WriterState L → KeySettings
+settings_of content writer = settings_at content writer writer.depth
+
+-- keys of the form at that depth go by these settings, and texts by these properties
+pub record MakesKeys (form : KeyForm) (depth : Depth) (properties : Properties) (c : KeySettings) : Type 0 where
+  pub key_depth : c.depth ≡ depth_as form depth
+  pub same : properties ≡ c.collation.properties
+  pub short_rows : HasShortRows c.collation.rows

@@ -9,7 +9,6 @@ ghost use Rattle.uca_lines.specs.Buffered.{HasRoom, WritesThrough};
 ghost use Rattle.uca_text.specs.Texts.{nfd_text};
 ghost use Rattle.uca_elements.specs.Collations.{collation_of};
 ghost use Rattle.uca_order.specs.Lengths.{HasShortRows};
-ghost use Rattle.uca_key_writer.specs.Writers.{collation_by};
 ghost use Rattle.uca_key_lines.specs.Keys.{key_settings_of, settings_at};
 ghost use Rattle.uca_run_parts.specs.Runs.{is_input_read, ended_by_output};
 ghost use Rattle.uca_run_parts.specs.EachLine.{WritesEach, ended_before_input};
@@ -18,7 +17,7 @@ ghost use Rattle.uca_runs.specs.KeysRun.{PrintsKeys, WritesKeys};
 ghost use Rattle.uca_run_parts.specs.Input.{cause_of};
 ghost use Rattle.uca_run_parts.specs.Texts.{HasRead, HasTextCause, ReadsCleanLine, is_read};
 ghost use Rattle.uca_runs.specs.KeyForms;
-ghost use Rattle.uca_runs.specs.KeyForms.{PrintsAs, depth_as, line_as, printed_as};
+ghost use Rattle.uca_runs.specs.KeyForms.{MakesKeys, PrintsAs, ReadsByShortRows, depth_as, line_as, printed_as, settings_of};
 
 use std::alloc::{Allocator, Global};
 use std::io::{Read, Write};
@@ -106,9 +105,7 @@ fn make_key<'a, L: Lookup, T: Allocator, A: Allocator, D: Allocator>(
     lines: &InputLines<A>,
     properties: &Data<D>,
 ) -> Result<(), InputKind>
-    requires key_depth { key.old.depth ≡ depth_as form depth }
-    requires same { properties_of properties.now ≡ (collation_by L.content key.old).properties }
-    requires short_rows { HasShortRows (collation_by L.content key.old).rows }
+    requires { MakesKeys form depth (properties_of properties.now) (settings_of L.content key.old) }
     ensures made { OnOk result (printed_as form depth key.new.key text.new.points lines.now.line
         ≡ line_as form (settings_at L.content key.old depth) lines.now.line) }
     ensures short { OnOk result (length key.new.key < 2 ^ 40) }
@@ -117,9 +114,7 @@ fn make_key<'a, L: Lookup, T: Allocator, A: Allocator, D: Allocator>(
     ensures fault { (before : ℕ) → before < LINE_LIMIT →
         IfErr result (HasTextCause (properties_of properties.now) before lines.now.line) }
     ensures not_read { is_read result ≡ false }
-    ensures collation { collation_by L.content key.new ≡ collation_by L.content key.old }
-    ensures weighting { key.new.weighting ≡ key.old.weighting }
-    ensures depth { key.new.depth ≡ key.old.depth }
+    ensures kept { settings_of L.content key.new ≡ settings_of L.content key.old }
 {
     match write_line_key(key, lines) {
         Ok(()) => match take_shown_text(text, form, depth, lines, properties) {
@@ -151,9 +146,7 @@ impl<'a, L: Lookup, T: Allocator, A: Allocator> KeyRun<'a, L, T, A> {
         properties: &Data<D>,
         input: &mut Source<I>,
     ) -> Result<bool, RunFault>
-        requires key_depth { self.old.key.depth ≡ depth_as form depth }
-        requires same { properties_of properties.now ≡ (collation_by L.content self.old.key).properties }
-        requires short_rows { HasShortRows (collation_by L.content self.old.key).rows }
+        requires { MakesKeys form depth (properties_of properties.now) (settings_of L.content self.old.key) }
         ensures reads { (start : Option (List ℕ)) (before : List (List ℕ)) →
             HasRead (properties_of properties.now) start before self.old.lines input.old →
             ReadsCleanLine (properties_of properties.now) start before self.new.lines input.new result }
@@ -164,9 +157,7 @@ impl<'a, L: Lookup, T: Allocator, A: Allocator> KeyRun<'a, L, T, A> {
         ensures count { IfOk result (λ more. OnTrue more ((self.new.lines.reader.number ≡ self.old.lines.reader.number + 1)
             × (self.old.lines.reader.number < LINE_LIMIT))) }
         ensures output { self.new.output ≡ self.old.output }
-        ensures collation { collation_by L.content self.new.key ≡ collation_by L.content self.old.key }
-        ensures weighting { self.new.key.weighting ≡ self.old.key.weighting }
-        ensures depth { self.new.key.depth ≡ self.old.key.depth }
+        ensures kept { settings_of L.content self.new.key ≡ settings_of L.content self.old.key }
         ensures not_write { ended_by_output result ≡ false }
         ensures failed { input.new.failed ≡ (input.old.failed || is_input_read result) }
     {
@@ -234,9 +225,7 @@ impl<'a, L: Lookup, T: Allocator, A: Allocator> KeyRun<'a, L, T, A> {
         input: &mut Source<I>,
         out: &mut Sink<W>,
     ) -> Result<(), RunFault>
-        requires key_depth { self.old.key.depth ≡ depth_as form depth }
-        requires same { properties_of properties.now ≡ (collation_by L.content self.old.key).properties }
-        requires short_rows { HasShortRows (collation_by L.content self.old.key).rows }
+        requires makes { MakesKeys form depth (properties_of properties.now) (settings_of L.content self.old.key) }
         requires small { self.old.output.written + length self.old.output.held
             ≤ self.old.lines.reader.number * 2 ^ 42 }
         ensures prints { (start begun : Option (List ℕ)) (before : List (List ℕ)) →
@@ -269,7 +258,7 @@ pub(crate) fn print_lines<L: Lookup, T: Allocator, A: Allocator + Copy, I: Read,
     input: &mut Source<I>,
     out: &mut Sink<W>,
 ) -> Result<(), RunFault>
-    requires { HasShortRows (collation_of L.content collator.now).rows }
+    requires { ReadsByShortRows (collation_of L.content collator.now) }
     ensures writes { IfSome input.old.remaining (λ bytes.
         let c = key_settings_of L.content collator.now weighting depth in
         WritesEach c.collation.properties (line_as form c) bytes input.new.remaining out.old.contents out.new.contents result) }
@@ -400,18 +389,14 @@ pub(crate) fn run_lines_in<A: Allocator + Copy, T: Read, D: Read, I: Read, W: Wr
     ensures { PrintsAs form weighting depth (table.old ∷ properties.old ∷ []) (table.new ∷ properties.new ∷ [])
         input.old input.new out.old out.new result }
 {
-    let read = read_collation(alloc, table, properties, weighting)?;
-    let collator = read.collator();
-    let end = print_lines(
-        alloc,
-        global,
-        &collator,
-        read.weighting,
-        depth,
-        form,
-        input,
-        out,
-    );
-    drop(read);
-    end
+    match read_collation(alloc, table, properties, weighting) {
+        Ok(read) => {
+            let collator = read.collator();
+            let chosen = read.weighting;
+            let end = print_lines(alloc, global, &collator, chosen, depth, form, input, out);
+            drop(read);
+            end
+        }
+        Err(fault) => Err(fault),
+    }
 }

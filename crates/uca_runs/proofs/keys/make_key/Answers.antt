@@ -6,6 +6,7 @@ use Rattle.uca_run_parts.specs.Input.{cause_of}
 use Rattle.uca_runs.specs.KeyForms.{shows_points}
 use Rattle.uca_run_parts.specs.Texts.{HasTextCause}
 use Rattle.uca_runs.proofs.KeyLines.{line_made}
+use Rattle.uca_runs.proofs.KeyRuns.{settings_kept}
 use Rattle.uca_runs.proofs.keys.make_key.Goals as goal
 
 pub returns-in-Ok-take_shown_text-clause-made : goal.returns-in-Ok-take_shown_text-clause-made
@@ -27,3 +28,9 @@ returns-in-Err-clause-fault g c = λ before h.
 
 pub returns-in-Ok-take_shown_text-clause-short : goal.returns-in-Ok-take_shown_text-clause-short
 returns-in-Ok-take_shown_text-clause-short g c = c.in-Ok.ensures.short c.requires.short_rows
+
+pub returns-in-Ok-take_shown_text-clause-kept : goal.returns-in-Ok-take_shown_text-clause-kept
+returns-in-Ok-take_shown_text-clause-kept g c = settings_kept c.in-Ok.ensures.collation c.in-Ok.ensures.weighting c.in-Ok.ensures.depth
+
+pub returns-in-Err-clause-kept : goal.returns-in-Err-clause-kept
+returns-in-Err-clause-kept g c = settings_kept c.in-Err.ensures.collation c.in-Err.ensures.weighting c.in-Err.ensures.depth

@@ -1,7 +1,6 @@
 -- The whole run, from what its two files mean and what is printed of its lines.
 use Rattle.std.specs.Prelude.{⊤}
 use Rattle.std.proofs.Common.{◌≡◌, [], ◌∷◌, Err, subst, sym}
-use Rattle.std.proofs.lemmas.Result.{err_from_is_err_and}
 use Rattle.uca_values.specs.Content.{properties_of}
 use Rattle.uca_match.specs.NumberedKeys.{rows_at}
 use Rattle.uca_elements.specs.Collations.{collation_of}
@@ -17,23 +16,22 @@ use Rattle.uca_run_parts.proofs.WholeRuns.{ended_before, ended_by_lines}
 use Rattle.uca_runs.proofs.KeyRuns.{runs_under}
 use Rattle.uca_runs.proofs.keys.run_lines_in.Goals as goal
 
-pub returns-in_err-read : goal.returns-in_err-read
-returns-in_err-read g c =
-    let p = err_from_is_err_and c.from_residual.result c.from_residual.ensures.1 in
-    let fault = c.in_err-read.field-0.0 in
-    rw (p.1, p.2) (ended_before table_and_data table_and_data_roles (λ content. fault ≡ Memory)
+pub returns-in-Err : goal.returns-in-Err
+returns-in-Err g c =
+    let fault = c.in-Err.fault in
+    ended_before table_and_data table_and_data_roles (λ content. fault ≡ Memory)
     (RunsUnder {A = ⊤} (line_as c.args.form) c.args.weighting c.args.depth c.args.input.now c.args.input.now c.args.out.now c.args.out.now (Err fault))
     (c.args.table.now ∷ c.args.properties.now ∷ []) (c.read_collation.new.table ∷ c.read_collation.new.properties ∷ [])
     ⊤ ⊤ c.args.input.now c.args.out.now fault
     (λ content is. subst (λ f. RunsUnder {A = ⊤} (line_as c.args.form) c.args.weighting c.args.depth c.args.input.now c.args.input.now c.args.out.now c.args.out.now (Err f) content) (sym is) tt)
-    c.in_err-read.ensures.read c.in_err-read.ensures.before_input c.in_err-read.ensures.failed)
+    c.in-Err.ensures.read c.in-Err.ensures.before_input c.in-Err.ensures.failed
 
 pub print_lines-end-requires : goal.print_lines-end-requires
-print_lines-end-requires g c = subst (λ made. HasShortRows made.rows) (sym c.collator-collator.ensures) c.in_ok-read.ensures.short
+print_lines-end-requires g c = record { rows = subst (λ made. HasShortRows made.rows) (sym c.collator-collator.ensures) c.in-Ok.ensures.short }
 
-pub returns : goal.returns
-returns g c =
-    let read = c.in_ok-read.read in
+pub returns-in-Ok : goal.returns-in-Ok
+returns-in-Ok g c =
+    let read = c.in-Ok.read in
     let made = collation_in (rows_at read.rows) read.header (properties_of read.properties) in
     ended_by_lines table_and_data table_and_data_roles (λ content. IsCollation c.args.weighting made read.weighting content)
     (RunsUnder (line_as c.args.form) c.args.weighting c.args.depth c.args.input.now c.print_lines-end.new.input c.args.out.now c.print_lines-end.new.out c.print_lines-end.result)
@@ -43,4 +41,4 @@ returns g c =
     (subst (λ (d : KeySettings). RunsEach d.collation.properties (line_as c.args.form d) c.args.input.now c.print_lines-end.new.input c.args.out.now c.print_lines-end.new.out c.print_lines-end.result)
     (same_keying c.args.weighting c.args.depth (collation_of rows_at c.collator-collator.result) made read.weighting content c.collator-collator.ensures is)
     c.print_lines-end.ensures.writes))
-    c.in_ok-read.ensures.read c.in_ok-read.ensures.failed c.print_lines-end.ensures.input_failed c.print_lines-end.ensures.out_failed
+    c.in-Ok.ensures.read c.in-Ok.ensures.failed c.print_lines-end.ensures.input_failed c.print_lines-end.ensures.out_failed

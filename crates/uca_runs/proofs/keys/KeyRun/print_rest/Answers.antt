@@ -1,15 +1,14 @@
 -- After each line, and where no line was read, or what the output has of it was not written.
 use Rattle.std.specs.Prelude.{⊤}
-use Rattle.std.proofs.Common.{Bool, [], ◌∷◌, ◌++◌, ◌+◌, ◌*◌, ◌^◌, ◌≤◌, length, refl, ap, ap₂, subst, sym, ◌∙◌}
+use Rattle.std.proofs.Common.{Bool, [], ◌∷◌, ◌++◌, ◌+◌, ◌*◌, ◌^◌, ◌≤◌, length, refl, ap, subst, sym, ◌∙◌}
 use Rattle.std.proofs.Math.Bool.{or-false}
 use Rattle.std.specs.List.{flat_map}
 use Rattle.std.proofs.lemmas.Result.{err_from_is_err_and}
 use Rattle.uca_values.specs.Content.{properties_of}
 use Rattle.uca_lines.specs.OutputBuffer.{IsBuffered}
-use Rattle.uca_key_writer.specs.Writers.{collation_by}
 use Rattle.uca_run_parts.specs.Texts.{LinesState}
-use Rattle.uca_key_lines.specs.Keys.{settings_at}
-use Rattle.uca_runs.specs.KeyForms.{line_as}
+use Rattle.uca_key_lines.specs.Keys.{KeySettings, settings_at}
+use Rattle.uca_runs.specs.KeyForms.{MakesKeys, line_as, settings_of}
 use Rattle.uca_run_parts.proofs.Printing.{line_written, not_written, no_write}
 use Rattle.uca_run_parts.proofs.Running.{as_before}
 use Rattle.uca_key_lines.proofs.KeySettings.{key_settings_by}
@@ -17,9 +16,8 @@ use Rattle.uca_runs.proofs.keys.KeyRun.print_rest.Goals as goal
 
 pub loop-self-init : goal.loop-self-init
 loop-self-init g c = record {
-  collation = refl;
-  weighting = refl;
-  key_depth = refl;
+  kept = refl;
+  makes = c.requires.makes;
   small = c.requires.small;
   written = λ start begun before p. (before, p);
   input_failed = refl;
@@ -36,11 +34,11 @@ loop-self-preserved g c =
     let inv = c.loop-self.invariant in
     let next = rw c.if-branch.true at c.in_ok-next.ensures in
     let now = c.in_ok-print_line.ensures in
-    let same = next.made ∙ ap₂ (λ collation weighting. line_as form (key_settings_by collation weighting c.args.depth) lines.line) inv.collation inv.weighting in
+    let kept = ap (settings_of content) now.key ∙ next.kept in
+    let same = next.made ∙ ap (λ (s : KeySettings). line_as form (key_settings_by s.collation s.weighting c.args.depth) lines.line) inv.kept in
     record {
-      collation = ap (collation_by content) now.key ∙ next.collation ∙ inv.collation;
-      weighting = ap (λ key. key.weighting) now.key ∙ next.weighting ∙ inv.weighting;
-      key_depth = ap (λ key. key.depth) now.key ∙ next.depth ∙ inv.key_depth;
+      kept = kept ∙ inv.kept;
+      makes = subst (MakesKeys form c.args.depth properties) (sym kept) inv.makes;
       small = subst (λ (l : LinesState). c.print_line.new.self.output.written + length c.print_line.new.self.output.held ≤ l.reader.number * 2 ^ 42) (sym now.lines) now.small;
       written = λ start begun before p.
           let i = inv.written start begun before p in
@@ -70,7 +68,7 @@ returns-in_err-print_line-clause-prints g c = λ start begun before p.
     let i = inv.written start begun before p in
     let next = rw c.if-branch.true at c.in_ok-next.ensures in
     let t = next.reads start i.0 i.1.read in
-    let same = next.made ∙ ap₂ (λ collation weighting. line_as form (key_settings_by collation weighting c.args.depth) lines.line) inv.collation inv.weighting in
+    let same = next.made ∙ ap (λ (s : KeySettings). line_as form (key_settings_by s.collation s.weighting c.args.depth) lines.line) inv.kept in
     let held = subst (λ b. IsBuffered begun c.loop-self.out.contents (flat_map bytes_of i.0) b) (sym next.output) i.1.written in
     rw (q.1, q.2) (
       i.0,

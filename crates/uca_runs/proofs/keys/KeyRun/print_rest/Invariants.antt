@@ -1,9 +1,8 @@
 -- What the output has of the lines so far was written, and neither reader nor writer has failed since.
 use Rattle.std.proofs.Common.{◌≡◌, ℕ, ◌+◌, ◌-◌, ◌*◌, ◌^◌, ◌≤◌, List, Option, length}
 use Rattle.uca_values.specs.Content.{properties_of}
-use Rattle.uca_key_writer.specs.Writers.{collation_by}
 use Rattle.uca_key_lines.specs.Keys.{settings_at}
-use Rattle.uca_runs.specs.KeyForms.{line_as}
+use Rattle.uca_runs.specs.KeyForms.{MakesKeys, line_as, settings_of}
 use Rattle.uca_run_parts.specs.EachLineSoFar.{HasWritten}
 use Rattle.uca_runs.proofs.keys.KeyRun.print_rest.Given as goal
 
@@ -12,9 +11,8 @@ invariant-loop-self g l =
     let content = g.L.Lookup.content in
     let bytes_of = line_as l.form (settings_at content l.fn.self.key l.depth) in
     record {
-      collation : collation_by content l.self.key ≡ collation_by content l.fn.self.key;
-      weighting : l.self.key.weighting ≡ l.fn.self.key.weighting;
-      key_depth : l.self.key.depth ≡ l.fn.self.key.depth;
+      kept : settings_of content l.self.key ≡ settings_of content l.fn.self.key;
+      makes : MakesKeys l.form l.depth (properties_of l.properties) (settings_of content l.self.key);
       small : l.self.output.written + length l.self.output.held ≤ l.self.lines.reader.number * 2 ^ 42;
       written : (start begun : Option (List ℕ)) (before : List (List ℕ)) →
           HasWritten (properties_of l.properties) bytes_of start begun before l.fn.self.lines l.fn.input l.fn.self.output l.fn.out →
